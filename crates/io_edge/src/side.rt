@@ -1,0 +1,8 @@
+//! The two ends of a channel.
+
+/// One end of a channel.
+#[derive(Clone, Copy, Debug, PartialEq, Eq)]
+pub enum Side {
+    Guest,
+    Host,
+}
