@@ -1,0 +1,10 @@
+//! What one device served over the whole run.
+use hist_lock::History;
+use util_ic::{BeatMachine, DownMachine};
+
+/// A device's history, by the kind of the device.
+#[derive(Drop)]
+pub enum DeviceHistory {
+    Beat(History<BeatMachine>),
+    Down(History<DownMachine>),
+}

@@ -1,0 +1,10 @@
+//! What a run of the bus is: what its channels carried, its devices' histories and its lines' outcomes; and laws on them.
+#![tactic(auto)]
+
+mod channel_run;
+mod history;
+mod laws;
+
+pub use channel_run::ChannelRun;
+pub use history::DeviceHistory;
+pub use laws::{one_each, one_more};

@@ -1,0 +1,5 @@
+pub mod Cutting
+pub mod Numbers
+pub mod Keeping
+pub mod Firsts
+pub mod Short

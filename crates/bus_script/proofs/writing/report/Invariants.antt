@@ -1,0 +1,11 @@
+use Rattle.std.proofs.Common.{◌≡◌, ◌+◌, ◌*◌, ◌++◌, ◌≤◌, length, drop}
+use Rattle.bus_script.specs.Faults.{asks_in}
+use Rattle.bus_script.specs.Report.{lines_text}
+use Rattle.bus_script.proofs.writing.report.Given as goal
+
+abbrev pub invariant-loop-line : goal.invariant-loop-line
+invariant-loop-line l = record {
+  told : l.text.items ++ lines_text (drop l.line-index l.line-items) (drop l.at l.results) ≡ lines_text l.line-items l.results;
+  short : length l.text.items ≤ 73 * l.line-index;
+  left : l.at + asks_in (drop l.line-index l.line-items) ≡ length l.results;
+}

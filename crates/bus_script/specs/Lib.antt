@@ -1,0 +1,10 @@
+pub mod Words
+pub mod Forms
+pub mod Rows
+pub mod Faults
+pub mod Grammar
+pub mod First
+pub mod Parse
+pub mod WellFormed
+pub mod Hex
+pub mod Report

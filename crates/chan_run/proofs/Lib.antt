@@ -1,0 +1,4 @@
+pub mod Fronts
+pub mod Pasts
+pub mod RunLaws
+pub mod Steps

@@ -1,0 +1,17 @@
+//! The life of a channel, from its offer to its release, as each side sees it.
+#![tactic(auto)]
+
+mod action;
+mod chan_state;
+mod event;
+mod fault;
+mod state;
+mod table;
+#[cfg(test)]
+mod tests;
+
+pub use action::Action;
+pub use chan_state::ChanState;
+pub use event::Event;
+pub use fault::StateFault;
+pub use state::State;

@@ -1,0 +1,24 @@
+-- The protocol's versions.
+use Rattle.std.specs.Prelude.{ℕ, ◌+◌, ◌*◌, ◌==◌, ◌&&◌, IsTrue, List, [], ◌∷◌, filter, min}
+use Rattle.std.specs.List.{list_any}
+use Rattle.std.specs.Bool.{nat_le}
+
+-- a version's number
+abbrev pub version : ℕ → ℕ → ℕ
+version major minor = major * 65536 + minor
+
+-- all versions, greatest first
+abbrev pub versions : List ℕ
+versions = version 5 2 ∷ version 5 1 ∷ version 5 0 ∷ version 4 1 ∷ version 4 0 ∷ version 3 0 ∷ version 2 4 ∷ []
+
+-- the last one that a guest tries
+abbrev pub oldest : ℕ
+oldest = version 2 4
+
+-- a version's number, and no other
+abbrev pub IsVersion : ℕ → Type 0
+IsVersion v = IsTrue (list_any (λ u. u == v) versions)
+
+-- the versions that a guest tries with a host whose highest ones these are: from its own highest down to the agreed one
+abbrev pub versions_tried : ℕ → ℕ → List ℕ
+versions_tried guest host = filter (λ v. nat_le v guest && nat_le (min guest host) v) versions

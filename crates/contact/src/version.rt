@@ -1,0 +1,53 @@
+//! The protocol's versions, and which of them a guest and its host use.
+ghost use Rattle.std.specs.Prelude.{◌≡◌, ℕ, ◌<◌, ◌≤◌, ◌↔◌, All, IfSome, IfNone, IsTrue, IsNone};
+ghost use Rattle.contact.specs.Versions.{versions, oldest, IsVersion};
+
+/// A version of the VMBus protocol, `major * 65536 + minor`, as Linux's `VERSION_WIN10` and the
+/// others (include/linux/hyperv.h).
+#[derive(Clone, Copy, Debug, PartialEq, Eq)]
+pub struct Version(pub u32);
+
+// All versions, greatest first.
+const VERSIONS: [u32; 7] = [
+    0x0005_0002,
+    0x0005_0001,
+    0x0005_0000,
+    0x0004_0001,
+    0x0004_0000,
+    0x0003_0000,
+    0x0002_0004,
+];
+
+/// The version to try after this one was refused: the next lower one. None is left after 2.4.
+pub fn next_version(v: Version) -> Option<Version>
+    requires { IsVersion v.0 }
+    ensures last { IsNone result ↔ (v.0 ≡ oldest) }
+    ensures lower { IfSome result (λ next. IsVersion next.0 × (next.0 < v.0)) }
+    ensures next { IfSome result (λ next. All (λ u. u < v.0 → u ≤ next.0) versions) }
+{
+    for u in VERSIONS {
+        if u < v.0 {
+            return Some(Version(u));
+        }
+    }
+    None
+}
+
+/// Whether a host whose highest version is `highest` accepts one that a guest asks for.
+pub fn host_accepts(highest: Version, asked: Version) -> bool
+    ensures { IsTrue result ↔ (IsVersion asked.0 × (asked.0 ≤ highest.0)) }
+{
+    asked.0 <= highest.0 && VERSIONS.contains(&asked.0)
+}
+
+/// The version that a guest and a host use whose highest ones these are: the greatest that is not
+/// above both.
+pub fn agree(guest: Version, host: Version) -> Version
+    requires guest { IsVersion guest.0 }
+    requires host { IsVersion host.0 }
+    ensures version { IsVersion result.0 }
+    ensures within { (result.0 ≤ guest.0) × (result.0 ≤ host.0) }
+    ensures greatest { All (λ u. u ≤ guest.0 → u ≤ host.0 → u ≤ result.0) versions }
+{
+    if guest.0 <= host.0 { guest } else { host }
+}

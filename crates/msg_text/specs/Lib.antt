@@ -1,0 +1,7 @@
+pub mod Runs
+pub mod Pieces
+pub mod Names
+pub mod Text
+pub mod Output
+pub mod Shown
+pub mod Prints

@@ -1,0 +1,14 @@
+//! Lines of hexadecimal digits, printed as the control messages that they are.
+#![tactic(auto)]
+
+mod field;
+mod input;
+mod line;
+mod message;
+mod push;
+mod run;
+mod shown;
+#[cfg(test)]
+mod tests;
+
+pub use input::decode_text;

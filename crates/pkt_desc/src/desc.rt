@@ -1,0 +1,35 @@
+//! What a packet's descriptor says, and why words aren't a packet.
+
+/// A packet's descriptor (Linux 6.12, `include/linux/hyperv.h`, struct vmpacket_descriptor).
+#[derive(Clone, Copy, Debug, PartialEq, Eq)]
+pub struct Desc {
+    /// The type: 6 is in-band data, 11 is a completion (`VM_PKT_DATA_INBAND`, `VM_PKT_COMP`).
+    pub kind: u16,
+    /// Where the payload begins, in units of 8 bytes.
+    pub offset8: u16,
+    /// The length of the packet without its trailer, in units of 8 bytes.
+    pub len8: u16,
+    /// Bit 0 asks for a completion.
+    pub flags: u16,
+    /// The transaction's id; 0 is unsolicited. A completion has its request's.
+    pub tid: u64,
+}
+
+/// Why words aren't a packet.
+#[derive(Clone, Copy, Debug, PartialEq, Eq)]
+pub enum PacketFault {
+    /// The length isn't the number of words.
+    Length {
+        /// The length that the descriptor gives, in words.
+        len8: u16,
+        /// The number of words.
+        have: u64,
+    },
+    /// The payload begins in the descriptor, or past the end.
+    Offset {
+        /// Where the payload begins, in words.
+        offset8: u16,
+        /// The length that the descriptor gives, in words.
+        len8: u16,
+    },
+}

@@ -1,0 +1,502 @@
+-- What a driver keeps from step to step, and what it leaves.
+use Rattle.std.proofs.Common.{◌≡◌, ◌≢◌, ℕ, suc, zero, ◌+◌, ◌-◌, ◌<◌, ◌≤◌, Bool, true, false, cond, List, [], ◌∷◌, ◌++◌, length, take, set, Option, Some, None, refl, sym, ap, ◌∙◌, subst, inl, inr, ◌==◌, ◌*◌, arith, length-set, length-append}
+use Rattle.std.specs.Prelude.{slice_index}
+use Rattle.std.proofs.lemmas.List.{length-take-le}
+use Rattle.chan_run.specs.declared.event.Event.{Event}
+use Rattle.chan_run.specs.declared.event.Event.TheVariants.{Got as GotEvent}
+use Rattle.ring_core.specs.declared.machine.Stage.{Stage}
+use Rattle.ring_core.specs.declared.machine.Stage.TheVariants.{Idle, Stopped, SendRead, SendCell, SendWrite, SendMask, TakeWrite, TakeFirst, TakeCell, CommitRead, ArmPending, ArmMask, PollSignal, MarkStore, PeerMark}
+use Rattle.ring_core.specs.declared.machine.Ending.{Ending}
+use Rattle.ring_core.specs.declared.machine.Ending.TheVariants.{Fresh, SentQuiet, SentRaised, Full, BadPeer, Took, Empty, BadIndex, BadLength, BadOffset, CommittedQuiet, CommittedRaised, FellAsleep, FoundWork, NoSignal, Woke, Marked, PeerMarkDown, PeerMarkUp}
+use Rattle.ring_core.specs.declared.machine.Machine.{Machine}
+use Rattle.ring_core.specs.declared.state.EndState.{EndState}
+use Rattle.ring_core.specs.declared.place.Op.{Op}
+use Rattle.ring_core.specs.Places.{ahead, len8_of, offset8_of}
+use Rattle.ring_core.specs.Steps.{IsSound, fed, fed_at, next_of, is_busy_at, is_copying_at, is_sent, is_took, is_broken, call_at, call_by, made_at, send_begun, take_begun, commit_begun, arm_begun, poll_begun, mark_begun, peer_mark_begun}
+use Rattle.ring_core.specs.Loops.{is_storing_at, is_writing_at, is_masking_at, is_first_at, is_loading_at, is_unseen_at, is_polling_at, is_opening_at, Starts}
+use Rattle.ring_core.specs.States.{IsPacket, Gets, kept_at, copied_at, copied_after, sent_after, sent_while, got_after, past_after, past_while, past_by, sent_by, got_by, past_by_ending, past_of, stored, after, afters, entered, resting, shown, IsAwake, Begins, Continues}
+use Rattle.ring_core.specs.Endings.{Leaves, LeavesBy, is_committed, is_dozed, is_marked}
+use Rattle.ring_core.specs.Told.{Memory, pair, step, step_by, run, memory_after, answer_of, Ran, Left}
+use Rattle.ring_core.proofs.Sound.{at_cond, fed_made, fed_sound, no_true}
+use Rattle.ring_core.proofs.Tables.{copied_by, fed_cells, busy_next, Lists, lists_by, Moves, moves_by, w_at, r_at, s_at, a_at, k_at, write_at, read_at, start_at, asleep_at, marked_at, Form, is_formed, form_by}
+
+-- what holds at the first step of a call
+record Opens (st : Stage) : Type 0 where
+  busy : is_busy_at st ≡ true
+  sent : (ps : List (List ℕ)) (p : List ℕ) → sent_while st ps p ≡ ps
+  past : (m : Machine) (es : List (Event (List ℕ))) (p : List ℕ) → past_while st m es p ≡ es
+  write : (how : Ending) (b : Machine) (n : ℕ) → write_at st how b n ≡ b.write
+  read : (how : Ending) (b : Machine) (n : ℕ) → read_at st how b n ≡ b.read
+  start : (how : Ending) (b : Machine) → start_at st how b ≡ b.start
+  asleep : (how : Ending) → asleep_at st how ≡ is_polling_at st
+  marked : (how : Ending) → marked_at st how ≡ false
+  formed : (how : Ending) → is_formed st how ≡ false
+
+opens : (st : Stage) → is_opening_at st ≡ true → Opens st
+opens SendRead h = record { busy = refl; sent = λ ps p. refl; past = λ m es p. refl; write = λ how b n. refl; read = λ how b n. refl; start = λ how b. refl; asleep = λ how. refl; marked = λ how. refl; formed = λ how. refl }
+opens TakeWrite h = record { busy = refl; sent = λ ps p. refl; past = λ m es p. refl; write = λ how b n. refl; read = λ how b n. refl; start = λ how b. refl; asleep = λ how. refl; marked = λ how. refl; formed = λ how. refl }
+opens CommitRead h = record { busy = refl; sent = λ ps p. refl; past = λ m es p. refl; write = λ how b n. refl; read = λ how b n. refl; start = λ how b. refl; asleep = λ how. refl; marked = λ how. refl; formed = λ how. refl }
+opens ArmPending h = record { busy = refl; sent = λ ps p. refl; past = λ m es p. refl; write = λ how b n. refl; read = λ how b n. refl; start = λ how b. refl; asleep = λ how. refl; marked = λ how. refl; formed = λ how. refl }
+opens ArmMask h = record { busy = refl; sent = λ ps p. refl; past = λ m es p. refl; write = λ how b n. refl; read = λ how b n. refl; start = λ how b. refl; asleep = λ how. refl; marked = λ how. refl; formed = λ how. refl }
+opens PollSignal h = record { busy = refl; sent = λ ps p. refl; past = λ m es p. refl; write = λ how b n. refl; read = λ how b n. refl; start = λ how b. refl; asleep = λ how. refl; marked = λ how. refl; formed = λ how. refl }
+opens MarkStore h = record { busy = refl; sent = λ ps p. refl; past = λ m es p. refl; write = λ how b n. refl; read = λ how b n. refl; start = λ how b. refl; asleep = λ how. refl; marked = λ how. refl; formed = λ how. refl }
+opens PeerMark h = record { busy = refl; sent = λ ps p. refl; past = λ m es p. refl; write = λ how b n. refl; read = λ how b n. refl; start = λ how b. refl; asleep = λ how. refl; marked = λ how. refl; formed = λ how. refl }
+opens _ h = absurd (cc)
+
+pub opens_busy : (m : Machine) → Starts m → is_busy_at m.stage ≡ true
+opens_busy m h = (opens m.stage h.opens).busy
+
+-- an arm starts, whether it wants room or not
+pub arm_starts : (m : Machine) (want : ℕ) → m.asleep ≡ false → Starts (arm_begun m want)
+arm_starts m want awake = at_cond (λ (st : Stage). Starts (record m { stage = st; len = 0; done = 0; want = want; saw = false })) (want == 0) _ _
+    (λ _. record { opens = refl; asleep = awake; unseen = λ _. refl })
+    (λ _. record { opens = refl; asleep = awake; unseen = λ _. refl })
+
+moves_first : (m : Machine) → IsSound m → Starts m → Moves m m
+moves_first m s h =
+    let o = opens m.stage h.opens in
+    record {
+      cells = refl;
+      side = refl;
+      write = sym (o.write m.ended m m.len);
+      read = sym (o.read m.ended m m.len);
+      start = sym (o.start m.ended m);
+      asleep = h.asleep ∙ sym (o.asleep m.ended);
+      marked = s.unmarked o.busy ∙ sym (o.marked m.ended);
+      unseen = h.unseen;
+    }
+
+none_some : {A : Type 0} {x : A} → None ≡ Some x → ⊥
+none_some e = cc
+
+still : (st : Stage) (xs : List ℕ) → is_busy_at st ≡ false → copied_at st xs ≡ []
+still Idle xs n = refl
+still Stopped xs n = refl
+still _ xs n = absurd (cc)
+
+pub record Going (base : EndState) (told told' : Option EndState) (memory memory' : Option Memory) (m : Machine) (p buf : List ℕ) : Type 0 where
+  pub values : List ℕ
+  pub state : EndState
+  pub is_after : state ≡ afters base values
+  pub few : length values ≤ made_at m.stage m
+  pub machine : state.machine ≡ m
+  pub packet : state.packet ≡ kept_at m.stage p
+  pub copied : state.copied ≡ copied_at m.stage (take m.done buf)
+  pub wide : length buf ≡ m.cells
+  pub lists : Lists (call_at base.machine.stage) base.sent base.got base.past p m buf state.sent state.got state.past
+  pub moves : Moves base.machine m
+  pub form : is_formed m.stage m.ended ≡ true → Form m.len buf
+  pub silent : told ≡ None → told' ≡ None
+  pub tells : (u : EndState) → told ≡ Some u → is_busy_at m.stage ≡ true → (s : EndState) × (told' ≡ Some s) × Continues s m p × (entered s m p ≡ state)
+  pub ends : (u : EndState) → told ≡ Some u → is_busy_at m.stage ≡ false → (told' ≡ Some state) × (m.stage ≢ Stopped)
+  pub runs : (k : Memory) → memory ≡ Some k → (k' : Memory) × (memory' ≡ Some k') × (run (length values) (pair base k) ≡ pair state k')
+
+pub going_first : (told : Option EndState) (memory : Option Memory) (m : Machine) (p buf : List ℕ) (sent got : List (List ℕ)) (past : List (Event (List ℕ))) → length buf ≡ m.cells → IsSound m → Starts m
+    → ((s : EndState) → told ≡ Some s → Continues s m p × (entered s m p ≡ shown m p buf sent got past)) → Going (shown m p buf sent got past) told told memory memory m p buf
+going_first told memory m p buf sent got past w s h may =
+    let o = opens m.stage h.opens in
+    record {
+      values = [];
+      state = shown m p buf sent got past;
+      is_after = refl;
+      few = omega arith;
+      machine = refl;
+      packet = sym (ap (λ (t : Bool). cond t p []) o.busy);
+      copied = refl;
+      wide = w;
+      lists = record { busy = λ _. (refl, sym (o.sent sent p), refl, sym (o.past m past p)); ended = λ n. absurd (no_true n o.busy) };
+      moves = moves_first m s h;
+      form = λ f. absurd (no_true (o.formed m.ended) f);
+      silent = λ q. q;
+      tells = λ u e b. (u, e, (may u e).0, (may u e).1);
+      ends = λ u e n. absurd (no_true n o.busy);
+      runs = λ k e. (k, e, refl);
+    }
+
+module _ (base : EndState) (told told' told'' : Option EndState) (memory memory' memory'' : Option Memory) (m : Machine) (p buf : List ℕ) (v : ℕ)
+    (s : IsSound m) (b : is_busy_at m.stage ≡ true) (it : Going base told told' memory memory' m p buf)
+    (quiet : told' ≡ None → told'' ≡ None)
+    (tells : (u : EndState) → told' ≡ Some u → (told'' ≡ Some (after (entered u m p) v)) × ((fed m v).stage ≢ Stopped))
+    (runs : (k : Memory) (op : Op) → memory' ≡ Some k → next_of m p ≡ Some op → (memory'' ≡ Some (memory_after m.cells op k)) × (v ≡ answer_of m.cells op k)) where
+  same_packet : it.state.packet ≡ p
+  same_packet = it.packet ∙ ap (λ (t : Bool). cond t p []) b
+
+  next_told : (u : EndState) → told ≡ Some u → (told'' ≡ Some (after it.state v)) × ((fed m v).stage ≢ Stopped)
+  next_told u e =
+      let t = it.tells u e b in
+      let r = tells t.0 t.1 in
+      (subst (λ (x : EndState). told'' ≡ Some (after x v)) t.3 r.0, r.1)
+
+  next_copied : (after it.state v).copied ≡ copied_at (fed m v).stage (take (fed m v).done (stored (is_copying_at m.stage) buf m.done v))
+  next_copied =
+      ap (λ (k : Machine). copied_after k.stage (fed k v) it.state.copied v) it.machine
+      ∙ (ap (λ (xs : List ℕ). copied_after m.stage (fed m v) xs v) it.copied ∙ copied_by m v buf s it.wide m.stage refl)
+
+  next_sent : sent_after m.stage (sent_while m.stage base.sent p) p ≡ (after it.state v).sent
+  next_sent =
+      ap (λ (x : List (List ℕ)). sent_after m.stage x p) (sym (it.lists.busy b).1)
+      ∙ (ap (λ (x : List ℕ). sent_after m.stage it.state.sent x) (sym same_packet) ∙ ap (λ (k : Machine). sent_after k.stage it.state.sent it.state.packet) (sym it.machine))
+
+  next_got : got_after m.stage m base.got (copied_at m.stage (take m.done buf)) v ≡ (after it.state v).got
+  next_got =
+      ap (λ (x : List (List ℕ)). got_after m.stage m x (copied_at m.stage (take m.done buf)) v) (sym (it.lists.busy b).2)
+      ∙ (ap (λ (x : List ℕ). got_after m.stage m it.state.got x v) (sym it.copied) ∙ ap (λ (k : Machine). got_after k.stage k it.state.got it.state.copied v) (sym it.machine))
+
+  next_past : past_after m.stage m (past_while m.stage m base.past p) p (copied_at m.stage (take m.done buf)) v ≡ (after it.state v).past
+  next_past =
+      ap (λ (x : List (Event (List ℕ))). past_after m.stage m x p (copied_at m.stage (take m.done buf)) v) (sym (it.lists.busy b).3)
+      ∙ (ap (λ (x : List ℕ). past_after m.stage m it.state.past x (copied_at m.stage (take m.done buf)) v) (sym same_packet)
+      ∙ (ap (λ (x : List ℕ). past_after m.stage m it.state.past it.state.packet x v) (sym it.copied)
+      ∙ ap (λ (k : Machine). past_after k.stage k it.state.past it.state.packet it.state.copied v) (sym it.machine)))
+
+  next_lists : Lists (call_at base.machine.stage) base.sent base.got base.past p (fed m v) (stored (is_copying_at m.stage) buf m.done v) (after it.state v).sent (after it.state v).got (after it.state v).past
+  next_lists =
+      let buf' : List ℕ = stored (is_copying_at m.stage) buf m.done v in
+      let one : Lists (call_at m.stage) base.sent base.got base.past p (fed m v) buf' (sent_after m.stage (sent_while m.stage base.sent p) p) (got_after m.stage m base.got (copied_at m.stage (take m.done buf)) v) (past_after m.stage m (past_while m.stage m base.past p) p (copied_at m.stage (take m.done buf)) v) =
+      lists_by base.sent base.got base.past p m buf v s it.wide it.moves.unseen m.stage refl b in
+      let two : Lists (call_at base.machine.stage) base.sent base.got base.past p (fed m v) buf' (sent_after m.stage (sent_while m.stage base.sent p) p) (got_after m.stage m base.got (copied_at m.stage (take m.done buf)) v) (past_after m.stage m (past_while m.stage m base.past p) p (copied_at m.stage (take m.done buf)) v) =
+      subst (λ (n : ℕ). Lists n base.sent base.got base.past p (fed m v) buf' (sent_after m.stage (sent_while m.stage base.sent p) p) (got_after m.stage m base.got (copied_at m.stage (take m.done buf)) v) (past_after m.stage m (past_while m.stage m base.past p) p (copied_at m.stage (take m.done buf)) v)) (it.lists.busy b).0 one in
+      let three : Lists (call_at base.machine.stage) base.sent base.got base.past p (fed m v) buf' (after it.state v).sent (got_after m.stage m base.got (copied_at m.stage (take m.done buf)) v) (past_after m.stage m (past_while m.stage m base.past p) p (copied_at m.stage (take m.done buf)) v) =
+      subst (λ (x : List (List ℕ)). Lists (call_at base.machine.stage) base.sent base.got base.past p (fed m v) buf' x (got_after m.stage m base.got (copied_at m.stage (take m.done buf)) v) (past_after m.stage m (past_while m.stage m base.past p) p (copied_at m.stage (take m.done buf)) v)) next_sent two in
+      let four : Lists (call_at base.machine.stage) base.sent base.got base.past p (fed m v) buf' (after it.state v).sent (after it.state v).got (past_after m.stage m (past_while m.stage m base.past p) p (copied_at m.stage (take m.done buf)) v) =
+      subst (λ (x : List (List ℕ)). Lists (call_at base.machine.stage) base.sent base.got base.past p (fed m v) buf' (after it.state v).sent x (past_after m.stage m (past_while m.stage m base.past p) p (copied_at m.stage (take m.done buf)) v)) next_got three in
+      subst (λ (x : List (Event (List ℕ))). Lists (call_at base.machine.stage) base.sent base.got base.past p (fed m v) buf' (after it.state v).sent (after it.state v).got x) next_past four
+
+  next_wide : length (stored (is_copying_at m.stage) buf m.done v) ≡ (fed m v).cells
+  next_wide = at_cond (λ (xs : List ℕ). length xs ≡ (fed m v).cells) (is_copying_at m.stage) _ _
+      (λ _. length-set buf m.done v ∙ (it.wide ∙ sym (fed_cells m v m.stage)))
+      (λ _. it.wide ∙ sym (fed_cells m v m.stage))
+
+  next_packet : (after it.state v).packet ≡ kept_at (fed m v).stage p
+  next_packet = ap (λ (k : Machine). kept_at (fed k v).stage it.state.packet) it.machine ∙ ap (kept_at (fed m v).stage) same_packet
+
+  next_run : (k : Memory) → memory ≡ Some k → (k' : Memory) × (memory'' ≡ Some k') × (run (suc (length it.values)) (pair base k) ≡ pair (after it.state v) k')
+  next_run k e =
+      let r = it.runs k e in
+      let o = busy_next m p m.stage b in
+      let t = runs r.0 o.0 r.1 o.1 in
+      let named : next_of it.state.machine it.state.packet ≡ Some o.0 = ap (λ (q : Machine). next_of q it.state.packet) it.machine ∙ (ap (next_of m) same_packet ∙ o.1) in
+      let d : it.state.machine.cells ≡ m.cells = ap (λ (q : Machine). q.cells) it.machine in (
+        memory_after m.cells o.0 r.0,
+        t.0,
+        ap step r.2
+            ∙ (ap (λ (x : Option Op). step_by x (pair it.state r.0)) named
+            ∙ (ap (λ (n : ℕ). pair (after it.state (answer_of n o.0 r.0)) (memory_after n o.0 r.0)) d
+            ∙ ap (λ (w : ℕ). pair (after it.state w) (memory_after m.cells o.0 r.0)) (sym t.1))),
+      )
+
+  pub going_on : Going base told told'' memory memory'' (fed m v) p (stored (is_copying_at m.stage) buf m.done v)
+  going_on = record {
+    values = v ∷ it.values;
+    state = after it.state v;
+    is_after = ap (λ (x : EndState). after x v) it.is_after;
+    few = (let n = fed_made m v s b in omega (arith, it.few));
+    machine = ap (λ (k : Machine). fed k v) it.machine;
+    packet = next_packet;
+    copied = next_copied;
+    wide = next_wide;
+    lists = next_lists;
+    moves = moves_by base.machine m v it.moves m.stage refl b;
+    form = form_by m buf v s it.wide it.form m.stage refl b;
+    silent = λ h. quiet (it.silent h);
+    tells = λ u e b'.
+        let packet : p ≡ (after it.state v).packet = sym (next_packet ∙ ap (λ (t : Bool). cond t p []) b') in (
+          after it.state v,
+          (next_told u e).0,
+          inl (sym (ap (λ (k : Machine). fed k v) it.machine), packet),
+          λ i. record { machine = sym (ap (λ (k : Machine). fed k v) it.machine) i; packet = packet i; copied = (after it.state v).copied; sent = (after it.state v).sent; got = (after it.state v).got; past = (after it.state v).past },
+        );
+    ends = λ u e n. next_told u e;
+    runs = next_run;
+  }
+
+-- what the seat asks at the next step
+pub going_asks : (base : EndState) (told told' : Option EndState) (memory memory' : Option Memory) (m : Machine) (p buf : List ℕ) → Going base told told' memory memory' m p buf → is_busy_at m.stage ≡ true
+    → (s : EndState) → told' ≡ Some s → Continues s m p
+going_asks base None told' memory memory' m p buf it b s e = absurd (none_some (sym (it.silent refl) ∙ e))
+going_asks base (Some u) told' memory memory' m p buf it b s e =
+    let t = it.tells u refl b in
+    let same : t.0 ≡ s = cc in
+    subst (λ (x : EndState). Continues x m p) same t.2
+
+rested : (t : EndState) (m : Machine) (sent got : List (List ℕ)) (past : List (Event (List ℕ))) → t.machine ≡ m → t.packet ≡ [] → t.copied ≡ [] → t.sent ≡ sent → t.got ≡ got → t.past ≡ past → t ≡ resting m sent got past
+rested t m sent got past a b c d e f = λ i. record { machine = a i; packet = b i; copied = c i; sent = d i; got = e i; past = f i }
+
+left_by : (base : EndState) (told told' : Option EndState) (memory memory' : Option Memory) (m : Machine) (sent got : List (List ℕ)) (past : List (Event (List ℕ))) (t : EndState) → t ≡ resting m sent got past → Ran base t told told' memory memory' → Left base told told' memory memory' m sent got past
+left_by base None told' memory memory' m sent got past t e r = record {
+  ran = subst (λ (x : EndState). Ran base x None told' memory memory') e r;
+  told_is = λ s h. absurd (none_some (sym (r.silent refl) ∙ h));
+}
+left_by base (Some u) told' memory memory' m sent got past t e r = record {
+  ran = subst (λ (x : EndState). Ran base x (Some u) told' memory memory') e r;
+  told_is = λ s h. let same : t ≡ s = cc ((r.tells u refl).0) in sym same ∙ e;
+}
+
+-- a broken end did nothing
+broken_sent : (how : Ending) → is_broken how ≡ true → (is_sent how ≡ false) × (is_took how ≡ false) × (is_committed how ≡ false) × (is_dozed how ≡ false) × (is_marked how ≡ false)
+broken_sent BadPeer h = (refl, refl, refl, refl, refl)
+broken_sent BadIndex h = (refl, refl, refl, refl, refl)
+broken_sent BadLength h = (refl, refl, refl, refl, refl)
+broken_sent BadOffset h = (refl, refl, refl, refl, refl)
+broken_sent _ h = absurd (cc)
+
+unbroken : (x : Bool) → (x ≡ true → ⊥) → x ≡ false
+unbroken true n = absurd (n refl)
+unbroken false n = refl
+
+module _ (b m : Machine) (it : Moves b m) (s : IsSound m) where
+  leaves_at : (st : Stage) → m.stage ≡ st → is_busy_at st ≡ false → Leaves b m
+  leaves_at Idle e n =
+      let whole : is_broken m.ended ≡ false = unbroken (is_broken m.ended) (λ h. let z : Idle ≡ Stopped = sym e ∙ s.broken h in cc) in
+      record {
+        cells = it.cells;
+        side = it.side;
+        write = w_at b m 0 it Idle e;
+        read = r_at b m 0 it Idle e;
+        start = s_at b m 0 it Idle e;
+        asleep = a_at b m 0 it Idle e;
+        marked = k_at b m 0 it Idle e;
+        stage = e ∙ sym (ap (λ (x : Bool). cond x Stopped Idle) whole);
+      }
+  leaves_at Stopped e n =
+      let f = broken_sent m.ended (s.stopped e) in
+      record {
+        cells = it.cells;
+        side = it.side;
+        write = w_at b m 0 it Stopped e ∙ sym (ap (λ (x : Bool). cond x (ahead b.cells b.write (m.len + 1)) b.write) f.0);
+        read = r_at b m 0 it Stopped e ∙ sym (ap (λ (x : Bool). cond x (ahead b.cells b.read (m.len + 1)) b.read) f.1);
+        start = s_at b m 0 it Stopped e ∙ sym (ap (λ (x : Bool). cond x b.read b.start) f.2);
+        asleep = a_at b m 0 it Stopped e ∙ sym f.3;
+        marked = k_at b m 0 it Stopped e ∙ sym f.4;
+        stage = e ∙ sym (ap (λ (x : Bool). cond x Stopped Idle) (s.stopped e));
+      }
+  leaves_at _ e n = absurd (cc)
+
+formed_end : (m : Machine) → IsSound m → (st : Stage) → m.stage ≡ st → is_busy_at st ≡ false → is_took m.ended ≡ true → is_formed st m.ended ≡ true
+formed_end m s Idle e n h = h
+formed_end m s Stopped e n h = absurd (no_true (broken_sent m.ended (s.stopped e)).1 h)
+formed_end m s _ e n h = absurd (cc)
+
+first_take : (n : ℕ) (xs : List ℕ) → 0 < n → slice_index (take n xs) 0 ≡ slice_index xs 0
+first_take zero xs h = absurd (omega arith)
+first_take (suc n) [] h = refl
+first_take (suc n) (x ∷ xs) h = refl
+
+-- the words that were taken are a packet
+packet_of : (n : ℕ) (buf : List ℕ) → n ≤ length buf → Form n buf → IsPacket (take n buf)
+packet_of n buf le f =
+    let long : length (take n buf) ≡ n = length-take-le n buf le in
+    let same : slice_index (take n buf) 0 ≡ slice_index buf 0 = first_take n buf (omega (arith, f.two)) in
+    record {
+      two = omega (arith, f.two, long);
+      length_is = ap len8_of same ∙ (f.length_is ∙ sym long);
+      offset = subst (λ (x : ℕ). (2 ≤ offset8_of x) × (offset8_of x ≤ length (take n buf))) (sym same) (f.offset.0, omega (arith, f.offset.1, long));
+    }
+
+module _ (base : EndState) (told told' : Option EndState) (memory memory' : Option Memory) (m : Machine) (p buf : List ℕ) (it : Going base told told' memory memory' m p buf) (s : IsSound m) (n : is_busy_at m.stage ≡ false) where
+  pub going_calls : call_by m.ended ≡ call_at base.machine.stage
+  going_calls = (it.lists.ended n).0
+
+  pub going_leaves : Leaves base.machine m
+  going_leaves = leaves_at base.machine m it.moves s m.stage refl n
+
+  pub going_took : is_took m.ended ≡ true → IsPacket (take m.len buf)
+  going_took h = packet_of m.len buf (omega (arith, s.len, it.wide)) (it.form (formed_end m s m.stage refl n h))
+
+  pub going_ran : Left base told told' memory memory' m (sent_by m base.sent p) (got_by m base.got buf) (past_by m base.past p buf)
+  going_ran =
+      let same : it.state ≡ resting m (sent_by m base.sent p) (got_by m base.got buf) (past_by m base.past p buf) =
+      rested it.state m _ _ _ it.machine (it.packet ∙ ap (λ (t : Bool). cond t p []) n) (it.copied ∙ still m.stage (take m.done buf) n) (it.lists.ended n).1 (it.lists.ended n).2 (it.lists.ended n).3 in
+      left_by base told told' memory memory' m _ _ _ it.state same
+      (record {
+        values = it.values;
+        state = it.is_after;
+        few = subst (λ (k : Machine). length it.values ≤ made_at k.stage k) (sym it.machine) it.few;
+        silent = it.silent;
+        tells = λ u e. ((it.ends u e n).0, λ h. (it.ends u e n).1 (sym (ap (λ (k : Machine). k.stage) it.machine) ∙ h));
+        runs = it.runs;
+      })
+
+pub going_honest : (base : EndState) (told told' : Option EndState) (memory memory' : Option Memory) (m : Machine) (p buf : List ℕ) → Going base told told' memory memory' m p buf → is_busy_at m.stage ≡ false
+    → (u : EndState) → told' ≡ Some u → m.stage ≢ Stopped
+going_honest base None told' memory memory' m p buf it n u e = absurd (none_some (sym (it.silent refl) ∙ e))
+going_honest base (Some t) told' memory memory' m p buf it n u e = (it.ends t refl n).1
+
+-- the buffer stays as long as the ring
+pub stored_wide : (b : Bool) (m k : Machine) (buf buf' : List ℕ) (v : ℕ) → length buf ≡ m.cells → k ≡ fed m v → buf' ≡ stored b buf m.done v → length buf' ≡ k.cells
+stored_wide b m k buf buf' v w e is =
+    ap length is ∙ (at_cond (λ (xs : List ℕ). length xs ≡ length buf) b _ _ (λ _. length-set buf m.done v) (λ _. refl) ∙ (w ∙ (sym (fed_cells m v m.stage) ∙ ap (λ (x : Machine). x.cells) (sym e))))
+
+pub storing_busy : (st : Stage) → is_storing_at st ≡ true → is_busy_at st ≡ true
+storing_busy SendCell e = refl
+storing_busy _ e = absurd (cc)
+
+pub loading_busy : (st : Stage) → is_loading_at st ≡ true → is_busy_at st ≡ true
+loading_busy TakeCell e = refl
+loading_busy _ e = absurd (cc)
+
+pub first_busy : (st : Stage) → is_first_at st ≡ true → is_busy_at st ≡ true
+first_busy TakeFirst e = refl
+first_busy _ e = absurd (cc)
+
+pub writing_busy : (st : Stage) → is_writing_at st ≡ true → is_busy_at st ≡ true
+writing_busy SendWrite e = refl
+writing_busy _ e = absurd (cc)
+
+pub masking_busy : (st : Stage) → is_masking_at st ≡ true → is_busy_at st ≡ true
+masking_busy SendMask e = refl
+masking_busy _ e = absurd (cc)
+
+-- only a send sends, and only a take takes
+pub sent_calls : (how : Ending) → is_sent how ≡ true → call_by how ≡ 1
+sent_calls SentQuiet h = refl
+sent_calls SentRaised h = refl
+sent_calls _ h = absurd (cc)
+
+pub took_calls : (how : Ending) → is_took how ≡ true → call_by how ≡ 2
+took_calls Took h = refl
+took_calls _ h = absurd (cc)
+
+-- which calls end how
+record Called (how : Ending) : Type 0 where
+  sent : is_sent how ≡ true → call_by how ≡ 1
+  took : is_took how ≡ true → call_by how ≡ 2
+  committed : is_committed how ≡ true → call_by how ≡ 3
+  commits : call_by how ≡ 3 → is_committed how ≡ true
+  dozed : is_dozed how ≡ true → (call_by how ≡ 4 → ⊥) → (call_by how ≡ 5 → ⊥) → ⊥
+  marked : is_marked how ≡ true → call_by how ≡ 6
+  marks : call_by how ≡ 6 → is_marked how ≡ true
+  broken : is_broken how ≡ true → (call_by how ≡ 1 → ⊥) → (call_by how ≡ 2 → ⊥) → ⊥
+
+called : (how : Ending) → Called how
+called Fresh = record { sent = λ h. absurd (cc); took = λ h. absurd (cc); committed = λ h. absurd (cc); commits = λ h. absurd (omega (arith, h)); dozed = λ h x y. absurd (cc); marked = λ h. absurd (cc); marks = λ h. absurd (omega (arith, h)); broken = λ h x y. absurd (cc) }
+called SentQuiet = record { sent = λ h. refl; took = λ h. absurd (cc); committed = λ h. absurd (cc); commits = λ h. absurd (omega (arith, h)); dozed = λ h x y. absurd (cc); marked = λ h. absurd (cc); marks = λ h. absurd (omega (arith, h)); broken = λ h x y. absurd (cc) }
+called SentRaised = record { sent = λ h. refl; took = λ h. absurd (cc); committed = λ h. absurd (cc); commits = λ h. absurd (omega (arith, h)); dozed = λ h x y. absurd (cc); marked = λ h. absurd (cc); marks = λ h. absurd (omega (arith, h)); broken = λ h x y. absurd (cc) }
+called Full = record { sent = λ h. absurd (cc); took = λ h. absurd (cc); committed = λ h. absurd (cc); commits = λ h. absurd (omega (arith, h)); dozed = λ h x y. absurd (cc); marked = λ h. absurd (cc); marks = λ h. absurd (omega (arith, h)); broken = λ h x y. absurd (cc) }
+called BadPeer = record { sent = λ h. absurd (cc); took = λ h. absurd (cc); committed = λ h. absurd (cc); commits = λ h. absurd (omega (arith, h)); dozed = λ h x y. absurd (cc); marked = λ h. absurd (cc); marks = λ h. absurd (omega (arith, h)); broken = λ h x y. x refl }
+called Took = record { sent = λ h. absurd (cc); took = λ h. refl; committed = λ h. absurd (cc); commits = λ h. absurd (omega (arith, h)); dozed = λ h x y. absurd (cc); marked = λ h. absurd (cc); marks = λ h. absurd (omega (arith, h)); broken = λ h x y. absurd (cc) }
+called Empty = record { sent = λ h. absurd (cc); took = λ h. absurd (cc); committed = λ h. absurd (cc); commits = λ h. absurd (omega (arith, h)); dozed = λ h x y. absurd (cc); marked = λ h. absurd (cc); marks = λ h. absurd (omega (arith, h)); broken = λ h x y. absurd (cc) }
+called BadIndex = record { sent = λ h. absurd (cc); took = λ h. absurd (cc); committed = λ h. absurd (cc); commits = λ h. absurd (omega (arith, h)); dozed = λ h x y. absurd (cc); marked = λ h. absurd (cc); marks = λ h. absurd (omega (arith, h)); broken = λ h x y. y refl }
+called BadLength = record { sent = λ h. absurd (cc); took = λ h. absurd (cc); committed = λ h. absurd (cc); commits = λ h. absurd (omega (arith, h)); dozed = λ h x y. absurd (cc); marked = λ h. absurd (cc); marks = λ h. absurd (omega (arith, h)); broken = λ h x y. y refl }
+called BadOffset = record { sent = λ h. absurd (cc); took = λ h. absurd (cc); committed = λ h. absurd (cc); commits = λ h. absurd (omega (arith, h)); dozed = λ h x y. absurd (cc); marked = λ h. absurd (cc); marks = λ h. absurd (omega (arith, h)); broken = λ h x y. y refl }
+called CommittedQuiet = record { sent = λ h. absurd (cc); took = λ h. absurd (cc); committed = λ h. refl; commits = λ h. refl; dozed = λ h x y. absurd (cc); marked = λ h. absurd (cc); marks = λ h. absurd (omega (arith, h)); broken = λ h x y. absurd (cc) }
+called CommittedRaised = record { sent = λ h. absurd (cc); took = λ h. absurd (cc); committed = λ h. refl; commits = λ h. refl; dozed = λ h x y. absurd (cc); marked = λ h. absurd (cc); marks = λ h. absurd (omega (arith, h)); broken = λ h x y. absurd (cc) }
+called FellAsleep = record { sent = λ h. absurd (cc); took = λ h. absurd (cc); committed = λ h. absurd (cc); commits = λ h. absurd (omega (arith, h)); dozed = λ h x y. x refl; marked = λ h. absurd (cc); marks = λ h. absurd (omega (arith, h)); broken = λ h x y. absurd (cc) }
+called FoundWork = record { sent = λ h. absurd (cc); took = λ h. absurd (cc); committed = λ h. absurd (cc); commits = λ h. absurd (omega (arith, h)); dozed = λ h x y. absurd (cc); marked = λ h. absurd (cc); marks = λ h. absurd (omega (arith, h)); broken = λ h x y. absurd (cc) }
+called NoSignal = record { sent = λ h. absurd (cc); took = λ h. absurd (cc); committed = λ h. absurd (cc); commits = λ h. absurd (omega (arith, h)); dozed = λ h x y. y refl; marked = λ h. absurd (cc); marks = λ h. absurd (omega (arith, h)); broken = λ h x y. absurd (cc) }
+called Woke = record { sent = λ h. absurd (cc); took = λ h. absurd (cc); committed = λ h. absurd (cc); commits = λ h. absurd (omega (arith, h)); dozed = λ h x y. absurd (cc); marked = λ h. absurd (cc); marks = λ h. absurd (omega (arith, h)); broken = λ h x y. absurd (cc) }
+called Marked = record { sent = λ h. absurd (cc); took = λ h. absurd (cc); committed = λ h. absurd (cc); commits = λ h. absurd (omega (arith, h)); dozed = λ h x y. absurd (cc); marked = λ h. refl; marks = λ h. refl; broken = λ h x y. absurd (cc) }
+called PeerMarkDown = record { sent = λ h. absurd (cc); took = λ h. absurd (cc); committed = λ h. absurd (cc); commits = λ h. absurd (omega (arith, h)); dozed = λ h x y. absurd (cc); marked = λ h. absurd (cc); marks = λ h. absurd (omega (arith, h)); broken = λ h x y. absurd (cc) }
+called PeerMarkUp = record { sent = λ h. absurd (cc); took = λ h. absurd (cc); committed = λ h. absurd (cc); commits = λ h. absurd (omega (arith, h)); dozed = λ h x y. absurd (cc); marked = λ h. absurd (cc); marks = λ h. absurd (omega (arith, h)); broken = λ h x y. absurd (cc) }
+
+module _ (b m : Machine) (h : Leaves b m) (n : ℕ) (call : call_by m.ended ≡ n) where
+  all : Called m.ended
+  all = called m.ended
+
+  by_call : {k : ℕ} → call_by m.ended ≡ k → n ≡ k
+  by_call e = sym call ∙ e
+
+  pub leaves_by : IsSound m → LeavesBy n b m
+  leaves_by s = record {
+    awake = λ x y. h.asleep ∙ unbroken (is_dozed m.ended) (λ d. all.dozed d (λ e. x (by_call e)) (λ e. y (by_call e)));
+    unmarked = λ x. h.marked ∙ unbroken (is_marked m.ended) (λ d. x (by_call (all.marked d)));
+    marked = λ e. h.marked ∙ all.marks (call ∙ e);
+    idle = λ x y. h.stage ∙ ap (λ (t : Bool). cond t Stopped Idle) (unbroken (is_broken m.ended) (λ d. all.broken d (λ e. x (by_call e)) (λ e. y (by_call e))));
+    write = λ x. h.write ∙ ap (λ (t : Bool). cond t (ahead b.cells b.write (m.len + 1)) b.write) (unbroken (is_sent m.ended) (λ d. x (by_call (all.sent d))));
+    read = λ x. h.read ∙ ap (λ (t : Bool). cond t (ahead b.cells b.read (m.len + 1)) b.read) (unbroken (is_took m.ended) (λ d. x (by_call (all.took d))));
+    start = λ x. h.start ∙ ap (λ (t : Bool). cond t b.read b.start) (unbroken (is_committed m.ended) (λ d. x (by_call (all.committed d))));
+    committed = λ e.
+        let no_take : is_took m.ended ≡ false = unbroken (is_took m.ended) (λ d. let z : 3 ≡ 2 = sym (call ∙ e) ∙ all.took d in absurd (omega (arith, z))) in
+        h.start ∙ (ap (λ (t : Bool). cond t b.read b.start) (all.commits (call ∙ e)) ∙ sym (h.read ∙ ap (λ (t : Bool). cond t (ahead b.cells b.read (m.len + 1)) b.read) no_take));
+    untaken = λ x. unbroken (is_took m.ended) (λ d. x (by_call (all.took d)));
+    whole = λ e. unbroken (is_broken m.ended) (λ d. let z : Idle ≡ Stopped = sym e ∙ s.broken d in cc);
+  }
+
+-- only a take changes the past by the words in its buffer
+pub past_other : (how : Ending) (m : Machine) (past : List (Event (List ℕ))) (p buf : List ℕ) → is_took how ≡ false → past_by_ending how m past p buf ≡ past_of how m.saw p past
+past_other Fresh m past p buf n = refl
+past_other SentQuiet m past p buf n = refl
+past_other SentRaised m past p buf n = refl
+past_other Full m past p buf n = refl
+past_other BadPeer m past p buf n = refl
+past_other Took m past p buf n = absurd (cc)
+past_other Empty m past p buf n = refl
+past_other BadIndex m past p buf n = refl
+past_other BadLength m past p buf n = refl
+past_other BadOffset m past p buf n = refl
+past_other CommittedQuiet m past p buf n = refl
+past_other CommittedRaised m past p buf n = refl
+past_other FellAsleep m past p buf n = refl
+past_other FoundWork m past p buf n = refl
+past_other NoSignal m past p buf n = refl
+past_other Woke m past p buf n = refl
+past_other Marked m past p buf n = refl
+past_other PeerMarkDown m past p buf n = refl
+past_other PeerMarkUp m past p buf n = refl
+
+pub past_took : (how : Ending) (m : Machine) (past : List (Event (List ℕ))) (p buf : List ℕ) → is_took how ≡ true → past_by_ending how m past p buf ≡ GotEvent (take m.len buf) ∷ past
+past_took Took m past p buf h = refl
+past_took _ m past p buf h = absurd (cc)
+
+-- an end that makes no call is idle or stopped
+pub rests_at : (st : Stage) → is_busy_at st ≡ false → st ≢ Stopped → st ≡ Idle
+rests_at Idle n h = refl
+rests_at Stopped n h = absurd (h refl)
+rests_at _ n h = absurd (cc)
+
+-- the calls that an end can begin, as its seat asks for them
+module _ (s : EndState) (m : Machine) (sent got : List (List ℕ)) (past : List (Event (List ℕ))) (buf : List ℕ) (is : s ≡ resting m sent got past) (idle : m.stage ≡ Idle) where
+  -- where the call begins from the state that the seat tells
+  at_rest : (k : Machine) (p : List ℕ) → Begins (resting m sent got past) k p → copied_at k.stage (take k.done buf) ≡ [] → Continues s k p × (entered s k p ≡ shown k p buf sent got past)
+  at_rest k p b none = (
+    subst (λ (x : EndState). Continues x k p) (sym is) (inr b),
+    ap (λ (x : EndState). entered x k p) is ∙ (λ i. record { machine = k; packet = p; copied = sym none i; sent = sent; got = got; past = past }),
+  )
+
+  module _ (awake : m.asleep ≡ false) (unmarked : m.marked ≡ false) where
+    wakes : IsAwake (resting m sent got past)
+    wakes = record { idle = idle; awake = awake; unmarked = unmarked }
+
+    pub begins_send : (p : List ℕ) → IsPacket p → length p + 1 < m.cells → Continues s (send_begun m (length p)) p × (entered s (send_begun m (length p)) p ≡ shown (send_begun m (length p)) p buf sent got past)
+    begins_send p is_packet small = at_rest _ p (refl, inl (refl, is_packet, small, wakes)) refl
+
+    pub begins_take : Continues s (take_begun m) [] × (entered s (take_begun m) [] ≡ shown (take_begun m) [] buf sent got past)
+    begins_take = at_rest _ [] (refl, inr (inl (refl, refl, wakes))) refl
+
+    pub begins_commit : Continues s (commit_begun m) [] × (entered s (commit_begun m) [] ≡ shown (commit_begun m) [] buf sent got past)
+    begins_commit = at_rest _ [] (refl, inr (inr (inl (refl, refl, wakes)))) refl
+
+    pub begins_arm : (want : ℕ) → want < 8 * m.cells → m.start ≡ m.read → Continues s (arm_begun m want) [] × (entered s (arm_begun m want) [] ≡ shown (arm_begun m want) [] buf sent got past)
+    begins_arm want small same = at_rest _ [] (refl, inr (inr (inr (inl (want, refl, small, refl, wakes, same))))) (at_cond (λ (st : Stage). copied_at st [] ≡ []) (want == 0) _ _ (λ _. refl) (λ _. refl))
+
+    pub begins_mark : Continues s (mark_begun m) [] × (entered s (mark_begun m) [] ≡ shown (mark_begun m) [] buf sent got past)
+    begins_mark = at_rest _ [] (refl, inr (inr (inr (inr (inr (inl (refl, refl, wakes))))))) refl
+
+    pub begins_peer_mark : Continues s (peer_mark_begun m) [] × (entered s (peer_mark_begun m) [] ≡ shown (peer_mark_begun m) [] buf sent got past)
+    begins_peer_mark = at_rest _ [] (refl, inr (inr (inr (inr (inr (inr (refl, refl, wakes))))))) refl
+
+  pub begins_poll : m.asleep ≡ true → Continues s (poll_begun m) [] × (entered s (poll_begun m) [] ≡ shown (poll_begun m) [] buf sent got past)
+  begins_poll asleep = at_rest _ [] (refl, inr (inr (inr (inr (inl (refl, refl, idle, asleep)))))) refl
+
+-- an answer that is no refusal
+pub ok_took : {E : Type 0} (b : Bool) (r : Option E) (x : E) → r ≡ cond b None (Some x) → r ≡ None → b ≡ true
+ok_took true r x e h = refl
+ok_took false r x e h = absurd (none_some (sym h ∙ e))
+
+snoc_last : (xs ys : List (List ℕ)) (x y : List ℕ) → xs ++ x ∷ [] ≡ ys ++ y ∷ [] → x ≡ y
+snoc_last [] [] x y e = cc
+snoc_last [] (z ∷ zs) x y e = absurd (omega (arith, ap length e, length-append zs (y ∷ [])))
+snoc_last (w ∷ ws) [] x y e = absurd (omega (arith, ap length e, length-append ws (x ∷ [])))
+snoc_last (w ∷ ws) (z ∷ zs) x y e = let t : ws ++ x ∷ [] ≡ zs ++ y ∷ [] = cc in snoc_last ws zs x y t
+
+-- a take that gets a packet leaves a list that isn't empty, and the words that stand last in it are the packet
+pub got_some : (n : ℕ) (got got' : List (List ℕ)) (past past' : List (Event (List ℕ))) → Gets n got got' past past' → 0 < length got'
+got_some n got got' past past' g = omega (arith, ap length g.list, length-append got (g.words ∷ []))
+
+pub lent : (n : ℕ) (got got' : List (List ℕ)) (past past' : List (Event (List ℕ))) (w : List ℕ) → Gets n got got' past past' → got' ≡ take (length got' - 1) got' ++ w ∷ [] → IsPacket w × (length w ≡ n) × (got' ≡ got ++ w ∷ [])
+lent n got got' past past' w g e =
+    let same : g.words ≡ w = snoc_last got (take (length got' - 1) got') g.words w (sym g.list ∙ e) in (
+      subst IsPacket same g.packet,
+      subst (λ (x : List ℕ). length x ≡ n) same g.size,
+      subst (λ (x : List ℕ). got' ≡ got ++ x ∷ []) same g.list,
+    )

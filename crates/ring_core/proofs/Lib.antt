@@ -1,0 +1,5 @@
+pub mod Sound
+pub mod CutLaws
+pub mod Tables
+pub mod Driving
+pub mod Bounds

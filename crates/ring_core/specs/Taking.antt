@@ -1,0 +1,43 @@
+-- What a take leaves.
+use Rattle.std.specs.Prelude.{◌≡◌, ◌+◌, ◌≤◌, ◌<◌, ℕ, Bool, true, false, cond, List, [], ◌∷◌, ◌++◌, length, Option, Some, None, Result, Ok, Err}
+use Rattle.ring_core.specs.declared.last.TakeRefusal.{TakeRefusal}
+use Rattle.ring_core.specs.declared.last.TakeRefusal.TheVariants.{Stopped as StoppedTake}
+use Rattle.ring_core.specs.declared.machine.Stage.TheVariants.{Idle, Stopped}
+use Rattle.ring_core.specs.declared.state.EndState.{EndState}
+use Rattle.ring_core.specs.Steps.{is_took, call_by, take_begun}
+use Rattle.ring_core.specs.States.{Gets, entered, past_of}
+use Rattle.ring_core.specs.Endings.{Leaves, LeavesBy, why_of, take_refusal, is_empty_refusal}
+use Rattle.ring_core.specs.Told.{Memory, Ran}
+use Rattle.ring_core.specs.Seen.{Seen}
+
+-- the refusal, where there is one
+abbrev pub refused : {T E : Type 0} → Result T E → Option E
+refused (Ok _) = None
+refused (Err e) = Some e
+
+-- a refusal that an honest peer can cause, or none
+abbrev pub is_honest_take : Option TakeRefusal → Bool
+is_honest_take None = true
+is_honest_take (Some r) = is_empty_refusal r
+
+-- a take of an end that isn't stopped
+pub record TakesIdle (S : Type 0) (told : S → Option EndState) (memory : S → Option Memory) (old new : Seen S) (refusal : Option TakeRefusal) : Type 0 where
+  pub ran : Ran (entered old.state (take_begun old.state.machine) []) new.state (told old.seat) (told new.seat) (memory old.seat) (memory new.seat)
+  pub answer : refusal ≡ cond (is_took new.state.machine.ended) None (Some (take_refusal new.state.machine.ended new.state.machine))
+  pub call : call_by new.state.machine.ended ≡ 2
+  pub leaves : Leaves old.state.machine new.state.machine
+  pub after : LeavesBy 2 old.state.machine new.state.machine
+  pub took : is_took new.state.machine.ended ≡ true → Gets new.state.machine.len old.state.got new.state.got old.state.past new.state.past
+  pub refused : is_took new.state.machine.ended ≡ false → (new.state.got ≡ old.state.got) × (new.state.past ≡ past_of new.state.machine.ended new.state.machine.saw [] old.state.past) × (new.spare_got ≡ old.spare_got)
+
+-- What a take leaves: a stopped end refuses, and nothing is changed. Where the seat tells the end's state, the answer is a packet, or that there is none
+pub record Takes (S : Type 0) (told : S → Option EndState) (memory : S → Option Memory) (same : S → S → Type 0) (old new : Seen S) (refusal : Option TakeRefusal) : Type 0 where
+  pub idle : old.state.machine.stage ≡ Idle → TakesIdle S told memory old new refusal
+  pub stopped : old.state.machine.stage ≡ Stopped → (refusal ≡ Some (StoppedTake (why_of old.state.machine))) × (new ≡ old)
+  pub honest : (s : EndState) → told old.seat ≡ Some s → (old.state.machine.stage ≡ Idle) × (new.state.machine.stage ≡ Idle) × (is_honest_take refusal ≡ true)
+  pub same_seat : same old.seat new.seat
+  pub cells : new.state.machine.cells ≡ old.state.machine.cells
+  pub side : new.state.machine.side ≡ old.state.machine.side
+  pub kept : (new.state.sent ≡ old.state.sent) × (new.spare_sent ≡ old.spare_sent)
+  pub awake : (new.state.machine.asleep ≡ false) × (new.state.machine.marked ≡ false)
+  pub room : (old.spare_got.packets ≤ new.spare_got.packets + 1) × (old.spare_got.words ≤ new.spare_got.words + new.state.machine.len)

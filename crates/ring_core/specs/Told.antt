@@ -1,0 +1,116 @@
+-- A told memory: its words, the steps made, and the changes that are still due. And a call of an end on it.
+use Rattle.std.specs.Prelude.{◌≡◌, ◌≢◌, ◌≤◌, ℕ, zero, suc, ◌+◌, ◌%◌, ◌^◌, cond, leb, List, [], ◌∷◌, ◌++◌, length, take, replicate, slice_index, slice_set, Option, Some, None}
+use Rattle.chan_run.specs.declared.event.Event.{Event}
+use Rattle.ring_core.specs.declared.told_mem.Change.{Change}
+use Rattle.ring_core.specs.declared.place.Op.{Op}
+use Rattle.ring_core.specs.declared.place.Op.TheVariants.{Load, Store, Raise, TakeSignal, StoreMark}
+use Rattle.ring_core.specs.declared.machine.Machine.{Machine}
+use Rattle.ring_core.specs.declared.machine.Stage.TheVariants.{Stopped}
+use Rattle.ring_core.specs.declared.state.EndState.{EndState}
+use Rattle.ring_core.specs.declared.place.Ring.{Ring}
+use Rattle.ring_core.specs.declared.place.Ring.TheVariants.{ToHost, ToGuest}
+use Rattle.ring_core.specs.declared.place.Place.TheVariants.{Mask, Feature}
+use Rattle.ring_core.specs.Places.{index_of, signal_of, mark_of, words_of, IsPlaceOf}
+use Rattle.ring_core.specs.Steps.{next_of, made_at}
+use Rattle.ring_core.specs.States.{after, afters, resting}
+
+pub record Memory : Type 0 where
+  pub words : List ℕ
+  pub steps : ℕ
+  pub due : List Change
+
+-- the words once the changes due up to this step are made
+abbrev pub changed : ℕ → ℕ → List Change → List ℕ → List ℕ
+changed d n [] ws = ws
+changed d n (c ∷ cs) ws = cond (leb c.step n) (changed d n cs (slice_set ws (index_of d c.place) c.value)) ws
+
+-- the changes that come later
+abbrev pub later : ℕ → List Change → List Change
+later n [] = []
+later n (c ∷ cs) = cond (leb c.step n) (later n cs) (c ∷ cs)
+
+abbrev pub counted : ℕ → ℕ
+counted n = (n + 1) % 2 ^ 64
+
+-- the words that the next step finds
+abbrev pub found : ℕ → Memory → List ℕ
+found d m = changed d (counted m.steps) m.due m.words
+
+-- what a step makes of the words
+abbrev pub written : ℕ → Op → List ℕ → List ℕ
+written d (Load p) ws = ws
+written d (Store p v) ws = slice_set ws (index_of d p) v
+written d (Raise x) ws = slice_set ws (signal_of d x) 1
+written d (TakeSignal x) ws = slice_set ws (signal_of d x) 0
+written d (StoreMark x) ws = slice_set ws (mark_of d x) 1
+
+-- what it answers: the loaded or exchanged value, or 0 for a store
+abbrev pub answer_in : ℕ → Op → List ℕ → ℕ
+answer_in d (Load p) ws = slice_index ws (index_of d p)
+answer_in d (Store p v) ws = 0
+answer_in d (Raise x) ws = 0
+answer_in d (TakeSignal x) ws = slice_index ws (signal_of d x)
+answer_in d (StoreMark x) ws = 0
+
+-- a step makes the changes due before it, then its own, and counts one
+abbrev pub memory_after : ℕ → Op → Memory → Memory
+memory_after d op m = record { words = written d op (found d m); steps = counted m.steps; due = later (counted m.steps) m.due }
+
+abbrev pub answer_of : ℕ → Op → Memory → ℕ
+answer_of d op m = answer_in d op (found d m)
+
+-- an end and its memory
+pub record Pair : Type 0 where
+  pub state : EndState
+  pub memory : Memory
+
+abbrev pub step_by : Option Op → Pair → Pair
+step_by None x = x
+step_by (Some op) x = record { state = after x.state (answer_of x.state.machine.cells op x.memory); memory = memory_after x.state.machine.cells op x.memory }
+
+-- one step of the machine on its memory; none where no call is under way
+abbrev pub step : Pair → Pair
+step x = step_by (next_of x.state.machine x.state.packet) x
+
+abbrev pub run : ℕ → Pair → Pair
+run zero x = x
+run (suc n) x = step (run n x)
+
+abbrev pub pair : EndState → Memory → Pair
+pair s m = record { state = s; memory = m }
+
+-- A call that began at the state s ended at the state t: t is the machine's state on what the steps answered, at most as many as the call's row has.
+-- Where the seat tells its memory, the call is the machine's run on it. Where it tells its end's state, that is t, and the end isn't stopped
+pub record Ran (s t : EndState) (told told' : Option EndState) (memory memory' : Option Memory) : Type 0 where
+  pub values : List ℕ
+  pub state : t ≡ afters s values
+  pub few : length values ≤ made_at t.machine.stage t.machine
+  pub silent : told ≡ None → told' ≡ None
+  pub tells : (u : EndState) → told ≡ Some u → (told' ≡ Some t) × (t.machine.stage ≢ Stopped)
+  pub runs : (m : Memory) → memory ≡ Some m → (m' : Memory) × (memory' ≡ Some m') × (run (length values) (pair s m) ≡ pair t m')
+
+-- what a call leaves, where its lists are as they should be
+pub record Left (base : EndState) (told told' : Option EndState) (memory memory' : Option Memory) (m : Machine) (sent got : List (List ℕ)) (past : List (Event (List ℕ))) : Type 0 where
+  pub ran : Ran base (resting m sent got past) told told' memory memory'
+  pub told_is : (s : EndState) → told' ≡ Some s → s ≡ resting m sent got past
+
+-- what a contract sees of a memory: the cells of each of its rings, and its words
+pub record Held : Type 0 where
+  pub cells : ℕ
+  pub memory : Memory
+
+abbrev pub opened : ℕ → Ring → List ℕ → List ℕ
+opened n r ws = slice_set (slice_set ws (index_of n (Mask r)) 1) (index_of n (Feature r)) 1
+
+-- the words of a new channel: all are 0, but that mask and feature are 1 in both rings
+abbrev pub opening : ℕ → List ℕ
+opening n = opened n ToHost (opened n ToGuest (replicate (words_of n) 0))
+
+abbrev pub IsNotAfter : ℕ → List Change → Type 0
+IsNotAfter k [] = Unit {0}
+IsNotAfter k (c ∷ cs) = k ≤ c.step
+
+-- a list of changes: their steps don't fall, and their places are in the channel
+abbrev pub IsScript : ℕ → List Change → Type 0
+IsScript n [] = Unit {0}
+IsScript n (c ∷ cs) = IsPlaceOf n c.place × IsNotAfter c.step cs × IsScript n cs

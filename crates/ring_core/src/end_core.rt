@@ -1,0 +1,481 @@
+//! One end as a pure machine: it names its next step, and is fed what the step gave.
+ghost use Rattle.std.specs.Prelude.{◌≡◌, ◌≢◌, ℕ, ◌+◌, ◌/◌, ◌<◌, ◌≤◌, true, false, cond, Some, None};
+ghost use Rattle.ring_core.specs.Places.{IsRingSize};
+ghost use Rattle.ring_core.specs.Steps.{IsSound, machine_new, is_busy_at, is_copying_at, is_took, next_of, fed};
+ghost use Rattle.ring_core.specs.Steps.{send_begun, take_begun, commit_begun, arm_begun, poll_begun, mark_begun, peer_mark_begun};
+ghost use Rattle.ring_core.specs.Loops.{is_storing_at, is_writing_at, is_masking_at, is_first_at, is_loading_at};
+ghost use Rattle.ring_core.specs.Endings.{last_of, why_of, mode_of, indices_of, want_of, IsWant, free_bytes, need_bytes, bad_by, send_answer, take_refusal, commit_answer, is_asleep, peer_mark_answer};
+ghost use Rattle.ring_core.specs.declared.machine.Stage.TheVariants.{Idle, Stopped};
+ghost use Rattle.ring_core.specs.Taking.{refused};
+
+use crate::fed::fed_machine;
+use crate::last::{Armed, Bad, Indices, Last, Mode, SendRefusal, Signalled, TakeRefusal, Why};
+use crate::machine::{Ending, Machine, Stage};
+use crate::place::{Op, Place, Side};
+use crate::ring::{free_in, incoming, outgoing, peer, step_ahead, used_in};
+
+/// One end as a pure machine. The command under way names its next step, is fed what the step gave, and so on until it ends.
+#[derive(Clone, Copy)]
+pub struct EndCore {
+    pub machine: Machine,
+    pub ghost sound: { IsSound machine },
+}
+
+impl EndCore {
+    /// A new end of a channel whose rings have `d` bytes of data: 1 to 16 pages of 4,096.
+    pub fn make(side: Side, d: u32) -> EndCore
+        requires { IsRingSize d }
+        ensures { result.machine ≡ machine_new side (d / 8) }
+    {
+        EndCore {
+            machine: Machine {
+                cells: d / 8,
+                write: 0,
+                read: 0,
+                start: 0,
+                old: 0,
+                seen: 0,
+                len: 0,
+                done: 0,
+                value: 0,
+                want: 0,
+                side,
+                stage: Stage::Idle,
+                ended: Ending::Fresh,
+                masked: true,
+                asleep: false,
+                marked: false,
+                peer_marked: false,
+                drained: false,
+                saw: false,
+            },
+        }
+    }
+
+    /// Begins a send of a packet of `len` words, at least 2, that fits.
+    #[inline(always)]
+    pub fn begin_send(&mut self, len: u32)
+        requires idle { self.old.machine.stage ≡ Idle }
+        requires awake { self.old.machine.asleep ≡ false }
+        requires unmarked { self.old.machine.marked ≡ false }
+        requires words { 2 ≤ len }
+        requires fits { len + 1 < self.old.machine.cells }
+        ensures { self.new.machine ≡ send_begun self.old.machine len }
+    {
+        self.machine.stage = Stage::SendRead;
+        self.machine.len = len;
+        self.machine.done = 0;
+    }
+
+    /// Begins a take.
+    #[inline(always)]
+    pub fn begin_take(&mut self)
+        requires idle { self.old.machine.stage ≡ Idle }
+        requires awake { self.old.machine.asleep ≡ false }
+        requires unmarked { self.old.machine.marked ≡ false }
+        ensures { self.new.machine ≡ take_begun self.old.machine }
+    {
+        self.machine.stage = Stage::TakeWrite;
+        self.machine.len = 0;
+        self.machine.done = 0;
+    }
+
+    /// Begins a commit of all packets that were taken.
+    #[inline(always)]
+    pub fn begin_commit(&mut self)
+        requires idle { self.old.machine.stage ≡ Idle }
+        requires awake { self.old.machine.asleep ≡ false }
+        requires unmarked { self.old.machine.marked ≡ false }
+        ensures { self.new.machine ≡ commit_begun self.old.machine }
+    {
+        self.machine.stage = Stage::CommitRead;
+        self.machine.len = 0;
+        self.machine.done = 0;
+    }
+
+    /// Begins to arm the signal of an end that has committed all that it took. `want` is the room in bytes that it waits for besides packets.
+    #[inline(always)]
+    pub fn begin_arm(&mut self, want: Option<u32>)
+        requires idle { self.old.machine.stage ≡ Idle }
+        requires awake { self.old.machine.asleep ≡ false }
+        requires unmarked { self.old.machine.marked ≡ false }
+        requires committed { self.old.machine.start ≡ self.old.machine.read }
+        requires want { IsWant self.old.machine.cells want }
+        ensures { self.new.machine ≡ arm_begun self.old.machine (want_of want) }
+    {
+        let want = match want {
+            Some(room) => room,
+            None => 0,
+        };
+        self.machine.stage = if want == 0 {
+            Stage::ArmMask
+        } else {
+            Stage::ArmPending
+        };
+        self.machine.len = 0;
+        self.machine.done = 0;
+        self.machine.want = want;
+        self.machine.saw = false;
+    }
+
+    /// Begins to look whether the signal was raised.
+    #[inline(always)]
+    pub fn begin_poll(&mut self)
+        requires idle { self.old.machine.stage ≡ Idle }
+        requires asleep { self.old.machine.asleep ≡ true }
+        ensures { self.new.machine ≡ poll_begun self.old.machine }
+    {
+        self.machine.stage = Stage::PollSignal;
+        self.machine.len = 0;
+        self.machine.done = 0;
+    }
+
+    /// Begins to say that this end sends nothing more.
+    #[inline(always)]
+    pub fn begin_mark(&mut self)
+        requires idle { self.old.machine.stage ≡ Idle }
+        requires awake { self.old.machine.asleep ≡ false }
+        requires unmarked { self.old.machine.marked ≡ false }
+        ensures { self.new.machine ≡ mark_begun self.old.machine }
+    {
+        self.machine.stage = Stage::MarkStore;
+        self.machine.len = 0;
+        self.machine.done = 0;
+    }
+
+    /// Begins to look for the peer's mark.
+    #[inline(always)]
+    pub fn begin_peer_mark(&mut self)
+        requires idle { self.old.machine.stage ≡ Idle }
+        requires awake { self.old.machine.asleep ≡ false }
+        requires unmarked { self.old.machine.marked ≡ false }
+        ensures { self.new.machine ≡ peer_mark_begun self.old.machine }
+    {
+        self.machine.stage = Stage::PeerMark;
+        self.machine.len = 0;
+        self.machine.done = 0;
+    }
+
+    /// The next step, or none exactly where no command is under way. `packet` is what is being sent, and empty otherwise.
+    #[inline(always)]
+    pub fn next(&self, packet: &[u64]) -> Option<Op>
+        ensures { result ≡ next_of self.now.machine packet.now }
+    {
+        let m = &self.machine;
+        match m.stage {
+            Stage::Idle => None,
+            Stage::Stopped => None,
+            Stage::SendRead => Some(Op::Load(Place::Read(outgoing(m.side)))),
+            Stage::SendCell => {
+                let k = step_ahead(m.cells, m.write, m.done);
+                let v = if m.done < m.len {
+                    match packet.get(m.done as usize) {
+                        Some(v) => *v,
+                        None => 0,
+                    }
+                } else {
+                    m.write as u64 * 34359738368
+                };
+                Some(Op::Store(Place::Cell(outgoing(m.side), 8 * k), v))
+            }
+            Stage::SendWrite => {
+                let k = step_ahead(m.cells, m.write, m.len + 1);
+                Some(Op::Store(Place::Write(outgoing(m.side)), 8 * k as u64))
+            }
+            Stage::SendMask => Some(Op::Load(Place::Mask(outgoing(m.side)))),
+            Stage::SendLook => Some(Op::Load(Place::Read(outgoing(m.side)))),
+            Stage::SendRaise => Some(Op::Raise(peer(m.side))),
+            Stage::TakeWrite => Some(Op::Load(Place::Write(incoming(m.side)))),
+            Stage::TakeFirst => Some(Op::Load(Place::Cell(incoming(m.side), 8 * m.read))),
+            Stage::TakeCell => {
+                let k = step_ahead(m.cells, m.read, m.done);
+                Some(Op::Load(Place::Cell(incoming(m.side), 8 * k)))
+            }
+            Stage::CommitRead => Some(Op::Store(Place::Read(incoming(m.side)), 8 * m.read as u64)),
+            Stage::CommitFeature => Some(Op::Load(Place::Feature(incoming(m.side)))),
+            Stage::CommitPending => Some(Op::Load(Place::Pending(incoming(m.side)))),
+            Stage::CommitWrite => Some(Op::Load(Place::Write(incoming(m.side)))),
+            Stage::CommitRaise => Some(Op::Raise(peer(m.side))),
+            Stage::ArmPending => Some(Op::Store(Place::Pending(outgoing(m.side)), m.want as u64)),
+            Stage::ArmMask => Some(Op::Store(Place::Mask(incoming(m.side)), 0)),
+            Stage::ArmWrite => Some(Op::Load(Place::Write(incoming(m.side)))),
+            Stage::ArmRead => Some(Op::Load(Place::Read(outgoing(m.side)))),
+            Stage::ArmMark => Some(Op::Load(Place::Mark(peer(m.side)))),
+            Stage::ArmUndoMask => Some(Op::Store(Place::Mask(incoming(m.side)), 1)),
+            Stage::ArmUndoPending => Some(Op::Store(Place::Pending(outgoing(m.side)), 0)),
+            Stage::PollSignal => Some(Op::TakeSignal(m.side)),
+            Stage::PollMask => Some(Op::Store(Place::Mask(incoming(m.side)), 1)),
+            Stage::PollPending => Some(Op::Store(Place::Pending(outgoing(m.side)), 0)),
+            Stage::MarkStore => Some(Op::StoreMark(m.side)),
+            Stage::MarkRaise => Some(Op::Raise(peer(m.side))),
+            Stage::PeerMark => Some(Op::Load(Place::Mark(peer(m.side)))),
+        }
+    }
+
+    /// Takes what the step gave: the value that it loaded or exchanged, or anything for a store.
+    #[inline(always)]
+    pub fn feed(&mut self, v: u64)
+        requires busy { is_busy_at self.old.machine.stage ≡ true }
+        ensures next { self.new.machine ≡ fed self.old.machine v }
+    {
+        self.machine = fed_machine(self.machine, v);
+    }
+}
+
+impl EndCore {
+    /// Whether the end can make calls.
+    pub fn mode(&self) -> Mode
+        ensures { result ≡ mode_of self.now.machine }
+    {
+        let m = &self.machine;
+        match m.stage {
+            Stage::Stopped => Mode::Stopped { why: self.why() },
+            Stage::PollMask => Mode::Asleep,
+            Stage::PollPending => Mode::Asleep,
+            _ => {
+                if m.marked {
+                    Mode::Marked
+                } else if m.asleep {
+                    Mode::Asleep
+                } else {
+                    Mode::Awake
+                }
+            }
+        }
+    }
+
+    /// The private indices of the end in bytes, and the read index that it last committed.
+    pub fn indices(&self) -> Indices
+        ensures { result ≡ indices_of self.now.machine }
+    {
+        Indices {
+            write: 8 * self.machine.write,
+            read: 8 * self.machine.read,
+            start: 8 * self.machine.start,
+        }
+    }
+
+    /// How the last command ended.
+    pub fn last(&self) -> Last
+        ensures { result ≡ last_of self.now.machine }
+    {
+        let m = &self.machine;
+        match m.ended {
+            Ending::Fresh => Last::Fresh,
+            Ending::SentQuiet => Last::Sent(Signalled::Quiet),
+            Ending::SentRaised => Last::Sent(Signalled::Raised),
+            Ending::Full => Last::Full {
+                free: self.free(),
+                need: self.need(),
+            },
+            Ending::Took => Last::Took { words: m.len },
+            Ending::Empty => Last::Empty { at: 8 * m.read },
+            Ending::CommittedQuiet => Last::Committed(Signalled::Quiet),
+            Ending::CommittedRaised => Last::Committed(Signalled::Raised),
+            Ending::FellAsleep => Last::Armed(Armed::Asleep),
+            Ending::FoundWork => Last::Armed(Armed::Work),
+            Ending::NoSignal => Last::Polled(false),
+            Ending::Woke => Last::Polled(true),
+            Ending::Marked => Last::Marked,
+            Ending::PeerMarkDown => Last::PeerMark(false),
+            Ending::PeerMarkUp => Last::PeerMark(true),
+            Ending::BadPeer => Last::Broke { why: self.why() },
+            Ending::BadIndex => Last::Broke { why: self.why() },
+            Ending::BadLength => Last::Broke { why: self.why() },
+            Ending::BadOffset => Last::Broke { why: self.why() },
+        }
+    }
+
+    // The free bytes that the read index that was loaded leaves.
+    pub(crate) fn free(&self) -> u32
+        ensures { result ≡ free_bytes self.now.machine }
+    {
+        8 * free_in(self.machine.cells, self.machine.seen, self.machine.write)
+    }
+
+    // The bytes of the packet under way, with its trailer.
+    pub(crate) fn need(&self) -> u32
+        ensures { result ≡ need_bytes self.now.machine }
+    {
+        8 * self.machine.len + 8
+    }
+
+    // What is wrong with the packet that the end refused, or with its index.
+    pub(crate) fn bad(&self) -> Bad
+        ensures { result ≡ bad_by self.now.machine.ended self.now.machine }
+    {
+        let m = &self.machine;
+        match m.ended {
+            Ending::BadIndex => Bad::Index { value: m.value },
+            Ending::BadLength => Bad::Length {
+                len8: (m.value / 65536) as u16,
+                avail: 8 * used_in(m.cells, m.read, m.seen),
+            },
+            _ => Bad::Offset {
+                offset8: (m.value % 65536) as u16,
+                len8: (m.value / 65536) as u16,
+            },
+        }
+    }
+
+    // What the end refused.
+    pub(crate) fn why(&self) -> Why
+        ensures { result ≡ why_of self.now.machine }
+    {
+        match self.machine.ended {
+            Ending::BadPeer => Why::BadPeer {
+                index: self.machine.value,
+            },
+            _ => Why::Malformed(self.bad()),
+        }
+    }
+
+    /// A command is under way.
+    #[inline(always)]
+    pub fn is_busy(&self) -> bool
+        ensures { result ≡ is_busy_at self.now.machine.stage }
+    {
+        match self.machine.stage {
+            Stage::Idle => false,
+            Stage::Stopped => false,
+            _ => true,
+        }
+    }
+
+    /// The next step loads a word of a packet.
+    #[inline(always)]
+    pub(crate) fn is_copying(&self) -> bool
+        ensures { result ≡ is_copying_at self.now.machine.stage }
+    {
+        match self.machine.stage {
+            Stage::TakeFirst => true,
+            Stage::TakeCell => true,
+            _ => false,
+        }
+    }
+
+    #[inline(always)]
+    pub(crate) fn is_first(&self) -> bool
+        ensures { result ≡ is_first_at self.now.machine.stage }
+    {
+        match self.machine.stage {
+            Stage::TakeFirst => true,
+            _ => false,
+        }
+    }
+
+    #[inline(always)]
+    pub(crate) fn is_loading(&self) -> bool
+        ensures { result ≡ is_loading_at self.now.machine.stage }
+    {
+        match self.machine.stage {
+            Stage::TakeCell => true,
+            _ => false,
+        }
+    }
+
+    #[inline(always)]
+    pub(crate) fn is_storing(&self) -> bool
+        ensures { result ≡ is_storing_at self.now.machine.stage }
+    {
+        match self.machine.stage {
+            Stage::SendCell => true,
+            _ => false,
+        }
+    }
+
+    #[inline(always)]
+    pub(crate) fn is_writing(&self) -> bool
+        ensures { result ≡ is_writing_at self.now.machine.stage }
+    {
+        match self.machine.stage {
+            Stage::SendWrite => true,
+            _ => false,
+        }
+    }
+
+    #[inline(always)]
+    pub(crate) fn is_masking(&self) -> bool
+        ensures { result ≡ is_masking_at self.now.machine.stage }
+    {
+        match self.machine.stage {
+            Stage::SendMask => true,
+            _ => false,
+        }
+    }
+}
+
+impl EndCore {
+    // Whether the end refused before.
+    #[inline(always)]
+    pub(crate) fn is_stopped(&self) -> bool
+        ensures stopped { result ≡ true → self.now.machine.stage ≡ Stopped }
+        ensures not { result ≡ false → self.now.machine.stage ≢ Stopped }
+    {
+        match self.machine.stage {
+            Stage::Stopped => true,
+            _ => false,
+        }
+    }
+
+    #[inline(always)]
+    pub(crate) fn send_answered(&self) -> Result<Signalled, SendRefusal>
+        ensures { result ≡ send_answer self.now.machine.ended self.now.machine }
+    {
+        match self.machine.ended {
+            Ending::SentQuiet => Ok(Signalled::Quiet),
+            Ending::SentRaised => Ok(Signalled::Raised),
+            Ending::Full => Err(SendRefusal::Full {
+                free: self.free(),
+                need: self.need(),
+            }),
+            _ => Err(SendRefusal::BadPeer {
+                index: self.machine.value,
+            }),
+        }
+    }
+
+    #[inline(always)]
+    pub(crate) fn take_answered(&self) -> Result<(), TakeRefusal>
+        ensures { refused result ≡ cond (is_took self.now.machine.ended) None (Some (take_refusal self.now.machine.ended self.now.machine)) }
+    {
+        match self.machine.ended {
+            Ending::Took => Ok(()),
+            Ending::Empty => Err(TakeRefusal::Empty {
+                at: 8 * self.machine.read,
+            }),
+            _ => Err(TakeRefusal::Malformed(self.bad())),
+        }
+    }
+
+    #[inline(always)]
+    pub(crate) fn commit_answered(&self) -> Signalled
+        ensures { result ≡ commit_answer self.now.machine.ended }
+    {
+        match self.machine.ended {
+            Ending::CommittedRaised => Signalled::Raised,
+            _ => Signalled::Quiet,
+        }
+    }
+
+    #[inline(always)]
+    pub(crate) fn arm_answered(&self) -> Armed
+        ensures { is_asleep result ≡ self.now.machine.asleep }
+    {
+        if self.machine.asleep {
+            Armed::Asleep
+        } else {
+            Armed::Work
+        }
+    }
+
+    #[inline(always)]
+    pub(crate) fn peer_mark_answered(&self) -> bool
+        ensures { result ≡ peer_mark_answer self.now.machine.ended }
+    {
+        match self.machine.ended {
+            Ending::PeerMarkUp => true,
+            _ => false,
+        }
+    }
+}

@@ -1,0 +1,19 @@
+//! Laws of ends: each function does nothing, and its contract is a law.
+ghost use Rattle.std.specs.Prelude.{◌≡◌, ℕ, ◌*◌, ◌<◌};
+ghost use Rattle.ring_core.specs.Inside.{IsInside};
+ghost use Rattle.ring_core.specs.Places.{free, used, ahead};
+ghost use Rattle.ring_core.specs.Steps.{next_of};
+
+use crate::end_core::EndCore;
+
+/// No step of an end names a place outside its channel.
+pub fn stays_inside(_core: &EndCore, _packet: &[u64])
+    ensures { IsInside _core.now.machine.cells (next_of _core.now.machine _packet.now) }
+{}
+
+/// Room, use and steps round a ring count bytes as they count cells.
+pub fn counts_bytes()
+    ensures free { (n r w : ℕ) → r < n → w < n → 8 * free n r w ≡ free (8 * n) (8 * r) (8 * w) }
+    ensures used { (n r w : ℕ) → r < n → w < n → 8 * used n r w ≡ used (8 * n) (8 * r) (8 * w) }
+    ensures ahead { (n i k : ℕ) → i < n → k < n → 8 * ahead n i k ≡ ahead (8 * n) (8 * i) (8 * k) }
+{}

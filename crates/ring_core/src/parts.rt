@@ -1,0 +1,209 @@
+//! What a call works on, and the loop that makes its steps.
+ghost use Rattle.std.specs.Prelude.{◌≡◌, ◌≢◌, ℕ, ◌+◌, ◌<◌, ◌≤◌, true, false, List, [], ◌∷◌, ◌++◌, length, take, Option, Some, None};
+ghost use Rattle.chan_run.specs.declared.event.Event.{Event};
+ghost use Rattle.ring_core.specs.Endings.{Leaves, LeavesBy};
+ghost use Rattle.ring_core.specs.Seen.{SentRoom};
+ghost use Rattle.ring_core.specs.Loops.{Starts};
+ghost use Rattle.ring_core.specs.States.{IsPacket, Gets, past_of, after, entered, shown, stored, sent_by, got_by, past_by, Continues};
+ghost use Rattle.ring_core.specs.Steps.{is_busy_at, is_copying_at, next_of, fed, is_sent, is_took, call_at, call_by};
+ghost use Rattle.ring_core.specs.Told.{Left, Memory, memory_after, answer_of};
+ghost use Rattle.ring_core.specs.declared.machine.Stage.TheVariants.{Stopped};
+ghost use Rattle.ring_core.specs.declared.place.Op.{Op};
+ghost use Rattle.ring_core.specs.declared.state.EndState.{EndState};
+ghost use Rattle.chan_run.specs.declared.event.Event.TheVariants.{Sent as SentEvent, Got as GotEvent};
+
+use crate::end_core::EndCore;
+use crate::machine::Ending;
+use crate::packets::Packets;
+use crate::seat::Seatlike;
+use chan_run::Past;
+
+/// The machine, its seat, a buffer for one packet, the lists of the packets that were sent and got, and what the end did.
+#[derive(Drop)]
+pub(crate) struct Parts<S> {
+    pub(crate) core: EndCore,
+    pub(crate) buf: Vec<u64>,
+    pub(crate) sent: Packets,
+    pub(crate) got: Packets,
+    pub(crate) past: Past,
+    pub(crate) seat: S,
+    pub(crate) ghost wide: { length buf.items ≡ core.machine.cells },
+}
+
+#[inline(always)]
+fn store_where(copies: bool, buf: &mut Vec<u64>, i: usize, v: u64)
+    requires { i < length buf.old.items }
+    ensures items { buf.new.items ≡ stored copies buf.old.items i v }
+    ensures len { length buf.new.items ≡ length buf.old.items }
+{
+    if copies {
+        buf[i] = v;
+    }
+}
+
+#[inline(always)]
+fn front(buf: &Vec<u64>, n: usize) -> &[u64]
+    requires { n ≤ length buf.now.items }
+    ensures { result.now ≡ take n buf.now.items }
+{
+    &buf[..n]
+}
+
+// Makes the step that the machine names, and feeds the machine what it gave. A word of a packet that was loaded goes into the buffer.
+#[inline(always)]
+fn step<S: Seatlike>(seat: &mut S, core: &mut EndCore, buf: &mut Vec<u64>, packet: &[u64]) -> u64
+    requires busy { is_busy_at core.old.machine.stage ≡ true }
+    requires wide { length buf.old.items ≡ core.old.machine.cells }
+    requires fits { S.cells seat.old ≡ core.old.machine.cells }
+    requires goes_on { (s : EndState) → S.told seat.old ≡ Some s → Continues s core.old.machine packet.now }
+    ensures fed { core.new.machine ≡ fed core.old.machine result }
+    ensures stored { buf.new.items ≡ stored (is_copying_at core.old.machine.stage) buf.old.items core.old.machine.done result }
+    ensures len { length buf.new.items ≡ length buf.old.items }
+    ensures runs { (m : Memory) (op : Op) → S.memory seat.old ≡ Some m → next_of core.old.machine packet.now ≡ Some op → (S.memory seat.new ≡ Some (memory_after core.old.machine.cells op m)) × (result ≡ answer_of core.old.machine.cells op m) }
+    ensures same { S.same seat.old seat.new }
+    ensures cells { S.cells seat.new ≡ S.cells seat.old }
+    ensures silent { S.told seat.old ≡ None → S.told seat.new ≡ None }
+    ensures tells { (s : EndState) → S.told seat.old ≡ Some s → (S.told seat.new ≡ Some (after (entered s core.old.machine packet.now) result)) × ((fed core.old.machine result).stage ≢ Stopped) }
+{
+    let v = seat.perform(core, packet);
+    let copies = core.is_copying();
+    store_where(copies, buf, core.machine.done as usize, v);
+    core.feed(v);
+    v
+}
+
+impl<S: Seatlike> Parts<S> {
+    // Makes the steps of the call that the machine has begun. The words that a take loads go into the buffer.
+    // The frequent stages have loops of their own, in which the stage is known, so that a step is a few instructions.
+    #[inline(always)]
+    fn drive(&mut self, packet: &[u64])
+        requires starts { Starts self.old.core.machine }
+        requires fits { S.cells self.old.seat ≡ self.old.core.machine.cells }
+        requires goes_on { (s : EndState) → S.told self.old.seat ≡ Some s → Continues s self.old.core.machine packet.now × (entered s self.old.core.machine packet.now ≡ shown self.old.core.machine packet.now self.old.buf.items self.old.sent.list self.old.got.list self.old.past.events) }
+        ensures call { call_by self.new.core.machine.ended ≡ call_at self.old.core.machine.stage }
+        ensures leaves { Leaves self.old.core.machine self.new.core.machine }
+        ensures took { is_took self.new.core.machine.ended ≡ true → IsPacket (take self.new.core.machine.len self.new.buf.items) }
+        ensures left { Left (shown self.old.core.machine packet.now self.old.buf.items self.old.sent.list self.old.got.list self.old.past.events) (S.told self.old.seat) (S.told self.new.seat) (S.memory self.old.seat) (S.memory self.new.seat) self.new.core.machine (sent_by self.new.core.machine self.old.sent.list packet.now) (got_by self.new.core.machine self.old.got.list self.new.buf.items) (past_by self.new.core.machine self.old.past.events packet.now self.new.buf.items) }
+        ensures idle { is_busy_at self.new.core.machine.stage ≡ false }
+        ensures lists { (self.new.sent ≡ self.old.sent) × (self.new.got ≡ self.old.got) × (self.new.past ≡ self.old.past) }
+        ensures same { S.same self.old.seat self.new.seat }
+        ensures cells { S.cells self.new.seat ≡ self.new.core.machine.cells }
+        ensures honest { (s : EndState) → S.told self.new.seat ≡ Some s → self.new.core.machine.stage ≢ Stopped }
+    {
+        let mut core = self.core;
+        step(&mut self.seat, &mut core, &mut self.buf, packet);
+        while core.is_first() {
+            step(&mut self.seat, &mut core, &mut self.buf, packet);
+        }
+        while core.is_storing() {
+            step(&mut self.seat, &mut core, &mut self.buf, packet);
+        }
+        while core.is_writing() {
+            step(&mut self.seat, &mut core, &mut self.buf, packet);
+        }
+        while core.is_masking() {
+            step(&mut self.seat, &mut core, &mut self.buf, packet);
+        }
+        while core.is_loading() {
+            step(&mut self.seat, &mut core, &mut self.buf, packet);
+        }
+        while core.is_busy() {
+            step(&mut self.seat, &mut core, &mut self.buf, packet);
+        }
+        self.core = core;
+    }
+
+    // Keeps a packet that was sent.
+    #[inline(always)]
+    fn keep_sent(&mut self, packet: &[u64])
+        requires room { (0 < self.old.sent.room.packets) × (length packet.now ≤ self.old.sent.room.words) }
+        ensures list { self.new.sent.list ≡ self.old.sent.list ++ packet.now ∷ [] }
+        ensures room { (self.old.sent.room.packets ≤ self.new.sent.room.packets + 1) × (self.old.sent.room.words ≤ self.new.sent.room.words + length packet.now) }
+        ensures past { self.new.past.events ≡ SentEvent packet.now ∷ self.old.past.events }
+        ensures kept { (self.new.core ≡ self.old.core) × (self.new.buf ≡ self.old.buf) × (self.new.got ≡ self.old.got) × (self.new.seat ≡ self.old.seat) }
+    {
+        self.sent.push(packet);
+        self.past = self.past.sent(packet);
+    }
+
+    // Keeps the packet that was taken: the first words of the buffer.
+    #[inline(always)]
+    fn keep_got(&mut self)
+        requires room { (0 < self.old.got.room.packets) × (self.old.core.machine.len ≤ self.old.got.room.words) }
+        ensures list { self.new.got.list ≡ self.old.got.list ++ take self.old.core.machine.len self.old.buf.items ∷ [] }
+        ensures room { (self.old.got.room.packets ≤ self.new.got.room.packets + 1) × (self.old.got.room.words ≤ self.new.got.room.words + self.old.core.machine.len) }
+        ensures past { self.new.past.events ≡ GotEvent (take self.old.core.machine.len self.old.buf.items) ∷ self.old.past.events }
+        ensures kept { (self.new.core ≡ self.old.core) × (self.new.buf ≡ self.old.buf) × (self.new.sent ≡ self.old.sent) × (self.new.seat ≡ self.old.seat) }
+    {
+        let words = front(&self.buf, self.core.machine.len as usize);
+        self.past = self.past.got(words);
+        self.got.push(words);
+    }
+
+    // Keeps what a call that has ended did.
+    #[inline(always)]
+    fn keep(&mut self, packet: &[u64])
+        requires sent_room { is_sent self.old.core.machine.ended ≡ true → (0 < self.old.sent.room.packets) × (length packet.now ≤ self.old.sent.room.words) }
+        requires got_room { is_took self.old.core.machine.ended ≡ true → (0 < self.old.got.room.packets) × (self.old.core.machine.len ≤ self.old.got.room.words) }
+        ensures sent { self.new.sent.list ≡ sent_by self.old.core.machine self.old.sent.list packet.now }
+        ensures got { self.new.got.list ≡ got_by self.old.core.machine self.old.got.list self.old.buf.items }
+        ensures past { self.new.past.events ≡ past_by self.old.core.machine self.old.past.events packet.now self.old.buf.items }
+        ensures sent_room { (is_sent self.old.core.machine.ended ≡ false → self.new.sent ≡ self.old.sent) × (self.old.sent.room.packets ≤ self.new.sent.room.packets + 1) × (self.old.sent.room.words ≤ self.new.sent.room.words + length packet.now) }
+        ensures got_room { (is_took self.old.core.machine.ended ≡ false → self.new.got ≡ self.old.got) × (self.old.got.room.packets ≤ self.new.got.room.packets + 1) × (self.old.got.room.words ≤ self.new.got.room.words + self.old.core.machine.len) }
+        ensures kept { (self.new.core ≡ self.old.core) × (self.new.buf ≡ self.old.buf) × (self.new.seat ≡ self.old.seat) }
+    {
+        match self.core.machine.ended {
+            Ending::SentQuiet => self.keep_sent(packet),
+            Ending::SentRaised => self.keep_sent(packet),
+            Ending::Took => self.keep_got(),
+            Ending::Empty => self.past = self.past.empty(),
+            Ending::FoundWork => {
+                if self.core.machine.saw {
+                    self.past = self.past.saw();
+                }
+            }
+            Ending::Marked => self.past = self.past.marked(),
+            Ending::PeerMarkUp => self.past = self.past.saw(),
+            Ending::Fresh => {}
+            Ending::Full => {}
+            Ending::BadPeer => {}
+            Ending::BadIndex => {}
+            Ending::BadLength => {}
+            Ending::BadOffset => {}
+            Ending::CommittedQuiet => {}
+            Ending::CommittedRaised => {}
+            Ending::FellAsleep => {}
+            Ending::NoSignal => {}
+            Ending::Woke => {}
+            Ending::PeerMarkDown => {}
+        }
+    }
+
+    /// Makes the call that the machine has begun, and keeps what it did.
+    #[inline(always)]
+    pub(crate) fn make_call(&mut self, packet: &[u64])
+        requires starts { Starts self.old.core.machine }
+        requires fits { S.cells self.old.seat ≡ self.old.core.machine.cells }
+        requires goes_on { (s : EndState) → S.told self.old.seat ≡ Some s → Continues s self.old.core.machine packet.now × (entered s self.old.core.machine packet.now ≡ shown self.old.core.machine packet.now self.old.buf.items self.old.sent.list self.old.got.list self.old.past.events) }
+        requires sent_room { call_at self.old.core.machine.stage ≡ 1 → (0 < self.old.sent.room.packets) × (length packet.now ≤ self.old.sent.room.words) }
+        requires got_room { call_at self.old.core.machine.stage ≡ 2 → (0 < self.old.got.room.packets) × (self.old.core.machine.cells ≤ self.old.got.room.words) }
+        ensures call { call_by self.new.core.machine.ended ≡ call_at self.old.core.machine.stage }
+        ensures leaves { Leaves self.old.core.machine self.new.core.machine }
+        ensures after { LeavesBy (call_at self.old.core.machine.stage) self.old.core.machine self.new.core.machine }
+        ensures took { is_took self.new.core.machine.ended ≡ true → Gets self.new.core.machine.len self.old.got.list self.new.got.list self.old.past.events self.new.past.events }
+        ensures past { is_took self.new.core.machine.ended ≡ false → self.new.past.events ≡ past_of self.new.core.machine.ended self.new.core.machine.saw packet.now self.old.past.events }
+        ensures left { Left (shown self.old.core.machine packet.now self.old.buf.items self.old.sent.list self.old.got.list self.old.past.events) (S.told self.old.seat) (S.told self.new.seat) (S.memory self.old.seat) (S.memory self.new.seat) self.new.core.machine self.new.sent.list self.new.got.list self.new.past.events }
+        ensures idle { is_busy_at self.new.core.machine.stage ≡ false }
+        ensures sent { self.new.sent.list ≡ sent_by self.new.core.machine self.old.sent.list packet.now }
+        ensures sent_room { SentRoom self.new.core.machine.ended (length packet.now) self.old.sent.room self.new.sent.room }
+        ensures got_room { (self.old.got.room.packets ≤ self.new.got.room.packets + 1) × (self.old.got.room.words ≤ self.new.got.room.words + self.new.core.machine.len) }
+        ensures sent_kept { (call_at self.old.core.machine.stage ≡ 1 → ⊥) → self.new.sent ≡ self.old.sent }
+        ensures got_kept { is_took self.new.core.machine.ended ≡ false → self.new.got ≡ self.old.got }
+        ensures same { S.same self.old.seat self.new.seat }
+        ensures cells { S.cells self.new.seat ≡ self.new.core.machine.cells }
+        ensures honest { (s : EndState) → S.told self.new.seat ≡ Some s → self.new.core.machine.stage ≢ Stopped }
+    {
+        self.drive(packet);
+        self.keep(packet);
+    }
+}

@@ -1,0 +1,40 @@
+//! What makes an end's word steps.
+use crate::end_core::EndCore;
+
+/// A place from which an end's steps are made: words in memory, a table that two threads share, or a list of changes by a peer.
+pub trait Seatlike {
+    ghost use Rattle.std.specs.Prelude.{◌≡◌, ◌≢◌, ℕ, true, Option, Some, None};
+    ghost use Rattle.ring_core.specs.Told.{Memory, memory_after, answer_of};
+    ghost use Rattle.ring_core.specs.Steps.{is_busy_at, next_of, fed};
+    ghost use Rattle.ring_core.specs.States.{after, entered, Continues};
+    ghost use Rattle.ring_core.specs.declared.state.EndState.{EndState};
+    ghost use Rattle.ring_core.specs.declared.place.Op.{Op};
+    ghost use Rattle.ring_core.specs.declared.machine.Stage.TheVariants.{Stopped};
+
+    /// The cells of each of the channel's rings.
+    ghost cells: { Self → ℕ };
+
+    /// The memory, where the seat tells it.
+    ghost memory: { Self → Option Memory };
+
+    /// The state of the end after its last step, where the seat tells it.
+    ghost told: { Self → Option EndState };
+
+    /// A later state of one and the same seat.
+    ghost same: { Self → Self → Type 0 };
+
+    /// Makes exactly the one step that `core.next(packet)` names, and gives the loaded or exchanged value, or 0 for a store.
+    fn perform(&mut self, core: &EndCore, packet: &[u64]) -> u64
+        requires busy { is_busy_at core.now.machine.stage ≡ true }
+        requires fits { core.now.machine.cells ≡ cells self.old }
+        requires goes_on { (s : EndState) → told self.old ≡ Some s → Continues s core.now.machine packet.now }
+        ensures runs { (m : Memory) (op : Op) → memory self.old ≡ Some m → next_of core.now.machine packet.now ≡ Some op → (memory self.new ≡ Some (memory_after core.now.machine.cells op m)) × (result ≡ answer_of core.now.machine.cells op m) }
+        ensures same { same self.old self.new }
+        ensures cells { cells self.new ≡ cells self.old }
+        ensures silent { told self.old ≡ None → told self.new ≡ None }
+        ensures tells { (s : EndState) → told self.old ≡ Some s → (told self.new ≡ Some (after (entered s core.now.machine packet.now) result)) × ((fed core.now.machine result).stage ≢ Stopped) };
+
+    ghost same_refl: { (s : Self) → same s s };
+
+    ghost same_trans: { (s t u : Self) → same s t → same t u → same s u };
+}

@@ -1,0 +1,90 @@
+//! All words of a channel in memory of its own.
+ghost use Rattle.std.specs.Prelude.{◌≡◌, ℕ, ◌+◌, ◌/◌, [], slice_set, slice_index, IfOk};
+ghost use Rattle.ring_core.specs.Places.{IsRingSize, IsPlaceOf, index_of};
+ghost use Rattle.ring_core.specs.Told.{opening};
+
+use crate::end_core::EndCore;
+use crate::place::Place;
+use crate::ring::place_index;
+use crate::seat::Seatlike;
+use crate::told_mem::opening_words;
+use crate::words::{act, look_at, put_at};
+use std::alloc::{AllocError, Global};
+use std::marker::Model;
+
+/// All words of a channel, that nobody else changes.
+#[derive(Drop)]
+pub struct SoloMem {
+    words: Vec<u64>,
+    steps: u64,
+    cells: u32,
+}
+
+impl Model for SoloMem {
+    ghost use Rattle.std.specs.Prelude.{◌≡◌, [], length};
+    ghost use Rattle.ring_core.specs.Places.{words_of};
+    ghost use Rattle.ring_core.specs.Told.{Held};
+
+    ghost Value = { Held };
+
+    ghost view = { λ s. record { cells = s.cells; memory = record { words = s.words.items; steps = s.steps; due = [] } } };
+
+    ghost invariant = { λ s. length s.words.items ≡ words_of s.cells };
+}
+
+impl SoloMem {
+    /// The words of a new channel whose rings have `d` bytes of data.
+    pub fn make(alloc: Global, d: u32) -> Result<SoloMem, AllocError>
+        requires { IsRingSize d }
+        ensures { IfOk result (λ s. s ≡ record { cells = d / 8; memory = record { words = opening (d / 8); steps = 0; due = [] } }) }
+    {
+        let cells = d / 8;
+        Ok(SoloMem {
+            words: opening_words(alloc, cells)?,
+            steps: 0,
+            cells,
+        })
+    }
+
+    /// Changes a word, and takes no step.
+    pub fn put(&mut self, place: Place, v: u64)
+        requires { IsPlaceOf self.old.cells place }
+        ensures words { self.new.memory.words ≡ slice_set self.old.memory.words (index_of self.old.cells place) v }
+        ensures rest { (self.new.cells ≡ self.old.cells) × (self.new.memory.steps ≡ self.old.memory.steps) × (self.new.memory.due ≡ self.old.memory.due) }
+    {
+        put_at(&mut self.words, place_index(self.cells, place), v);
+    }
+
+    /// Looks at a word, and takes no step.
+    pub fn look(&self, place: Place) -> u64
+        requires { IsPlaceOf self.now.cells place }
+        ensures { result ≡ slice_index self.now.memory.words (index_of self.now.cells place) }
+    {
+        look_at(&self.words, place_index(self.cells, place))
+    }
+}
+
+impl Seatlike for SoloMem {
+    ghost use Rattle.std.specs.Prelude.{Some, None};
+
+    ghost cells = { λ s. s.cells };
+
+    ghost memory = { λ s. Some s.memory };
+
+    ghost told = { λ _. None };
+
+    ghost same = { λ _ _. Unit {0} };
+
+    ghost same_refl = { λ _. tt };
+
+    ghost same_trans = { λ _ _ _ _ _. tt };
+
+    #[inline(always)]
+    fn perform(&mut self, core: &EndCore, packet: &[u64]) -> u64 {
+        self.steps = self.steps.wrapping_add(1);
+        match core.next(packet) {
+            Some(op) => act(&mut self.words, core.machine.cells, op),
+            None => 0,
+        }
+    }
+}

@@ -1,0 +1,16 @@
+pub mod Streams
+pub mod Turns
+pub mod Frame
+pub mod Quiet
+pub mod Sends
+pub mod Takes
+pub mod Marks
+pub mod Words
+pub mod Sides
+pub mod Keeping
+pub mod Spelling
+pub mod Meets
+pub mod Pairing
+pub mod Settling
+pub mod Opening
+pub mod Leaving

@@ -1,0 +1,5 @@
+pub mod Ring
+pub mod Spelled
+pub mod Results
+pub mod Lists
+pub mod Pair

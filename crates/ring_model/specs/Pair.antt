@@ -1,0 +1,75 @@
+-- Both ends of a channel over one memory, which one of them has at each moment.
+use Rattle.std.specs.Prelude.{◌≡◌, ℕ, [], ◌≤◌, ◌+◌, false}
+use Rattle.std.specs.Borrow.{Lends, MutBor, Fml}
+use Rattle.io_edge.specs.declared.side.Side.{Side}
+use Rattle.io_edge.specs.declared.side.Side.TheVariants.{Guest, Host}
+use Rattle.ring_core.specs.declared.seat.Seatlike.{Ghosts}
+use Rattle.ring_core.specs.Told.{Memory, Held}
+use Rattle.ring_core.specs.Seen.{Seen}
+use Rattle.ring_core.specs.contracts.end.End.{the_row as end_row}
+use Rattle.ring_core.specs.contracts.solo_mem.SoloMem.{the_row as memory_row}
+use Rattle.ring_model.specs.declared.solo_pair.SoloPair.{SoloPair}
+use Rattle.ring_model.specs.contracts.solo_pair.SoloPair.{the_row}
+use Rattle.ring_model.specs.Ring.{AtRest}
+
+abbrev pub end_of : SoloPair → Side → Seen Held
+end_of s Guest = s.guest
+end_of s Host = s.host
+
+-- the pair with another end at this side
+abbrev pub with_end : SoloPair → Side → Seen Held → SoloPair
+with_end s Guest e = record s { guest = e }
+with_end s Host e = record s { host = e }
+
+-- the pair with the memories of its ends exchanged, and the channel's memory at this side
+abbrev pub swapped : SoloPair → Side → SoloPair
+swapped s x = record { guest = record s.guest { seat = s.host.seat }; host = record s.host { seat = s.guest.seat }; at = x }
+
+abbrev pub handed_from : Side → Side → SoloPair → SoloPair
+handed_from Guest Guest s = s
+handed_from Guest Host s = swapped s Host
+handed_from Host Guest s = swapped s Guest
+handed_from Host Host s = s
+
+-- the pair once the channel's memory is at this side
+abbrev pub handed : SoloPair → Side → SoloPair
+handed s x = handed_from s.at x s
+
+abbrev pub LendsSide : Ghosts Held → MutBor SoloPair → Side → MutBor (Seen Held) → Fml
+LendsSide k s x r = Lends the_row (end_row memory_row k) s r (with_end s.now x)
+
+abbrev pub LendsEnd : Ghosts Held → MutBor SoloPair → Side → MutBor (Seen Held) → Fml
+LendsEnd k s x r = Lends the_row (end_row memory_row k) s r (with_end (handed s.now x) x)
+
+-- the lists, the indices and the spare room of an end that wasn't called
+pub record Stays (old new : Seen Held) : Type 0 where
+  pub state : new.state ≡ old.state
+  pub spare_sent : new.spare_sent ≡ old.spare_sent
+  pub spare_got : new.spare_got ≡ old.spare_got
+
+-- the channel's memory
+abbrev pub memory_of : SoloPair → Memory
+memory_of s = (end_of s s.at).seat.memory
+
+-- the cells of each ring
+abbrev pub cells_of : SoloPair → ℕ
+cells_of s = s.guest.state.machine.cells
+
+-- the two ends and the channel's memory belong together, no call is under way, and nobody else changes the memory
+pub record IsPair (s : SoloPair) : Type 0 where
+  pub alone : (memory_of s).due ≡ []
+  pub rest : AtRest (cells_of s) (memory_of s).words s.guest.state s.host.state
+
+-- what a send leaves of its end beside the sent list: the indices of its incoming ring
+pub record SendKeeps (old new : Seen Held) : Type 0 where
+  pub read : new.state.machine.read ≡ old.state.machine.read
+  pub start : new.state.machine.start ≡ old.state.machine.start
+
+-- what a take leaves of its end beside the got list: it is awake, and takes at most one packet and its words of the spare room
+pub record TakeKeeps (old new : Seen Held) : Type 0 where
+  pub awake : (new.state.machine.asleep ≡ false) × (new.state.machine.marked ≡ false)
+  pub start : new.state.machine.start ≡ old.state.machine.start
+  pub sent : new.state.sent ≡ old.state.sent
+  pub spare_sent : new.spare_sent ≡ old.spare_sent
+  pub packets : old.spare_got.packets ≤ new.spare_got.packets + 1
+  pub words : old.spare_got.words ≤ new.spare_got.words + new.state.machine.len

@@ -1,0 +1,34 @@
+-- What the cells of a ring spell, and what lists a ring at rest stands for. Offsets and indices are in bytes here. Source: Linux drivers/hv/ring_buffer.c, hv_ringbuffer_write.
+use Rattle.std.specs.Prelude.{◌≡◌, ℕ, ◌+◌, ◌*◌, ◌^◌, ◌<◌, List, [], ◌∷◌, ◌++◌, length, slice_index}
+use Rattle.ring_core.specs.declared.place.Ring.{Ring}
+use Rattle.ring_core.specs.declared.place.Place.TheVariants.{Write, Read, Cell}
+use Rattle.ring_core.specs.declared.state.EndState.{EndState}
+use Rattle.ring_core.specs.Places.{index_of, ahead, used}
+use Rattle.ring_model.specs.Ring.{size}
+
+-- The cells of a ring of d bytes spell these packets from the index a to b: there are none and a is b, or the first packet's words stand at a and on,
+-- the next cell holds a in its high half, and the cells behind it spell the rest
+abbrev pub Spells : ℕ → (ℕ → ℕ) → ℕ → ℕ → List (List ℕ) → Type 0
+Spells d cell a b [] = a ≡ b
+Spells d cell a b (p ∷ ps) =
+    ((j : ℕ) → j < length p → cell (ahead d a (8 * j)) ≡ slice_index p j)
+    × (cell (ahead d a (8 * length p)) ≡ a * 2 ^ 32)
+    × Spells d cell (ahead d a (8 * length p + 8)) b ps
+
+-- the word of the cell at this offset of a ring of n cells
+abbrev pub cell_in : ℕ → List ℕ → Ring → ℕ → ℕ
+cell_in n ws r at = slice_index ws (index_of n (Cell r at))
+
+-- A ring of n cells in these words, with its two ends between their calls: its words are their indices, and its cells from the read word to the
+-- write word spell the last packets that the consumer got and those that wait
+pub record StandsFor (n : ℕ) (ws : List ℕ) (r : Ring) (producer consumer : EndState) : Type 0 where
+  pub before : List (List ℕ)
+  pub taken : List (List ℕ)
+  pub waiting : List (List ℕ)
+  pub got_is : consumer.got ≡ before ++ taken
+  pub sent_is : producer.sent ≡ consumer.got ++ waiting
+  pub write : slice_index ws (index_of n (Write r)) ≡ 8 * producer.machine.write
+  pub read : slice_index ws (index_of n (Read r)) ≡ 8 * consumer.machine.start
+  pub taken_cells : Spells (8 * n) (cell_in n ws r) (8 * consumer.machine.start) (8 * consumer.machine.read) taken
+  pub waiting_cells : Spells (8 * n) (cell_in n ws r) (8 * consumer.machine.read) (8 * producer.machine.write) waiting
+  pub filled : 8 * size (taken ++ waiting) ≡ 8 * used n consumer.machine.start producer.machine.write

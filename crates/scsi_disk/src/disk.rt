@@ -1,0 +1,195 @@
+//! The disk as a machine of requests and replies.
+ghost use Rattle.std.specs.Prelude.{◌≡◌, ℕ, ◌+◌, ◌<◌, ◌≤◌, ◌^◌, List, IfOk, All, None, Some, nat_lt, length};
+ghost use Rattle.std.specs.List.{list_any, range_with_len};
+ghost use Rattle.scsi_disk.specs.DiskModel.{new_disk, refusal_of, good_bytes, disk_reply, disk_after};
+ghost use Rattle.scsi_disk.specs.FiniteMap.{stands_for, made, is_among, with_written, written_after, kept_after};
+
+use crate::command::Command;
+use crate::inquiry::inquiry;
+use crate::refusal::Refusal;
+use crate::store::Store;
+use crate::{Chunk, DiskReply, DiskRequest};
+use hist_lock::Machine;
+use indexmap::IndexSet;
+use std::alloc::{AllocError, Global};
+use std::marker::Model;
+
+/// Whether one of so many places from `lba` on is bad.
+fn has_bad(bad: &IndexSet<u64>, lba: u64, count: u64) -> bool
+    requires { lba + count < 2 ^ 64 }
+    ensures { result ≡ list_any (is_among bad.now.keys) (range_with_len lba count) }
+{
+    for i in 0..count {
+        if bad.contains(&(lba + i)) {
+            return true;
+        }
+    }
+    false
+}
+
+/// A disk of blocks of 512 bytes, of which some places may be bad.
+#[derive(Drop)]
+pub struct Disk {
+    store: Store,
+    bad: IndexSet<u64>,
+}
+
+impl Model for Disk {
+    ghost use Rattle.std.specs.Prelude.{◌<◌, ◌^◌};
+    ghost use Rattle.scsi_disk.specs.FiniteMap.{Kept};
+
+    ghost Value = { Kept };
+
+    ghost view = { λ d. record { blocks = d.store.blocks; bad = d.bad.keys; written = d.store.written } };
+
+    ghost invariant = { λ d. d.store.blocks < 2 ^ 64 };
+}
+
+impl Disk {
+    /// A disk that is all zero, with these bad places. It takes the room of each block now.
+    pub fn make(alloc: Global, blocks: u64, bad: &[u64]) -> Result<Disk, AllocError>
+        requires some { 1 ≤ blocks }
+        requires few { blocks ≤ 65536 }
+        requires within { All (λ place. place < blocks) bad.now }
+        ensures kept { IfOk result (λ d. d ≡ made blocks bad.now) }
+        ensures model { IfOk result (λ d. stands_for d ≡ new_disk blocks bad.now) }
+    {
+        let mut places = IndexSet::with_capacity(alloc, bad.len())?;
+        for place in bad {
+            places.insert(*place)?;
+        }
+        let store = Store::make(alloc, blocks)?;
+        Ok(Disk { store, bad: places })
+    }
+
+    /// Why a command is refused, if it is: the first of these that applies.
+    ///
+    /// 1. A field isn't served: an inquiry for other data than the standard one, more than 8 blocks,
+    ///    or a write with other data than 512 bytes for each block.
+    /// 2. The blocks end past the disk.
+    /// 3. A read touches a bad block.
+    #[tactic(auto, unfolding(crate::specs::DiskModel::refusal_of))]
+    fn refusal(&self, command: &Command, out: &[u8]) -> Option<Refusal>
+        ensures { result ≡ refusal_of (stands_for self.now) command.now out.now }
+    {
+        match command {
+            Command::Inquiry {
+                standard: false,
+                ..
+            } => Some(Refusal::InvalidField),
+            Command::Read { lba, count } => self.read_refusal(*lba, *count),
+            Command::Write { lba, count } => self.write_refusal(*lba, *count, out.len() as u64),
+            _ => None,
+        }
+    }
+
+    #[tactic(auto, unfolding(crate::specs::DiskModel::refusal_of))]
+    fn read_refusal(&self, lba: u64, count: u64) -> Option<Refusal>
+        ensures { (out : List ℕ)
+            → result ≡ refusal_of (stands_for self.now) (Command.Read lba count) out }
+    {
+        if count > 8 {
+            Some(Refusal::InvalidField)
+        } else if self.ends_past(lba, count) {
+            Some(Refusal::OutOfRange)
+        } else if has_bad(&self.bad, lba, count) {
+            Some(Refusal::UnrecoveredRead)
+        } else {
+            None
+        }
+    }
+
+    #[tactic(auto, unfolding(crate::specs::DiskModel::refusal_of))]
+    fn write_refusal(&self, lba: u64, count: u64, len: u64) -> Option<Refusal>
+        ensures { (out : List ℕ) → length out ≡ len
+            → result ≡ refusal_of (stands_for self.now) (Command.Write lba count) out }
+    {
+        if count > 8 || len != 512 * count {
+            Some(Refusal::InvalidField)
+        } else if self.ends_past(lba, count) {
+            Some(Refusal::OutOfRange)
+        } else {
+            None
+        }
+    }
+
+    /// Whether so many blocks from `lba` on end past the disk. No sum is made, so none can wrap.
+    fn ends_past(&self, lba: u64, count: u64) -> bool
+        ensures { result ≡ nat_lt self.now.blocks (lba + count) }
+    {
+        let blocks = self.store.blocks();
+        count > blocks || lba > blocks - count
+    }
+
+    /// The last place, or the greatest number where it is greater, and the size of a block.
+    #[tactic(auto, unfolding(crate::specs::DiskModel::good_bytes))]
+    fn capacity(&self) -> Chunk
+        ensures { result ≡ good_bytes (stands_for self.now) Command.ReadCapacity }
+    {
+        let last = self.store.blocks().saturating_sub(1).min(0xffff_ffff) as u32;
+        let mut chunk = Chunk::of(&last.to_be_bytes());
+        chunk.extend(&512u32.to_be_bytes());
+        chunk
+    }
+
+    /// Does a command that isn't refused, and gives what comes back.
+    #[tactic(auto, unfolding(crate::specs::DiskModel::good_bytes))]
+    fn serve(&mut self, command: Command, out: &[u8]) -> Chunk
+        requires { refusal_of (stands_for self.old) command out.now ≡ None }
+        ensures back { result ≡ good_bytes (stands_for self.old) command }
+        ensures kept { self.new
+            ≡ with_written self.old (written_after self.old (Some command) out.now) }
+    {
+        match command {
+            Command::TestUnitReady | Command::SynchronizeCache => Chunk::empty(),
+            Command::Inquiry {
+                standard: _,
+                allocation,
+            } => inquiry(allocation),
+            Command::ReadCapacity => self.capacity(),
+            Command::Read { lba, count } => self.store.read(lba, count),
+            Command::Write { lba, count } => {
+                self.store.write(lba, count, out);
+                Chunk::empty()
+            }
+        }
+    }
+}
+
+impl Machine for Disk {
+    ghost use Rattle.std.specs.Prelude.{◌≡◌, refl};
+    ghost use Rattle.scsi_disk.specs.DiskModel.{disk_reply, disk_after};
+    ghost use Rattle.scsi_disk.specs.FiniteMap.{stands_for, unwritten, kept_after};
+
+    type Request = DiskRequest;
+
+    type Reply = DiskReply;
+
+    ghost first = { unwritten };
+
+    ghost after = { kept_after };
+
+    ghost reply_to = { λ s q. disk_reply (stands_for s) q };
+
+    /// Serves one request. It takes no memory.
+    fn apply(&mut self, request: &DiskRequest) -> DiskReply
+        ensures reply { result ≡ disk_reply (stands_for self.old) request.now }
+        ensures after { self.new ≡ kept_after self.old request.now }
+        ensures model { stands_for self.new ≡ disk_after (stands_for self.old) request.now }
+    {
+        let Some(command) = Command::of(&request.cdb) else {
+            return Refusal::InvalidCode.check();
+        };
+        let out = request.out.bytes();
+        match self.refusal(&command, out) {
+            Some(refusal) => refusal.check(),
+            None => DiskReply::Good(self.serve(command, out)),
+        }
+    }
+
+    fn copy(reply: &DiskReply) -> DiskReply {
+        reply.again()
+    }
+
+    ghost keeps_setup = { λ s q. refl };
+}

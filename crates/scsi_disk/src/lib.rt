@@ -1,0 +1,20 @@
+//! A synthetic SCSI disk: blocks of 512 bytes behind 10-byte commands.
+#![tactic(auto)]
+
+mod big_endian;
+mod chunk;
+mod command;
+mod disk;
+mod inquiry;
+mod refusal;
+mod reply;
+mod request;
+mod store;
+#[cfg(test)]
+mod tests;
+
+pub use chunk::Chunk;
+pub use command::Command;
+pub use disk::Disk;
+pub use reply::DiskReply;
+pub use request::DiskRequest;

@@ -1,0 +1,33 @@
+//! Why a disk refuses a command.
+ghost use Rattle.std.specs.Prelude.{◌≡◌};
+ghost use Rattle.scsi_disk.specs.DiskModel.{check_of};
+
+use crate::DiskReply;
+
+/// Why a disk refuses a command (names as in the SCSI Primary Commands).
+#[derive(Clone, Copy, Debug, PartialEq, Eq)]
+pub(crate) enum Refusal {
+    /// The command isn't built.
+    InvalidCode,
+    /// A field of the command has a value that isn't served.
+    InvalidField,
+    /// The blocks end past the disk.
+    OutOfRange,
+    /// A block can't be read.
+    UnrecoveredRead,
+}
+
+impl Refusal {
+    /// Its check: sense key, additional sense code and qualifier.
+    pub(crate) fn check(self) -> DiskReply
+        ensures { result ≡ check_of self }
+    {
+        let (key, asc) = match self {
+            Refusal::InvalidCode => (5, 0x20),
+            Refusal::InvalidField => (5, 0x24),
+            Refusal::OutOfRange => (5, 0x21),
+            Refusal::UnrecoveredRead => (3, 0x11),
+        };
+        DiskReply::Check { key, asc, ascq: 0 }
+    }
+}

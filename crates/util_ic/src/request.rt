@@ -1,0 +1,101 @@
+//! The requests of the host.
+
+ghost use Rattle.std.specs.Prelude.{◌≡◌, ℕ, ◌+◌, ◌<◌, ◌≤◌, ◌++◌, length, take, drop, List, Some};
+ghost use Rattle.util_ic.specs.Messages.{IsUtility, beat_bytes, down_bytes, ask_bytes, negotiate_bytes, zeros};
+ghost use Rattle.pkt_desc.specs.Packets.{Carries};
+ghost use Rattle.util_ic.specs.Packets.{ask_packet, negotiate_packet};
+ghost use Rattle.util_ic.specs.Asks.{ask_of, kind_for};
+
+use crate::IcAsk;
+use crate::tables::{heartbeat_table, offered_table, shutdown_table};
+use contact::Kind;
+use wire_table::fields;
+
+// Clears bytes.
+pub fn clear(part: &mut [u8])
+    ensures { part.new ≡ zeros (length part.old) }
+{
+    part.fill(0);
+}
+
+// Writes zeros from a place on to the end.
+fn put_zeros(message: &mut [u8], at: usize, len: usize)
+    requires { at + len ≡ length message.old }
+    ensures { message.new ≡ take at message.old ++ zeros len }
+{
+    clear(&mut message[at..]);
+}
+
+// Writes a heartbeat.
+fn write_beat(message: &mut [u8], seq: u64)
+    requires { length message.old ≡ 68 }
+    ensures { message.new ≡ beat_bytes seq }
+{
+    let table = heartbeat_table();
+    fields!(put table in message: num 0 = 0u32, num 1 = 60u32, num 2 = 3u16, num 3 = 0u16, num 4 = 1u16, num 5 = 3u16, num 6 = 0u16, num 7 = 40u16, num 8 = 0u32, num 9 = 0u8, num 10 = 3u8, num 11 = 0u16, num 12 = seq);
+    put_zeros(message, 36, 32);
+}
+
+// Writes a shutdown.
+fn write_down(message: &mut [u8], reason: u32, timeout: u32, flags: u32)
+    requires { length message.old ≡ 2088 }
+    ensures { message.new ≡ down_bytes reason timeout flags }
+{
+    let table = shutdown_table();
+    fields!(put table in message: num 0 = 0u32, num 1 = 2080u32, num 2 = 3u16, num 3 = 0u16, num 4 = 3u16, num 5 = 3u16, num 6 = 0u16, num 7 = 2060u16, num 8 = 0u32, num 9 = 0u8, num 10 = 3u8, num 11 = 0u16, num 12 = reason, num 13 = timeout, num 14 = flags);
+    put_zeros(message, 40, 2048);
+}
+
+// Writes the negotiate message.
+fn write_negotiate(message: &mut [u8])
+    requires { length message.old ≡ 52 }
+    ensures { take 52 message.new ≡ negotiate_bytes }
+{
+    let table = offered_table();
+    fields!(put table in message: num 0 = 0u32, num 1 = 44u32, num 2 = 0u16, num 3 = 0u16, num 4 = 0u16, num 5 = 0u16, num 6 = 0u16, num 7 = 24u16, num 8 = 0u32, num 9 = 0u8, num 10 = 3u8, num 11 = 0u16, num 12 = 2u16, num 13 = 2u16, num 14 = 0u32, num 15 = 3u16, num 16 = 0u16, num 17 = 1u16, num 18 = 0u16, num 19 = 3u16, num 20 = 0u16, num 21 = 1u16, num 22 = 0u16);
+}
+
+/// Writes a request at the front of `out`, and answers its length: 68 bytes for a heartbeat, 2,088 for a shutdown. The rest of
+/// `out` stays.
+///
+/// The request carries frame and message version 3.0, flags 3, and zeros for its text and reserved bytes.
+pub fn ask(kind: &IcAsk, out: &mut [u8]) -> usize
+    requires { 2112 ≤ length out.old }
+    ensures count { result ≡ length (ask_bytes kind.now) }
+    ensures most { result ≤ 2112 }
+    ensures message { take result out.new ≡ ask_bytes kind.now }
+    ensures rest { drop result out.new ≡ drop result out.old }
+    ensures packet { (id : ℕ) → Carries (ask_packet id kind.now) 6 id 0 (ask_bytes kind.now) }
+    ensures read_back { (more : List ℕ) → ask_of (kind_for kind.now) (ask_bytes kind.now ++ more) ≡ Some kind.now }
+{
+    match *kind {
+        IcAsk::Beat { seq } => {
+            write_beat(&mut out[..68], seq);
+            68
+        }
+        IcAsk::Down {
+            reason,
+            timeout,
+            flags,
+        } => {
+            write_down(&mut out[..2088], reason, timeout, flags);
+            2088
+        }
+    }
+}
+
+/// Writes the negotiate message at the front of `out`, and answers its length, 52 bytes. The rest of `out` stays.
+///
+/// It offers frame versions 3.0 and 1.0 and, on both kinds of channel, message versions 3.0 and 1.0.
+pub fn negotiate(kind: Kind, out: &mut [u8]) -> usize
+    requires kind { IsUtility kind }
+    requires room { 2112 ≤ length out.old }
+    ensures count { result ≡ length negotiate_bytes }
+    ensures most { result ≤ 2112 }
+    ensures message { take result out.new ≡ negotiate_bytes }
+    ensures rest { drop result out.new ≡ drop result out.old }
+    ensures packet { (id : ℕ) → Carries (negotiate_packet id) 6 id 0 negotiate_bytes }
+{
+    write_negotiate(&mut out[..52]);
+    52
+}

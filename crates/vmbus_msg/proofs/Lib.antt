@@ -1,0 +1,5 @@
+pub mod FrameLaws
+pub mod MsgLaws
+pub mod PartLaws
+pub mod SizeLaws
+pub mod UnknownLaws

@@ -1,0 +1,12 @@
+use Rattle.std.proofs.Common.{arith}
+use Rattle.vmbus_msg.proofs.MsgLaws.{parsed_found, parsed_only, parsed_fault}
+use Rattle.vmbus_msg.proofs.read.decode.Goals as goal
+
+pub returns-clause-found : goal.returns-clause-found
+returns-clause-found c = parsed_found c.args.bytes.now c.parse.result (λ i. omega (arith, c.type_inv.bytes i)) c.parse.ensures
+
+pub returns-clause-only : goal.returns-clause-only
+returns-clause-only c = parsed_only c.args.bytes.now c.parse.result (λ i. omega (arith, c.type_inv.bytes i)) c.parse.ensures
+
+pub returns-clause-fault : goal.returns-clause-fault
+returns-clause-fault c = parsed_fault c.args.bytes.now c.parse.result c.parse.ensures

@@ -1,0 +1,8 @@
+pub mod Faults
+pub mod FrameList
+pub mod Grammar
+pub mod Pages
+pub mod Reading
+pub use Rattle.wire_table.specs.Little
+pub use Rattle.wire_table.specs.Rows
+pub use Rattle.wire_table.specs.Tables

@@ -1,0 +1,12 @@
+//! The checked fields.
+
+use thiserror::Error;
+
+/// A field of a message that has to hold more than its width says.
+#[derive(Clone, Copy, Debug, PartialEq, Eq, Error)]
+pub enum FieldName {
+    #[error("range_buflen")]
+    RangeBuflen,
+    #[error("rangecount")]
+    Rangecount,
+}

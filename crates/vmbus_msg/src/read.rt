@@ -1,0 +1,435 @@
+//! Messages read from bytes.
+
+ghost use Rattle.std.specs.Prelude.{◌≡◌, ◌+◌, ◌-◌, ◌*◌, ◌/◌, ◌<◌, ◌≤◌, ◌++◌, min, length, take, drop, slice_range, MatchResult, IfOk, IfErr, None, Some, Ok};
+ghost use Rattle.wire_table.specs.Rows.{numbers_in};
+ghost use Rattle.vmbus_msg.specs.declared.msg.Msg.{Msg};
+ghost use Rattle.vmbus_msg.specs.Grammar.{IsMessage};
+ghost use Rattle.vmbus_msg.specs.Faults.{fault_of, fixed, body, short, header, header_fields, told, value_at};
+ghost use Rattle.vmbus_msg.specs.Reading.{Reads, Parses};
+ghost use Rattle.vmbus_msg.specs.Pages.{header_frames};
+
+use crate::fault::MsgFault;
+use crate::field_name::FieldName;
+use crate::frames::Frames;
+use crate::gpadl_body::GpadlBody;
+use crate::gpadl_header::GpadlHeader;
+use crate::msg::Msg;
+use crate::tables;
+use wire_table::{fields, get_at};
+
+// A length as a fault tells it.
+fn told_len(bytes: &[u8]) -> u32
+    ensures { result ≡ told (length bytes.now) }
+{
+    bytes.len().min(u32::MAX as usize) as u32
+}
+
+// The test of the fewest bytes.
+fn has_at_least(bytes: &[u8], need: u32) -> Result<(), MsgFault>
+    ensures { MatchResult result (λ _. short need (length bytes.now) ≡ None) (λ e. short need (length bytes.now) ≡ Some e) }
+{
+    if bytes.len() < need as usize {
+        return Err(MsgFault::Short {
+            have: told_len(bytes),
+            need,
+        });
+    }
+    Ok(())
+}
+
+// The test of a message of one length.
+fn has_len(bytes: &[u8], need: u32) -> Result<(), MsgFault>
+    ensures { MatchResult result (λ _. fixed need (length bytes.now) ≡ None) (λ e. fixed need (length bytes.now) ≡ Some e) }
+{
+    has_at_least(bytes, need)?;
+    if bytes.len() > need as usize {
+        return Err(MsgFault::Long {
+            have: told_len(bytes),
+        });
+    }
+    Ok(())
+}
+
+// The test of a page list's body: 16 bytes, and 1 to 28 frames of 8 bytes.
+fn has_frames(bytes: &[u8]) -> Result<(), MsgFault>
+    ensures { MatchResult result (λ _. body (length bytes.now) ≡ None) (λ e. body (length bytes.now) ≡ Some e) }
+{
+    has_at_least(bytes, 24)?;
+    let len = bytes.len();
+    if len > 240 {
+        return Err(MsgFault::Long {
+            have: told_len(bytes),
+        });
+    }
+    if len % 8 != 0 {
+        return Err(MsgFault::Short {
+            have: told_len(bytes),
+            need: (len / 8 * 8 + 8) as u32,
+        });
+    }
+    Ok(())
+}
+
+// The test of a page list's range: whole pages, at least one, in one range.
+fn has_range(range_buflen: u16, rangecount: u16) -> Result<(), MsgFault>
+    ensures { MatchResult result (λ _. header_fields range_buflen rangecount ≡ None) (λ e. header_fields range_buflen rangecount ≡ Some e) }
+{
+    if range_buflen < 16 || range_buflen % 8 != 0 {
+        return Err(MsgFault::Field {
+            name: FieldName::RangeBuflen,
+            value: u64::from(range_buflen),
+        });
+    }
+    if rangecount != 1 {
+        return Err(MsgFault::Field {
+            name: FieldName::Rangecount,
+            value: u64::from(rangecount),
+        });
+    }
+    Ok(())
+}
+
+// This many frames of 8 bytes.
+fn read_frames(bytes: &[u8], count: usize) -> Frames
+    requires few { count ≤ 28 }
+    requires whole { 8 * count ≤ length bytes.now }
+    ensures { result ≡ numbers_in 8 count bytes.now }
+{
+    let mut frames = Frames::new();
+    for i in 0..count {
+        frames.push(get_at(bytes, 8 * i, 8));
+    }
+    frames
+}
+
+#[tactic(auto, unfolding(crate::specs::Reading::Reads))]
+fn read_offer_channel(bytes: &[u8]) -> Result<Msg, MsgFault>
+    ensures { Reads 1 bytes.now result }
+{
+    has_len(bytes, 196)?;
+    let table = tables::offer_channel_table();
+    Ok(fields!(get table in bytes: Msg::OfferChannel {
+        padding: u32 1,
+        if_type: raw 8,
+        if_instance: raw 24,
+        reserved1: u64 2,
+        reserved2: u64 3,
+        chn_flags: u16 4,
+        mmio: u16 5,
+        user: raw 60,
+        sub: u16 6,
+        reserved3: u16 7,
+        relid: u32 8,
+        monitorid: u8 9,
+        monitor: u8 10,
+        interrupt: u16 11,
+        connection: u32 12,
+    }))
+}
+
+#[tactic(auto, unfolding(crate::specs::Reading::Reads))]
+fn read_rescind_channel_offer(bytes: &[u8]) -> Result<Msg, MsgFault>
+    ensures { Reads 2 bytes.now result }
+{
+    has_len(bytes, 12)?;
+    let table = tables::rescind_channel_offer_table();
+    Ok(fields!(get table in bytes: Msg::RescindChannelOffer {
+        padding: u32 1,
+        relid: u32 2,
+    }))
+}
+
+#[tactic(auto, unfolding(crate::specs::Reading::Reads))]
+fn read_request_offers(bytes: &[u8]) -> Result<Msg, MsgFault>
+    ensures { Reads 3 bytes.now result }
+{
+    has_len(bytes, 8)?;
+    let table = tables::request_offers_table();
+    Ok(fields!(get table in bytes: Msg::RequestOffers {
+        padding: u32 1,
+    }))
+}
+
+#[tactic(auto, unfolding(crate::specs::Reading::Reads))]
+fn read_all_offers_delivered(bytes: &[u8]) -> Result<Msg, MsgFault>
+    ensures { Reads 4 bytes.now result }
+{
+    has_len(bytes, 8)?;
+    let table = tables::all_offers_delivered_table();
+    Ok(fields!(get table in bytes: Msg::AllOffersDelivered {
+        padding: u32 1,
+    }))
+}
+
+#[tactic(auto, unfolding(crate::specs::Reading::Reads))]
+fn read_open_channel(bytes: &[u8]) -> Result<Msg, MsgFault>
+    ensures { Reads 5 bytes.now result }
+{
+    has_len(bytes, 148)?;
+    let table = tables::open_channel_table();
+    Ok(fields!(get table in bytes: Msg::OpenChannel {
+        padding: u32 1,
+        relid: u32 2,
+        openid: u32 3,
+        gpadl: u32 4,
+        target_vp: u32 5,
+        downstream: u32 6,
+        user: raw 28,
+    }))
+}
+
+#[tactic(auto, unfolding(crate::specs::Reading::Reads))]
+fn read_open_channel_result(bytes: &[u8]) -> Result<Msg, MsgFault>
+    ensures { Reads 6 bytes.now result }
+{
+    has_len(bytes, 20)?;
+    let table = tables::open_channel_result_table();
+    Ok(fields!(get table in bytes: Msg::OpenChannelResult {
+        padding: u32 1,
+        relid: u32 2,
+        openid: u32 3,
+        status: u32 4,
+    }))
+}
+
+#[tactic(auto, unfolding(crate::specs::Reading::Reads))]
+fn read_close_channel(bytes: &[u8]) -> Result<Msg, MsgFault>
+    ensures { Reads 7 bytes.now result }
+{
+    has_len(bytes, 12)?;
+    let table = tables::close_channel_table();
+    Ok(fields!(get table in bytes: Msg::CloseChannel {
+        padding: u32 1,
+        relid: u32 2,
+    }))
+}
+
+#[tactic(auto, unfolding(crate::specs::Reading::Reads))]
+fn read_gpadl_created(bytes: &[u8]) -> Result<Msg, MsgFault>
+    ensures { Reads 10 bytes.now result }
+{
+    has_len(bytes, 20)?;
+    let table = tables::gpadl_created_table();
+    Ok(fields!(get table in bytes: Msg::GpadlCreated {
+        padding: u32 1,
+        relid: u32 2,
+        gpadl: u32 3,
+        status: u32 4,
+    }))
+}
+
+#[tactic(auto, unfolding(crate::specs::Reading::Reads))]
+fn read_gpadl_teardown(bytes: &[u8]) -> Result<Msg, MsgFault>
+    ensures { Reads 11 bytes.now result }
+{
+    has_len(bytes, 16)?;
+    let table = tables::gpadl_teardown_table();
+    Ok(fields!(get table in bytes: Msg::GpadlTeardown {
+        padding: u32 1,
+        relid: u32 2,
+        gpadl: u32 3,
+    }))
+}
+
+#[tactic(auto, unfolding(crate::specs::Reading::Reads))]
+fn read_gpadl_torndown(bytes: &[u8]) -> Result<Msg, MsgFault>
+    ensures { Reads 12 bytes.now result }
+{
+    has_len(bytes, 12)?;
+    let table = tables::gpadl_torndown_table();
+    Ok(fields!(get table in bytes: Msg::GpadlTorndown {
+        padding: u32 1,
+        gpadl: u32 2,
+    }))
+}
+
+#[tactic(auto, unfolding(crate::specs::Reading::Reads))]
+fn read_relid_released(bytes: &[u8]) -> Result<Msg, MsgFault>
+    ensures { Reads 13 bytes.now result }
+{
+    has_len(bytes, 12)?;
+    let table = tables::relid_released_table();
+    Ok(fields!(get table in bytes: Msg::RelidReleased {
+        padding: u32 1,
+        relid: u32 2,
+    }))
+}
+
+#[tactic(auto, unfolding(crate::specs::Reading::Reads))]
+fn read_initiate_contact(bytes: &[u8]) -> Result<Msg, MsgFault>
+    ensures { Reads 14 bytes.now result }
+{
+    has_len(bytes, 40)?;
+    let table = tables::initiate_contact_table();
+    Ok(fields!(get table in bytes: Msg::InitiateContact {
+        padding: u32 1,
+        version: u32 2,
+        target_vcpu: u32 3,
+        page: u64 4,
+        monitor1: u64 5,
+        monitor2: u64 6,
+    }))
+}
+
+#[tactic(auto, unfolding(crate::specs::Reading::Reads))]
+fn read_version_response(bytes: &[u8]) -> Result<Msg, MsgFault>
+    ensures { Reads 15 bytes.now result }
+{
+    has_len(bytes, 16)?;
+    let table = tables::version_response_table();
+    Ok(fields!(get table in bytes: Msg::VersionResponse {
+        padding: u32 1,
+        supported: u8 2,
+        state: u8 3,
+        padding2: u16 4,
+        conn: u32 5,
+    }))
+}
+
+#[tactic(auto, unfolding(crate::specs::Reading::Reads))]
+fn read_unload(bytes: &[u8]) -> Result<Msg, MsgFault>
+    ensures { Reads 16 bytes.now result }
+{
+    has_len(bytes, 8)?;
+    let table = tables::unload_table();
+    Ok(fields!(get table in bytes: Msg::Unload {
+        padding: u32 1,
+    }))
+}
+
+#[tactic(auto, unfolding(crate::specs::Reading::Reads))]
+fn read_unload_response(bytes: &[u8]) -> Result<Msg, MsgFault>
+    ensures { Reads 17 bytes.now result }
+{
+    has_len(bytes, 8)?;
+    let table = tables::unload_response_table();
+    Ok(fields!(get table in bytes: Msg::UnloadResponse {
+        padding: u32 1,
+    }))
+}
+
+// How many bytes the range of a page list's header says that it has.
+fn range_buflen(bytes: &[u8]) -> u16
+    requires { 28 ≤ length bytes.now }
+    ensures { result ≡ value_at bytes.now 16 18 }
+{
+    let table = tables::gpadl_header_table();
+    table.get(bytes, 4) as u16
+}
+
+// How many ranges a page list's header says that it has.
+fn rangecount(bytes: &[u8]) -> u16
+    requires { 28 ≤ length bytes.now }
+    ensures { result ≡ value_at bytes.now 18 20 }
+{
+    let table = tables::gpadl_header_table();
+    table.get(bytes, 5) as u16
+}
+
+// How many frames a page list's header holds: one for each page of its range, and at most 26.
+fn frames_in_header(range_buflen: u16) -> u32
+    ensures value { result ≡ header_frames range_buflen }
+    ensures most { result ≤ 26 }
+{
+    u32::from((range_buflen.max(8) - 8) / 8).min(26)
+}
+
+// The test of a page list's header: its length first, and then its range.
+fn has_header(bytes: &[u8]) -> Result<(), MsgFault>
+    ensures { MatchResult result (λ _. header bytes.now ≡ None) (λ e. header bytes.now ≡ Some e) }
+{
+    has_at_least(bytes, 28)?;
+    has_len(bytes, 28 + 8 * frames_in_header(range_buflen(bytes)))?;
+    has_range(range_buflen(bytes), rangecount(bytes))?;
+    Ok(())
+}
+
+#[tactic(auto, unfolding(crate::specs::Reading::Reads))]
+fn read_gpadl_header(bytes: &[u8]) -> Result<Msg, MsgFault>
+    ensures { Reads 8 bytes.now result }
+{
+    has_header(bytes)?;
+    let table = tables::gpadl_header_table();
+    let frames = read_frames(bytes.split_at(28).1, (bytes.len() - 28) / 8);
+    Ok(Msg::GpadlHeader(fields!(get table in bytes: GpadlHeader {
+        padding: u32 1,
+        relid: u32 2,
+        gpadl: u32 3,
+        range_buflen: u16 4,
+        rangecount: u16 5,
+        byte_count: u32 6,
+        byte_offset: u32 7,
+        frames: is frames,
+    })))
+}
+
+#[tactic(auto, unfolding(crate::specs::Reading::Reads))]
+fn read_gpadl_body(bytes: &[u8]) -> Result<Msg, MsgFault>
+    ensures { Reads 9 bytes.now result }
+{
+    has_frames(bytes)?;
+    let table = tables::gpadl_body_table();
+    let frames = read_frames(bytes.split_at(16).1, (bytes.len() - 16) / 8);
+    Ok(Msg::GpadlBody(fields!(get table in bytes: GpadlBody {
+        padding: u32 1,
+        msgnumber: u32 2,
+        gpadl: u32 3,
+        frames: is frames,
+    })))
+}
+
+// The message of this type that the bytes hold.
+fn read(kind: u32, bytes: &[u8]) -> Result<Msg, MsgFault>
+    ensures { Reads kind bytes.now result }
+{
+    match kind {
+        1 => read_offer_channel(bytes),
+        2 => read_rescind_channel_offer(bytes),
+        3 => read_request_offers(bytes),
+        4 => read_all_offers_delivered(bytes),
+        5 => read_open_channel(bytes),
+        6 => read_open_channel_result(bytes),
+        7 => read_close_channel(bytes),
+        8 => read_gpadl_header(bytes),
+        9 => read_gpadl_body(bytes),
+        10 => read_gpadl_created(bytes),
+        11 => read_gpadl_teardown(bytes),
+        12 => read_gpadl_torndown(bytes),
+        13 => read_relid_released(bytes),
+        14 => read_initiate_contact(bytes),
+        15 => read_version_response(bytes),
+        16 => read_unload(bytes),
+        17 => read_unload_response(bytes),
+        _ => Err(MsgFault::Unknown { kind }),
+    }
+}
+
+// The type comes first, and then what is of that type.
+#[tactic(auto, unfolding(crate::specs::Reading::Parses, crate::specs::Faults::fault_of))]
+fn parse(bytes: &[u8]) -> Result<Msg, MsgFault>
+    ensures { Parses bytes.now result }
+{
+    has_at_least(bytes, 8)?;
+    let kind = get_at(bytes, 0, 4) as u32;
+    read(kind, bytes)
+}
+
+/// The message that the bytes are, all of them.
+///
+/// Errors, in this order: `Short` below 8 bytes; `Unknown`; `Short` or `Long` where the length isn't
+/// the message's; `Field` where the header of a page list doesn't name one range of whole pages.
+pub fn decode(bytes: &[u8]) -> Result<Msg, MsgFault>
+    // What is read has these bytes.
+    ensures found { IfOk result (λ m. IsMessage m bytes.now) }
+
+    // The message of these bytes is read.
+    ensures only { (m : Msg) → IsMessage m bytes.now → result ≡ Ok m }
+
+    // Which fault it is.
+    ensures fault { IfErr result (λ e. fault_of bytes.now ≡ Some e) }
+
+    // What is read stands in the bytes, field by field.
+    ensures reads { Parses bytes.now result }
+{
+    parse(bytes)
+}
