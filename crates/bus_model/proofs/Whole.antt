@@ -12,13 +12,11 @@ use Rattle.bus_script.specs.declared.line.Ask.{Ask}
 use Rattle.bus_script.specs.declared.line.DeviceSpec.{DeviceSpec}
 use Rattle.bus_script.specs.declared.outcome.LineResult.{LineResult}
 use Rattle.bus_script.specs.WellFormed.{Asks, AllAsk}
-use Rattle.ring_model.specs.Lists.{Lists}
 use Rattle.bus_model.specs.Served.{Served, done_of}
-use Rattle.bus_model.specs.Channel.{IsChannelRun}
 use Rattle.bus_model.specs.Parts.{Dest, ToChannel, dest_in, dests, asked_in, asks_to, offered_by, offered, is_opened, is_phase, ends_part, parts, Address, At, addresses_from, addresses}
 use Rattle.bus_model.specs.Logs.{Recorded, log_of, EachHistory}
 use Rattle.bus_model.specs.Run.{ChannelPhase, DevicePhase, Carries, PhaseRuns, RunFrom, IsBusRun, outcome_at, outcomes_of}
-use Rattle.bus_model.specs.One.{asked_by, asks_of, runs_if, OneRuns}
+use Rattle.bus_model.specs.One.{asked_by, asks_of, OneRuns}
 use Rattle.bus_model.specs.declared.channel_run.ChannelRun.{ChannelRun}
 use Rattle.bus_model.specs.declared.history.DeviceHistory.{DeviceHistory}
 
@@ -117,16 +115,22 @@ length_zero : {A : Type 0} (xs : List A) → length xs ≡ 0 → xs ≡ []
 length_zero [] is = refl
 length_zero (x ∷ xs) is = absurd (omega arith)
 
--- an outcome for each line
-pub as_many : (kind : DeviceSpec) (lines : List Line) (lists : Lists) (served : List Served) (results : List LineResult) → AllAsk kind lines → IsChannelRun kind (asks_of lines) lists served
-    → results ≡ map done_of served → length results ≡ length lines
-as_many kind lines lists served results all run told =
-    ap length told ∙ length-map served done_of ∙ sym (length-map served (λ s. s.ask)) ∙ ap length run.serves ∙ all_asks kind lines all
+-- what an opened channel served is what it was asked, and one that wasn't opened is asked nothing
+carried_serves : (b : Bool) (kind : DeviceSpec) (asks : List Ask) (settled : List ChannelRun) (served : List Served) → Carries b 0 1 0 kind asks settled served → (b ≡ false → asks ≡ []) → map (λ s. s.ask) served ≡ asks
+carried_serves true kind asks [] served c none = absurd c
+carried_serves true kind asks (r ∷ []) served c none = c.3.serves
+carried_serves true kind asks (r ∷ q ∷ settled) served c none = absurd c
+carried_serves false kind asks settled served c none = ap (map (λ s. s.ask)) c.1 ∙ sym (none refl)
 
-carries_if : (b : Bool) (kind : DeviceSpec) (asks : List Ask) (lists : Lists) (settled : List ChannelRun) (served : List Served) → (b ≡ false → served ≡ []) → settled ≡ runs_if b lists → IsChannelRun kind asks lists served
-    → Carries b 0 1 0 kind asks settled served
-carries_if true kind asks lists settled served none is run = subst (λ (r : List ChannelRun). Carries true 0 1 0 kind asks r served) (sym is) (refl, refl, refl, run)
-carries_if false kind asks lists settled served none is run = (is, none refl)
+-- an outcome for each line
+pub as_many : (kind : DeviceSpec) (lines : List Line) (settled : List ChannelRun) (histories : List DeviceHistory) (results : List LineResult) → AllAsk kind lines → OneRuns kind lines settled histories results
+    → length results ≡ length lines
+as_many kind lines settled histories results all one =
+    ap length one.told ∙ length-map one.served done_of ∙ sym (length-map one.served (λ s. s.ask))
+    ∙ ap length (carried_serves (nat_lt 0 (length lines)) kind (asks_of lines) settled one.served one.carries none) ∙ all_asks kind lines all
+  where
+    none : nat_lt 0 (length lines) ≡ false → asks_of lines ≡ []
+    none is = let empty : length lines ≡ 0 = grind (arith, nat_tests) in ap asks_of (length_zero lines empty)
 
 module _ (kind : DeviceSpec) (lines : List Line) (settled : List ChannelRun) (histories : List DeviceHistory) (results : List LineResult) (one : OneRuns kind lines settled histories results) (all : AllAsk kind lines) where
   asks_here : asks_to 0 (dests lines) ≡ asks_of lines
@@ -136,21 +140,17 @@ module _ (kind : DeviceSpec) (lines : List Line) (settled : List ChannelRun) (hi
   abbrev channel_of : List Line → ChannelPhase
   channel_of part = record { device = 0; kind = kind; opened = is_opened 0 part; runs = settled; served = one.served }
 
-  none_served : length lines ≡ 0 → one.served ≡ []
-  none_served empty = length_zero one.served (sym (length-map one.served (λ s. s.ask)) ∙ ap length one.channel.serves ∙ all_asks kind lines all ∙ empty)
-
   opened_is : (part : List Line) → dests part ≡ dests lines → is_opened 0 part ≡ nat_lt 0 (length lines)
   opened_is part same = ap (λ (ds : List Dest). nat_lt 0 (length (asks_to 0 ds))) same ∙ (ap (λ (a : List Ask). nat_lt 0 (length a)) asks_here ∙ ap (λ (n : ℕ). nat_lt 0 n) (all_asks kind lines all))
 
   carries : (part : List Line) → dests part ≡ dests lines → Carries (is_opened 0 part) 0 1 0 kind (asks_to 0 (dests part)) settled one.served
   carries part same =
       subst (λ (b : Bool). Carries b 0 1 0 kind (asks_to 0 (dests part)) settled one.served) (sym (opened_is part same))
-      (subst (λ (a : List Ask). Carries (nat_lt 0 (length lines)) 0 1 0 kind a settled one.served) (sym (ap (asks_to 0) same ∙ asks_here))
-      (carries_if (nat_lt 0 (length lines)) kind (asks_of lines) one.lists settled one.served (λ is. none_served (grind (arith, nat_tests))) one.runs one.channel))
+      (subst (λ (a : List Ask). Carries (nat_lt 0 (length lines)) 0 1 0 kind a settled one.served) (sym (ap (asks_to 0) same ∙ asks_here)) one.carries)
 
   outcomes : (part : List Line) → dests part ≡ dests lines → map (λ r. Some r) results ≡ map (outcome_at (map outcomes_of (channel_of part ∷ []))) (addresses part)
   outcomes part same =
-      let long : length results ≡ length (dests lines) = as_many kind lines one.lists one.served results all one.channel one.told ∙ sym (all_dests kind lines all) in
+      let long : length results ≡ length (dests lines) = as_many kind lines settled histories results all one ∙ sym (all_dests kind lines all) in
       let at = told_at (dests lines) [] [] results (here_all kind lines all) refl long in
       sym at ∙ (ap (λ (l : List LineResult). map (outcome_at (l ∷ [])) (addresses_from [] (dests lines))) one.told ∙ ap (λ (ds : List Dest). map (outcome_at (map done_of one.served ∷ [])) (addresses_from [] ds)) (sym same))
 

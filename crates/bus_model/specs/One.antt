@@ -1,5 +1,5 @@
 -- The run of a script with one device, which each line behind the first asks.
-use Rattle.std.specs.Prelude.{ℕ, ◌≡◌, ◌*◌, Bool, List, [], ◌∷◌, length, map, nat_lt, if◌then◌else◌}
+use Rattle.std.specs.Prelude.{◌≡◌, List, [], ◌∷◌, length, map, nat_lt}
 use Rattle.std.specs.List.{flat_map}
 use Rattle.bus_script.specs.declared.line.Line.{Line}
 use Rattle.bus_script.specs.declared.line.What.{What}
@@ -7,9 +7,8 @@ use Rattle.bus_script.specs.declared.line.What.TheVariants.{Offer as IsOffer, As
 use Rattle.bus_script.specs.declared.line.Ask.{Ask}
 use Rattle.bus_script.specs.declared.line.DeviceSpec.{DeviceSpec}
 use Rattle.bus_script.specs.declared.outcome.LineResult.{LineResult}
-use Rattle.ring_model.specs.Lists.{Lists}
 use Rattle.bus_model.specs.Served.{Served, done_of}
-use Rattle.bus_model.specs.Channel.{IsChannelRun}
+use Rattle.bus_model.specs.Run.{Carries}
 use Rattle.bus_model.specs.Logs.{IsHistory, log_of, served_from}
 use Rattle.bus_model.specs.declared.channel_run.ChannelRun.{ChannelRun}
 use Rattle.bus_model.specs.declared.history.DeviceHistory.{DeviceHistory}
@@ -23,17 +22,11 @@ asked_by (IsAsk device ask) = ask ∷ []
 abbrev pub asks_of : List Line → List Ask
 asks_of lines = flat_map (λ l. asked_by l.what) lines
 
--- the run of the one channel, where it is opened
-abbrev pub runs_if : Bool → Lists → List ChannelRun
-runs_if opened lists = if opened then record { phase = 0; relid = 1; device = 0; settled = lists } ∷ [] else []
-
--- what the lines that ask the one device of this kind come to
+-- what the lines that ask the one device of this kind come to: its channel is opened where there is such a line
 pub record OneRuns (kind : DeviceSpec) (lines : List Line) (settled : List ChannelRun) (histories : List DeviceHistory) (results : List LineResult) : Type 0 where
   pub served : List Served
-  pub lists : Lists
+  pub carries : Carries (nat_lt 0 (length lines)) 0 1 0 kind (asks_of lines) settled served
   pub history : DeviceHistory
-  pub channel : IsChannelRun kind (asks_of lines) lists served
-  pub runs : settled ≡ runs_if (nat_lt 0 (length lines)) lists
   pub kept : histories ≡ history ∷ []
   pub legal : IsHistory kind history
   pub serves : served_from 0 0 (log_of history) ≡ served

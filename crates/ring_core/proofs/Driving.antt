@@ -5,7 +5,7 @@ use Rattle.std.proofs.lemmas.List.{length-take-le}
 use Rattle.chan_run.specs.declared.event.Event.{Event}
 use Rattle.chan_run.specs.declared.event.Event.TheVariants.{Got as GotEvent}
 use Rattle.ring_core.specs.declared.machine.Stage.{Stage}
-use Rattle.ring_core.specs.declared.machine.Stage.TheVariants.{Idle, Stopped, SendRead, SendCell, SendWrite, SendMask, TakeWrite, TakeFirst, TakeCell, CommitRead, ArmPending, ArmMask, PollSignal, MarkStore, PeerMark}
+use Rattle.ring_core.specs.declared.machine.Stage.TheVariants.{Idle, Stopped, SendRead, SendCell, SendWrite, SendMask, TakeWrite, TakeFirst, TakeCell, CommitRead, CommitFeature, CommitPending, ArmPending, ArmMask, PollSignal, MarkStore, PeerMark}
 use Rattle.ring_core.specs.declared.machine.Ending.{Ending}
 use Rattle.ring_core.specs.declared.machine.Ending.TheVariants.{Fresh, SentQuiet, SentRaised, Full, BadPeer, Took, Empty, BadIndex, BadLength, BadOffset, CommittedQuiet, CommittedRaised, FellAsleep, FoundWork, NoSignal, Woke, Marked, PeerMarkDown, PeerMarkUp}
 use Rattle.ring_core.specs.declared.machine.Machine.{Machine}
@@ -13,7 +13,7 @@ use Rattle.ring_core.specs.declared.state.EndState.{EndState}
 use Rattle.ring_core.specs.declared.place.Op.{Op}
 use Rattle.ring_core.specs.Places.{ahead, len8_of, offset8_of}
 use Rattle.ring_core.specs.Steps.{IsSound, fed, fed_at, next_of, is_busy_at, is_copying_at, is_sent, is_took, is_broken, call_at, call_by, made_at, send_begun, take_begun, commit_begun, arm_begun, poll_begun, mark_begun, peer_mark_begun}
-use Rattle.ring_core.specs.Loops.{is_storing_at, is_writing_at, is_masking_at, is_first_at, is_loading_at, is_unseen_at, is_polling_at, is_opening_at, Starts}
+use Rattle.ring_core.specs.Loops.{is_storing_at, is_writing_at, is_masking_at, is_first_at, is_loading_at, is_asking_at, is_seeking_at, is_giving_at, is_feature_at, is_pending_at, is_unseen_at, is_polling_at, is_opening_at, Starts}
 use Rattle.ring_core.specs.States.{IsPacket, Gets, kept_at, copied_at, copied_after, sent_after, sent_while, got_after, past_after, past_while, past_by, sent_by, got_by, past_by_ending, past_of, stored, after, afters, entered, resting, shown, IsAwake, Begins, Continues}
 use Rattle.ring_core.specs.Endings.{Leaves, LeavesBy, is_committed, is_dozed, is_marked}
 use Rattle.ring_core.specs.Told.{Memory, pair, step, step_by, run, memory_after, answer_of, Ran, Left}
@@ -338,6 +338,26 @@ loading_busy _ e = absurd (cc)
 pub first_busy : (st : Stage) → is_first_at st ≡ true → is_busy_at st ≡ true
 first_busy TakeFirst e = refl
 first_busy _ e = absurd (cc)
+
+pub asking_busy : (st : Stage) → is_asking_at st ≡ true → is_busy_at st ≡ true
+asking_busy SendRead e = refl
+asking_busy _ e = absurd (cc)
+
+pub seeking_busy : (st : Stage) → is_seeking_at st ≡ true → is_busy_at st ≡ true
+seeking_busy TakeWrite e = refl
+seeking_busy _ e = absurd (cc)
+
+pub giving_busy : (st : Stage) → is_giving_at st ≡ true → is_busy_at st ≡ true
+giving_busy CommitRead e = refl
+giving_busy _ e = absurd (cc)
+
+pub feature_busy : (st : Stage) → is_feature_at st ≡ true → is_busy_at st ≡ true
+feature_busy CommitFeature e = refl
+feature_busy _ e = absurd (cc)
+
+pub pending_busy : (st : Stage) → is_pending_at st ≡ true → is_busy_at st ≡ true
+pending_busy CommitPending e = refl
+pending_busy _ e = absurd (cc)
 
 pub writing_busy : (st : Stage) → is_writing_at st ≡ true → is_busy_at st ≡ true
 writing_busy SendWrite e = refl

@@ -29,6 +29,31 @@ abbrev pub is_loading_at : Stage → Bool
 is_loading_at TakeCell = true
 is_loading_at _ = false
 
+-- the next step loads the read index, for a send
+abbrev pub is_asking_at : Stage → Bool
+is_asking_at SendRead = true
+is_asking_at _ = false
+
+-- the next step loads the write index, for a take
+abbrev pub is_seeking_at : Stage → Bool
+is_seeking_at TakeWrite = true
+is_seeking_at _ = false
+
+-- the next step stores the read index
+abbrev pub is_giving_at : Stage → Bool
+is_giving_at CommitRead = true
+is_giving_at _ = false
+
+-- the next step loads the peer's feature bits
+abbrev pub is_feature_at : Stage → Bool
+is_feature_at CommitFeature = true
+is_feature_at _ = false
+
+-- the next step loads the room that the peer waits for
+abbrev pub is_pending_at : Stage → Bool
+is_pending_at CommitPending = true
+is_pending_at _ = false
+
 -- the steps of an arm up to its look for the peer's mark
 abbrev pub is_unseen_at : Stage → Bool
 is_unseen_at ArmPending = true

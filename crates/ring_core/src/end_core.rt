@@ -3,7 +3,7 @@ ghost use Rattle.std.specs.Prelude.{◌≡◌, ◌≢◌, ℕ, ◌+◌, ◌/◌,
 ghost use Rattle.ring_core.specs.Places.{IsRingSize};
 ghost use Rattle.ring_core.specs.Steps.{IsSound, machine_new, is_busy_at, is_copying_at, is_took, next_of, fed};
 ghost use Rattle.ring_core.specs.Steps.{send_begun, take_begun, commit_begun, arm_begun, poll_begun, mark_begun, peer_mark_begun};
-ghost use Rattle.ring_core.specs.Loops.{is_storing_at, is_writing_at, is_masking_at, is_first_at, is_loading_at};
+ghost use Rattle.ring_core.specs.Loops.{is_storing_at, is_writing_at, is_masking_at, is_first_at, is_loading_at, is_asking_at, is_seeking_at, is_giving_at, is_feature_at, is_pending_at};
 ghost use Rattle.ring_core.specs.Endings.{last_of, why_of, mode_of, indices_of, want_of, IsWant, free_bytes, need_bytes, bad_by, send_answer, take_refusal, commit_answer, is_asleep, peer_mark_answer};
 ghost use Rattle.ring_core.specs.declared.machine.Stage.TheVariants.{Idle, Stopped};
 ghost use Rattle.ring_core.specs.Taking.{refused};
@@ -11,8 +11,9 @@ ghost use Rattle.ring_core.specs.Taking.{refused};
 use crate::fed::fed_machine;
 use crate::last::{Armed, Bad, Indices, Last, Mode, SendRefusal, Signalled, TakeRefusal, Why};
 use crate::machine::{Ending, Machine, Stage};
-use crate::place::{Op, Place, Side};
-use crate::ring::{free_in, incoming, outgoing, peer, step_ahead, used_in};
+use crate::next::next_machine;
+use crate::place::{Op, Side};
+use crate::ring::{free_in, used_in};
 
 /// One end as a pure machine. The command under way names its next step, is fed what the step gave, and so on until it ends.
 #[derive(Clone, Copy)]
@@ -161,55 +162,7 @@ impl EndCore {
     pub fn next(&self, packet: &[u64]) -> Option<Op>
         ensures { result ≡ next_of self.now.machine packet.now }
     {
-        let m = &self.machine;
-        match m.stage {
-            Stage::Idle => None,
-            Stage::Stopped => None,
-            Stage::SendRead => Some(Op::Load(Place::Read(outgoing(m.side)))),
-            Stage::SendCell => {
-                let k = step_ahead(m.cells, m.write, m.done);
-                let v = if m.done < m.len {
-                    match packet.get(m.done as usize) {
-                        Some(v) => *v,
-                        None => 0,
-                    }
-                } else {
-                    m.write as u64 * 34359738368
-                };
-                Some(Op::Store(Place::Cell(outgoing(m.side), 8 * k), v))
-            }
-            Stage::SendWrite => {
-                let k = step_ahead(m.cells, m.write, m.len + 1);
-                Some(Op::Store(Place::Write(outgoing(m.side)), 8 * k as u64))
-            }
-            Stage::SendMask => Some(Op::Load(Place::Mask(outgoing(m.side)))),
-            Stage::SendLook => Some(Op::Load(Place::Read(outgoing(m.side)))),
-            Stage::SendRaise => Some(Op::Raise(peer(m.side))),
-            Stage::TakeWrite => Some(Op::Load(Place::Write(incoming(m.side)))),
-            Stage::TakeFirst => Some(Op::Load(Place::Cell(incoming(m.side), 8 * m.read))),
-            Stage::TakeCell => {
-                let k = step_ahead(m.cells, m.read, m.done);
-                Some(Op::Load(Place::Cell(incoming(m.side), 8 * k)))
-            }
-            Stage::CommitRead => Some(Op::Store(Place::Read(incoming(m.side)), 8 * m.read as u64)),
-            Stage::CommitFeature => Some(Op::Load(Place::Feature(incoming(m.side)))),
-            Stage::CommitPending => Some(Op::Load(Place::Pending(incoming(m.side)))),
-            Stage::CommitWrite => Some(Op::Load(Place::Write(incoming(m.side)))),
-            Stage::CommitRaise => Some(Op::Raise(peer(m.side))),
-            Stage::ArmPending => Some(Op::Store(Place::Pending(outgoing(m.side)), m.want as u64)),
-            Stage::ArmMask => Some(Op::Store(Place::Mask(incoming(m.side)), 0)),
-            Stage::ArmWrite => Some(Op::Load(Place::Write(incoming(m.side)))),
-            Stage::ArmRead => Some(Op::Load(Place::Read(outgoing(m.side)))),
-            Stage::ArmMark => Some(Op::Load(Place::Mark(peer(m.side)))),
-            Stage::ArmUndoMask => Some(Op::Store(Place::Mask(incoming(m.side)), 1)),
-            Stage::ArmUndoPending => Some(Op::Store(Place::Pending(outgoing(m.side)), 0)),
-            Stage::PollSignal => Some(Op::TakeSignal(m.side)),
-            Stage::PollMask => Some(Op::Store(Place::Mask(incoming(m.side)), 1)),
-            Stage::PollPending => Some(Op::Store(Place::Pending(outgoing(m.side)), 0)),
-            Stage::MarkStore => Some(Op::StoreMark(m.side)),
-            Stage::MarkRaise => Some(Op::Raise(peer(m.side))),
-            Stage::PeerMark => Some(Op::Load(Place::Mark(peer(m.side)))),
-        }
+        next_machine(self.machine, packet)
     }
 
     /// Takes what the step gave: the value that it loaded or exchanged, or anything for a store.
@@ -350,6 +303,56 @@ impl EndCore {
         match self.machine.stage {
             Stage::TakeFirst => true,
             Stage::TakeCell => true,
+            _ => false,
+        }
+    }
+
+    #[inline(always)]
+    pub(crate) fn is_asking(&self) -> bool
+        ensures { result ≡ is_asking_at self.now.machine.stage }
+    {
+        match self.machine.stage {
+            Stage::SendRead => true,
+            _ => false,
+        }
+    }
+
+    #[inline(always)]
+    pub(crate) fn is_seeking(&self) -> bool
+        ensures { result ≡ is_seeking_at self.now.machine.stage }
+    {
+        match self.machine.stage {
+            Stage::TakeWrite => true,
+            _ => false,
+        }
+    }
+
+    #[inline(always)]
+    pub(crate) fn is_giving(&self) -> bool
+        ensures { result ≡ is_giving_at self.now.machine.stage }
+    {
+        match self.machine.stage {
+            Stage::CommitRead => true,
+            _ => false,
+        }
+    }
+
+    #[inline(always)]
+    pub(crate) fn is_feature(&self) -> bool
+        ensures { result ≡ is_feature_at self.now.machine.stage }
+    {
+        match self.machine.stage {
+            Stage::CommitFeature => true,
+            _ => false,
+        }
+    }
+
+    #[inline(always)]
+    pub(crate) fn is_pending(&self) -> bool
+        ensures { result ≡ is_pending_at self.now.machine.stage }
+    {
+        match self.machine.stage {
+            Stage::CommitPending => true,
             _ => false,
         }
     }

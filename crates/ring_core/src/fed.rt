@@ -397,9 +397,9 @@ fn fed_peer_mark(m: Machine, v: u64) -> Machine
     }
 }
 
-/// The machine once its step has answered `v`.
-#[inline(always)]
-pub(crate) fn fed_machine(m: Machine, v: u64) -> Machine
+// The machine at any stage: it stands apart, so that the frequent stages are small enough to be inlined.
+#[inline(never)]
+fn fed_rest(m: Machine, v: u64) -> Machine
     requires { IsSound m }
     ensures { result ≡ fed m v }
 {
@@ -433,5 +433,26 @@ pub(crate) fn fed_machine(m: Machine, v: u64) -> Machine
         Stage::MarkStore => at(m, Stage::MarkRaise),
         Stage::MarkRaise => fed_mark_raise(m),
         Stage::PeerMark => fed_peer_mark(m, v),
+    }
+}
+
+/// The machine once its step has answered `v`. The frequent stages come first, inlined into the driver's loops.
+#[inline(always)]
+pub(crate) fn fed_machine(m: Machine, v: u64) -> Machine
+    requires { IsSound m }
+    ensures { result ≡ fed m v }
+{
+    match m.stage {
+        Stage::SendRead => fed_send_read(m, v),
+        Stage::SendCell => fed_send_cell(m, v),
+        Stage::SendWrite => fed_send_write(m, v),
+        Stage::SendMask => fed_send_mask(m, v),
+        Stage::TakeWrite => fed_take_write(m, v),
+        Stage::TakeFirst => fed_take_first(m, v),
+        Stage::TakeCell => fed_take_cell(m, v),
+        Stage::CommitRead => fed_commit_read(m, v),
+        Stage::CommitFeature => fed_commit_feature(m, v),
+        Stage::CommitPending => fed_commit_pending(m, v),
+        _ => fed_rest(m, v),
     }
 }

@@ -7,6 +7,7 @@ mod fed;
 mod last;
 mod laws;
 mod machine;
+mod next;
 mod packets;
 mod parts;
 mod place;

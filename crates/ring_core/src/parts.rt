@@ -91,8 +91,7 @@ impl<S: Seatlike> Parts<S> {
         ensures honest { (s : EndState) → S.told self.new.seat ≡ Some s → self.new.core.machine.stage ≢ Stopped }
     {
         let mut core = self.core;
-        step(&mut self.seat, &mut core, &mut self.buf, packet);
-        while core.is_first() {
+        while core.is_asking() {
             step(&mut self.seat, &mut core, &mut self.buf, packet);
         }
         while core.is_storing() {
@@ -104,7 +103,22 @@ impl<S: Seatlike> Parts<S> {
         while core.is_masking() {
             step(&mut self.seat, &mut core, &mut self.buf, packet);
         }
+        while core.is_seeking() {
+            step(&mut self.seat, &mut core, &mut self.buf, packet);
+        }
+        while core.is_first() {
+            step(&mut self.seat, &mut core, &mut self.buf, packet);
+        }
         while core.is_loading() {
+            step(&mut self.seat, &mut core, &mut self.buf, packet);
+        }
+        while core.is_giving() {
+            step(&mut self.seat, &mut core, &mut self.buf, packet);
+        }
+        while core.is_feature() {
+            step(&mut self.seat, &mut core, &mut self.buf, packet);
+        }
+        while core.is_pending() {
             step(&mut self.seat, &mut core, &mut self.buf, packet);
         }
         while core.is_busy() {

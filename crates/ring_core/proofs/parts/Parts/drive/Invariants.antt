@@ -55,3 +55,33 @@ invariant-loop-self-6 g l = IsOn g l.fn.self l.packet l.self l.core
 
 abbrev pub decreases-loop-self-6 : goal.decreases-loop-self-6
 decreases-loop-self-6 g l = steps_left l.core.machine
+
+abbrev pub invariant-loop-self-7 : goal.invariant-loop-self-7
+invariant-loop-self-7 g l = IsOn g l.fn.self l.packet l.self l.core
+
+abbrev pub decreases-loop-self-7 : goal.decreases-loop-self-7
+decreases-loop-self-7 g l = steps_left l.core.machine
+
+abbrev pub invariant-loop-self-8 : goal.invariant-loop-self-8
+invariant-loop-self-8 g l = IsOn g l.fn.self l.packet l.self l.core
+
+abbrev pub decreases-loop-self-8 : goal.decreases-loop-self-8
+decreases-loop-self-8 g l = steps_left l.core.machine
+
+abbrev pub invariant-loop-self-9 : goal.invariant-loop-self-9
+invariant-loop-self-9 g l = IsOn g l.fn.self l.packet l.self l.core
+
+abbrev pub decreases-loop-self-9 : goal.decreases-loop-self-9
+decreases-loop-self-9 g l = steps_left l.core.machine
+
+abbrev pub invariant-loop-self-10 : goal.invariant-loop-self-10
+invariant-loop-self-10 g l = IsOn g l.fn.self l.packet l.self l.core
+
+abbrev pub decreases-loop-self-10 : goal.decreases-loop-self-10
+decreases-loop-self-10 g l = steps_left l.core.machine
+
+abbrev pub invariant-loop-self-11 : goal.invariant-loop-self-11
+invariant-loop-self-11 g l = IsOn g l.fn.self l.packet l.self l.core
+
+abbrev pub decreases-loop-self-11 : goal.decreases-loop-self-11
+decreases-loop-self-11 g l = steps_left l.core.machine

@@ -1,0 +1,51 @@
+//! Whether an end may make a call, by what it can read of itself.
+ghost use Rattle.std.specs.Prelude.{◌≡◌, ◌<◌, ◌≤◌, ◌+◌, IsTrue, false, length};
+ghost use Rattle.ring_core.specs.States.{IsPacket};
+
+use ring_core::{End, Seatlike};
+
+/// Whether these words are a packet: at least two, the first of which gives their number, and an offset of the payload between 2 and it.
+/// Source: Linux `include/linux/hyperv.h`, struct vmpacket_descriptor.
+pub fn is_packet(p: &[u64]) -> bool
+    ensures packet { IsTrue result → IsPacket p.now }
+    ensures whole { IsPacket p.now → IsTrue result }
+{
+    p.len() > 1
+        && p[0] / 4294967296 % 65536 == p.len() as u64
+        && p[0] / 65536 % 65536 >= 2
+        && p[0] / 65536 % 65536 <= p.len() as u64
+}
+
+/// Whether an end is neither asleep nor marked. Then it may send and take, and where it isn't stopped, begin each call but a poll.
+pub fn may_begin<S: Seatlike>(e: &End<S>) -> bool
+    ensures awake { IsTrue result → (e.now.state.machine.asleep ≡ false) × (e.now.state.machine.marked ≡ false) }
+    ensures whole { e.now.state.machine.asleep ≡ false → e.now.state.machine.marked ≡ false → IsTrue result }
+{
+    !e.is_asleep() && !e.is_marked()
+}
+
+/// Whether an end may send these words: they are a packet that fits into its ring, and its list has room for it.
+pub fn may_send<S: Seatlike>(e: &End<S>, p: &[u64]) -> bool
+    ensures awake { IsTrue result → (e.now.state.machine.asleep ≡ false) × (e.now.state.machine.marked ≡ false) }
+    ensures packet { IsTrue result → IsPacket p.now × (length p.now + 1 < e.now.state.machine.cells) }
+    ensures room { IsTrue result → (0 < e.now.spare_sent.packets) × (length p.now ≤ e.now.spare_sent.words) }
+    ensures whole { e.now.state.machine.asleep ≡ false → e.now.state.machine.marked ≡ false → IsPacket p.now → length p.now + 1 < e.now.state.machine.cells → 0 < e.now.spare_sent.packets → length p.now ≤ e.now.spare_sent.words → IsTrue result }
+{
+    let room = e.spare_sent();
+    let len = p.len() as u64;
+    may_begin(e)
+        && is_packet(p)
+        && len + 1 < e.cells() as u64
+        && 0 < room.packets
+        && len <= room.words
+}
+
+/// Whether an end may take: its list has room for the longest packet that its ring can hold.
+pub fn may_take<S: Seatlike>(e: &End<S>) -> bool
+    ensures awake { IsTrue result → (e.now.state.machine.asleep ≡ false) × (e.now.state.machine.marked ≡ false) }
+    ensures room { IsTrue result → (0 < e.now.spare_got.packets) × (e.now.state.machine.cells ≤ e.now.spare_got.words) }
+    ensures whole { e.now.state.machine.asleep ≡ false → e.now.state.machine.marked ≡ false → 0 < e.now.spare_got.packets → e.now.state.machine.cells ≤ e.now.spare_got.words → IsTrue result }
+{
+    let room = e.spare_got();
+    may_begin(e) && 0 < room.packets && e.cells() as u64 <= room.words
+}

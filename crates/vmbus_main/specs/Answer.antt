@@ -1,0 +1,31 @@
+-- What the output of a command is on an input, and what a wrong input is.
+use Rattle.std.specs.Prelude.{ℕ, ◌≡◌, List, [], Ok, Err}
+use Rattle.bus_script.specs.declared.fault.ScriptFault.{ScriptFault}
+use Rattle.bus_script.specs.declared.line.Line.{Line}
+use Rattle.bus_script.specs.declared.outcome.LineResult.{LineResult}
+use Rattle.bus_script.specs.Grammar.{script_of}
+use Rattle.bus_script.specs.Report.{report_of}
+use Rattle.msg_text.specs.Output.{decode_output}
+use Rattle.bus_model.specs.declared.channel_run.ChannelRun.{ChannelRun}
+use Rattle.bus_model.specs.declared.history.DeviceHistory.{DeviceHistory}
+use Rattle.bus_model.specs.Run.{IsBusRun}
+use Rattle.vmbus_main.specs.declared.command.Command.{Command}
+use Rattle.vmbus_main.specs.declared.command.Command.TheVariants.{Run, Decode}
+
+-- the input is a script, and the output is the report of a run of it with these packets and histories
+pub record IsRunAnswer (input : List ℕ) (settled : List ChannelRun) (histories : List DeviceHistory) (output : List ℕ) : Type 0 where
+  pub lines : List Line
+  pub script : script_of input ≡ Ok lines
+  pub results : List LineResult
+  pub run : IsBusRun lines settled histories results
+  pub report : output ≡ report_of lines results
+
+-- a command's output on an input
+abbrev pub IsAnswer : Command → List ℕ → List ChannelRun → List DeviceHistory → List ℕ → Type 0
+IsAnswer Run input settled histories output = IsRunAnswer input settled histories output
+IsAnswer Decode input settled histories output = (decode_output input ≡ Ok output) × (settled ≡ []) × (histories ≡ [])
+
+-- the first wrong line of a command's input
+abbrev pub IsFault : Command → List ℕ → ScriptFault → Type 0
+IsFault Run input fault = script_of input ≡ Err fault
+IsFault Decode input fault = decode_output input ≡ Err fault

@@ -1,0 +1,47 @@
+-- What the top call says of its input and its output.
+use Rattle.std.specs.Prelude.{ℕ, ◌≡◌, ◌⊎◌, ◌≤◌, ◌<◌, List, [], ◌∷◌, length, Option, Some, None}
+use Rattle.bus_script.specs.declared.fault.ScriptFault.{ScriptFault}
+use Rattle.bus_script.specs.declared.fault.Why6.TheVariants.{Limit}
+use Rattle.io_edge.specs.Edge.{HoldsWhole, IsLonger, Grows, GrowsByFront}
+use Rattle.bus_model.specs.declared.channel_run.ChannelRun.{ChannelRun}
+use Rattle.bus_model.specs.declared.history.DeviceHistory.{DeviceHistory}
+use Rattle.vmbus_main.specs.declared.command.Command.{Command}
+use Rattle.vmbus_main.specs.Answer.{IsAnswer, IsFault}
+
+-- the most bytes of an input
+abbrev pub most_bytes : ℕ
+most_bytes = 1048576
+
+-- the whole input, as far as the source tells it
+pub record IsInput (left : Option (List ℕ)) (input : List ℕ) : Type 0 where
+  pub whole : HoldsWhole left input
+  pub short : length input ≤ most_bytes
+
+-- the input's first wrong line, or that the source went on past the last byte
+abbrev pub IsRefused : Option Command → Option (List ℕ) → ScriptFault → Type 0
+IsRefused None left fault = ⊥
+IsRefused (Some command) left fault =
+    ((input : List ℕ) × IsInput left input × IsFault command input fault)
+    ⊎ (IsLonger left most_bytes × (fault ≡ record { line = 0; why = Limit }))
+
+-- the whole answer of the command was written
+abbrev pub IsWritten : Option Command → Option (List ℕ) → Option (List ℕ) → Option (List ℕ) → List ChannelRun → List DeviceHistory → Type 0
+IsWritten named left old new settled histories =
+    (command : Command) × (input : List ℕ) × (output : List ℕ) × (named ≡ Some command) × IsInput left input × IsAnswer command input settled histories output × Grows old new output
+
+-- a front of the answer was written
+abbrev pub IsWrittenInPart : Option Command → Option (List ℕ) → Option (List ℕ) → Option (List ℕ) → List ChannelRun → List DeviceHistory → Type 0
+IsWrittenInPart named left old new settled histories =
+    (command : Command) × (input : List ℕ) × (output : List ℕ) × (named ≡ Some command) × IsInput left input × IsAnswer command input settled histories output × GrowsByFront old new output
+
+-- a source that tells its bytes has an input of the command, in form
+abbrev pub TellsInput : Option Command → Option (List ℕ) → Type 0
+TellsInput None left = ⊥
+TellsInput (Some command) None = ⊥
+TellsInput (Some command) (Some left) = (length left ≤ most_bytes) × ((fault : ScriptFault) → IsFault command left fault → ⊥)
+
+-- a source that tells its bytes has one that is refused
+abbrev pub TellsRefused : Option Command → Option (List ℕ) → Type 0
+TellsRefused None left = ⊥
+TellsRefused (Some command) None = ⊥
+TellsRefused (Some command) (Some left) = (most_bytes < length left) ⊎ ((fault : ScriptFault) × IsFault command left fault)

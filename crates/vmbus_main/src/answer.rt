@@ -1,0 +1,75 @@
+//! The output of a command on an input.
+ghost use Rattle.std.specs.Prelude.{◌≡◌, [], List};
+ghost use Rattle.vmbus_main.specs.Answered.{IsAnswered};
+ghost use Rattle.vmbus_main.specs.declared.command.Command.TheVariants.{Run, Decode};
+
+use crate::command::Command;
+use crate::run::{Ran, run_script};
+use bus_model::{ChannelRun, DeviceHistory};
+use bus_script::{ParseFault, parse, report};
+use io_edge::Gate;
+use msg_text::decode_text;
+use std::alloc::Global;
+
+/// The output, and what ran.
+#[derive(Drop)]
+pub struct Answer {
+    pub settled: Vec<ChannelRun>,
+    pub histories: Vec<DeviceHistory>,
+    pub text: Vec<u8>,
+}
+
+/// Answers an input.
+pub fn answer_input<R, G: Gate>(
+    rt: &R,
+    gate: &G,
+    alloc: Global,
+    command: Command,
+    input: &[u8],
+) -> Result<Answer, ParseFault>
+    ensures { IsAnswered command input.now result }
+{
+    match command {
+        Command::Run => run_input(rt, gate, alloc, input),
+        Command::Decode => decode_input(alloc, input),
+    }
+}
+
+fn run_input<R, G: Gate>(
+    rt: &R,
+    gate: &G,
+    alloc: Global,
+    input: &[u8],
+) -> Result<Answer, ParseFault>
+    ensures { IsAnswered Run input.now result }
+{
+    let script = parse(alloc, input)?;
+    match run_script(rt, gate, alloc, &script) {
+        Ok(
+            Ran {
+                settled,
+                histories,
+                results,
+            },
+        ) => match report(alloc, &script, &results) {
+            Ok(text) => Ok(Answer {
+                settled,
+                histories,
+                text,
+            }),
+            Err(_) => Err(ParseFault::Memory),
+        },
+        Err(_) => Err(ParseFault::Memory),
+    }
+}
+
+fn decode_input(alloc: Global, input: &[u8]) -> Result<Answer, ParseFault>
+    ensures { IsAnswered Decode input.now result }
+{
+    let text = decode_text(alloc, input)?;
+    Ok(Answer {
+        settled: Vec::new(alloc),
+        histories: Vec::new(alloc),
+        text,
+    })
+}

@@ -1,0 +1,85 @@
+//! The top call.
+ghost use Rattle.std.specs.Prelude.{◌≡◌, ◌≢◌, ◌↔◌, ◌⊎◌, ◌≤◌, ◌<◌, [], List, length, Some, None, MatchOption};
+ghost use Rattle.io_edge.specs.Edge.{Rose, HasRoom, IsAtEnd};
+ghost use Rattle.vmbus_main.specs.Words.{command_of};
+ghost use Rattle.vmbus_main.specs.Call.{IsRefused, IsWritten, IsWrittenInPart, TellsInput, TellsRefused};
+
+use crate::answer::{Answer, answer_input};
+use crate::command::command_of;
+use crate::outcome::{Outcome, stopped};
+use bus_script::{ParseFault, ScriptFault, Why6};
+use io_edge::{Gate, ReadFault, Sink, Source, read_all, write_all};
+use std::alloc::Global;
+
+const MOST_BYTES: usize = 1_048_576;
+
+/// Reads the input of a command to its end, answers it, and writes the whole answer.
+///
+/// `words` are the program's words without its own name. Reading, answering and writing come in
+/// this order, and the answer is made whole before the first write. `gate` is passed before each
+/// request of a script that a worker sends or serves.
+pub fn vmbus<R, S: Source, K: Sink, G: Gate>(
+    rt: &R,
+    alloc: Global,
+    words: &[Vec<u8>],
+    source: &mut S,
+    sink: &mut K,
+    gate: &G,
+) -> Outcome
+    requires { HasRoom (K.room sink.old) 67108864 }
+
+    ensures statuses { result.status ≤ 5 }
+    // Status 1 comes exactly where the words are no command.
+    ensures usage { (result.status ≡ 1) ↔ (command_of words.now ≡ None) }
+    // Status 2 comes with the fault of the input: its first wrong line, or a byte too many.
+    ensures refused { MatchOption result.fault (result.status ≢ 2) (λ fault. (result.status ≡ 2) × IsRefused (command_of words.now) (S.left source.old) fault) }
+    // With status 0 the whole answer was written: the report of a run of the bus, in which these are the packets and the histories.
+    ensures written { result.status ≡ 0 → IsWritten (command_of words.now) (S.left source.old) (K.written sink.old) (K.written sink.new) result.settled.items result.histories.items }
+    // With status 4 a front of it was.
+    ensures in_part { result.status ≡ 4 → IsWrittenInPart (command_of words.now) (S.left source.old) (K.written sink.old) (K.written sink.new) result.settled.items result.histories.items }
+    // With any other status nothing was written, and nothing ran.
+    ensures nothing { result.status ≢ 0 → result.status ≢ 4 → (K.written sink.new ≡ K.written sink.old) × (result.settled.items ≡ []) × (result.histories.items ≡ []) }
+    // Statuses 3 and 4 have a cause.
+    ensures read_fault { result.status ≡ 3 → Rose (S.faults source.old) (S.faults source.new) }
+    ensures write_fault { result.status ≡ 4 → Rose (K.faults sink.old) (K.faults sink.new) }
+    // Where the source tells an input in form and no fault is counted, all is written, or memory was short.
+    ensures complete { TellsInput (command_of words.now) (S.left source.old) → (Rose (S.faults source.old) (S.faults source.new) → ⊥)
+        → (Rose (K.faults sink.old) (K.faults sink.new) → ⊥) → (result.status ≡ 0) ⊎ (result.status ≡ 5) }
+    // Where it tells an input that is refused, that is said, unless a read failed or memory was short.
+    ensures exactly { TellsRefused (command_of words.now) (S.left source.old) → (result.status ≡ 2) ⊎ ((result.status ≡ 3) ⊎ (result.status ≡ 5)) }
+    // With status 0 the input was read to its end.
+    ensures ended { result.status ≡ 0 → IsAtEnd (S.left source.new) }
+    ensures later { (S.faults source.old ≤ S.faults source.new) × (K.faults sink.old ≤ K.faults sink.new) }
+{
+    let Some(command) = command_of(words) else {
+        return stopped(alloc, 1, None);
+    };
+    let input = match read_all(alloc, source, MOST_BYTES) {
+        Ok(input) => input,
+        Err(ReadFault::Memory) => return stopped(alloc, 5, None),
+        Err(ReadFault::Fault) => return stopped(alloc, 3, None),
+        Err(ReadFault::Limit) => {
+            let why = Why6::Limit;
+            return stopped(alloc, 2, Some(ScriptFault { line: 0, why }));
+        }
+    };
+    let Answer {
+        settled,
+        histories,
+        text,
+    } = match answer_input(rt, gate, alloc, command, &input) {
+        Ok(answer) => answer,
+        Err(ParseFault::Memory) => return stopped(alloc, 5, None),
+        Err(ParseFault::Script(fault)) => return stopped(alloc, 2, Some(fault)),
+    };
+    let status = match write_all(sink, &text) {
+        Ok(()) => 0,
+        Err(_) => 4,
+    };
+    Outcome {
+        status,
+        fault: None,
+        settled,
+        histories,
+    }
+}

@@ -1,0 +1,162 @@
+//! The top call on worked inputs.
+use super::*;
+use io_edge::{MemSink, MemSource, NoGate, SureSink, SureSource};
+use std::alloc::{AllocError, Global};
+use std::test::*;
+
+const ROOM: usize = 67_108_864;
+
+const ONE_BEAT: &[u8] = b"offer hb hb\nbeat hb 41\n";
+
+const ONE_BEAT_REPORT: &[u8] = b"2 done @0 seq 42\nend requests 1 done 1 rescinded 0\n";
+
+fn one_word(alloc: Global, word: &[u8]) -> Result<Vec<Vec<u8>>, AllocError> {
+    let mut words = Vec::new(alloc);
+    words.push(word.to_vec(alloc)?)?;
+    Ok(words)
+}
+
+/// The status of a command on an input, and whether it writes this.
+fn answers(
+    rt: &HostRuntime,
+    word: &[u8],
+    input: &[u8],
+    output: &[u8],
+) -> Result<(u8, bool), AllocError> {
+    let alloc = rt.alloc();
+    let words = one_word(alloc, word)?;
+    let mut source = SureSource::make(input.to_vec(alloc)?);
+    let mut sink = SureSink::make(alloc, ROOM)?;
+    let outcome = vmbus(rt, alloc, &words, &mut source, &mut sink, &NoGate);
+    Ok((outcome.status, sink.bytes() == output))
+}
+
+/// The line at which an input is refused, and 1 for Form, 4 for Range, 5 for Limit.
+fn refusal(rt: &HostRuntime, word: &[u8], input: &[u8]) -> Result<(u32, u32), AllocError> {
+    let alloc = rt.alloc();
+    let words = one_word(alloc, word)?;
+    let mut source = SureSource::make(input.to_vec(alloc)?);
+    let mut sink = SureSink::make(alloc, ROOM)?;
+    let outcome = vmbus(rt, alloc, &words, &mut source, &mut sink, &NoGate);
+    if outcome.status != 2 || sink.bytes().len() != 0 {
+        return Ok((0, 0));
+    }
+    match outcome.fault {
+        Some(fault) => Ok((fault.line, fault.why as u32)),
+        None => Ok((0, 0)),
+    }
+}
+
+#[test]
+fn scripts_run(rt: HostRuntime) -> Result<(), Fail> {
+    assert_eq!(rt; answers(&rt, b"run", ONE_BEAT, ONE_BEAT_REPORT)?, (0, true));
+    let wrapped = answers(
+        &rt,
+        b"run",
+        b"offer hb hb\nbeat hb 18446744073709551615\n",
+        b"2 done @0 seq 0\nend requests 1 done 1 rescinded 0\n",
+    )?;
+    assert_eq!(rt; wrapped, (0, true));
+    let nothing = answers(&rt, b"run", b"", b"end requests 0 done 0 rescinded 0\n")?;
+    assert_eq!(rt; nothing, (0, true));
+    let shutdowns = answers(
+        &rt,
+        b"run",
+        b"offer shutdown sd\ndown sd 0\ndown sd 4\ndown sd 6\n",
+        b"2 done @0 status 0x00000000\n3 done @1 status 0x80004005\n4 done @2 status 0x80004005\nend requests 3 done 3 rescinded 0\n",
+    )?;
+    assert_eq!(rt; shutdowns, (0, true));
+    Ok(())
+}
+
+#[test]
+fn messages_are_decoded(rt: HostRuntime) -> Result<(), Fail> {
+    let three = answers(
+        &rt,
+        b"decode",
+        b"0f000000000000000100000001000000\n0f0000000000000001000000010000\n0f00000000000000010000000100000000\n",
+        b"1 VERSION_RESPONSE supported 1 state 0 conn 1\n2 short 15 need 16\n3 long 17\n",
+    )?;
+    assert_eq!(rt; three, (0, true));
+    let unknown = answers(
+        &rt,
+        b"decode",
+        b"1600000000000000030000000500000005\n",
+        b"1 unknown 22\n",
+    )?;
+    assert_eq!(rt; unknown, (0, true));
+    Ok(())
+}
+
+#[test]
+fn wrong_inputs_are_refused(rt: HostRuntime) -> Result<(), Fail> {
+    assert_eq!(rt; refusal(&rt, b"run", b"beat hb 007")?, (1, 1));
+    assert_eq!(rt;
+        refusal(&rt, b"run", b"offer hb hb\nbeat hb 18446744073709551616\n")?,
+        (2, 4)
+    );
+    assert_eq!(rt;
+        refusal(&rt, b"run", b"offer shutdown sd\ndown sd 4294967296\n")?,
+        (2, 4)
+    );
+    assert_eq!(rt; refusal(&rt, b"decode", b"0f0\n")?, (1, 1));
+    assert_eq!(rt; answers(&rt, b"walk", ONE_BEAT, b"")?, (1, true));
+    Ok(())
+}
+
+#[test]
+fn a_run_shows_what_went_across(rt: HostRuntime) -> Result<(), Fail> {
+    let alloc = rt.alloc();
+    let words = one_word(alloc, b"run")?;
+    let mut source = SureSource::make(ONE_BEAT.to_vec(alloc)?);
+    let mut sink = SureSink::make(alloc, ROOM)?;
+    let outcome = vmbus(&rt, alloc, &words, &mut source, &mut sink, &NoGate);
+    assert_eq!(rt; outcome.settled.len(), 1);
+    assert_eq!(rt; outcome.histories.len(), 1);
+    if let Some(run) = outcome.settled.first() {
+        assert_eq!(rt; run.relid, 1);
+        assert_eq!(rt; run.settled.host_sent().len(), 2);
+        assert_eq!(rt; run.settled.guest_got().len(), 2);
+        assert_eq!(rt; run.settled.guest_sent().len(), 2);
+        assert_eq!(rt; run.settled.host_got().len(), 2);
+    }
+    Ok(())
+}
+
+#[test]
+fn faults_of_source_and_sink(rt: HostRuntime) -> Result<(), Fail> {
+    let alloc = rt.alloc();
+    let words = one_word(alloc, b"run")?;
+    let mut fails = Vec::new(alloc);
+    fails.push(2)?;
+    let mut source = SureSource::make(ONE_BEAT.to_vec(alloc)?);
+    let mut sink = MemSink::make(alloc, 1000, 8, fails)?;
+    let outcome = vmbus(&rt, alloc, &words, &mut source, &mut sink, &NoGate);
+    assert_eq!(rt; outcome.status, 4);
+    assert_eq!(rt; sink.bytes(), b"2 done @".as_slice());
+    let mut fails = Vec::new(alloc);
+    fails.push(1)?;
+    let mut source = MemSource::make(ONE_BEAT.to_vec(alloc)?, 1, fails);
+    let mut sink = SureSink::make(alloc, ROOM)?;
+    let outcome = vmbus(&rt, alloc, &words, &mut source, &mut sink, &NoGate);
+    assert_eq!(rt; outcome.status, 3);
+    assert_eq!(rt; sink.bytes().len(), 0);
+    Ok(())
+}
+
+#[test]
+fn a_byte_too_many(rt: HostRuntime) -> Result<(), Fail> {
+    let alloc = rt.alloc();
+    let words = one_word(alloc, b"run")?;
+    let mut fails = Vec::new(alloc);
+    fails.push(1_048_578)?;
+    let mut source = MemSource::make(vec![in alloc; 35u8; 1_048_577]?, 1, fails);
+    let mut sink = SureSink::make(alloc, ROOM)?;
+    let outcome = vmbus(&rt, alloc, &words, &mut source, &mut sink, &NoGate);
+    assert_eq!(rt; outcome.status, 2);
+    if let Some(fault) = outcome.fault {
+        assert_eq!(rt; fault.line, 0);
+        assert_eq!(rt; fault.why as u32, 5);
+    }
+    Ok(())
+}
