@@ -1,7 +1,6 @@
 -- What the one device of a script comes to is a run of the bus.
-use Rattle.std.proofs.Common.{◌≡◌, ℕ, ◌+◌, ◌==◌, Bool, true, false, cond, nat_lt, List, [], ◌∷◌, ◌++◌, length, length-append, drop, ◌≤◌, ◌<◌, ◌-◌, refl, ap, sym, ◌∙◌, subst, arith, append_assoc, Option, Some, None, slice_get, get_or}
-use Rattle.std.specs.Prelude.{map, filter, All, slice_index_or}
-use Rattle.std.specs.List.{flat_map}
+use Rattle.std.proofs.Common.{◌≡◌, ℕ, ◌+◌, ◌==◌, Bool, true, false, cond, nat_lt, List, [], ◌∷◌, ◌++◌, length, length-append, refl, ap, sym, ◌∙◌, subst, arith, append_assoc, Option, Some, slice_get, get_or}
+use Rattle.std.specs.Prelude.{map, slice_index_or}
 use Rattle.std.proofs.lemmas.List.{append-nil, length-map}
 use Rattle.std.proofs.lemmas.List.Splits.{slice_split_none}
 use Rattle.std.proofs.lemmas.Bool.Decides.{nat_tests}
@@ -13,9 +12,9 @@ use Rattle.bus_script.specs.declared.line.DeviceSpec.{DeviceSpec}
 use Rattle.bus_script.specs.declared.outcome.LineResult.{LineResult}
 use Rattle.bus_script.specs.WellFormed.{Asks, AllAsk}
 use Rattle.bus_model.specs.Served.{Served, done_of}
-use Rattle.bus_model.specs.Parts.{Dest, ToChannel, dest_in, dests, asked_in, asks_to, offered_by, offered, is_opened, is_phase, ends_part, parts, Address, At, addresses_from, addresses}
-use Rattle.bus_model.specs.Logs.{Recorded, log_of, EachHistory}
-use Rattle.bus_model.specs.Run.{ChannelPhase, DevicePhase, Carries, PhaseRuns, RunFrom, IsBusRun, outcome_at, outcomes_of}
+use Rattle.bus_model.specs.Parts.{Dest, ToChannel, dest_in, dests, asked_in, asks_to, offered_by, offered, is_opened, is_phase, ends_part, parts, At, addresses_from, addresses}
+use Rattle.bus_model.specs.Logs.{log_of, EachHistory}
+use Rattle.bus_model.specs.Run.{ChannelPhase, Carries, PhaseRuns, RunFrom, IsBusRun, outcome_at, outcomes_of}
 use Rattle.bus_model.specs.One.{asked_by, asks_of, OneRuns}
 use Rattle.bus_model.specs.declared.channel_run.ChannelRun.{ChannelRun}
 use Rattle.bus_model.specs.declared.history.DeviceHistory.{DeviceHistory}

@@ -1,5 +1,5 @@
 -- Laws of runs.
-use Rattle.std.specs.Prelude.{ℕ, ◌≡◌, List, [], ◌∷◌, ◌++◌, length, map}
+use Rattle.std.specs.Prelude.{ℕ, ◌≡◌, List, [], ◌∷◌, ◌++◌, length}
 use Rattle.bus_script.specs.declared.line.Line.{Line}
 use Rattle.bus_script.specs.declared.line.DeviceSpec.{DeviceSpec}
 use Rattle.bus_script.specs.declared.line.Ask.{Ask}
@@ -7,8 +7,8 @@ use Rattle.bus_script.specs.declared.outcome.LineResult.{LineResult}
 use Rattle.bus_script.specs.Faults.{asks_in}
 use Rattle.ring_model.specs.Lists.{Lists}
 use Rattle.bus_model.specs.Served.{Served}
-use Rattle.bus_model.specs.Wants.{Want, Back, Script, Replied, Encodes, Answers}
-use Rattle.bus_model.specs.Channel.{AllEncode, AllAnswer, IsChannelRun, requests_in, answers_in}
+use Rattle.bus_model.specs.Wants.{Script, Replied, Encodes, Answers}
+use Rattle.bus_model.specs.Channel.{IsChannelRun, requests_in, answers_in}
 use Rattle.bus_model.specs.Run.{IsBusRun}
 use Rattle.bus_model.specs.declared.channel_run.ChannelRun.{ChannelRun}
 use Rattle.bus_model.specs.declared.history.DeviceHistory.{DeviceHistory}

@@ -4,7 +4,7 @@ use Rattle.std.proofs.lemmas.Bool.Decides.{nat_tests}
 use Rattle.ring_core.specs.declared.machine.Stage.{Stage}
 use Rattle.ring_core.specs.declared.machine.Stage.TheVariants.{Idle, Stopped, SendRead, SendCell, SendWrite, SendMask, SendLook, SendRaise, TakeWrite, TakeFirst, TakeCell, CommitRead, CommitFeature, CommitPending, CommitWrite, CommitRaise, ArmPending, ArmMask, ArmWrite, ArmRead, ArmMark, ArmUndoMask, ArmUndoPending, PollSignal, PollMask, PollPending, MarkStore, MarkRaise, PeerMark}
 use Rattle.ring_core.specs.declared.machine.Ending.{Ending}
-use Rattle.ring_core.specs.declared.machine.Ending.TheVariants.{SentQuiet, SentRaised, Full, BadPeer, Took, Empty, BadIndex, BadLength, BadOffset, CommittedQuiet, CommittedRaised, FellAsleep, FoundWork, NoSignal, Woke, Marked, PeerMarkDown, PeerMarkUp}
+use Rattle.ring_core.specs.declared.machine.Ending.TheVariants.{SentQuiet, SentRaised, BadPeer, BadIndex, BadLength, BadOffset, CommittedQuiet, CommittedRaised, PeerMarkDown}
 use Rattle.ring_core.specs.declared.machine.Machine.{Machine}
 use Rattle.ring_core.specs.Places.{ahead, used, free, low, is_index, cell_of, len8_of, offset8_of}
 use Rattle.ring_core.specs.Steps.{IsSound, fed, fed_at, ends, breaks, left_at, steps_left, made_at, is_busy_at, is_arming_at, is_looking_at, is_broken, sleeps_at, makes_room, finds_room, send_begun, take_begun, commit_begun, arm_begun, poll_begun, mark_begun, peer_mark_begun}

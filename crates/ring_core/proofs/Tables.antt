@@ -1,25 +1,22 @@
 -- What a driver keeps from step to step, over plain values.
-use Rattle.std.proofs.Common.{◌≡◌, ◌≢◌, ℕ, suc, ◌+◌, ◌-◌, ◌*◌, ◌/◌, ◌%◌, ◌<◌, ◌≤◌, Bool, true, false, ◌&&◌, cond, leb, ltb, eqb, List, [], ◌∷◌, ◌++◌, length, take, set, Option, Some, None, zero, refl, sym, ap, ◌∙◌, subst, inl, arith, add-one, length-set}
+use Rattle.std.proofs.Common.{◌≡◌, ℕ, suc, ◌+◌, ◌*◌, ◌%◌, ◌<◌, ◌≤◌, Bool, true, false, ◌&&◌, cond, leb, ltb, eqb, List, [], ◌∷◌, ◌++◌, length, take, set, Some, zero, refl, sym, ap, ◌∙◌, subst, arith, add-one}
 use Rattle.std.specs.Prelude.{slice_index}
 use Rattle.std.proofs.Math.Seq.{take-suc-set}
 use Rattle.std.proofs.lemmas.Bool.Decides.{nat_tests}
 use Rattle.chan_run.specs.declared.event.Event.{Event}
-use Rattle.chan_run.specs.declared.event.Event.TheVariants.{Sent as SentEvent, Got as GotEvent, Empty as EmptyEvent, Marked as MarkedEvent, Saw as SawEvent}
+use Rattle.chan_run.specs.declared.event.Event.TheVariants.{Sent as SentEvent, Got as GotEvent, Marked as MarkedEvent, Saw as SawEvent}
 use Rattle.ring_core.specs.declared.machine.Stage.{Stage}
 use Rattle.ring_core.specs.declared.machine.Stage.TheVariants.{Idle, Stopped, SendRead, SendCell, SendWrite, SendMask, SendLook, SendRaise, TakeWrite, TakeFirst, TakeCell, CommitRead, CommitFeature, CommitPending, CommitWrite, CommitRaise, ArmPending, ArmMask, ArmWrite, ArmRead, ArmMark, ArmUndoMask, ArmUndoPending, PollSignal, PollMask, PollPending, MarkStore, MarkRaise, PeerMark}
 use Rattle.ring_core.specs.declared.machine.Ending.{Ending}
-use Rattle.ring_core.specs.declared.machine.Ending.TheVariants.{Fresh, SentQuiet, SentRaised, Full, BadPeer, Took, Empty, BadIndex, BadLength, BadOffset, CommittedQuiet, CommittedRaised, FellAsleep, FoundWork, NoSignal, Woke, Marked, PeerMarkDown, PeerMarkUp}
+use Rattle.ring_core.specs.declared.machine.Ending.TheVariants.{Took}
 use Rattle.ring_core.specs.declared.machine.Machine.{Machine}
-use Rattle.io_edge.specs.declared.side.Side.{Side}
-use Rattle.ring_core.specs.declared.state.EndState.{EndState}
 use Rattle.ring_core.specs.declared.place.Op.{Op}
 use Rattle.ring_core.specs.Places.{ahead, used, free, low, is_index, cell_of, len8_of, offset8_of}
-use Rattle.ring_core.specs.Steps.{IsSound, fed, fed_at, next_of, next_at, ends, is_busy_at, is_copying_at, is_sent, is_took, is_broken, call_at, call_by, made_at, makes_room, finds_room}
-use Rattle.ring_core.specs.Loops.{is_storing_at, is_writing_at, is_masking_at, is_first_at, is_loading_at, is_unseen_at, is_polling_at, is_given_at}
-use Rattle.ring_core.specs.States.{IsPacket, kept_at, copied_at, copied_after, sent_after, sent_while, got_after, past_after, past_while, past_by, sent_by, got_by, stored, after, afters, entered, resting, Continues}
-use Rattle.ring_core.specs.Endings.{Leaves, is_committed, is_dozed, is_marked}
-use Rattle.ring_core.specs.Told.{Memory, pair, step, step_by, run, memory_after, answer_of, Ran, Left}
-use Rattle.ring_core.proofs.Sound.{at_cond, at_both, fed_made, and_left, and_right, no_true}
+use Rattle.ring_core.specs.Steps.{IsSound, fed_at, next_at, ends, is_busy_at, is_copying_at, is_sent, is_took, call_at, call_by, makes_room, finds_room}
+use Rattle.ring_core.specs.Loops.{is_unseen_at, is_polling_at, is_given_at}
+use Rattle.ring_core.specs.States.{copied_at, copied_after, sent_after, sent_while, got_after, past_after, past_while, past_by, sent_by, got_by, stored}
+use Rattle.ring_core.specs.Endings.{is_committed, is_dozed, is_marked}
+use Rattle.ring_core.proofs.Sound.{at_cond, at_both, and_left, and_right, no_true}
 
 -- a step that isn't a load of a take leaves no take's loop
 none_copied : (m : Machine) (v : ℕ) (buf : List ℕ) (st : Stage) → m.stage ≡ st → is_copying_at st ≡ false → [] ≡ copied_at (fed_at st m v).stage (take (fed_at st m v).done buf)

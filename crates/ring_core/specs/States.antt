@@ -1,5 +1,5 @@
 -- The state of an end, and what a step makes of it.
-use Rattle.std.specs.Prelude.{◌≡◌, ◌≢◌, ◌⊎◌, ℕ, ◌+◌, ◌*◌, ◌<◌, ◌≤◌, ◌==◌, cond, ltb, Bool, true, false, List, [], ◌∷◌, ◌++◌, length, slice_index, slice_set, take}
+use Rattle.std.specs.Prelude.{◌≡◌, ◌⊎◌, ℕ, ◌+◌, ◌*◌, ◌<◌, ◌≤◌, ◌==◌, cond, ltb, Bool, true, false, List, [], ◌∷◌, ◌++◌, length, slice_index, slice_set, take}
 use Rattle.chan_run.specs.declared.event.Event.{Event}
 use Rattle.chan_run.specs.declared.event.Event.TheVariants.{Sent as SentEvent, Got as GotEvent, Empty as EmptyEvent, Marked as MarkedEvent, Saw as SawEvent}
 use Rattle.ring_core.specs.declared.machine.Stage.{Stage}

@@ -1,5 +1,5 @@
 -- What a take leaves.
-use Rattle.std.specs.Prelude.{◌≡◌, ◌+◌, ◌≤◌, ◌<◌, ℕ, Bool, true, false, cond, List, [], ◌∷◌, ◌++◌, length, Option, Some, None, Result, Ok, Err}
+use Rattle.std.specs.Prelude.{◌≡◌, ◌+◌, ◌≤◌, Bool, true, false, cond, [], Option, Some, None, Result, Ok, Err}
 use Rattle.ring_core.specs.declared.last.TakeRefusal.{TakeRefusal}
 use Rattle.ring_core.specs.declared.last.TakeRefusal.TheVariants.{Stopped as StoppedTake}
 use Rattle.ring_core.specs.declared.machine.Stage.TheVariants.{Idle, Stopped}

@@ -1,5 +1,5 @@
 -- A told memory: its words, the steps made, and the changes that are still due. And a call of an end on it.
-use Rattle.std.specs.Prelude.{◌≡◌, ◌≢◌, ◌≤◌, ℕ, zero, suc, ◌+◌, ◌%◌, ◌^◌, cond, leb, List, [], ◌∷◌, ◌++◌, length, take, replicate, slice_index, slice_set, Option, Some, None}
+use Rattle.std.specs.Prelude.{◌≡◌, ◌≢◌, ◌≤◌, ℕ, zero, suc, ◌+◌, ◌%◌, ◌^◌, cond, leb, List, [], ◌∷◌, length, replicate, slice_index, slice_set, Option, Some, None}
 use Rattle.chan_run.specs.declared.event.Event.{Event}
 use Rattle.ring_core.specs.declared.told_mem.Change.{Change}
 use Rattle.ring_core.specs.declared.place.Op.{Op}

@@ -1,8 +1,6 @@
 -- A request and its answer that went across, both ends by turns.
-use Rattle.std.proofs.Common.{◌≡◌, ℕ, ◌+◌, ◌≤◌, List, [], ◌∷◌, ◌++◌, refl, sym, ap, ◌∙◌, subst, arith}
+use Rattle.std.proofs.Common.{◌≡◌, ℕ, List, [], ◌∷◌, ◌++◌, ap, ◌∙◌}
 use Rattle.ring_core.specs.declared.state.EndState.{EndState}
-use Rattle.ring_core.specs.Seen.{Seen}
-use Rattle.ring_core.specs.Told.{Held}
 use Rattle.ring_model.specs.Pair.{Stays}
 use Rattle.ring_model.specs.declared.solo_pair.SoloPair.{SoloPair}
 

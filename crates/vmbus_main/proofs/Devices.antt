@@ -1,29 +1,20 @@
 -- One device's run.
-use Rattle.std.proofs.Common.{◌≡◌, ℕ, zero, suc, ◌<◌, Bool, List, [], ◌∷◌, ◌++◌, length, get_or, Some, None, refl, ap, sym, ◌∙◌, subst, arith, slice_get}
-use Rattle.std.specs.Prelude.{map, All, nat_lt}
+use Rattle.std.proofs.Common.{◌≡◌, ℕ, zero, suc, List, [], ◌∷◌, ◌++◌, length, get_or, Some, ap, sym, ◌∙◌, subst, slice_get}
+use Rattle.std.specs.Prelude.{All, nat_lt}
 use Rattle.std.proofs.lemmas.List.{length-map}
 use Rattle.bus_script.specs.declared.line.Line.{Line}
 use Rattle.bus_script.specs.declared.line.DeviceSpec.{DeviceSpec}
-use Rattle.bus_script.specs.declared.line.DeviceSpec.TheVariants.{Beat, Down}
 use Rattle.bus_script.specs.declared.outcome.LineResult.{LineResult}
-use Rattle.bus_model.specs.Served.{done_of}
 use Rattle.bus_model.specs.Logs.{Recorded, IsHistory, ic_log, log_of, served_from}
 use Rattle.bus_model.specs.One.{asks_of, OneRuns}
 use Rattle.bus_model.specs.Run.{Carries}
 use Rattle.bus_model.specs.declared.channel_run.ChannelRun.{ChannelRun}
 use Rattle.bus_model.specs.declared.history.DeviceHistory.{DeviceHistory}
-use Rattle.bus_model.specs.declared.history.DeviceHistory.TheVariants.{Beat as BeatHistory, Down as DownHistory}
-use Rattle.hist_lock.specs.Seat.{Call, Seat}
-use Rattle.hist_lock.specs.Calls.{IsSeatOf, calls_of}
-use Rattle.hist_lock.specs.Legal.{IsLegal}
-use Rattle.hist_lock.specs.History.{entries_of}
+use Rattle.hist_lock.specs.Seat.{Seat}
+use Rattle.hist_lock.specs.Calls.{IsSeatOf}
 use Rattle.hist_lock.specs.declared.history.Entry.{Entry}
-use Rattle.hist_lock.specs.declared.history.History.{History}
 use Rattle.util_ic.specs.declared.ic.IcAsk.{IcAsk}
 use Rattle.util_ic.specs.declared.ic.IcAnswer.{IcAnswer}
-use Rattle.util_ic.specs.declared.beat.BeatMachine.{BeatMachine}
-use Rattle.util_ic.specs.declared.down.DownMachine.{DownMachine}
-use Rattle.util_ic.specs.Machines.{beat_start, beat_reply, down_start, down_reply}
 use Rattle.vmbus_main.specs.Serve.{ic_served, IsDeviceRun}
 use Rattle.vmbus_main.proofs.Histories.{log_serves, log_long}
 

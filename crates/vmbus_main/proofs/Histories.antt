@@ -1,13 +1,12 @@
 -- A device's history, as requests that were served.
-use Rattle.std.proofs.Common.{◌≡◌, ℕ, ◌+◌, ◌==◌, Bool, true, false, cond, List, [], ◌∷◌, ◌++◌, length, refl, ap, sym, ◌∙◌, subst, arith}
-use Rattle.std.specs.Prelude.{map, All}
-use Rattle.std.proofs.lemmas.List.{length-map}
+use Rattle.std.proofs.Common.{◌≡◌, ℕ, ◌+◌, ◌==◌, Bool, true, false, cond, List, [], ◌∷◌, ◌++◌, length, refl, ap, sym, ◌∙◌, arith}
+use Rattle.std.specs.Prelude.{All}
 use Rattle.std.proofs.lemmas.List.Elements.{All-head, All-tail}
 use Rattle.std.proofs.lemmas.Bool.Decides.{nat_tests}
 use Rattle.bus_model.specs.Served.{Served}
-use Rattle.bus_model.specs.Logs.{Recorded, ic_log, served_from}
+use Rattle.bus_model.specs.Logs.{ic_log, served_from}
 use Rattle.hist_lock.specs.Seat.{Call}
-use Rattle.hist_lock.specs.Calls.{calls_from, calls_of}
+use Rattle.hist_lock.specs.Calls.{calls_from}
 use Rattle.hist_lock.specs.declared.history.Entry.{Entry}
 use Rattle.util_ic.specs.declared.ic.IcAsk.{IcAsk}
 use Rattle.util_ic.specs.declared.ic.IcAnswer.{IcAnswer}

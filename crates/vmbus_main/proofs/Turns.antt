@@ -1,5 +1,5 @@
 -- A packet that waited was taken, and its cells were given back.
-use Rattle.std.proofs.Common.{◌≡◌, ℕ, ◌+◌, ◌*◌, ◌%◌, ◌≤◌, false, List, [], ◌∷◌, ◌++◌, length, Result, Ok, Err, MatchResult, refl, sym, ap, ◌∙◌, subst, arith}
+use Rattle.std.proofs.Common.{◌≡◌, ℕ, ◌%◌, false, List, [], ◌∷◌, ◌++◌, length, Result, Ok, Err, MatchResult, sym, ap, ◌∙◌, subst, arith}
 use Rattle.std.proofs.lemmas.List.{append-nil}
 use Rattle.ring_core.specs.declared.state.EndState.{EndState}
 use Rattle.ring_core.specs.declared.room.Room.{Room}

@@ -1,5 +1,5 @@
 -- What the calls of a utility device's seat are as requests that were served.
-use Rattle.std.specs.Prelude.{ℕ, ◌≡◌, List, [], ◌∷◌, ◌++◌, length, map, nat_lt, All}
+use Rattle.std.specs.Prelude.{◌≡◌, List, length, map, nat_lt, All}
 use Rattle.bus_script.specs.declared.line.Line.{Line}
 use Rattle.bus_script.specs.declared.line.DeviceSpec.{DeviceSpec}
 use Rattle.bus_script.specs.declared.outcome.LineResult.{LineResult}

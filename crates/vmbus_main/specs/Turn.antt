@@ -1,5 +1,5 @@
 -- A channel between the calls of its two ends.
-use Rattle.std.specs.Prelude.{◌≡◌, ℕ, ◌+◌, ◌*◌, ◌≤◌, false, List, [], ◌∷◌, ◌++◌}
+use Rattle.std.specs.Prelude.{◌≡◌, ℕ, ◌+◌, ◌*◌, ◌≤◌, false, List, ◌++◌}
 use Rattle.ring_core.specs.declared.room.Room.{Room}
 use Rattle.ring_core.specs.Seen.{Seen}
 use Rattle.ring_core.specs.Told.{Held}

@@ -1,4 +1,4 @@
-use Rattle.std.proofs.Common.{◌≡◌, sym, ◌∙◌, subst}
+use Rattle.std.proofs.Common.{sym, ◌∙◌, subst}
 use Rattle.io_edge.specs.Edge.{GrowsByFront}
 use Rattle.vmbus_main.specs.Answer.{IsAnswer}
 use Rattle.vmbus_main.proofs.call.vmbus.Goals as goal

@@ -1,9 +1,8 @@
-use Rattle.std.proofs.Common.{◌≡◌, ◌-◌, ℕ, ◌∷◌, [], ◌++◌, ap, sym, ◌∙◌, subst, arith, length, take, Some, None, slice_set}
-use Rattle.util_ic.specs.Asks.{ask_of, answer_of, kind_for}
+use Rattle.std.proofs.Common.{◌≡◌, ◌-◌, ℕ, ◌∷◌, [], ◌++◌, ap, sym, ◌∙◌, arith, length, take, Some, None, slice_set}
+use Rattle.util_ic.specs.Asks.{ask_of}
 use Rattle.util_ic.specs.Packets.{ask_packet, answer_packet}
 use Rattle.pkt_desc.specs.Packets.{id_of}
 use Rattle.bus_model.specs.Wants.{request_bytes}
-use Rattle.vmbus_main.specs.declared.opened.Opened.{Opened}
 use Rattle.vmbus_main.specs.declared.opened.Opened.TheVariants.{Script}
 use Rattle.vmbus_main.proofs.Across.{host_sent, guest_sent}
 use Rattle.vmbus_main.proofs.crossing.exchange.Goals as goal

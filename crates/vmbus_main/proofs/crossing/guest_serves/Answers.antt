@@ -1,6 +1,5 @@
-use Rattle.std.proofs.Common.{◌≡◌, ◌++◌, ◌∷◌, [], Some, ap, sym, ◌∙◌, subst, List, ℕ}
+use Rattle.std.proofs.Common.{◌++◌, ◌∷◌, [], ap, sym, ◌∙◌, subst}
 use Rattle.pkt_desc.specs.Packets.{id_of}
-use Rattle.util_ic.specs.declared.ic.IcAsk.{IcAsk}
 use Rattle.util_ic.specs.Asks.{ask_of}
 use Rattle.util_ic.specs.Packets.{answer_packet}
 use Rattle.bus_model.specs.Wants.{request_bytes}

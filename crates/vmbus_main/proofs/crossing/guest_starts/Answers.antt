@@ -1,4 +1,4 @@
-use Rattle.std.proofs.Common.{◌≡◌, ap, sym, ◌∙◌, subst}
+use Rattle.std.proofs.Common.{ap, sym, ◌∙◌, subst}
 use Rattle.std.proofs.Common.{◌++◌, ◌∷◌, []}
 use Rattle.pkt_desc.specs.Packets.{id_of}
 use Rattle.util_ic.specs.Packets.{served_packet}

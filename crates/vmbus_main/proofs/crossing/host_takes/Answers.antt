@@ -1,8 +1,8 @@
-use Rattle.std.proofs.Common.{◌≡◌, ◌++◌, ◌∷◌, [], ap, sym, ◌∙◌, subst}
+use Rattle.std.proofs.Common.{◌++◌, ◌∷◌, [], ap, ◌∙◌}
 use Rattle.pkt_desc.specs.Packets.{id_of}
 use Rattle.util_ic.specs.Asks.{answer_of}
 use Rattle.bus_model.specs.Wants.{request_bytes}
-use Rattle.vmbus_main.proofs.Turns.{ok_of, err_of, got_room, host_took}
+use Rattle.vmbus_main.proofs.Turns.{ok_of, got_room, host_took}
 use Rattle.vmbus_main.proofs.crossing.host_takes.Goals as goal
 
 pub returns-clause-got : goal.returns-clause-got

@@ -1,4 +1,4 @@
-use Rattle.std.proofs.Common.{◌≡◌, ◌∷◌, [], ap, sym, ◌∙◌, subst, arith, length, take}
+use Rattle.std.proofs.Common.{◌≡◌, ap, ◌∙◌, arith, length, take}
 use Rattle.util_ic.specs.Packets.{served_packet}
 use Rattle.pkt_desc.specs.Packets.{id_of}
 use Rattle.bus_model.specs.Wants.{request_bytes}

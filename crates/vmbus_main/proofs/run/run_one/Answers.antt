@@ -1,5 +1,4 @@
-use Rattle.std.proofs.Common.{◌≡◌, refl, ap, sym, ◌∙◌, subst, rules}
-use Rattle.bus_script.specs.declared.line.DeviceSpec.TheVariants.{Beat, Down}
+use Rattle.std.proofs.Common.{refl, sym, subst}
 use Rattle.bus_model.specs.Logs.{IsHistory}
 use Rattle.bus_model.specs.declared.history.DeviceHistory.TheVariants.{Beat as BeatHistory, Down as DownHistory}
 use Rattle.hist_lock.specs.Legal.{IsLegal}

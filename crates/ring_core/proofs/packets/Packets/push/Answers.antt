@@ -1,5 +1,4 @@
-use Rattle.std.proofs.Common.{◌≡◌, ◌++◌, ◌+◌, ◌∷◌, [], ◌∙◌, length, length-append, ap, sym, arith}
-use Rattle.ring_core.specs.Cut.{cut, Rises}
+use Rattle.std.proofs.Common.{◌≡◌, ◌++◌, ◌+◌, ◌∷◌, [], ◌∙◌, length, length-append, ap, arith}
 use Rattle.ring_core.proofs.CutLaws.{rises_more, cut_more}
 use Rattle.ring_core.proofs.packets.Packets.push.Goals as goal
 

@@ -1,4 +1,4 @@
-use Rattle.std.proofs.Common.{◌≡◌, ◌∙◌, refl, sym, ap}
+use Rattle.std.proofs.Common.{◌∙◌, refl, sym, ap}
 use Rattle.ring_core.specs.declared.machine.Machine.{Machine}
 use Rattle.ring_core.proofs.Driving.{going_first, going_on, going_asks, going_calls, going_leaves, going_took, going_ran, going_honest, storing_busy, loading_busy, first_busy, writing_busy, masking_busy, asking_busy, seeking_busy, giving_busy, feature_busy, pending_busy}
 use Rattle.ring_core.proofs.Sound.{fed_nearer}
