@@ -1,9 +1,10 @@
-//! Times a send, a take and a commit in turn, by two ends over one memory. It writes nothing on standard output, and its figures on standard error.
+//! Times a send, a take and a commit in turn, by two ends over one memory, and the text of control messages. It writes nothing on standard output, and its figures on standard error.
 #![tactic(auto)]
 
 ghost use Rattle.std.specs.Prelude.{◌≡◌, IsTrue};
 ghost use Rattle.ring_core.specs.States.{IsPacket};
 
+use msg_text::decode_text;
 use ring_core::{End, Room, Side, SoloMem};
 use ring_rows::{is_packet, may_take};
 use std::alloc::{AllocError, Global};
@@ -121,6 +122,33 @@ fn quickest(rt: &HostRuntime, p: &[u64], count: u64) -> io::Result<u128>
     Ok(best)
 }
 
+// A line of digits: an answer to a version.
+const LINE: &[u8] = b"0f000000000000000100000001000000\n";
+
+// How many lines are decoded at once.
+const LINES: u32 = 20_000;
+
+fn digits(alloc: Global) -> Result<Vec<u8>, AllocError> {
+    let mut text = Vec::new(alloc);
+    for _ in 0..LINES {
+        text.extend_from_slice(LINE)?;
+    }
+    Ok(text)
+}
+
+// The microseconds that all lines take. It is an error where they are refused.
+fn decode_time(rt: &HostRuntime) -> io::Result<u128> {
+    let alloc = rt.alloc();
+    let input = digits(alloc)?;
+    let start = Instant::now(rt)?;
+    let text = decode_text(alloc, &input);
+    let time = start.elapsed(rt)?.as_micros();
+    match text {
+        Ok(_) => Ok(time),
+        Err(_) => Err(io::Error::other("a message was refused")),
+    }
+}
+
 fn main(rt: HostRuntime) -> io::Result<()> {
     for (n, count) in [(3, 20000), (10, 10000), (64, 2000), (384, 400)] {
         let p = packet(rt.alloc(), n)?;
@@ -130,5 +158,7 @@ fn main(rt: HostRuntime) -> io::Result<()> {
         let time = quickest(&rt, p.as_slice(), count)?;
         eprintln!(rt; "{} bytes: {time} ns a packet", 8 * n)?;
     }
+    let time = decode_time(&rt)?;
+    eprintln!(rt; "{LINES} messages decoded: {time} us")?;
     Ok(())
 }
