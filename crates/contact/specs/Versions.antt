@@ -1,5 +1,5 @@
 -- The protocol's versions.
-use Rattle.std.specs.Prelude.{ℕ, ◌+◌, ◌*◌, ◌==◌, ◌&&◌, IsTrue, List, [], ◌∷◌, filter, min}
+use Rattle.std.specs.Prelude.{ℕ, ◌+◌, ◌*◌, ◌==◌, ◌&&◌, Bool, IsTrue, List, [], ◌∷◌, filter, min}
 use Rattle.std.specs.List.{list_any}
 use Rattle.std.specs.Bool.{nat_le}
 
@@ -19,6 +19,10 @@ oldest = version 2 4
 abbrev pub IsVersion : ℕ → Type 0
 IsVersion v = IsTrue (list_any (λ u. u == v) versions)
 
--- the versions that a guest tries with a host whose highest ones these are: from its own highest down to the agreed one
+-- a guest tries a version with a host, where these are the highest ones of both: one from its own highest down to the agreed one
+abbrev pub is_tried : ℕ → ℕ → ℕ → Bool
+is_tried guest host v = nat_le v guest && nat_le (min guest host) v
+
+-- the versions that it tries, in order
 abbrev pub versions_tried : ℕ → ℕ → List ℕ
-versions_tried guest host = filter (λ v. nat_le v guest && nat_le (min guest host) v) versions
+versions_tried guest host = filter (is_tried guest host) versions

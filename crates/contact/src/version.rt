@@ -1,6 +1,6 @@
 //! The protocol's versions, and which of them a guest and its host use.
-ghost use Rattle.std.specs.Prelude.{◌≡◌, ℕ, ◌<◌, ◌≤◌, ◌↔◌, All, IfSome, IfNone, IsTrue, IsNone};
-ghost use Rattle.contact.specs.Versions.{versions, oldest, IsVersion};
+ghost use Rattle.std.specs.Prelude.{◌≡◌, ℕ, ◌<◌, ◌≤◌, ◌↔◌, length, cond, All, IfSome, IfNone, IsTrue, IsNone};
+ghost use Rattle.contact.specs.Versions.{versions, oldest, versions_tried, is_tried, IsVersion};
 
 /// A version of the VMBus protocol, `major * 65536 + minor`, as Linux's `VERSION_WIN10` and the
 /// others (include/linux/hyperv.h).
@@ -50,4 +50,27 @@ pub fn agree(guest: Version, host: Version) -> Version
     ensures greatest { All (λ u. u ≤ guest.0 → u ≤ host.0 → u ≤ result.0) versions }
 {
     if guest.0 <= host.0 { guest } else { host }
+}
+
+/// Whether a guest tries a version: it is not above its own highest one, nor below the agreed one.
+fn tries(guest: Version, host: Version, v: u32) -> u32
+    ensures { result ≡ cond (is_tried guest.0 host.0 v) 1 0 }
+{
+    if v <= guest.0 && guest.0.min(host.0) <= v {
+        1
+    } else {
+        0
+    }
+}
+
+/// How many versions a guest tries until its host accepts one: all from its own highest down to
+/// the agreed one. `guest` and `host` are the highest ones of both ends.
+pub fn tried(guest: Version, host: Version) -> u32
+    ensures { result ≡ length (versions_tried guest.0 host.0) }
+{
+    let mut count = 0;
+    for v in VERSIONS {
+        count += tries(guest, host, v);
+    }
+    count
 }
