@@ -11,6 +11,7 @@ use std::marker::Model;
 /// The events of an end, the last one first. A packet is the list of its words.
 #[derive(Drop)]
 pub struct Past {
+    /// What happened so far, as contracts read it.
     pub ghost events: { List (Event (List ℕ)) },
 }
 

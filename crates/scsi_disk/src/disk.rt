@@ -83,6 +83,8 @@ impl Disk {
         }
     }
 
+    // A read of more than 8 blocks is an invalid field, one that ends past the disk is out of range, and one that meets a bad
+    // block can't be recovered, in this order.
     #[tactic(auto, unfolding(crate::specs::DiskModel::refusal_of))]
     fn read_refusal(&self, lba: u64, count: u64) -> Option<Refusal>
         ensures { (out : List ℕ)
@@ -99,6 +101,8 @@ impl Disk {
         }
     }
 
+    // A write of more than 8 blocks, or whose data isn't as long as its blocks, is an invalid field, and one that ends past the
+    // disk is out of range, in this order.
     #[tactic(auto, unfolding(crate::specs::DiskModel::refusal_of))]
     fn write_refusal(&self, lba: u64, count: u64, len: u64) -> Option<Refusal>
         ensures { (out : List ℕ) → length out ≡ len

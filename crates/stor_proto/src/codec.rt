@@ -60,6 +60,7 @@ pub fn decode_vstor(bytes: &[u8]) -> Result<Vstor, VstorFault>
     parse(bytes)
 }
 
+// Too few bytes come first, then an unknown operation, then a status that isn't 0 in a packet that isn't a completion.
 #[tactic(auto, unfolding(crate::specs::Packets::vstor_fault, crate::specs::Packets::vstor_in))]
 fn parse(bytes: &[u8]) -> Result<Vstor, VstorFault>
     ensures { MatchResult result
@@ -85,6 +86,7 @@ fn parse(bytes: &[u8]) -> Result<Vstor, VstorFault>
     Ok(p)
 }
 
+// The packet that the first 64 bytes are.
 #[tactic(auto, unfolding(crate::specs::Packets::vstor_in))]
 fn read(bytes: &[u8]) -> Vstor
     requires { 64 ≤ length bytes.now }

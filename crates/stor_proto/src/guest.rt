@@ -24,6 +24,7 @@ pub fn srb_ask(r: &DiskRequest) -> Vstor
     packet(r)
 }
 
+// The srb of a request: its lengths, its direction by the command, and the command itself.
 fn packet(r: &DiskRequest) -> Vstor
     requires built { IsSome (command_of r.now.cdb) }
     requires few { bytes_moved (command_of r.now.cdb) (length r.now.out) ≤ 4096 }

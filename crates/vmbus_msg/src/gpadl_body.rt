@@ -9,10 +9,14 @@ use crate::frames::Frames;
 /// Source: struct `vmbus_channel_gpadl_body`, `include/linux/hyperv.h`.
 #[derive(Clone, Copy)]
 pub struct GpadlBody {
+    /// The four bytes after the message's type.
     pub padding: u32,
     /// Which body of its list it is. Nothing looks at it.
     pub msgnumber: u32,
+    /// The handle of its list.
     pub gpadl: u32,
+    /// The frame numbers that it brings.
     pub frames: Frames,
+    /// It has 1 to 28 frames.
     pub ghost in_form: { IsBodyForm frames },
 }

@@ -102,6 +102,7 @@ fn read_frames(bytes: &[u8], count: usize) -> Frames
     frames
 }
 
+// An OFFERCHANNEL has exactly 196 bytes.
 #[tactic(auto, unfolding(crate::specs::Reading::Reads))]
 fn read_offer_channel(bytes: &[u8]) -> Result<Msg, MsgFault>
     ensures { Reads 1 bytes.now result }
@@ -127,6 +128,7 @@ fn read_offer_channel(bytes: &[u8]) -> Result<Msg, MsgFault>
     }))
 }
 
+// A RESCIND_CHANNELOFFER has exactly 12 bytes.
 #[tactic(auto, unfolding(crate::specs::Reading::Reads))]
 fn read_rescind_channel_offer(bytes: &[u8]) -> Result<Msg, MsgFault>
     ensures { Reads 2 bytes.now result }
@@ -139,6 +141,7 @@ fn read_rescind_channel_offer(bytes: &[u8]) -> Result<Msg, MsgFault>
     }))
 }
 
+// A REQUESTOFFERS has exactly 8 bytes.
 #[tactic(auto, unfolding(crate::specs::Reading::Reads))]
 fn read_request_offers(bytes: &[u8]) -> Result<Msg, MsgFault>
     ensures { Reads 3 bytes.now result }
@@ -150,6 +153,7 @@ fn read_request_offers(bytes: &[u8]) -> Result<Msg, MsgFault>
     }))
 }
 
+// An ALLOFFERS_DELIVERED has exactly 8 bytes.
 #[tactic(auto, unfolding(crate::specs::Reading::Reads))]
 fn read_all_offers_delivered(bytes: &[u8]) -> Result<Msg, MsgFault>
     ensures { Reads 4 bytes.now result }
@@ -161,6 +165,7 @@ fn read_all_offers_delivered(bytes: &[u8]) -> Result<Msg, MsgFault>
     }))
 }
 
+// An OPENCHANNEL has exactly 148 bytes.
 #[tactic(auto, unfolding(crate::specs::Reading::Reads))]
 fn read_open_channel(bytes: &[u8]) -> Result<Msg, MsgFault>
     ensures { Reads 5 bytes.now result }
@@ -178,6 +183,7 @@ fn read_open_channel(bytes: &[u8]) -> Result<Msg, MsgFault>
     }))
 }
 
+// An OPENCHANNEL_RESULT has exactly 20 bytes.
 #[tactic(auto, unfolding(crate::specs::Reading::Reads))]
 fn read_open_channel_result(bytes: &[u8]) -> Result<Msg, MsgFault>
     ensures { Reads 6 bytes.now result }
@@ -192,6 +198,7 @@ fn read_open_channel_result(bytes: &[u8]) -> Result<Msg, MsgFault>
     }))
 }
 
+// A CLOSECHANNEL has exactly 12 bytes.
 #[tactic(auto, unfolding(crate::specs::Reading::Reads))]
 fn read_close_channel(bytes: &[u8]) -> Result<Msg, MsgFault>
     ensures { Reads 7 bytes.now result }
@@ -204,6 +211,7 @@ fn read_close_channel(bytes: &[u8]) -> Result<Msg, MsgFault>
     }))
 }
 
+// A GPADL_CREATED has exactly 20 bytes.
 #[tactic(auto, unfolding(crate::specs::Reading::Reads))]
 fn read_gpadl_created(bytes: &[u8]) -> Result<Msg, MsgFault>
     ensures { Reads 10 bytes.now result }
@@ -218,6 +226,7 @@ fn read_gpadl_created(bytes: &[u8]) -> Result<Msg, MsgFault>
     }))
 }
 
+// A GPADL_TEARDOWN has exactly 16 bytes.
 #[tactic(auto, unfolding(crate::specs::Reading::Reads))]
 fn read_gpadl_teardown(bytes: &[u8]) -> Result<Msg, MsgFault>
     ensures { Reads 11 bytes.now result }
@@ -231,6 +240,7 @@ fn read_gpadl_teardown(bytes: &[u8]) -> Result<Msg, MsgFault>
     }))
 }
 
+// A GPADL_TORNDOWN has exactly 12 bytes.
 #[tactic(auto, unfolding(crate::specs::Reading::Reads))]
 fn read_gpadl_torndown(bytes: &[u8]) -> Result<Msg, MsgFault>
     ensures { Reads 12 bytes.now result }
@@ -243,6 +253,7 @@ fn read_gpadl_torndown(bytes: &[u8]) -> Result<Msg, MsgFault>
     }))
 }
 
+// A RELID_RELEASED has exactly 12 bytes.
 #[tactic(auto, unfolding(crate::specs::Reading::Reads))]
 fn read_relid_released(bytes: &[u8]) -> Result<Msg, MsgFault>
     ensures { Reads 13 bytes.now result }
@@ -255,6 +266,7 @@ fn read_relid_released(bytes: &[u8]) -> Result<Msg, MsgFault>
     }))
 }
 
+// An INITIATE_CONTACT has exactly 40 bytes.
 #[tactic(auto, unfolding(crate::specs::Reading::Reads))]
 fn read_initiate_contact(bytes: &[u8]) -> Result<Msg, MsgFault>
     ensures { Reads 14 bytes.now result }
@@ -271,6 +283,7 @@ fn read_initiate_contact(bytes: &[u8]) -> Result<Msg, MsgFault>
     }))
 }
 
+// A VERSION_RESPONSE has exactly 16 bytes.
 #[tactic(auto, unfolding(crate::specs::Reading::Reads))]
 fn read_version_response(bytes: &[u8]) -> Result<Msg, MsgFault>
     ensures { Reads 15 bytes.now result }
@@ -286,6 +299,7 @@ fn read_version_response(bytes: &[u8]) -> Result<Msg, MsgFault>
     }))
 }
 
+// An UNLOAD has exactly 8 bytes.
 #[tactic(auto, unfolding(crate::specs::Reading::Reads))]
 fn read_unload(bytes: &[u8]) -> Result<Msg, MsgFault>
     ensures { Reads 16 bytes.now result }
@@ -297,6 +311,7 @@ fn read_unload(bytes: &[u8]) -> Result<Msg, MsgFault>
     }))
 }
 
+// An UNLOAD_RESPONSE has exactly 8 bytes.
 #[tactic(auto, unfolding(crate::specs::Reading::Reads))]
 fn read_unload_response(bytes: &[u8]) -> Result<Msg, MsgFault>
     ensures { Reads 17 bytes.now result }
@@ -344,6 +359,7 @@ fn has_header(bytes: &[u8]) -> Result<(), MsgFault>
     Ok(())
 }
 
+// A GPADL_HEADER has the length that its range gives.
 #[tactic(auto, unfolding(crate::specs::Reading::Reads))]
 fn read_gpadl_header(bytes: &[u8]) -> Result<Msg, MsgFault>
     ensures { Reads 8 bytes.now result }
@@ -363,6 +379,7 @@ fn read_gpadl_header(bytes: &[u8]) -> Result<Msg, MsgFault>
     })))
 }
 
+// A GPADL_BODY has 1 to 28 whole frames.
 #[tactic(auto, unfolding(crate::specs::Reading::Reads))]
 fn read_gpadl_body(bytes: &[u8]) -> Result<Msg, MsgFault>
     ensures { Reads 9 bytes.now result }

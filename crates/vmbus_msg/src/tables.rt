@@ -196,6 +196,7 @@ pub const UNLOAD_RESPONSE: Layout<2> = Layout {
 // What `Layout::check` tests is decided for each constant layout when this crate is checked, so no
 // test is made when the program runs.
 
+/// The checked layout of OFFERCHANNEL.
 pub fn offer_channel_table() -> Checked<13>
     ensures { result.layout ≡ OFFER_CHANNEL }
 {
@@ -204,6 +205,7 @@ pub fn offer_channel_table() -> Checked<13>
     }
 }
 
+/// The checked layout of RESCIND_CHANNELOFFER.
 pub fn rescind_channel_offer_table() -> Checked<3>
     ensures { result.layout ≡ RESCIND_CHANNEL_OFFER }
 {
@@ -212,6 +214,7 @@ pub fn rescind_channel_offer_table() -> Checked<3>
     }
 }
 
+/// The checked layout of REQUESTOFFERS.
 pub fn request_offers_table() -> Checked<2>
     ensures { result.layout ≡ REQUEST_OFFERS }
 {
@@ -220,6 +223,7 @@ pub fn request_offers_table() -> Checked<2>
     }
 }
 
+/// The checked layout of ALLOFFERS_DELIVERED.
 pub fn all_offers_delivered_table() -> Checked<2>
     ensures { result.layout ≡ ALL_OFFERS_DELIVERED }
 {
@@ -228,6 +232,7 @@ pub fn all_offers_delivered_table() -> Checked<2>
     }
 }
 
+/// The checked layout of OPENCHANNEL.
 pub fn open_channel_table() -> Checked<7>
     ensures { result.layout ≡ OPEN_CHANNEL }
 {
@@ -236,6 +241,7 @@ pub fn open_channel_table() -> Checked<7>
     }
 }
 
+/// The checked layout of OPENCHANNEL_RESULT.
 pub fn open_channel_result_table() -> Checked<5>
     ensures { result.layout ≡ OPEN_CHANNEL_RESULT }
 {
@@ -244,6 +250,7 @@ pub fn open_channel_result_table() -> Checked<5>
     }
 }
 
+/// The checked layout of CLOSECHANNEL.
 pub fn close_channel_table() -> Checked<3>
     ensures { result.layout ≡ CLOSE_CHANNEL }
 {
@@ -252,6 +259,7 @@ pub fn close_channel_table() -> Checked<3>
     }
 }
 
+/// The checked layout of GPADL_HEADER.
 pub fn gpadl_header_table() -> Checked<8>
     ensures { result.layout ≡ GPADL_HEADER }
 {
@@ -260,12 +268,14 @@ pub fn gpadl_header_table() -> Checked<8>
     }
 }
 
+/// The checked layout of GPADL_BODY.
 pub fn gpadl_body_table() -> Checked<4>
     ensures { result.layout ≡ GPADL_BODY }
 {
     Checked { layout: GPADL_BODY }
 }
 
+/// The checked layout of GPADL_CREATED.
 pub fn gpadl_created_table() -> Checked<5>
     ensures { result.layout ≡ GPADL_CREATED }
 {
@@ -274,6 +284,7 @@ pub fn gpadl_created_table() -> Checked<5>
     }
 }
 
+/// The checked layout of GPADL_TEARDOWN.
 pub fn gpadl_teardown_table() -> Checked<4>
     ensures { result.layout ≡ GPADL_TEARDOWN }
 {
@@ -282,6 +293,7 @@ pub fn gpadl_teardown_table() -> Checked<4>
     }
 }
 
+/// The checked layout of GPADL_TORNDOWN.
 pub fn gpadl_torndown_table() -> Checked<3>
     ensures { result.layout ≡ GPADL_TORNDOWN }
 {
@@ -290,6 +302,7 @@ pub fn gpadl_torndown_table() -> Checked<3>
     }
 }
 
+/// The checked layout of RELID_RELEASED.
 pub fn relid_released_table() -> Checked<3>
     ensures { result.layout ≡ RELID_RELEASED }
 {
@@ -298,6 +311,7 @@ pub fn relid_released_table() -> Checked<3>
     }
 }
 
+/// The checked layout of INITIATE_CONTACT.
 pub fn initiate_contact_table() -> Checked<7>
     ensures { result.layout ≡ INITIATE_CONTACT }
 {
@@ -306,6 +320,7 @@ pub fn initiate_contact_table() -> Checked<7>
     }
 }
 
+/// The checked layout of VERSION_RESPONSE.
 pub fn version_response_table() -> Checked<6>
     ensures { result.layout ≡ VERSION_RESPONSE }
 {
@@ -314,12 +329,14 @@ pub fn version_response_table() -> Checked<6>
     }
 }
 
+/// The checked layout of UNLOAD.
 pub fn unload_table() -> Checked<2>
     ensures { result.layout ≡ UNLOAD }
 {
     Checked { layout: UNLOAD }
 }
 
+/// The checked layout of UNLOAD_RESPONSE.
 pub fn unload_response_table() -> Checked<2>
     ensures { result.layout ≡ UNLOAD_RESPONSE }
 {

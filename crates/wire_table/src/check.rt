@@ -13,6 +13,7 @@ fn end(f: Field) -> u32
     u32::from(f.at) + u32::from(f.width)
 }
 
+// Two fields share a byte where each begins before the other ends.
 fn share(f: Field, g: Field) -> bool
     ensures { result ≡ fields_share f g }
 {

@@ -5,14 +5,18 @@ use thiserror::Error;
 /// A little-endian field: the byte at which it begins, and how many bytes it has (1, 2, 4 or 8).
 #[derive(Clone, Copy, Debug, PartialEq, Eq)]
 pub struct Field {
+    /// The byte at which it begins, counted from 0.
     pub at: u16,
+    /// How many bytes it has.
     pub width: u8,
 }
 
 /// One kind of message: how many bytes it has, and its number fields.
 #[derive(Clone, Copy)]
 pub struct Layout<const N: usize> {
+    /// How many bytes a message has at least.
     pub size: u16,
+    /// Its fields, in any order.
     pub fields: [Field; N],
 }
 

@@ -10,8 +10,11 @@ use crate::{get_at, put_at};
 /// A layout in which no two fields share a byte and none ends past the size.
 #[derive(Clone, Copy)]
 pub struct Checked<const N: usize> {
+    /// The layout that was checked.
     pub layout: Layout<N>,
+    /// Each width is 1, 2, 4 or 8.
     pub ghost widths: { EachWidth layout.fields },
+    /// No two fields share a byte, and none ends past the size.
     pub ghost sound: { fault_of layout.size layout.fields ≡ None },
 }
 
