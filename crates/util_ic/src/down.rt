@@ -12,7 +12,8 @@ pub struct DownMachine {
     state: (),
 }
 
-// Flags 0 and 1 mean power off and 2 and 3 restart. This guest refuses to hibernate, and what it doesn't know.
+/// The status of a shutdown. Flags 0 and 1 mean power off and 2 and 3 restart. This guest refuses to hibernate, and what it
+/// doesn't know (Linux 6.12, `drivers/hv/hv_util.c`, shutdown_onchannelcallback).
 pub fn down_status(flags: u32) -> u32
     ensures { result ≡ status_for flags }
 {

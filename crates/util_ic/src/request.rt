@@ -11,7 +11,7 @@ use crate::tables::{heartbeat_table, offered_table, shutdown_table};
 use contact::Kind;
 use wire_table::fields;
 
-// Clears bytes.
+/// Clears bytes.
 pub fn clear(part: &mut [u8])
     ensures { part.new ≡ zeros (length part.old) }
 {

@@ -148,43 +148,49 @@ pub const SHUTDOWN: Layout<15> = Layout {
     ],
 };
 
+/// The fields of every message.
 pub fn header_table() -> Checked<12>
     ensures { result.layout ≡ HEADER }
 {
     Checked { layout: HEADER }
 }
 
+/// A negotiate message with its two counts.
 pub fn negotiate_table() -> Checked<15>
     ensures { result.layout ≡ NEGOTIATE }
 {
     Checked { layout: NEGOTIATE }
 }
 
+/// The answer to a negotiate message, with the two versions that were agreed.
 pub fn agreed_table() -> Checked<19>
     ensures { result.layout ≡ AGREED }
 {
     Checked { layout: AGREED }
 }
 
+/// The negotiate message of this host, with its four versions.
 pub fn offered_table() -> Checked<23>
     ensures { result.layout ≡ OFFERED }
 {
     Checked { layout: OFFERED }
 }
 
+/// A heartbeat.
 pub fn heartbeat_table() -> Checked<13>
     ensures { result.layout ≡ HEARTBEAT }
 {
     Checked { layout: HEARTBEAT }
 }
 
+/// A shutdown.
 pub fn shutdown_table() -> Checked<15>
     ensures { result.layout ≡ SHUTDOWN }
 {
     Checked { layout: SHUTDOWN }
 }
 
-// Writes a number into a field of a message. Everything else stays.
+/// Writes a number into field `i` of a message. Everything else stays.
 pub fn set<const N: usize>(table: &Checked<N>, message: &mut [u8], i: usize, v: u64)
     requires field { i < N }
     requires bytes { table.now.layout.size ≤ length message.old }

@@ -9,7 +9,9 @@ use wire_table::get_at;
 /// A version of frames or messages.
 #[derive(Clone, Copy, Debug, PartialEq, Eq)]
 pub struct Version {
+    /// The number before the point.
     pub major: u16,
+    /// The number after it.
     pub minor: u16,
 }
 
@@ -18,6 +20,7 @@ const NEW: Version = Version { major: 3, minor: 0 };
 
 const OLD: Version = Version { major: 1, minor: 0 };
 
+// Two versions are the same where both their numbers are.
 fn same(a: Version, b: Version) -> bool
     ensures { result ≡ is_same a b }
 {
