@@ -1,12 +1,12 @@
 -- Steps stay inside the channel; bytes and cells count alike.
-use Rattle.std.proofs.Common.{◌≡◌, ℕ, ◌*◌, ◌%◌, ◌<◌, List, arith}
+use Rattle.std.proofs.Common.{◌≡◌, ℕ, ◌*◌, ◌%◌, ◌<◌, List, refl, inl, inr, arith}
 use Rattle.std.proofs.lemmas.Bool.Decides.{nat_tests}
 use Rattle.ring_core.specs.declared.machine.Stage.{Stage}
 use Rattle.ring_core.specs.declared.machine.Stage.TheVariants.{Idle, Stopped, SendRead, SendCell, SendWrite, SendMask, SendLook, SendRaise, TakeWrite, TakeFirst, TakeCell, CommitRead, CommitFeature, CommitPending, CommitWrite, CommitRaise, ArmPending, ArmMask, ArmWrite, ArmRead, ArmMark, ArmUndoMask, ArmUndoPending, PollSignal, PollMask, PollPending, MarkStore, MarkRaise, PeerMark}
 use Rattle.ring_core.specs.declared.machine.Machine.{Machine}
-use Rattle.ring_core.specs.Inside.{IsInside}
+use Rattle.ring_core.specs.Inside.{IsInside, ChangesOnly}
 use Rattle.ring_core.specs.Places.{free, used, ahead}
-use Rattle.ring_core.specs.Steps.{IsSound, next_at}
+use Rattle.ring_core.specs.Steps.{IsSound, next_at, call_at}
 use Rattle.ring_core.proofs.Sound.{ahead_below}
 
 cell_inside : (n k : ℕ) → k < n → (8 * k % 8 ≡ 0) × (8 * k < 8 * n)
@@ -51,3 +51,21 @@ used_bytes_are n r w a b = grind (arith, nat_tests)
 
 pub ahead_bytes_are : (n i k : ℕ) → i < n → k < n → 8 * ahead n i k ≡ ahead (8 * n) (8 * i) (8 * k)
 ahead_bytes_are n i k a b = grind (arith, nat_tests)
+
+-- the words that a step of each call may change
+pub changes_at : (m : Machine) (p : List ℕ) (st : Stage) → ChangesOnly (call_at st) m.side (next_at st m p)
+changes_at m p SendCell = (refl, refl)
+changes_at m p SendWrite = (refl, refl)
+changes_at m p SendRaise = (inl refl, refl)
+changes_at m p CommitRead = (refl, refl)
+changes_at m p CommitRaise = (inr (inl refl), refl)
+changes_at m p ArmPending = (inl refl, refl)
+changes_at m p ArmMask = (inl refl, refl)
+changes_at m p ArmUndoMask = (inl refl, refl)
+changes_at m p ArmUndoPending = (inl refl, refl)
+changes_at m p PollSignal = (refl, refl)
+changes_at m p PollMask = (inr refl, refl)
+changes_at m p PollPending = (inr refl, refl)
+changes_at m p MarkStore = (refl, refl)
+changes_at m p MarkRaise = (inr (inr refl), refl)
+changes_at m p _ = tt

@@ -3,3 +3,4 @@ pub mod CutLaws
 pub mod Tables
 pub mod Driving
 pub mod Bounds
+pub mod Lengths

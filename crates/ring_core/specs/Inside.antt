@@ -1,8 +1,11 @@
 -- Steps inside a channel, and the calls that store to a place.
-use Rattle.std.specs.Prelude.{ℕ, Option, Some, None}
+use Rattle.std.specs.Prelude.{◌≡◌, ◌⊎◌, ℕ, Option, Some, None}
+use Rattle.io_edge.specs.declared.side.Side.{Side}
+use Rattle.ring_core.specs.declared.place.Place.{Place}
+use Rattle.ring_core.specs.declared.place.Place.TheVariants.{Write, Read, Mask, Pending, Feature, Cell, Signal, Mark}
 use Rattle.ring_core.specs.declared.place.Op.{Op}
 use Rattle.ring_core.specs.declared.place.Op.TheVariants.{Load, Store, Raise, TakeSignal, StoreMark}
-use Rattle.ring_core.specs.Places.{IsPlaceOf}
+use Rattle.ring_core.specs.Places.{IsPlaceOf, out_of, in_of, peer_of}
 
 -- a step on a place of a channel whose rings have n cells
 abbrev pub IsOpOf : ℕ → Op → Type 0
@@ -15,3 +18,27 @@ IsOpOf n (StoreMark x) = Unit {0}
 abbrev pub IsInside : ℕ → Option Op → Type 0
 IsInside n None = Unit {0}
 IsInside n (Some op) = IsOpOf n op
+
+-- The calls that store to a place, by number: 1 is a send, 3 a commit, 4 an arm, 5 a poll. A send stores to the cells and the write word of the ring that
+-- its end fills, a commit to the read word of the ring that it empties, an arm and a poll to the mask of the latter and the pending word of the former
+abbrev pub IsStoreAt : ℕ → Side → Place → Type 0
+IsStoreAt call x (Cell r at) = (call ≡ 1) × (r ≡ out_of x)
+IsStoreAt call x (Write r) = (call ≡ 1) × (r ≡ out_of x)
+IsStoreAt call x (Read r) = (call ≡ 3) × (r ≡ in_of x)
+IsStoreAt call x (Mask r) = ((call ≡ 4) ⊎ (call ≡ 5)) × (r ≡ in_of x)
+IsStoreAt call x (Pending r) = ((call ≡ 4) ⊎ (call ≡ 5)) × (r ≡ out_of x)
+IsStoreAt call x (Feature r) = ⊥
+IsStoreAt call x (Signal y) = ⊥
+IsStoreAt call x (Mark y) = ⊥
+
+-- what a step of a call may change: a send, a commit and a mark (6) raise the peer, a poll takes the end's own signal, and a mark stores its own mark
+abbrev pub IsChangeOf : ℕ → Side → Op → Type 0
+IsChangeOf call x (Load p) = Unit {0}
+IsChangeOf call x (Store p v) = IsStoreAt call x p
+IsChangeOf call x (Raise y) = ((call ≡ 1) ⊎ ((call ≡ 3) ⊎ (call ≡ 6))) × (y ≡ peer_of x)
+IsChangeOf call x (TakeSignal y) = (call ≡ 5) × (y ≡ x)
+IsChangeOf call x (StoreMark y) = (call ≡ 6) × (y ≡ x)
+
+abbrev pub ChangesOnly : ℕ → Side → Option Op → Type 0
+ChangesOnly call x None = Unit {0}
+ChangesOnly call x (Some op) = IsChangeOf call x op

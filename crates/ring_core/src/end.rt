@@ -131,6 +131,20 @@ impl<S: Seatlike> End<S> {
         self.parts.core.machine.marked
     }
 
+    /// Whether the last arm saw the peer's mark.
+    pub fn saw_mark(&self) -> bool
+        ensures { result ≡ self.now.state.machine.saw }
+    {
+        self.parts.core.machine.saw
+    }
+
+    /// The packets that were got, in order.
+    pub fn got(&self) -> &Packets
+        ensures { result.now.list ≡ self.now.state.got }
+    {
+        &self.parts.got
+    }
+
     /// The seat.
     pub fn seat(&self) -> &S
         ensures value { result.now ≡ self.now.seat }
@@ -161,8 +175,8 @@ impl<S: Seatlike> End<S> {
 
     /// Sends a packet that fits, and says whether that raised the peer's signal. Full comes exactly where the loaded read index leaves no more
     /// room than the packet needs, and changes nothing. BadPeer comes exactly where that index is in no form, and stops the end. Stopped comes
-    /// exactly where the end was stopped, and changes nothing. At most n + 6 steps for n words. Source: Linux `drivers/hv/ring_buffer.c`,
-    /// `hv_ringbuffer_write`.
+    /// exactly where the end was stopped, and changes nothing. At most n + 6 steps for the n words of the packet. Source: Linux
+    /// `drivers/hv/ring_buffer.c`, `hv_ringbuffer_write`.
     pub fn send(&mut self, p: &[u64]) -> Result<Signalled, SendRefusal>
         requires awake { self.old.state.machine.asleep ≡ false }
         requires unmarked { self.old.state.machine.marked ≡ false }
@@ -173,6 +187,7 @@ impl<S: Seatlike> End<S> {
         ensures answer { self.old.state.machine.stage ≡ Idle → (result ≡ send_answer self.new.state.machine.ended self.new.state.machine) × (call_by self.new.state.machine.ended ≡ 1) }
         ensures leaves { self.old.state.machine.stage ≡ Idle → Leaves self.old.state.machine self.new.state.machine }
         ensures after { self.old.state.machine.stage ≡ Idle → LeavesBy 1 self.old.state.machine self.new.state.machine }
+        ensures len { self.old.state.machine.stage ≡ Idle → self.new.state.machine.len ≡ length p.now }
         ensures awake { (self.new.state.machine.asleep ≡ false) × (self.new.state.machine.marked ≡ false) }
         ensures lists { self.old.state.machine.stage ≡ Idle → (self.new.state.sent ≡ sent_by self.new.state.machine self.old.state.sent p.now) × (self.new.state.past ≡ past_of self.new.state.machine.ended self.new.state.machine.saw p.now self.old.state.past) }
         ensures stopped { self.old.state.machine.stage ≡ Stopped → (result ≡ Err (StoppedSend (why_of self.old.state.machine))) × (self.new ≡ self.old) }
@@ -283,8 +298,8 @@ impl<S: Seatlike> End<S> {
         self.parts.core.peer_mark_answered()
     }
 
-    // Takes the first waiting packet into the list of those that were got.
-    pub(crate) fn take_in(&mut self) -> Result<(), TakeRefusal>
+    /// Takes the first waiting packet into the list of those that were got: as `take`, but that it lends no words.
+    pub fn take_in(&mut self) -> Result<(), TakeRefusal>
         requires awake { self.old.state.machine.asleep ≡ false }
         requires unmarked { self.old.state.machine.marked ≡ false }
         requires room { (0 < self.old.spare_got.packets) × (self.old.state.machine.cells ≤ self.old.spare_got.words) }

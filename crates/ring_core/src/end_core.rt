@@ -18,7 +18,9 @@ use crate::ring::{free_in, used_in};
 /// One end as a pure machine. The command under way names its next step, is fed what the step gave, and so on until it ends.
 #[derive(Clone, Copy)]
 pub struct EndCore {
+    /// The end as plain data.
     pub machine: Machine,
+    /// Its indices and lengths lie in their ranges, and its stage and flags fit each other.
     pub ghost sound: { IsSound machine },
 }
 
@@ -307,6 +309,7 @@ impl EndCore {
         }
     }
 
+    // A send loads read next.
     #[inline(always)]
     pub(crate) fn is_asking(&self) -> bool
         ensures { result ≡ is_asking_at self.now.machine.stage }
@@ -317,6 +320,7 @@ impl EndCore {
         }
     }
 
+    // A take loads write next.
     #[inline(always)]
     pub(crate) fn is_seeking(&self) -> bool
         ensures { result ≡ is_seeking_at self.now.machine.stage }
@@ -327,6 +331,7 @@ impl EndCore {
         }
     }
 
+    // A commit stores read next.
     #[inline(always)]
     pub(crate) fn is_giving(&self) -> bool
         ensures { result ≡ is_giving_at self.now.machine.stage }
@@ -337,6 +342,7 @@ impl EndCore {
         }
     }
 
+    // A commit loads feature next.
     #[inline(always)]
     pub(crate) fn is_feature(&self) -> bool
         ensures { result ≡ is_feature_at self.now.machine.stage }
@@ -347,6 +353,7 @@ impl EndCore {
         }
     }
 
+    // A commit loads pending next.
     #[inline(always)]
     pub(crate) fn is_pending(&self) -> bool
         ensures { result ≡ is_pending_at self.now.machine.stage }
@@ -357,6 +364,7 @@ impl EndCore {
         }
     }
 
+    // A take loads the first cell of a packet next.
     #[inline(always)]
     pub(crate) fn is_first(&self) -> bool
         ensures { result ≡ is_first_at self.now.machine.stage }
@@ -367,6 +375,7 @@ impl EndCore {
         }
     }
 
+    // A take loads a further cell next.
     #[inline(always)]
     pub(crate) fn is_loading(&self) -> bool
         ensures { result ≡ is_loading_at self.now.machine.stage }
@@ -377,6 +386,7 @@ impl EndCore {
         }
     }
 
+    // A send stores a cell next.
     #[inline(always)]
     pub(crate) fn is_storing(&self) -> bool
         ensures { result ≡ is_storing_at self.now.machine.stage }
@@ -387,6 +397,7 @@ impl EndCore {
         }
     }
 
+    // A send stores write next.
     #[inline(always)]
     pub(crate) fn is_writing(&self) -> bool
         ensures { result ≡ is_writing_at self.now.machine.stage }
@@ -397,6 +408,7 @@ impl EndCore {
         }
     }
 
+    // A send loads mask next.
     #[inline(always)]
     pub(crate) fn is_masking(&self) -> bool
         ensures { result ≡ is_masking_at self.now.machine.stage }
@@ -421,6 +433,7 @@ impl EndCore {
         }
     }
 
+    // What a send that ended so answers: it was sent, or refused for want of room or by a read index in no form.
     #[inline(always)]
     pub(crate) fn send_answered(&self) -> Result<Signalled, SendRefusal>
         ensures { result ≡ send_answer self.now.machine.ended self.now.machine }
@@ -438,6 +451,7 @@ impl EndCore {
         }
     }
 
+    // What a take that ended so answers: it took a packet, found none, or refused what it loaded.
     #[inline(always)]
     pub(crate) fn take_answered(&self) -> Result<(), TakeRefusal>
         ensures { refused result ≡ cond (is_took self.now.machine.ended) None (Some (take_refusal self.now.machine.ended self.now.machine)) }
@@ -451,6 +465,7 @@ impl EndCore {
         }
     }
 
+    // What a commit that ended so answers.
     #[inline(always)]
     pub(crate) fn commit_answered(&self) -> Signalled
         ensures { result ≡ commit_answer self.now.machine.ended }
@@ -461,6 +476,7 @@ impl EndCore {
         }
     }
 
+    // What an arm answers: the end is asleep, or a look found something.
     #[inline(always)]
     pub(crate) fn arm_answered(&self) -> Armed
         ensures { is_asleep result ≡ self.now.machine.asleep }
@@ -472,6 +488,7 @@ impl EndCore {
         }
     }
 
+    // What a look for the peer's mark answers.
     #[inline(always)]
     pub(crate) fn peer_mark_answered(&self) -> bool
         ensures { result ≡ peer_mark_answer self.now.machine.ended }

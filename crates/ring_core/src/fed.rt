@@ -12,6 +12,7 @@ use crate::ring::{
     used_in,
 };
 
+// The call ended so.
 #[inline(always)]
 fn ended(m: Machine, how: Ending) -> Machine
     ensures { result ≡ ends m how }
@@ -24,6 +25,7 @@ fn ended(m: Machine, how: Ending) -> Machine
     }
 }
 
+// The end refuses the value that it loaded, and makes no step any more.
 #[inline(always)]
 fn stopped(m: Machine, how: Ending, value: u32) -> Machine
     ensures { result ≡ breaks m how value }
@@ -37,6 +39,7 @@ fn stopped(m: Machine, how: Ending, value: u32) -> Machine
     }
 }
 
+// The call goes on with this step.
 #[inline(always)]
 fn at(m: Machine, stage: Stage) -> Machine
     ensures { result ≡ record m { stage = stage } }
@@ -80,6 +83,7 @@ fn fed_send_read(m: Machine, v: u64) -> Machine
     }
 }
 
+// After the packet's cells comes its trailer, and then the store of write.
 #[inline(always)]
 fn fed_send_cell(m: Machine, _v: u64) -> Machine
     requires { IsSound m }
@@ -92,6 +96,7 @@ fn fed_send_cell(m: Machine, _v: u64) -> Machine
     }
 }
 
+// The packet is sent: the private write index goes on past its trailer.
 #[inline(always)]
 fn fed_send_write(m: Machine, _v: u64) -> Machine
     requires { IsSound m }
@@ -105,6 +110,7 @@ fn fed_send_write(m: Machine, _v: u64) -> Machine
     }
 }
 
+// A peer whose mask isn't 0 asks for no signal.
 #[inline(always)]
 fn fed_send_mask(m: Machine, v: u64) -> Machine
     ensures { result ≡ fed_at SendMask m v }
@@ -116,6 +122,7 @@ fn fed_send_mask(m: Machine, v: u64) -> Machine
     }
 }
 
+// The peer is signalled only where it had read all that was sent before, so that its read index is the old write index.
 #[inline(always)]
 fn fed_send_look(m: Machine, v: u64) -> Machine
     requires { IsSound m }
@@ -128,6 +135,7 @@ fn fed_send_look(m: Machine, v: u64) -> Machine
     }
 }
 
+// The write index must be in form. Where it is the private read index there is no packet.
 #[inline(always)]
 fn fed_take_write(m: Machine, v: u64) -> Machine
     ensures { result ≡ fed_at TakeWrite m v }
@@ -180,6 +188,7 @@ fn fed_take_first(m: Machine, v: u64) -> Machine
     }
 }
 
+// Each cell of the packet once; after the last one the private read index goes on past the trailer.
 #[inline(always)]
 fn fed_take_cell(m: Machine, _v: u64) -> Machine
     requires { IsSound m }
@@ -194,6 +203,7 @@ fn fed_take_cell(m: Machine, _v: u64) -> Machine
     }
 }
 
+// The cells are given back. The index that was committed before is kept for the test of room.
 #[inline(always)]
 fn fed_commit_read(m: Machine, _v: u64) -> Machine
     ensures { result ≡ fed_at CommitRead m _v }
@@ -206,6 +216,7 @@ fn fed_commit_read(m: Machine, _v: u64) -> Machine
     }
 }
 
+// A producer that doesn't set bit 0 of feature never waits for room.
 #[inline(always)]
 fn fed_commit_feature(m: Machine, v: u64) -> Machine
     ensures { result ≡ fed_at CommitFeature m v }
@@ -217,6 +228,7 @@ fn fed_commit_feature(m: Machine, v: u64) -> Machine
     }
 }
 
+// A producer that waits for no room stores pending 0.
 #[inline(always)]
 fn fed_commit_pending(m: Machine, v: u64) -> Machine
     ensures { result ≡ fed_at CommitPending m v }
@@ -232,6 +244,7 @@ fn fed_commit_pending(m: Machine, v: u64) -> Machine
     }
 }
 
+// The signal is owed where this commit made the room that the producer waits for. A write index in no form owes none.
 #[inline(always)]
 fn commit_raises(m: Machine, v: u64) -> bool
     requires { IsSound m }
@@ -240,6 +253,7 @@ fn commit_raises(m: Machine, v: u64) -> bool
     names_cell(m.cells, v) && raise_with(8 * m.cells, low_half(v), 8 * m.old, 8 * m.read, m.value)
 }
 
+// The last look of a commit: it raises the producer, or ends.
 #[inline(always)]
 fn fed_commit_write(m: Machine, v: u64) -> Machine
     requires { IsSound m }
@@ -252,6 +266,7 @@ fn fed_commit_write(m: Machine, v: u64) -> Machine
     }
 }
 
+// From here on the peer's sends signal.
 #[inline(always)]
 fn fed_arm_mask(m: Machine) -> Machine
     ensures { result ≡ fed_at ArmMask m 0 }
@@ -263,6 +278,7 @@ fn fed_arm_mask(m: Machine) -> Machine
     }
 }
 
+// A write index that isn't the private read index means packets. Room is looked at only where it is wanted.
 #[inline(always)]
 fn fed_arm_write(m: Machine, v: u64) -> Machine
     requires { IsSound m }
@@ -278,6 +294,7 @@ fn fed_arm_write(m: Machine, v: u64) -> Machine
     }
 }
 
+// A read index in no form counts as room: the next send decides on it.
 #[inline(always)]
 fn has_room(m: Machine, v: u64) -> bool
     requires { IsSound m }
@@ -286,6 +303,7 @@ fn has_room(m: Machine, v: u64) -> bool
     !names_cell(m.cells, v) || m.want < 8 * free_in(m.cells, named_cell(v), m.write)
 }
 
+// More room than is wanted means work.
 #[inline(always)]
 fn fed_arm_read(m: Machine, v: u64) -> Machine
     requires { IsSound m }
@@ -298,6 +316,7 @@ fn fed_arm_read(m: Machine, v: u64) -> Machine
     }
 }
 
+// The last look: the peer's mark means work, and nothing found means sleep.
 #[inline(always)]
 fn fed_arm_mark(m: Machine, v: u64) -> Machine
     ensures { result ≡ fed_at ArmMark m v }
@@ -316,6 +335,7 @@ fn fed_arm_mark(m: Machine, v: u64) -> Machine
     }
 }
 
+// Work was found: mask is 1 again, and pending is put back where it was stored.
 #[inline(always)]
 fn fed_arm_undo_mask(m: Machine) -> Machine
     ensures { result ≡ fed_at ArmUndoMask m 0 }
@@ -333,6 +353,7 @@ fn fed_arm_undo_mask(m: Machine) -> Machine
     }
 }
 
+// The call ended so, and no room is wanted any more.
 #[inline(always)]
 fn unwanted(m: Machine, how: Ending) -> Machine
     ensures { result ≡ record (ends m how) { want = 0 } }
@@ -343,6 +364,7 @@ fn unwanted(m: Machine, how: Ending) -> Machine
     }
 }
 
+// A signal that was down leaves the end asleep. One that was up wakes it.
 #[inline(always)]
 fn fed_poll_signal(m: Machine, v: u64) -> Machine
     ensures { result ≡ fed_at PollSignal m v }
@@ -357,6 +379,7 @@ fn fed_poll_signal(m: Machine, v: u64) -> Machine
     }
 }
 
+// Mask is 1 again, and pending is put back where it was stored.
 #[inline(always)]
 fn fed_poll_mask(m: Machine) -> Machine
     ensures { result ≡ fed_at PollMask m 0 }
@@ -374,6 +397,7 @@ fn fed_poll_mask(m: Machine) -> Machine
     }
 }
 
+// The end sends nothing more.
 #[inline(always)]
 fn fed_mark_raise(m: Machine) -> Machine
     ensures { result ≡ fed_at MarkRaise m 0 }
@@ -384,6 +408,7 @@ fn fed_mark_raise(m: Machine) -> Machine
     }
 }
 
+// A mark that was seen is remembered.
 #[inline(always)]
 fn fed_peer_mark(m: Machine, v: u64) -> Machine
     ensures { result ≡ fed_at PeerMark m v }

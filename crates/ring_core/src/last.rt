@@ -3,7 +3,9 @@
 /// Whether a call raised the peer's signal.
 #[derive(Clone, Copy, Debug, PartialEq, Eq)]
 pub enum Signalled {
+    /// The signal was raised.
     Raised,
+    /// It wasn't.
     Quiet,
 }
 
@@ -39,19 +41,24 @@ pub enum Why {
 /// Whether an end can make calls.
 #[derive(Clone, Copy, Debug, PartialEq, Eq)]
 pub enum Mode {
+    /// It can begin a call.
     Awake,
     /// Asleep, or in the call that wakes it.
     Asleep,
     /// It said that it sends nothing more.
     Marked,
+    /// It refused what it loaded, and makes no step any more.
     Stopped { why: Why },
 }
 
 /// The private indices of an end in bytes, and the read index that it last committed.
 #[derive(Clone, Copy, Debug, PartialEq, Eq)]
 pub struct Indices {
+    /// The write index of the ring that it fills.
     pub write: u32,
+    /// The read index of the ring that it empties.
     pub read: u32,
+    /// The read index that it last committed.
     pub start: u32,
 }
 

@@ -1,14 +1,21 @@
 //! Laws of ends: each function does nothing, and its contract is a law.
 ghost use Rattle.std.specs.Prelude.{◌≡◌, ℕ, ◌*◌, ◌<◌};
-ghost use Rattle.ring_core.specs.Inside.{IsInside};
+ghost use Rattle.ring_core.specs.Inside.{IsInside, ChangesOnly};
 ghost use Rattle.ring_core.specs.Places.{free, used, ahead};
-ghost use Rattle.ring_core.specs.Steps.{next_of};
+ghost use Rattle.ring_core.specs.Steps.{next_of, call_at};
 
 use crate::end_core::EndCore;
 
 /// No step of an end names a place outside its channel.
 pub fn stays_inside(_core: &EndCore, _packet: &[u64])
     ensures { IsInside _core.now.machine.cells (next_of _core.now.machine _packet.now) }
+{}
+
+/// A send stores only to the cells and the write word of the ring that its end fills, a commit to the read word of the ring that it empties, an arm and
+/// a poll to the mask of the latter and the pending word of the former, and a mark to the end's own mark. A send, a commit and a mark raise the
+/// peer, and a poll takes the end's own signal. A take, and a look for the peer's mark, change no word.
+pub fn stores_by_call(_core: &EndCore, _packet: &[u64])
+    ensures { ChangesOnly (call_at _core.now.machine.stage) _core.now.machine.side (next_of _core.now.machine _packet.now) }
 {}
 
 /// Room, use and steps round a ring count bytes as they count cells.

@@ -86,7 +86,9 @@ pub struct Machine {
     pub want: u32,
     /// Whose end it is.
     pub side: Side,
+    /// The next step.
     pub stage: Stage,
+    /// How the last call ended.
     pub ended: Ending,
     /// The mask that was last stored isn't 0.
     pub masked: bool,

@@ -25,6 +25,7 @@ fn store_cell(m: Machine, packet: &[u64]) -> Op
     Op::Store(Place::Cell(outgoing(m.side), 8 * k), v)
 }
 
+// The write index past the packet and its trailer.
 #[inline(always)]
 fn store_write(m: Machine, packet: &[u64]) -> Op
     requires { IsSound m }
@@ -34,6 +35,7 @@ fn store_write(m: Machine, packet: &[u64]) -> Op
     Op::Store(Place::Write(outgoing(m.side)), 8 * k as u64)
 }
 
+// The next cell of the packet that is taken.
 #[inline(always)]
 fn load_cell(m: Machine, packet: &[u64]) -> Op
     requires { IsSound m }

@@ -6,6 +6,7 @@ use crate::room::Room;
 use std::alloc::{AllocError, Global};
 use std::marker::Model;
 
+// Adds a packet's words at the end, into room that is reserved.
 #[inline(always)]
 fn append(words: &mut Vec<u64>, packet: &[u64])
     requires { vec_len words.old + length packet.now ≤ vec_capacity words.old }
@@ -17,6 +18,7 @@ fn append(words: &mut Vec<u64>, packet: &[u64])
     };
 }
 
+// Where packet i begins: at the end of the one before it.
 fn first(ends: &[usize], i: usize) -> usize
     requires { i ≤ length ends.now }
     ensures { result ≡ start 0 ends.now i }
@@ -24,6 +26,7 @@ fn first(ends: &[usize], i: usize) -> usize
     if i == 0 { 0 } else { ends[i - 1] }
 }
 
+// Where packet i begins and ends.
 fn range_at(ends: &[usize], i: usize, last: usize) -> (usize, usize)
     requires rises { Rises 0 ends.now last }
     requires there { i < length ends.now }
@@ -34,6 +37,7 @@ fn range_at(ends: &[usize], i: usize, last: usize) -> (usize, usize)
     (first(ends, i), ends[i])
 }
 
+// The words of packet i.
 fn part<'a>(words: &'a [u64], ends: &[usize], i: usize) -> &'a [u64]
     requires rises { Rises 0 ends.now (length words.now) }
     requires there { i < length ends.now }

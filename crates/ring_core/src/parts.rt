@@ -30,6 +30,7 @@ pub(crate) struct Parts<S> {
     pub(crate) ghost wide: { length buf.items ≡ core.machine.cells },
 }
 
+// Copies a word into the buffer where the step loaded one of a packet.
 #[inline(always)]
 fn store_where(copies: bool, buf: &mut Vec<u64>, i: usize, v: u64)
     requires { i < length buf.old.items }
@@ -41,6 +42,7 @@ fn store_where(copies: bool, buf: &mut Vec<u64>, i: usize, v: u64)
     }
 }
 
+// The first words of the buffer.
 #[inline(always)]
 fn front(buf: &Vec<u64>, n: usize) -> &[u64]
     requires { n ≤ length buf.now.items }

@@ -5,10 +5,16 @@ use std::collections::LinkedList;
 
 /// The machine, the packet that is being sent, the words copied so far, and what the end sent, got and did.
 pub struct EndState {
+    /// Its indices, its flags, and the call under way.
     pub machine: Machine,
+    /// The packet that is being sent.
     pub packet: LinkedList<u64>,
+    /// The words copied so far by the take under way.
     pub copied: LinkedList<u64>,
+    /// The packets that it sent, in order.
     pub sent: LinkedList<LinkedList<u64>>,
+    /// The packets that it got, in order.
     pub got: LinkedList<LinkedList<u64>>,
+    /// What it did, the last event first.
     pub past: LinkedList<Event<LinkedList<u64>>>,
 }

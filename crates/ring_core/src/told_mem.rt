@@ -14,8 +14,11 @@ use std::marker::Model;
 /// A change of one word, due just before the named step, counted from 1.
 #[derive(Clone, Copy)]
 pub struct Change {
+    /// The step before which it is made.
     pub step: u64,
+    /// The word that changes.
     pub place: Place,
+    /// Its new value.
     pub value: u64,
 }
 
@@ -53,8 +56,8 @@ fn make_changes(
     at
 }
 
-// The words of a new channel.
-pub(crate) fn opening_words(alloc: Global, cells: u32) -> Result<Vec<u64>, AllocError>
+/// The words of a new channel whose rings have `cells` cells: all are 0, but that mask and feature are 1 in both rings.
+pub fn opening_words(alloc: Global, cells: u32) -> Result<Vec<u64>, AllocError>
     ensures { IfOk result (λ ws. ws.items ≡ opening cells) }
 {
     let mut words = Vec::from_elem(alloc, 0, cells as usize + cells as usize + 14)?;

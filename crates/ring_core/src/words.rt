@@ -5,6 +5,7 @@ ghost use Rattle.ring_core.specs.Told.{written, answer_in};
 use crate::place::Op;
 use crate::ring::{mark_index, place_index, signal_index};
 
+// Changes a word. Past the end nothing is changed.
 #[inline(always)]
 pub(crate) fn put_at(words: &mut Vec<u64>, i: usize, v: u64)
     ensures items { words.new.items ≡ slice_set words.old.items i v }
@@ -15,6 +16,7 @@ pub(crate) fn put_at(words: &mut Vec<u64>, i: usize, v: u64)
     }
 }
 
+// A word, or 0 past the end.
 #[inline(always)]
 pub(crate) fn look_at(words: &Vec<u64>, i: usize) -> u64
     ensures { result ≡ slice_index words.now.items i }

@@ -1,5 +1,5 @@
 -- What a send and a take of a pair leave beside the lists that they grow.
-use Rattle.std.proofs.Common.{◌≡◌, ◌≤◌, ◌+◌, ℕ, false, refl, sym, ap, ◌∙◌, subst, arith, Option, Some, None}
+use Rattle.std.proofs.Common.{◌≡◌, sym, ap, ◌∙◌, subst, arith, Option}
 use Rattle.io_edge.specs.declared.side.Side.{Side}
 use Rattle.io_edge.specs.declared.side.Side.TheVariants.{Guest, Host}
 use Rattle.ring_core.specs.declared.last.TakeRefusal.{TakeRefusal}
@@ -21,7 +21,7 @@ module _ (s : SoloPair) (x : Side) (old new : Seen Held) (is : old ≡ end_of (h
   before : old.state ≡ (end_of s x).state
   before = ap (λ (o : Seen Held). o.state) is ∙ handed_state s x
 
-  idle : IsPair s → old.state.machine.stage ≡ Idle
+  pub idle : IsPair s → old.state.machine.stage ≡ Idle
   idle ok = ap (λ (e : EndState). e.machine.stage) before ∙ idle_in s x ok
 
   pub send_keeps : IsPair s → (old.state.machine.stage ≡ Idle → LeavesBy 1 old.state.machine new.state.machine) → SendKeeps (end_of s x) (end_of (with_end (handed s x) x new) x)

@@ -14,3 +14,6 @@ pub mod Pairing
 pub mod Settling
 pub mod Opening
 pub mod Leaving
+pub mod Knowing
+pub mod Raising
+pub mod Signalling

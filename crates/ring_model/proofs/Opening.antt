@@ -19,7 +19,7 @@ use Rattle.ring_model.proofs.Turns.{small_mod}
 use Rattle.ring_model.proofs.Pairing.{pair_by}
 
 -- the words that the opening leaves 0
-still : (n i : ℕ) → i < words_of n → i ≢ 2 → i ≢ 4 → i ≢ n + 5 + 2 → i ≢ n + 5 + 4 → get_or (opening n) i 0 ≡ 0
+pub still : (n i : ℕ) → i < words_of n → i ≢ 2 → i ≢ 4 → i ≢ n + 5 + 2 → i ≢ n + 5 + 4 → get_or (opening n) i 0 ≡ 0
 still n i h a b c d =
     get_or-set_other _ 4 i 1 0 b ∙ (get_or-set_other _ 2 i 1 0 a ∙ (get_or-set_other _ (n + 5 + 4) i 1 0 d ∙ (get_or-set_other _ (n + 5 + 2) i 1 0 c ∙ get_or-replicate (words_of n) i 0 0 h)))
 
@@ -31,7 +31,7 @@ mark_down : (n : ℕ) (x : Side) → get_or (opening n) (mark_of n x) 0 ≡ 0
 mark_down n Guest = still n (n + n + 12) (omega arith) (λ e. omega arith) (λ e. omega arith) (λ e. omega arith) (λ e. omega arith)
 mark_down n Host = still n (n + n + 13) (omega arith) (λ e. omega arith) (λ e. omega arith) (λ e. omega arith) (λ e. omega arith)
 
-opening_length : (n : ℕ) → length (opening n) ≡ words_of n
+pub opening_length : (n : ℕ) → length (opening n) ≡ words_of n
 opening_length n = length-set _ 4 1 ∙ (length-set _ 2 1 ∙ (length-set _ (n + 5 + 4) 1 ∙ (length-set _ (n + 5 + 2) 1 ∙ length-replicate (words_of n) 0)))
 
 new_sound : (n : ℕ) (x : Side) → 512 ≤ n → n ≤ 8192 → IsSound (machine_new x n)

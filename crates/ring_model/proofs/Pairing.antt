@@ -40,7 +40,7 @@ begins_sound e m q s b =
     (λ (c : BeginsPeerMark e m q). subst IsSound (sym c.0) (peer_mark_sound e.machine s c.2.idle c.2.awake c.2.unmarked))))))) b.1
 
 -- the ends of a pair once the memory is at the side x
-seat_at : (s : SoloPair) (a x : Side) → (end_of (handed_from a x s) x).seat ≡ (end_of s a).seat
+pub seat_at : (s : SoloPair) (a x : Side) → (end_of (handed_from a x s) x).seat ≡ (end_of s a).seat
 seat_at s Guest Guest = refl
 seat_at s Guest Host = refl
 seat_at s Host Guest = refl
@@ -260,6 +260,7 @@ pub record Sends (old new : Seen Held) (q : List ℕ) (result : Result Signalled
 pub record SendLeaves (s : SoloPair) (x : Side) (q : List ℕ) (new : Seen Held) (result : Result Signalled SendRefusal) : Type 0 where
   pub pair : IsPair (with_end (handed s x) x new)
   pub meets : SendMeets result q (end_of s x).state new.state (end_of s (peer_of x)).state
+  pub idle : new.state.machine.stage ≡ Idle
 
 pub send_on : (s : SoloPair) (x : Side) (q : List ℕ) (new : Seen Held) (result : Result Signalled SendRefusal) → IsPair s → (old : Seen Held) → old ≡ end_of (handed s x) x
     → ((end_of s x).state.machine.asleep ≡ false) × ((end_of s x).state.machine.marked ≡ false) → IsPacket q → length q + 1 < (end_of s x).state.machine.cells → Sends old new q result → SendLeaves s x q new result
@@ -276,6 +277,7 @@ send_on s x q new result ok old is awake packet fits sends = subst (λ (o : Seen
         let m = send_meets (cells_of s) x _ _ q e (end_at (peer_of x) s.guest.state s.host.state) new.state c.before c.goes c.idle (f.answer rests.idle).1 ((f.after rests.idle).whole c.idle) (f.sent rests.idle) in
         record {
           pair = c.pair;
+          idle = c.idle;
           meets = subst (λ (k : EndState × EndState × Result Signalled SendRefusal). SendMeets k.2 q k.0 new.state k.1) (λ j. (sym same j, sym (other_state s x) j, sym (f.answer rests.idle).0 j)) m;
         }
 

@@ -3,3 +3,4 @@ pub mod Spelled
 pub mod Results
 pub mod Lists
 pub mod Pair
+pub mod Signals

@@ -1,10 +1,13 @@
 -- Both ends of a channel over one memory, which one of them has at each moment.
-use Rattle.std.specs.Prelude.{◌≡◌, ℕ, [], ◌≤◌, ◌+◌, false}
+use Rattle.std.specs.Prelude.{◌≡◌, ℕ, List, [], ◌≤◌, ◌+◌, false, Some, None}
 use Rattle.std.specs.Borrow.{Lends, MutBor, Fml}
 use Rattle.io_edge.specs.declared.side.Side.{Side}
 use Rattle.io_edge.specs.declared.side.Side.TheVariants.{Guest, Host}
 use Rattle.ring_core.specs.declared.seat.Seatlike.{Ghosts}
-use Rattle.ring_core.specs.Told.{Memory, Held}
+use Rattle.ring_core.specs.declared.machine.Machine.{Machine}
+use Rattle.ring_core.specs.Endings.{Leaves}
+use Rattle.ring_core.specs.States.{entered, Begins}
+use Rattle.ring_core.specs.Told.{Memory, Held, Ran}
 use Rattle.ring_core.specs.Seen.{Seen}
 use Rattle.ring_core.specs.contracts.end.End.{the_row as end_row}
 use Rattle.ring_core.specs.contracts.solo_mem.SoloMem.{the_row as memory_row}
@@ -59,6 +62,12 @@ cells_of s = s.guest.state.machine.cells
 pub record IsPair (s : SoloPair) : Type 0 where
   pub alone : (memory_of s).due ≡ []
   pub rest : AtRest (cells_of s) (memory_of s).words s.guest.state s.host.state
+
+-- The end at this side has the channel's memory, begins a call, and runs on that memory to the call's end: that leaves a pair again
+abbrev pub KeepsPair : SoloPair → Side → Type 0
+KeepsPair s x = (m : Machine) (q : List ℕ) (new : Seen Held) → Begins (end_of (handed s x) x).state m q
+    → Ran (entered (end_of (handed s x) x).state m q) new.state None None (Some (end_of (handed s x) x).seat.memory) (Some new.seat.memory)
+    → Leaves (end_of (handed s x) x).state.machine new.state.machine → IsPair (with_end (handed s x) x new)
 
 -- what a send leaves of its end beside the sent list: the indices of its incoming ring
 pub record SendKeeps (old new : Seen Held) : Type 0 where

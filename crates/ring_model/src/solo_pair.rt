@@ -21,6 +21,8 @@ pub struct SoloPair {
 impl SoloPair {
     ghost use Rattle.ring_model.specs.Pair.{LendsSide, LendsEnd, IsPair, Stays, SendKeeps, TakeKeeps, end_of, handed};
     ghost use Rattle.ring_model.specs.Results.{SendMeets, TakeRefused, waiting_for};
+    ghost use Rattle.ring_model.specs.Pair.{cells_of, memory_of};
+    ghost use Rattle.ring_model.specs.Signals.{send_raises, commit_raises, signalled, words_committed};
     ghost use Rattle.ring_model.specs.contracts.solo_pair.SoloPair.{the_row};
     ghost use mathlib.Core.Option.{none};
     ghost use denote.Follow.{follows_so};
@@ -72,6 +74,7 @@ impl SoloPair {
         }
     }
 
+    // The end of this side, lent where it stands.
     fn lend(&mut self, side: Side) -> &mut End<SoloMem>
         ensures* writes_back { sem 𝓛 (LendsSide ⟦<SoloMem as Seatlike>⟧ self.entry side result) }
         ensures value { result.now ≡ end_of self.old side }
@@ -94,8 +97,9 @@ impl SoloPair {
         self.on(side).reserve(sent, got)
     }
 
-    /// Sends a packet that fits from this side, and says whether that raised the peer's signal. Full comes exactly where the ring has no more room
-    /// than the packet needs with its trailer, and changes nothing. No other refusal comes.
+    /// Sends a packet that fits from this side, and says whether that raised the peer's signal: exactly where the peer's mask is 0 and it had given
+    /// back all that was sent before. Full comes exactly where the ring has no more room than the packet needs with its trailer, and changes
+    /// nothing. No other refusal comes.
     pub fn send(&mut self, side: Side, p: &[u64]) -> Result<Signalled, SendRefusal>
         requires pair { IsPair self.old }
         requires awake { ((end_of self.old side).state.machine.asleep ≡ false) × ((end_of self.old side).state.machine.marked ≡ false) }
@@ -104,6 +108,7 @@ impl SoloPair {
         requires room { (0 < (end_of self.old side).spare_sent.packets) × (length p.now ≤ (end_of self.old side).spare_sent.words) }
         ensures pair { IsPair self.new }
         ensures sent { SendMeets result p.now (end_of self.old side).state (end_of self.new side).state (end_of self.old (peer_of side)).state }
+        ensures signalled { IfOk result (λ s. s ≡ signalled (send_raises (cells_of self.old) (memory_of self.old).words side (end_of self.old side).state.machine.write)) }
         ensures indices { SendKeeps (end_of self.old side) (end_of self.new side) }
         ensures got { ((end_of self.new side).state.got ≡ (end_of self.old side).state.got) × ((end_of self.new side).spare_got ≡ (end_of self.old side).spare_got) }
         ensures awake { ((end_of self.new side).state.machine.asleep ≡ false) × ((end_of self.new side).state.machine.marked ≡ false) }
@@ -113,11 +118,15 @@ impl SoloPair {
         self.on(side).send(p)
     }
 
-    /// Gives back the cells of all packets that this side took, and says whether that raised the signal of a peer that waits for room.
+    /// Gives back the cells of all packets that this side took, and says whether that raised the signal of a peer that waits for room: exactly where
+    /// feature's bit 0 is set, pending isn't 0, and the free bytes were at most pending before and are more than that now. It stores the read word,
+    /// and the signal where it raised it.
     pub fn commit(&mut self, side: Side) -> Signalled
         requires pair { IsPair self.old }
         requires awake { ((end_of self.old side).state.machine.asleep ≡ false) × ((end_of self.old side).state.machine.marked ≡ false) }
         ensures pair { IsPair self.new }
+        ensures signalled { result ≡ signalled (commit_raises (cells_of self.old) (memory_of self.old).words side (end_of self.old side).state.machine.start (end_of self.old side).state.machine.read) }
+        ensures words { (memory_of self.new).words ≡ words_committed (cells_of self.old) (memory_of self.old).words side (end_of self.old side).state.machine.read (commit_raises (cells_of self.old) (memory_of self.old).words side (end_of self.old side).state.machine.start (end_of self.old side).state.machine.read) }
         ensures committed { (end_of self.new side).state.machine.start ≡ (end_of self.old side).state.machine.read }
         ensures kept { Kept (end_of self.old side) (end_of self.new side) }
         ensures awake { ((end_of self.new side).state.machine.asleep ≡ false) × ((end_of self.new side).state.machine.marked ≡ false) }
