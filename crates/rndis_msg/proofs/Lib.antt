@@ -1,0 +1,4 @@
+pub mod FaultLaws
+pub mod PartLaws
+pub mod ReadLaws
+pub mod WriteLaws

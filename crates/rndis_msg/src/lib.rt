@@ -1,0 +1,25 @@
+//! Remote NDIS: the messages of a network device, and their bytes.
+//!
+//! Source: the Remote NDIS specification, and `include/linux/rndis.h` of Linux 6.12. `specs/Grammar.antt` says
+//! which bytes a message has, `specs/Faults.antt` which bytes are none and why.
+#![tactic(auto)]
+
+mod fault;
+mod field_name;
+mod laws;
+mod message_type;
+mod read;
+mod rndis;
+mod small;
+mod tables;
+#[cfg(test)]
+mod tests;
+mod write;
+
+pub use fault::RndisFault;
+pub use field_name::FieldName;
+pub use laws::encode_and_decode;
+pub use read::decode;
+pub use rndis::Rndis;
+pub use small::Small;
+pub use write::encode;
