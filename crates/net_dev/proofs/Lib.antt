@@ -1,0 +1,2 @@
+pub mod NvspLaws
+pub mod ObjectLaws

@@ -1,0 +1,4 @@
+pub mod Nvsp
+pub mod NvspReading
+pub mod Objects
+pub mod Station
