@@ -1,0 +1,12 @@
+pub mod Waits
+pub mod PointLaws
+pub mod WordLaws
+pub mod WakeTables
+pub mod OwnWakes
+pub mod PeerWakes
+pub mod Wakes
+pub mod Sided
+pub mod Allowed
+pub mod Sharing
+pub mod SleepLaws
+pub mod Reading

@@ -1,0 +1,140 @@
+-- Each step of an end keeps what its own looks have found.
+use Rattle.std.proofs.Common.{◌≡◌, ◌≢◌, ◌⊎◌, ℕ, ◌*◌, ◌≤◌, Bool, true, false, ◌||◌, not, cond, ltb, eqb, refl, sym, ap, ◌∙◌, subst, arith, inl, inr}
+use Rattle.std.proofs.lemmas.Bool.Decides.{nat_tests}
+use Rattle.ring_core.specs.declared.machine.Stage.{Stage}
+use Rattle.ring_core.specs.declared.machine.Stage.TheVariants.{Idle, Stopped, SendRead, SendCell, SendWrite, SendMask, SendLook, SendRaise, TakeWrite, TakeFirst, TakeCell, CommitRead, CommitFeature, CommitPending, CommitWrite, CommitRaise, ArmPending, ArmMask, ArmWrite, ArmRead, ArmMark, ArmUndoMask, ArmUndoPending, PollSignal, PollMask, PollPending, MarkStore, MarkRaise, PeerMark}
+use Rattle.ring_core.specs.declared.machine.Ending.TheVariants.{NoSignal}
+use Rattle.ring_core.specs.declared.machine.Machine.{Machine}
+use Rattle.ring_core.specs.Places.{low, is_index, cell_of, free}
+use Rattle.ring_core.specs.Steps.{IsSound, fed, fed_at, finds_room, sleeps_at}
+use Rattle.ring_core.proofs.Sound.{at_cond}
+use Rattle.ring_model.specs.Ring.{is_marking_at}
+use Rattle.ring_model.proofs.Turns.{low_is, cell_here}
+use Rattle.ring_seat.specs.Points.{AtPoint, pending_of}
+use Rattle.ring_seat.specs.Waking.{packets_looked_at, packets_looked, room_looked_at, room_looked, IsSendingFrom, IsGivingBack}
+use Rattle.ring_seat.proofs.Waits.{signal_after}
+use Rattle.ring_seat.proofs.WakeTables.{Shut, is_shut_at, shut_by}
+
+-- What an end's looks have found, by the machines of both ends and the end's signal
+pub record Waking (sig : ℕ) (m k : Machine) : Type 0 where
+  pub packets : packets_looked m ≡ true → (k.write ≡ m.read) ⊎ ((sig ≢ 0) ⊎ IsSendingFrom k m.read)
+  pub room : room_looked m ≡ true → m.want ≢ 0 → (8 * free m.cells k.start m.write ≤ m.want) ⊎ ((sig ≢ 0) ⊎ IsGivingBack k m.cells m.write m.want)
+  pub mark : m.asleep ≡ true → ((k.marked || is_marking_at k.stage) ≡ false) ⊎ ((sig ≢ 0) ⊎ (k.stage ≡ MarkRaise))
+
+-- what a step loads, by the machines of both ends and the end's signal
+abbrev pub KnownBy : Stage → ℕ → Machine → ℕ → Type 0
+KnownBy SendMask sig k v = v ≡ cond k.masked 1 0
+KnownBy SendLook sig k v = v ≡ 8 * k.start
+KnownBy CommitFeature sig k v = v ≡ 1
+KnownBy CommitPending sig k v = v ≡ pending_of k
+KnownBy CommitWrite sig k v = v ≡ 8 * k.write
+KnownBy ArmWrite sig k v = v ≡ 8 * k.write
+KnownBy ArmRead sig k v = v ≡ 8 * k.start
+KnownBy ArmMark sig k v = v ≡ cond (k.marked || is_marking_at k.stage) 1 0
+KnownBy PollSignal sig k v = v ≡ sig
+KnownBy _ sig k v = Unit {0}
+
+-- where no look is in force there is nothing to show
+pub shut_waking : (sig : ℕ) (m k : Machine) → Shut m → Waking sig m k
+shut_waking sig m k s = record {
+  packets = λ h. let never : packets_looked m ≡ false = (λ j. s.stage j || s.awake j) in absurd (cc);
+  room = λ h. let never : room_looked m ≡ false = ap (λ (b : Bool). b || m.asleep) (room_shut m.stage s.stage) ∙ s.awake in absurd (cc);
+  mark = λ h. absurd (let never : m.asleep ≡ false = s.awake in cc);
+}
+  where
+    room_shut : (st : Stage) → packets_looked_at st ≡ false → room_looked_at st ≡ false
+    room_shut ArmMark h = absurd (cc)
+    room_shut _ h = refl
+
+is_down : (b : Bool) → ◌≡◌ {A = ℕ} (cond b 1 0) 0 → b ≡ false
+is_down true h = absurd (omega arith)
+is_down false h = refl
+
+or_yes : (b c : Bool) → c ≡ true → (b || c) ≡ true
+or_yes true c i = refl
+or_yes false c i = i
+
+-- the signal was down
+down : {A B : Type 0} {sig : ℕ} → sig ≡ 0 → A ⊎ ((sig ≢ 0) ⊎ B) → A ⊎ ((◌≢◌ {A = ℕ} 0 0) ⊎ B)
+down z (inl a) = inl a
+down z (inr (inl b)) = absurd (b z)
+down z (inr (inr c)) = inr (inr c)
+
+module _ (m k : Machine) (v sig : ℕ) (s : IsSound m) (p : AtPoint m) (t : IsSound k) (same : k.cells ≡ m.cells) (w : Waking sig m k) where
+  awake_at : (st : Stage) → m.stage ≡ st → sleeps_at st ≡ false → m.asleep ≡ false
+  awake_at st e dozes = by_case m.asleep refl
+    where
+      by_case : (b : Bool) → m.asleep ≡ b → b ≡ false
+      by_case true h = let yes : sleeps_at st ≡ true = sym (ap sleeps_at e) ∙ (s.asleep h).2 in absurd (cc)
+      by_case false h = refl
+
+  closed : (st : Stage) → m.stage ≡ st → sleeps_at st ≡ false → is_shut_at st ≡ true → (c : ℕ) → Waking c (fed_at st m v) k
+  closed st e a b c = shut_waking c _ k (shut_by m v (awake_at st e a) st e b)
+
+  -- an arm that undoes what it stored
+  undone : (st : Stage) → m.stage ≡ st → sleeps_at st ≡ false → (c : Machine) → c.stage ≡ ArmUndoMask → c.asleep ≡ m.asleep → Waking sig c k
+  undone st e a c i same_asleep = shut_waking sig c k (record { stage = ap packets_looked_at i; awake = same_asleep ∙ awake_at st e a })
+
+  packets_at : (st : Stage) → m.stage ≡ st → packets_looked_at st ≡ true → (k.write ≡ m.read) ⊎ ((sig ≢ 0) ⊎ IsSendingFrom k m.read)
+  packets_at st e h = w.packets (ap (λ (b : Bool). b || m.asleep) (ap packets_looked_at e ∙ h))
+
+  room_at : (st : Stage) → m.stage ≡ st → room_looked_at st ≡ true → m.want ≢ 0 → (8 * free m.cells k.start m.write ≤ m.want) ⊎ ((sig ≢ 0) ⊎ IsGivingBack k m.cells m.write m.want)
+  room_at st e h = w.room (ap (λ (b : Bool). b || m.asleep) (ap room_looked_at e ∙ h))
+
+  none_there : v ≡ 8 * k.write → eqb (low v) (8 * m.read) ≡ true → k.write ≡ m.read
+  none_there is h =
+      let exact : low v ≡ v = ap low is ∙ (low_is k.cells k.write t.cells.1 t.write ∙ sym is) in
+      let found : low v ≡ 8 * m.read = grind (arith, nat_tests) in
+      omega (arith, is, exact, found)
+
+  no_room : v ≡ 8 * k.start → finds_room m v ≡ false → 8 * free m.cells k.start m.write ≤ m.want
+  no_room is h =
+      let cell : cell_of v ≡ k.start = ap cell_of is ∙ cell_here k.cells k.start t.cells.1 t.start in
+      let none : ltb m.want (8 * free m.cells (cell_of v) m.write) ≡ false = or_right (not (is_index m.cells v)) _ h in
+      let small : 8 * free m.cells (cell_of v) m.write ≤ m.want = grind (arith, nat_tests) in
+      subst (λ (c : ℕ). 8 * free m.cells c m.write ≤ m.want) cell small
+    where
+      or_right : (a b : Bool) → (a || b) ≡ false → b ≡ false
+      or_right true b i = absurd (cc)
+      or_right false b i = i
+
+  slept : m.asleep ≡ true → sig ≡ 0 → Waking 0 (record m { stage = Idle; ended = NoSignal; done = 0 }) k
+  slept a z = record {
+    packets = λ h. down z (w.packets (or_yes (packets_looked_at m.stage) m.asleep a));
+    room = λ h wants. down z (w.room (or_yes (room_looked_at m.stage) m.asleep a) wants);
+    mark = λ h. down z (w.mark a);
+  }
+
+  own_at : (st : Stage) → m.stage ≡ st → KnownBy st sig k v → Waking (signal_after st sig) (fed_at st m v) k
+  own_at Idle e l = w
+  own_at Stopped e l = w
+  own_at SendRead e l = closed SendRead e refl refl sig
+  own_at SendCell e l = closed SendCell e refl refl sig
+  own_at SendWrite e l = closed SendWrite e refl refl sig
+  own_at SendMask e l = closed SendMask e refl refl sig
+  own_at SendLook e l = closed SendLook e refl refl sig
+  own_at SendRaise e l = closed SendRaise e refl refl sig
+  own_at TakeWrite e l = closed TakeWrite e refl refl sig
+  own_at TakeFirst e l = closed TakeFirst e refl refl sig
+  own_at TakeCell e l = closed TakeCell e refl refl sig
+  own_at CommitRead e l = closed CommitRead e refl refl sig
+  own_at CommitFeature e l = closed CommitFeature e refl refl sig
+  own_at CommitPending e l = closed CommitPending e refl refl sig
+  own_at CommitWrite e l = closed CommitWrite e refl refl sig
+  own_at CommitRaise e l = closed CommitRaise e refl refl sig
+  own_at ArmPending e l = closed ArmPending e refl refl sig
+  own_at ArmMask e l = closed ArmMask e refl refl sig
+  own_at ArmUndoMask e l = closed ArmUndoMask e refl refl sig
+  own_at ArmUndoPending e l = closed ArmUndoPending e refl refl sig
+  own_at PollMask e l = closed PollMask e refl refl sig
+  own_at PollPending e l = closed PollPending e refl refl sig
+  own_at MarkStore e l = closed MarkStore e refl refl sig
+  own_at MarkRaise e l = closed MarkRaise e refl refl sig
+  own_at PeerMark e l = closed PeerMark e refl refl sig
+  own_at ArmWrite e l = at_cond (λ (c : Machine). Waking sig c k) (eqb (low v) (8 * m.read)) _ _ (λ t0. at_cond (λ (c : Machine). Waking sig c k) (eqb m.want 0) _ _ (λ u. record { packets = λ h. inl (none_there l t0); room = λ h wants. absurd (wants (grind (arith, nat_tests))); mark = λ h. absurd (let up : m.asleep ≡ true = h in let down : m.asleep ≡ false = awake_at ArmWrite e refl in cc) }) (λ u. record { packets = λ h. inl (none_there l t0); room = λ h. absurd (let up : m.asleep ≡ true = h in let down : m.asleep ≡ false = awake_at ArmWrite e refl in cc); mark = λ h. absurd (let up : m.asleep ≡ true = h in let down : m.asleep ≡ false = awake_at ArmWrite e refl in cc) })) (λ t0. undone ArmWrite e refl _ refl refl)
+  own_at ArmRead e l = at_cond (λ (c : Machine). Waking sig c k) (finds_room m v) _ _ (λ t0. undone ArmRead e refl _ refl refl) (λ t0. record { packets = λ h. packets_at ArmRead e refl; room = λ h wants. inl (no_room l t0); mark = λ h. absurd (let up : m.asleep ≡ true = h in let down : m.asleep ≡ false = awake_at ArmRead e refl in cc) })
+  own_at ArmMark e l = at_cond (λ (c : Machine). Waking sig c k) (eqb v 0) _ _ (λ t0. record { packets = λ h. packets_at ArmMark e refl; room = λ h. room_at ArmMark e refl; mark = λ h. inl (is_down (k.marked || is_marking_at k.stage) (sym l ∙ grind (arith, nat_tests))) }) (λ t0. undone ArmMark e refl _ refl refl)
+  own_at PollSignal e l = at_cond (λ (c : Machine). Waking 0 c k) (eqb v 0) _ _ (λ t0. slept (p.polls e) (sym l ∙ grind (arith, nat_tests))) (λ t0. shut_waking 0 _ k (record { stage = refl; awake = refl }))
+
+  pub own_waking : KnownBy m.stage sig k v → Waking (signal_after m.stage sig) (fed m v) k
+  own_waking l = own_at m.stage refl l

@@ -1,0 +1,240 @@
+-- Each step of an end keeps what its peer's looks have found: it raises the peer's signal where the peer may wait for what the step did.
+use Rattle.std.proofs.Common.{◌≡◌, ◌≢◌, ◌⊎◌, ℕ, ◌*◌, ◌%◌, ◌<◌, ◌≤◌, Bool, true, false, ◌||◌, ◌&&◌, not, cond, eqb, refl, sym, ap, ◌∙◌, subst, arith, inl, inr}
+use Rattle.std.proofs.lemmas.Bool.Decides.{nat_tests}
+use Rattle.ring_core.specs.declared.machine.Stage.{Stage}
+use Rattle.ring_core.specs.declared.machine.Stage.TheVariants.{Idle, Stopped, SendRead, SendCell, SendWrite, SendMask, SendLook, SendRaise, TakeWrite, TakeFirst, TakeCell, CommitRead, CommitFeature, CommitPending, CommitWrite, CommitRaise, ArmPending, ArmMask, ArmWrite, ArmRead, ArmMark, ArmUndoMask, ArmUndoPending, PollSignal, PollMask, PollPending, MarkStore, MarkRaise, PeerMark}
+use Rattle.ring_core.specs.declared.machine.Machine.{Machine}
+use Rattle.ring_core.specs.Places.{low, is_index, free, raises_on_commit}
+use Rattle.ring_core.specs.Steps.{IsSound, fed, fed_at, makes_room, sleeps_at, is_arming_at}
+use Rattle.ring_core.specs.Loops.{is_given_at}
+use Rattle.ring_core.proofs.Sound.{at_cond}
+use Rattle.ring_model.specs.Ring.{is_marking_at}
+use Rattle.ring_model.proofs.Turns.{low_is, index_here}
+use Rattle.ring_seat.specs.Points.{AtPoint, is_unmasked_at, pending_at, pending_of}
+use Rattle.ring_seat.specs.Waking.{packets_looked_at, packets_looked, room_looked_at, room_looked, is_sent_at, is_weighing_at, IsSendingFrom, IsGivingBack}
+use Rattle.ring_seat.proofs.Waits.{raised_after}
+use Rattle.ring_seat.proofs.WakeTables.{IsGiven, write_kept, start_kept, mark_kept}
+use Rattle.ring_seat.proofs.OwnWakes.{Waking, KnownBy}
+
+-- a look's three cases
+three : {A A' B C C' : Type 0} → (A → A') → (C → C') → A ⊎ (B ⊎ C) → A' ⊎ (B ⊎ C')
+three f g (inl a) = inl (f a)
+three f g (inr (inl b)) = inr (inl b)
+three f g (inr (inr c)) = inr (inr (g c))
+
+-- the second case always holds once the signal is raised
+up : {A C : Type 0} → A ⊎ ((◌≢◌ {A = ℕ} 1 0) ⊎ C)
+up = inr (inl (λ h. omega arith))
+
+looking_unmasked : (st : Stage) → packets_looked_at st ≡ true → is_unmasked_at st ≡ true
+looking_unmasked ArmRead h = refl
+looking_unmasked ArmMark h = refl
+looking_unmasked _ h = absurd (cc)
+
+looking_arms : (st : Stage) → packets_looked_at st ≡ true → is_arming_at st ≡ true
+looking_arms ArmRead h = refl
+looking_arms ArmMark h = refl
+looking_arms _ h = absurd (cc)
+
+room_packets : (st : Stage) → room_looked_at st ≡ true → packets_looked_at st ≡ true
+room_packets ArmMark h = refl
+room_packets _ h = absurd (cc)
+
+-- k sleeps, and m makes a step
+module _ (m k : Machine) (v own sig : ℕ) (s : IsSound m) (t : IsSound k) (q : AtPoint k) (given : IsGiven m) (same : k.cells ≡ m.cells) (w : Waking sig k m) where
+  -- the sleeper's mask is 0, and it has given back all that it took
+  unmasked : packets_looked k ≡ true → k.masked ≡ false
+  unmasked h = q.masked ∙ ap not (by_stage (packets_looked_at k.stage) refl)
+    where
+      by_stage : (b : Bool) → packets_looked_at k.stage ≡ b → (is_unmasked_at k.stage || k.asleep) ≡ true
+      by_stage true e = ap (λ (c : Bool). c || k.asleep) (looking_unmasked k.stage e)
+      by_stage false e = let a : k.asleep ≡ true = sym (ap (λ (c : Bool). c || k.asleep) e) ∙ h in or_yes (is_unmasked_at k.stage) k.asleep a
+        where
+          or_yes : (b c : Bool) → c ≡ true → (b || c) ≡ true
+          or_yes true c i = refl
+          or_yes false c i = i
+
+  committed : packets_looked k ≡ true → k.start ≡ k.read
+  committed h = by_stage (packets_looked_at k.stage) refl
+    where
+      by_stage : (b : Bool) → packets_looked_at k.stage ≡ b → k.start ≡ k.read
+      by_stage true e = t.arming (looking_arms k.stage e)
+      by_stage false e = (t.asleep (sym (ap (λ (c : Bool). c || k.asleep) e) ∙ h)).1
+
+  -- the room that the sleeper wants is what it stored
+  stored_want : room_looked k ≡ true → pending_of k ≡ k.want
+  stored_want h = by_stage k.stage refl
+    where
+      by_stage : (st : Stage) → k.stage ≡ st → pending_at st k.want ≡ k.want
+      by_stage ArmPending e = let a : k.asleep ≡ true = sym (ap (λ (z : Stage). room_looked_at z || k.asleep) e) ∙ h in let b : sleeps_at ArmPending ≡ true = sym (ap sleeps_at e) ∙ (t.asleep a).2 in absurd (cc)
+      by_stage _ e = refl
+
+  abbrev Packets : ℕ → Machine → Type 0
+  Packets c a = packets_looked k ≡ true → (a.write ≡ k.read) ⊎ ((c ≢ 0) ⊎ IsSendingFrom a k.read)
+
+  abbrev Room : ℕ → Machine → Type 0
+  Room c a = room_looked k ≡ true → k.want ≢ 0 → (8 * free k.cells a.start k.write ≤ k.want) ⊎ ((c ≢ 0) ⊎ IsGivingBack a k.cells k.write k.want)
+
+  abbrev Mark : ℕ → Machine → Type 0
+  Mark c a = k.asleep ≡ true → ((a.marked || is_marking_at a.stage) ≡ false) ⊎ ((c ≢ 0) ⊎ (a.stage ≡ MarkRaise))
+
+  not_sent : (st : Stage) → m.stage ≡ st → is_sent_at st ≡ false → {A : Type 0} → IsSendingFrom m k.read → A
+  not_sent st e h a = absurd (let yes : is_sent_at st ≡ true = sym (ap is_sent_at e) ∙ a.past in cc)
+
+  not_given : (st : Stage) → m.stage ≡ st → is_given_at st ≡ false → {A : Type 0} → IsGivingBack m k.cells k.write k.want → A
+  not_given st e h a = absurd (let yes : is_given_at st ≡ true = sym (ap is_given_at e) ∙ a.past in cc)
+
+  -- a step outside a send, or inside it where the send goes on
+  packets_rest : (st : Stage) → m.stage ≡ st → is_sent_at st ≡ false → st ≢ SendWrite → Packets sig (fed_at st m v)
+  packets_rest st e h ne looked = three (λ a. write_kept m v st ne ∙ a) (not_sent st e h) (w.packets looked)
+
+  room_rest : (st : Stage) → m.stage ≡ st → is_given_at st ≡ false → st ≢ CommitRead → Room sig (fed_at st m v)
+  room_rest st e h ne looked wants = three (λ (a : 8 * free k.cells m.start k.write ≤ k.want). subst (λ (c : ℕ). 8 * free k.cells c k.write ≤ k.want) (sym (start_kept m v st ne)) a) (not_given st e h) (w.room looked wants)
+
+  mark_rest : (st : Stage) → m.stage ≡ st → st ≢ MarkStore → st ≢ MarkRaise → Mark sig (fed_at st m v)
+  mark_rest st e ne nr asleep = three (λ a. mark_kept m v st e ne ∙ a) (λ (a : m.stage ≡ MarkRaise). absurd (nr (sym e ∙ a))) (w.mark asleep)
+
+  mask_is : v ≡ cond k.masked 1 0 → packets_looked k ≡ true → eqb (low v) 0 ≡ true
+  mask_is is h = let zero_is : v ≡ 0 = is ∙ ap (λ (b : Bool). cond b 1 0) (unmasked h) in ap (λ (c : ℕ). eqb (low c) 0) zero_is
+
+  look_is : v ≡ 8 * k.start → packets_looked k ≡ true → m.old ≡ k.read → eqb (low v) (8 * m.old) ≡ true
+  look_is is h from =
+      let exact : low v ≡ v = ap low is ∙ (low_is k.cells k.start t.cells.1 t.start ∙ sym is) in
+      let found : low v ≡ 8 * m.old = exact ∙ (is ∙ ap (λ (c : ℕ). 8 * c) (committed h ∙ sym from)) in
+      grind (arith, nat_tests)
+
+  sent_now : m.stage ≡ SendWrite → (m.write ≡ k.read) ⊎ ((sig ≢ 0) ⊎ IsSendingFrom m k.read) → ((fed_at SendWrite m v).write ≡ k.read) ⊎ ((sig ≢ 0) ⊎ IsSendingFrom (fed_at SendWrite m v) k.read)
+  sent_now e (inl a) = inr (inr (record { past = refl; from = a }))
+  sent_now e (inr (inl b)) = inr (inl b)
+  sent_now e (inr (inr c)) = not_sent SendWrite e refl c
+
+  packets_by : (st : Stage) → m.stage ≡ st → KnownBy st own k v → Packets (raised_after st sig) (fed_at st m v)
+  packets_by Idle e l = packets_rest Idle e refl (λ h. cc)
+  packets_by Stopped e l = packets_rest Stopped e refl (λ h. cc)
+  packets_by SendRead e l = packets_rest SendRead e refl (λ h. cc)
+  packets_by SendCell e l = packets_rest SendCell e refl (λ h. cc)
+  packets_by SendWrite e l = λ looked. sent_now e (w.packets looked)
+  packets_by SendMask e l = at_cond (Packets sig) (eqb (low v) 0) _ _ (λ u looked. three (λ a. a) (λ (a : IsSendingFrom m k.read). record { past = refl; from = a.from }) (w.packets looked)) (λ u looked. absurd (let yes : eqb (low v) 0 ≡ true = mask_is l looked in cc))
+  packets_by SendLook e l = at_cond (Packets sig) (eqb (low v) (8 * m.old)) _ _ (λ u looked. three (λ a. a) (λ (a : IsSendingFrom m k.read). record { past = refl; from = a.from }) (w.packets looked)) (λ u looked. three (λ a. a) (λ (a : IsSendingFrom m k.read). absurd (let yes : eqb (low v) (8 * m.old) ≡ true = look_is l looked a.from in cc)) (w.packets looked))
+  packets_by SendRaise e l = λ looked. up
+  packets_by TakeWrite e l = packets_rest TakeWrite e refl (λ h. cc)
+  packets_by TakeFirst e l = packets_rest TakeFirst e refl (λ h. cc)
+  packets_by TakeCell e l = packets_rest TakeCell e refl (λ h. cc)
+  packets_by CommitRead e l = packets_rest CommitRead e refl (λ h. cc)
+  packets_by CommitFeature e l = packets_rest CommitFeature e refl (λ h. cc)
+  packets_by CommitPending e l = packets_rest CommitPending e refl (λ h. cc)
+  packets_by CommitWrite e l = packets_rest CommitWrite e refl (λ h. cc)
+  packets_by CommitRaise e l = λ looked. up
+  packets_by ArmPending e l = packets_rest ArmPending e refl (λ h. cc)
+  packets_by ArmMask e l = packets_rest ArmMask e refl (λ h. cc)
+  packets_by ArmWrite e l = packets_rest ArmWrite e refl (λ h. cc)
+  packets_by ArmRead e l = packets_rest ArmRead e refl (λ h. cc)
+  packets_by ArmMark e l = packets_rest ArmMark e refl (λ h. cc)
+  packets_by ArmUndoMask e l = packets_rest ArmUndoMask e refl (λ h. cc)
+  packets_by ArmUndoPending e l = packets_rest ArmUndoPending e refl (λ h. cc)
+  packets_by PollSignal e l = packets_rest PollSignal e refl (λ h. cc)
+  packets_by PollMask e l = packets_rest PollMask e refl (λ h. cc)
+  packets_by PollPending e l = packets_rest PollPending e refl (λ h. cc)
+  packets_by MarkStore e l = packets_rest MarkStore e refl (λ h. cc)
+  packets_by MarkRaise e l = λ looked. up
+  packets_by PeerMark e l = packets_rest PeerMark e refl (λ h. cc)
+
+  -- A commit that is quiet at its load of write: there is no more room than is wanted
+  no_more : v ≡ 8 * k.write → m.start ≡ m.read → 8 * free k.cells m.old k.write ≤ k.want → m.value ≡ k.want → makes_room m v ≡ false → 8 * free k.cells m.start k.write ≤ k.want
+  no_more is started room value h =
+      let exact : low v ≡ v = ap low is ∙ (low_is k.cells k.write t.cells.1 t.write ∙ sym is) in
+      let form : is_index m.cells v ≡ true = subst (λ (c : ℕ × ℕ). is_index c.0 c.1 ≡ true) (λ j. (same j, sym is j)) (index_here k.cells k.write t.cells.1 t.write) in
+      let quiet : raises_on_commit (8 * m.cells) (8 * k.write) (8 * m.old) (8 * m.read) k.want ≡ false = (λ j. raises_on_commit (8 * m.cells) (sym (exact ∙ is) j) (8 * m.old) (8 * m.read) (sym value j)) ∙ and_no (is_index m.cells v) _ form h in
+      subst (λ (c : ℕ × ℕ). 8 * free c.0 c.1 k.write ≤ k.want) (λ j. (sym same j, sym started j))
+      (weigh m.cells k.write m.old m.read k.want (omega (arith, t.write, same)) s.old s.read (subst (λ (c : ℕ). 8 * free c m.old k.write ≤ k.want) same room) quiet)
+    where
+      and_no : (a b : Bool) → a ≡ true → (a && b) ≡ false → b ≡ false
+      and_no a b i j = cc
+
+      weigh : (n b old read want : ℕ) → b < n → old < n → read < n → 8 * free n old b ≤ want → raises_on_commit (8 * n) (8 * b) (8 * old) (8 * read) want ≡ false → 8 * free n read b ≤ want
+      weigh n b old read want i j g few still = grind (arith, nat_tests)
+
+  gives : m.stage ≡ CommitRead → (8 * free k.cells m.start k.write ≤ k.want) ⊎ ((sig ≢ 0) ⊎ IsGivingBack m k.cells k.write k.want)
+      → (8 * free k.cells m.read k.write ≤ k.want) ⊎ ((sig ≢ 0) ⊎ IsGivingBack (fed_at CommitRead m v) k.cells k.write k.want)
+  gives e (inl a) = inr (inr (record { past = refl; room = a; loaded = λ h. absurd (cc) }))
+  gives e (inr (inl b)) = inr (inl b)
+  gives e (inr (inr c)) = not_given CommitRead e refl c
+
+  wanted : room_looked k ≡ true → v ≡ pending_of k → low v ≡ k.want
+  wanted looked is =
+      let exact : v ≡ k.want = is ∙ stored_want looked in
+      let small : k.want < 4294967296 = omega (arith, t.want, t.cells.1) in
+      ap low exact ∙ omega arith
+
+  weighed : m.stage ≡ CommitWrite → IsGivingBack m k.cells k.write k.want → m.value ≡ k.want
+  weighed e a = a.loaded (ap is_weighing_at e)
+
+  quiet_room : {A B C D : Type 0} → (C → A) → A ⊎ (B ⊎ C) → A ⊎ (B ⊎ D)
+  quiet_room f (inl a) = inl a
+  quiet_room f (inr (inl b)) = inr (inl b)
+  quiet_room f (inr (inr c)) = inl (f c)
+
+  room_by : (st : Stage) → m.stage ≡ st → KnownBy st own k v → Room (raised_after st sig) (fed_at st m v)
+  room_by Idle e l = room_rest Idle e refl (λ h. cc)
+  room_by Stopped e l = room_rest Stopped e refl (λ h. cc)
+  room_by SendRead e l = room_rest SendRead e refl (λ h. cc)
+  room_by SendCell e l = room_rest SendCell e refl (λ h. cc)
+  room_by SendWrite e l = room_rest SendWrite e refl (λ h. cc)
+  room_by SendMask e l = room_rest SendMask e refl (λ h. cc)
+  room_by SendLook e l = room_rest SendLook e refl (λ h. cc)
+  room_by SendRaise e l = λ looked wants. up
+  room_by TakeWrite e l = room_rest TakeWrite e refl (λ h. cc)
+  room_by TakeFirst e l = room_rest TakeFirst e refl (λ h. cc)
+  room_by TakeCell e l = room_rest TakeCell e refl (λ h. cc)
+  room_by CommitRead e l = λ looked wants. gives e (w.room looked wants)
+  room_by CommitFeature e l = at_cond (Room sig) (eqb (low v % 2) 1) _ _ (λ u looked wants. three (λ a. a) (λ (a : IsGivingBack m k.cells k.write k.want). record { past = refl; room = a.room; loaded = λ h. absurd (cc) }) (w.room looked wants)) (λ u. absurd (let yes : eqb (low v % 2) 1 ≡ true = ap (λ (c : ℕ). eqb (low c % 2) 1) l in cc))
+  room_by CommitPending e l = at_cond (Room sig) (eqb (low v) 0) _ _ (λ u looked wants. absurd (wants (let none : low v ≡ 0 = grind (arith, nat_tests) in sym (wanted looked l) ∙ none))) (λ u looked wants. three (λ a. a) (λ (a : IsGivingBack m k.cells k.write k.want). record { past = refl; room = a.room; loaded = λ h. wanted looked l }) (w.room looked wants))
+  room_by CommitWrite e l = at_cond (Room sig) (makes_room m v) _ _ (λ u looked wants. three (λ a. a) (λ (a : IsGivingBack m k.cells k.write k.want). record { past = refl; room = a.room; loaded = λ h. weighed e a }) (w.room looked wants)) (λ u looked wants. quiet_room (λ (a : IsGivingBack m k.cells k.write k.want). no_more l (given (ap is_given_at e)) a.room (weighed e a) u) (w.room looked wants))
+  room_by CommitRaise e l = λ looked wants. up
+  room_by ArmPending e l = room_rest ArmPending e refl (λ h. cc)
+  room_by ArmMask e l = room_rest ArmMask e refl (λ h. cc)
+  room_by ArmWrite e l = room_rest ArmWrite e refl (λ h. cc)
+  room_by ArmRead e l = room_rest ArmRead e refl (λ h. cc)
+  room_by ArmMark e l = room_rest ArmMark e refl (λ h. cc)
+  room_by ArmUndoMask e l = room_rest ArmUndoMask e refl (λ h. cc)
+  room_by ArmUndoPending e l = room_rest ArmUndoPending e refl (λ h. cc)
+  room_by PollSignal e l = room_rest PollSignal e refl (λ h. cc)
+  room_by PollMask e l = room_rest PollMask e refl (λ h. cc)
+  room_by PollPending e l = room_rest PollPending e refl (λ h. cc)
+  room_by MarkStore e l = room_rest MarkStore e refl (λ h. cc)
+  room_by MarkRaise e l = λ looked wants. up
+  room_by PeerMark e l = room_rest PeerMark e refl (λ h. cc)
+
+  mark_by : (st : Stage) → m.stage ≡ st → Mark (raised_after st sig) (fed_at st m v)
+  mark_by Idle e = mark_rest Idle e (λ h. cc) (λ h. cc)
+  mark_by Stopped e = mark_rest Stopped e (λ h. cc) (λ h. cc)
+  mark_by SendRead e = mark_rest SendRead e (λ h. cc) (λ h. cc)
+  mark_by SendCell e = mark_rest SendCell e (λ h. cc) (λ h. cc)
+  mark_by SendWrite e = mark_rest SendWrite e (λ h. cc) (λ h. cc)
+  mark_by SendMask e = mark_rest SendMask e (λ h. cc) (λ h. cc)
+  mark_by SendLook e = mark_rest SendLook e (λ h. cc) (λ h. cc)
+  mark_by SendRaise e = λ asleep. up
+  mark_by TakeWrite e = mark_rest TakeWrite e (λ h. cc) (λ h. cc)
+  mark_by TakeFirst e = mark_rest TakeFirst e (λ h. cc) (λ h. cc)
+  mark_by TakeCell e = mark_rest TakeCell e (λ h. cc) (λ h. cc)
+  mark_by CommitRead e = mark_rest CommitRead e (λ h. cc) (λ h. cc)
+  mark_by CommitFeature e = mark_rest CommitFeature e (λ h. cc) (λ h. cc)
+  mark_by CommitPending e = mark_rest CommitPending e (λ h. cc) (λ h. cc)
+  mark_by CommitWrite e = mark_rest CommitWrite e (λ h. cc) (λ h. cc)
+  mark_by CommitRaise e = λ asleep. up
+  mark_by ArmPending e = mark_rest ArmPending e (λ h. cc) (λ h. cc)
+  mark_by ArmMask e = mark_rest ArmMask e (λ h. cc) (λ h. cc)
+  mark_by ArmWrite e = mark_rest ArmWrite e (λ h. cc) (λ h. cc)
+  mark_by ArmRead e = mark_rest ArmRead e (λ h. cc) (λ h. cc)
+  mark_by ArmMark e = mark_rest ArmMark e (λ h. cc) (λ h. cc)
+  mark_by ArmUndoMask e = mark_rest ArmUndoMask e (λ h. cc) (λ h. cc)
+  mark_by ArmUndoPending e = mark_rest ArmUndoPending e (λ h. cc) (λ h. cc)
+  mark_by PollSignal e = mark_rest PollSignal e (λ h. cc) (λ h. cc)
+  mark_by PollMask e = mark_rest PollMask e (λ h. cc) (λ h. cc)
+  mark_by PollPending e = mark_rest PollPending e (λ h. cc) (λ h. cc)
+  mark_by MarkStore e = λ asleep. inr (inr refl)
+  mark_by MarkRaise e = λ asleep. up
+  mark_by PeerMark e = mark_rest PeerMark e (λ h. cc) (λ h. cc)
+
+  pub peers_waking : KnownBy m.stage own k v → Waking (raised_after m.stage sig) k (fed m v)
+  peers_waking l = record { packets = packets_by m.stage refl l; room = room_by m.stage refl l; mark = mark_by m.stage refl }

@@ -1,0 +1,197 @@
+-- The table at the start, its view cut in two, two views put together, and what the whole view tells.
+use Rattle.std.proofs.Common.{◌≡◌, ◌≢◌, ℕ, true, zero, suc, ◌+◌, ◌<◌, ◌≤◌, ◌⊎◌, List, [], ◌∷◌, ◌++◌, length, get_or, set, replicate, refl, sym, ap, ◌∙◌, subst, arith, inl, inr, ⊎_elim, length-set}
+use Rattle.std.proofs.lemmas.List.{set-get_or, get_or-set_same, get_or-set_other, length-replicate}
+use mathlib.Core.Option.{some, some-injective, some-ne-none}
+use lib.ListN.{get_elem?}
+use Rattle.atomic_table.specs.Table.{State, Me, keeps, opening, Allows, Splits, Joins}
+use Rattle.atomic_table.proofs.Lists.{at_set, set_again}
+use Rattle.io_edge.specs.declared.side.Side.{Side}
+use Rattle.io_edge.specs.declared.side.Side.TheVariants.{Guest, Host}
+use Rattle.ring_core.specs.declared.state.EndState.{EndState}
+use Rattle.ring_core.specs.Places.{signal_of, words_of}
+use Rattle.ring_core.specs.Steps.{machine_new}
+use Rattle.ring_core.specs.Told.{opening as opening_words}
+use Rattle.ring_model.specs.Ring.{ChannelOk}
+use Rattle.ring_model.proofs.Opening.{still, new_channel}
+use Rattle.ring_model.proofs.Settling.{guest_front, host_front, one_run, guest_drained, host_drained}
+use Rattle.ring_seat.specs.declared.view.View.{View}
+use Rattle.ring_seat.specs.declared.view.View.TheVariants.{Both, One, Spent}
+use Rattle.ring_seat.specs.Rule.{OwnWords, ChannelInvariant}
+use Rattle.ring_seat.specs.Seats.{Knows, Holds, new_end, state_in, is_one, guest_in, host_in, joined}
+use Rattle.ring_seat.specs.Settling.{AreSettled, IsSettled}
+use Rattle.ring_seat.proofs.PointLaws.{new_point}
+
+at_end : {A : Type 0} (l : List A) (a b : A) (j : ℕ) → get_elem? (l ++ a ∷ []) j ≡ some b → (get_elem? l j ≡ some b) ⊎ ((j ≡ length l) × (a ≡ b))
+at_end [] a b zero e = inr (refl, some-injective a b e)
+at_end [] a b (suc j) e = absurd (some-ne-none b (sym e))
+at_end (x ∷ xs) a b zero e = inl e
+at_end (x ∷ xs) a b (suc j) e = ⊎_elim (λ h. inl h) (λ h. inr (ap suc h.0, h.1)) (at_end xs a b j e)
+
+two_seats : ℕ → ℕ → Side → ℕ
+two_seats g h Guest = g
+two_seats g h Host = h
+
+of_two : (P : Side → Type 0) → P Guest → P Host → (x : Side) → P x
+of_two P a b Guest = a
+of_two P a b Host = b
+
+-- the words of a new channel
+module _ (n : ℕ) where
+  abbrev zeros : List ℕ
+  zeros = replicate (words_of n) 0
+
+  abbrev one : List ℕ
+  one = set zeros (n + 5 + 2) 1
+
+  abbrev two : List ℕ
+  two = set one (n + 5 + 4) 1
+
+  abbrev three : List ℕ
+  three = set two 2 1
+
+  one_long : length one ≡ words_of n
+  one_long = length-set zeros (n + 5 + 2) 1 ∙ length-replicate (words_of n) 0
+
+  two_long : length two ≡ words_of n
+  two_long = length-set one (n + 5 + 4) 1 ∙ one_long
+
+  three_long : length three ≡ words_of n
+  three_long = length-set two 2 1 ∙ two_long
+
+  host_mask : get_or (opening_words n) 2 0 ≡ 1
+  host_mask = get_or-set_other three 4 2 1 0 (λ e. omega arith) ∙ get_or-set_same two 2 1 0 (omega (arith, two_long))
+
+  host_feature : get_or (opening_words n) 4 0 ≡ 1
+  host_feature = get_or-set_same three 4 1 0 (omega (arith, three_long))
+
+  guest_feature : get_or (opening_words n) (n + 5 + 4) 0 ≡ 1
+  guest_feature = get_or-set_other three 4 (n + 5 + 4) 1 0 (λ e. omega arith) ∙ (get_or-set_other two 2 (n + 5 + 4) 1 0 (λ e. omega arith) ∙ get_or-set_same one (n + 5 + 4) 1 0 (omega (arith, one_long)))
+
+  guest_mask : get_or (opening_words n) (n + 5 + 2) 0 ≡ 1
+  guest_mask =
+      get_or-set_other three 4 (n + 5 + 2) 1 0 (λ e. omega arith) ∙ (get_or-set_other two 2 (n + 5 + 2) 1 0 (λ e. omega arith)
+      ∙ (get_or-set_other one (n + 5 + 4) (n + 5 + 2) 1 0 (λ e. omega arith) ∙ get_or-set_same zeros (n + 5 + 2) 1 0 (omega (arith, length-replicate {A = ℕ} (words_of n) 0))))
+
+  zero_at : (i : ℕ) → i < words_of n → i ≢ 2 → i ≢ 4 → i ≢ n + 5 + 2 → i ≢ n + 5 + 4 → get_or (opening_words n) i 0 ≡ 0
+  zero_at i = still n i
+
+  down : (x : Side) → get_or (opening_words n) (signal_of n x) 0 < 2
+  down Guest = let z = zero_at (n + n + 10) (omega arith) (λ e. omega arith) (λ e. omega arith) (λ e. omega arith) (λ e. omega arith) in omega (arith, z)
+  down Host = let z = zero_at (n + n + 11) (omega arith) (λ e. omega arith) (λ e. omega arith) (λ e. omega arith) (λ e. omega arith) in omega (arith, z)
+
+  new_words : (x : Side) → OwnWords n (opening_words n) x (machine_new x n)
+  new_words Guest = record { mask = guest_mask; pending = zero_at 3 (omega arith) (λ e. omega arith) (λ e. omega arith) (λ e. omega arith) (λ e. omega arith); feature = host_feature; signal = down Guest }
+  new_words Host = record { mask = host_mask; pending = zero_at (n + 5 + 3) (omega arith) (λ e. omega arith) (λ e. omega arith) (λ e. omega arith) (λ e. omega arith); feature = guest_feature; signal = down Host }
+
+  new_invariant : 512 ≤ n → n ≤ 8192 → ChannelInvariant n (opening_words n) (new_end n)
+  new_invariant a b = record {
+    channel = (new_channel n a b).channel;
+    own = λ x. record { goes = λ e. cc; point = new_point n x; committed = λ h. absurd (cc); words = new_words x };
+    wakes = λ x. record { packets = λ h. absurd (cc); room = λ h. absurd (cc); mark = λ h. absurd (cc) };
+  }
+
+pub opens : (n : ℕ) (words : List ℕ) → 512 ≤ n → n ≤ 8192 → words ≡ opening_words n → Holds n (opening words [] (Both (new_end n Guest) (new_end n Host)))
+opens n words a b is = subst (λ (l : List ℕ). Holds n (opening l [] (Both (new_end n Guest) (new_end n Host)))) (sym is) (record { ends = new_end n; seat = λ x. 0; seats = alone; channel = new_invariant n a b })
+  where
+    alone : (id : ℕ) (v : View) → get_elem? (Both (new_end n Guest) (new_end n Host) ∷ []) id ≡ some v → Knows (new_end n) (λ x. 0) id v
+    alone zero v e = subst (Knows (new_end n) (λ x. 0) 0) (some-injective _ _ e) (refl, refl, refl, refl)
+    alone (suc id) v e = absurd (some-ne-none v (sym e))
+
+splits : (n id : ℕ) (g h : EndState) → Splits (Holds n) id (Both g h) (One g) (One h)
+unfolding two_seats
+splits n id g h s it at = record {
+  ends = it.ends;
+  seat = two_seats id (length s.views);
+  seats = λ j v k. ⊎_elim (λ t. ⊎_elim (λ u. subst (Knows it.ends (two_seats id (length s.views)) j) u.1 (mine j u.0)) (λ u. others j v u.0 (it.seats j v u.1)) (at_set s.views id j (One g) v t))
+      (λ t. subst (Knows it.ends (two_seats id (length s.views)) j) t.1 (theirs j (t.0 ∙ length-set s.views id (One g)))) (at_end (set s.views id (One g)) (One h) v j k);
+  channel = it.channel;
+}
+  where
+    knows : (g ≡ it.ends Guest) × (h ≡ it.ends Host) × (id ≡ it.seat Guest) × (id ≡ it.seat Host)
+    knows = it.seats id (Both g h) at
+
+    guest : Guest ≡ g.machine.side
+    guest = sym (ap (λ (e : EndState). e.machine.side) knows.0 ∙ it.channel.channel.guest_fits.side)
+
+    host : Host ≡ h.machine.side
+    host = sym (ap (λ (e : EndState). e.machine.side) knows.1 ∙ it.channel.channel.host_fits.side)
+
+    mine : (j : ℕ) → j ≡ id → Knows it.ends (two_seats id (length s.views)) j (One g)
+    mine j e = (knows.0 ∙ ap it.ends guest, e ∙ ap (two_seats id (length s.views)) guest)
+
+    theirs : (j : ℕ) → j ≡ length s.views → Knows it.ends (two_seats id (length s.views)) j (One h)
+    theirs j e = (knows.1 ∙ ap it.ends host, e ∙ ap (two_seats id (length s.views)) host)
+
+    seat_is : (x : Side) → it.seat x ≡ id
+    seat_is = of_two (λ x. it.seat x ≡ id) (sym knows.2) (sym knows.3)
+
+    others : (j : ℕ) (v : View) → j ≢ id → Knows it.ends it.seat j v → Knows it.ends (two_seats id (length s.views)) j v
+    others j (Both a b) ne k = absurd (ne (k.2 ∙ seat_is Guest))
+    others j (One a) ne k = absurd (ne (k.1 ∙ seat_is a.machine.side))
+    others j Spent ne k = k
+
+joins : (n id away : ℕ) (g h : EndState) → g.machine.side ≡ Guest → h.machine.side ≡ Host → Joins (Holds n) id (One g) away (One h) (Both g h) Spent
+joins n id away g h guest host s it at apart there = record {
+  ends = it.ends;
+  seat = λ x. id;
+  seats = λ j v k. ⊎_elim (λ t. subst (Knows it.ends (λ x. id) j) t.1 tt) (λ t. ⊎_elim (λ u. subst (Knows it.ends (λ x. id) j) u.1 (whole j u.0)) (λ u. others j v t.0 u.0 (it.seats j v u.1)) (at_set s.views id j (Both g h) v t.1)) (at_set (set s.views id (Both g h)) away j Spent v k);
+  channel = it.channel;
+}
+  where
+    mine : (g ≡ it.ends g.machine.side) × (id ≡ it.seat g.machine.side)
+    mine = it.seats id (One g) at
+
+    theirs : (h ≡ it.ends h.machine.side) × (away ≡ it.seat h.machine.side)
+    theirs = ⊎_elim (λ t. absurd (apart t.0)) (λ t. it.seats away (One h) t.1) (at_set s.views id away (Both g h) (One h) there)
+
+    whole : (j : ℕ) → j ≡ id → Knows it.ends (λ x. id) j (Both g h)
+    whole j e = (mine.0 ∙ ap it.ends guest, theirs.0 ∙ ap it.ends host, e, e)
+
+    taken : (x : Side) → (it.seat x ≡ id) ⊎ (it.seat x ≡ away)
+    taken = of_two (λ x. (it.seat x ≡ id) ⊎ (it.seat x ≡ away)) (inl (ap it.seat (sym guest) ∙ sym mine.1)) (inr (ap it.seat (sym host) ∙ sym theirs.1))
+
+    none_left : (j : ℕ) (x : Side) → j ≢ away → j ≢ id → j ≡ it.seat x → ⊥
+    none_left j x ne m e = ⊎_elim (λ t. m (e ∙ t)) (λ t. ne (e ∙ t)) (taken x)
+
+    others : (j : ℕ) (v : View) → j ≢ away → j ≢ id → Knows it.ends it.seat j v → Knows it.ends (λ x. id) j v
+    others j (Both a b) ne m k = absurd (none_left j Guest ne m k.2)
+    others j (One a) ne m k = absurd (none_left j a.machine.side ne m k.1)
+    others j Spent ne m k = k
+
+settled : (n : ℕ) (ws : List ℕ) (g h : EndState) → ChannelOk n ws g h → AreSettled g h
+settled n ws g h c = record {
+  guest_front = guest_front n ws g h c;
+  host_front = host_front n ws g h c;
+  guest_drained = guest_drained n ws g h c;
+  host_drained = host_drained n ws g h c;
+  run = one_run n ws g h c;
+  guest_past = (c.guest_past.sent, c.guest_past.got);
+  host_past = (c.host_past.sent, c.host_past.got);
+}
+
+settled_of : (n id : ℕ) (s : State (Unit {0}) View) (it : Holds n s) (v : View) → get_elem? s.views id ≡ some v → IsSettled v
+settled_of n id s it (Both g h) at =
+    let k = it.seats id (Both g h) at in
+    subst (λ (z : EndState × EndState). AreSettled z.0 z.1) (λ i. (sym k.0 i, sym k.1 i)) (settled n s.words (it.ends Guest) (it.ends Host) it.channel.channel)
+settled_of n id s it (One e) at = tt
+settled_of n id s it Spent at = tt
+
+pub learns : (n slots id i : ℕ) (me : Me (Unit {0}) View) → Allows (Holds n) slots id me i (λ k. k) (λ v now. (now ≡ me) × IsSettled me.0)
+learns n slots id i me s it deep at small = (
+  me.0,
+  keeps,
+  tt,
+  subst (λ (z : List ℕ × List View). Holds n record { words = z.0; homes = s.homes; views = z.1 }) (λ k. (sym (set-get_or s.words i 0) k, sym (set_again s.views id me.0 at) k)) it,
+  (refl, settled_of n id s it me.0 at),
+)
+
+pub split_asks : (n id : ℕ) (v : View) (g h : EndState) → v ≡ Both g h → Splits (Holds n) id v (guest_in v) (host_in v)
+split_asks n id v g h is = subst (λ (w : View). Splits (Holds n) id w (guest_in w) (host_in w)) (sym is) (splits n id g h)
+
+pub join_asks : (n id away : ℕ) (v w : View) (g h : EndState) → v ≡ One g → w ≡ One h → g.machine.side ≡ Guest → h.machine.side ≡ Host → Joins (Holds n) id v away w (joined v w) Spent
+join_asks n id away v w g h a b guest host = subst (λ (z : View × View). Joins (Holds n) id z.0 away z.1 (joined z.0 z.1) Spent) (λ i. (sym a i, sym b i)) (joins n id away g h guest host)
+
+pub one_is : (v : View) → is_one v ≡ true → v ≡ One (state_in v)
+one_is (Both g h) e = absurd (cc)
+one_is (One e) i = refl
+one_is Spent e = absurd (cc)

@@ -1,0 +1,6 @@
+pub mod Points
+pub mod Waking
+pub mod Rule
+pub mod Seats
+pub mod Settling
+pub mod Sleeping

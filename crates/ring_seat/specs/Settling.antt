@@ -1,0 +1,36 @@
+-- What the joined view of both ends tells.
+use Rattle.std.specs.Prelude.{◌≡◌, true}
+use Rattle.chan_run.specs.Laws.{AreOfOneRun}
+use Rattle.chan_run.specs.Runs.{IsFront, sent_of, got_of}
+use Rattle.io_edge.specs.declared.side.Side.TheVariants.{Guest, Host}
+use Rattle.ring_core.specs.declared.state.EndState.{EndState}
+use Rattle.ring_core.specs.Seen.{Seen}
+use Rattle.ring_seat.specs.declared.table_seat.TableSeat.{TableSeat}
+use Rattle.ring_seat.specs.declared.view.View.{View}
+use Rattle.ring_seat.specs.declared.view.View.TheVariants.{Both, One, Spent}
+
+-- Each end got the front of what the other one sent, and all of it where it is drained. What the two ends did is one run, and the lists are read off it
+pub record AreSettled (g h : EndState) : Type 0 where
+  pub guest_front : IsFront g.got h.sent
+  pub host_front : IsFront h.got g.sent
+  pub guest_drained : g.machine.drained ≡ true → g.got ≡ h.sent
+  pub host_drained : h.machine.drained ≡ true → h.got ≡ g.sent
+  pub run : AreOfOneRun g.past h.past
+  pub guest_past : (sent_of g.past ≡ g.sent) × (got_of g.past ≡ g.got)
+  pub host_past : (sent_of h.past ≡ h.sent) × (got_of h.past ≡ h.got)
+
+abbrev pub IsSettled : View → Type 0
+IsSettled (Both g h) = AreSettled g h
+IsSettled (One e) = Unit {0}
+IsSettled Spent = Unit {0}
+
+-- the guest's end and the host's end of one channel
+pub record AreOfOneChannel (g h : Seen TableSeat) : Type 0 where
+  pub same : g.seat.seat.table_id ≡ h.seat.seat.table_id
+  pub guest : g.state.machine.side ≡ Guest
+  pub host : h.state.machine.side ≡ Host
+
+-- a later state of one and the same end
+pub record IsSameEnd (old new : Seen TableSeat) : Type 0 where
+  pub seat : new.seat.seat.table_id ≡ old.seat.seat.table_id
+  pub side : new.state.machine.side ≡ old.state.machine.side

@@ -1,0 +1,18 @@
+//! The two ends of a channel on atomic words, under a rule that each step of either end keeps.
+#![tactic(auto)]
+
+mod channel;
+pub mod laws;
+mod rule;
+mod settled;
+mod sleep;
+mod table_seat;
+#[cfg(test)]
+mod tests;
+mod view;
+
+pub use channel::{ChannelMem, GuestEnd, HostEnd};
+pub use settled::{Settled, finish};
+pub use sleep::Sleeper;
+pub use table_seat::TableSeat;
+pub use view::View;
