@@ -1,0 +1,12 @@
+pub mod Runs
+pub mod Opens
+pub mod Once
+pub mod Served
+pub mod Parts
+pub mod Counts
+pub mod Joined
+pub mod Outcomes
+pub mod Serving
+pub mod Asking
+pub mod Ends
+pub mod Example
