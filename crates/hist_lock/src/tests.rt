@@ -66,3 +66,28 @@ fn no_calls(rt: HostRuntime) -> Result<(), Fail> {
     assert_eq!(rt; history.entries().len(), 0);
     Ok(())
 }
+
+#[test]
+fn a_lock_opened_again(rt: HostRuntime) -> Result<(), Fail> {
+    let mut seats = HistLock::make(rt.alloc(), Adder { base: 5, sum: 5 }, &[1])?;
+    assert!(rt; seats[0].left() > 0);
+    let first = seats[0].with(&rt, 1);
+    assert_eq!(rt; (first.serial, first.reply), (0, 6));
+    let (state, history) = HistLock::close(seats);
+    assert!(rt; history.entries().len() < 9);
+    let mut seats = HistLock::reopen(rt.alloc(), state, history, &[2])?;
+    assert_eq!(rt; seats.len(), 1);
+    for (serial, request, reply, left) in [(1, 10, 16, 1), (2, 20, 36, 0)] {
+        assert!(rt; seats[0].left() > 0);
+        let receipt = seats[0].with(&rt, request);
+        assert_eq!(rt; (receipt.serial, receipt.reply), (serial, reply));
+        assert_eq!(rt; seats[0].left(), left);
+    }
+    let (state, history) = HistLock::close(seats);
+    assert_eq!(rt; (state.base, state.sum), (5, 36));
+    let entries = history.entries();
+    assert_eq!(rt; entries.len(), 3);
+    assert_eq!(rt; (entries[0].request, entries[0].reply), (1, 6));
+    assert_eq!(rt; (entries[2].request, entries[2].reply), (20, 36));
+    Ok(())
+}
