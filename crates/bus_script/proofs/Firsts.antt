@@ -20,8 +20,8 @@ record WrongFrom (n : ℕ) (before : List Line) (ls : List (List ℕ)) (fault : 
   why : fault_at fault.line said bad ≡ Some fault.why
 
 here_or_on : (n : ℕ) (before : List Line) (line : List ℕ) (ls : List (List ℕ)) (fault : ScriptFault) (why : Option Why6) → fault_at n before line ≡ why
-    → or_fault why n (read_from (n + 1) (before ++ lines_at n line) ls) ≡ Err fault
-    → (read_from (n + 1) (before ++ lines_at n line) ls ≡ Err fault → WrongFrom (n + 1) (before ++ lines_at n line) ls fault) → WrongFrom n before (line ∷ ls) fault
+    → or_fault why n (read_from (n + 1) (before ++ lines_at n before line) ls) ≡ Err fault
+    → (read_from (n + 1) (before ++ lines_at n before line) ls ≡ Err fault → WrongFrom (n + 1) (before ++ lines_at n before line) ls fault) → WrongFrom n before (line ∷ ls) fault
 here_or_on n before line ls fault None none is on =
     let more = on is in
     record {
@@ -51,7 +51,7 @@ here_or_on n before line ls fault (Some why) some is on =
 
 wrong_from : (ls : List (List ℕ)) (n : ℕ) (before : List Line) (fault : ScriptFault) → read_from n before ls ≡ Err fault → WrongFrom n before ls fault
 wrong_from [] n before fault is = absurd (cc (is))
-wrong_from (line ∷ ls) n before fault is = here_or_on n before line ls fault (fault_at n before line) refl is (wrong_from ls (n + 1) (before ++ lines_at n line) fault)
+wrong_from (line ∷ ls) n before fault is = here_or_on n before line ls fault (fault_at n before line) refl is (wrong_from ls (n + 1) (before ++ lines_at n before line) fault)
 
 pub finds_lem : FindsFirstWrong
 finds_lem bytes fault is = let wrong = wrong_from (lines bytes) 1 [] fault is in record {
@@ -66,14 +66,14 @@ finds_lem bytes fault is = let wrong = wrong_from (lines bytes) 1 [] fault is in
 }
 
 right_or_on : (n : ℕ) (before : List Line) (line : List ℕ) (ls : List (List ℕ)) (said : List Line) (why : Option Why6) → fault_at n before line ≡ why
-    → or_fault why n (read_from (n + 1) (before ++ lines_at n line) ls) ≡ Ok said
-    → (read_from (n + 1) (before ++ lines_at n line) ls ≡ Ok said → Reads (n + 1) (before ++ lines_at n line) ls said) → Reads n before (line ∷ ls) said
+    → or_fault why n (read_from (n + 1) (before ++ lines_at n before line) ls) ≡ Ok said
+    → (read_from (n + 1) (before ++ lines_at n before line) ls ≡ Ok said → Reads (n + 1) (before ++ lines_at n before line) ls said) → Reads n before (line ∷ ls) said
 right_or_on n before line ls said None none is on = (none, on is)
 right_or_on n before line ls said (Some why) some is on = absurd (cc (is))
 
 reads_from : (ls : List (List ℕ)) (n : ℕ) (before said : List Line) → read_from n before ls ≡ Ok said → Reads n before ls said
 reads_from [] n before said is = cc (is)
-reads_from (line ∷ ls) n before said is = right_or_on n before line ls said (fault_at n before line) refl is (reads_from ls (n + 1) (before ++ lines_at n line) said)
+reads_from (line ∷ ls) n before said is = right_or_on n before line ls said (fault_at n before line) refl is (reads_from ls (n + 1) (before ++ lines_at n before line) said)
 
 pub refuses_lem : RefusesNothing
 refuses_lem bytes said is = reads_from (lines bytes) 1 [] said is
@@ -81,7 +81,7 @@ refuses_lem bytes said is = reads_from (lines bytes) 1 [] said is
 accepts_from : (ls : List (List ℕ)) (n : ℕ) (before said : List Line) → Reads n before ls said → read_from n before ls ≡ Ok said
 accepts_from [] n before said is = ap Ok is
 accepts_from (line ∷ ls) n before said is =
-    ap (λ (f : Option Why6). or_fault f n (read_from (n + 1) (before ++ lines_at n line) ls)) is.0 ∙ accepts_from ls (n + 1) (before ++ lines_at n line) said is.1
+    ap (λ (f : Option Why6). or_fault f n (read_from (n + 1) (before ++ lines_at n before line) ls)) is.0 ∙ accepts_from ls (n + 1) (before ++ lines_at n before line) said is.1
 
 pub accepts_lem : AcceptsRight
 accepts_lem bytes said is = accepts_from (lines bytes) 1 [] said is

@@ -1,5 +1,10 @@
 pub mod Cutting
 pub mod Numbers
-pub mod Keeping
+pub mod Phases
+pub mod Scripts
+pub mod Drafts
+pub mod Fitting
+pub mod OneByOne
+pub mod Tried
 pub mod Firsts
 pub mod Short

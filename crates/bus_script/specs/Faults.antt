@@ -1,83 +1,155 @@
 -- Why a line is refused after the lines before it.
-use Rattle.std.specs.Prelude.{ℕ, Bool, true, false, ◌&&◌, is_some, nat_le, nat_lt, List, [], ◌∷◌, count_by, Option, Some, None, if◌then◌else◌}
-use Rattle.std.specs.Option.{option_or}
-use Rattle.std.specs.Str.{bytes_eq}
+use Rattle.std.specs.Prelude.{ℕ, ◌+◌, ◌==◌, Bool, true, false, not, ◌&&◌, ◌||◌, is_some, nat_le, nat_lt, List, [], ◌∷◌, Option, Some, None, if◌then◌else◌, option_and_then, slice_get}
+use Rattle.std.specs.List.{list_all}
+use Rattle.std.specs.Option.{option_or, option_map_or}
 use Rattle.bus_script.specs.declared.fault.Why6.{Why6}
-use Rattle.bus_script.specs.declared.fault.Why6.TheVariants.{Form, Limit, Range}
+use Rattle.bus_script.specs.declared.fault.Why6.TheVariants.{Form, Limit, Order, UnknownName, Repeat, Range}
 use Rattle.bus_script.specs.declared.line.Line.{Line}
-use Rattle.bus_script.specs.declared.line.What.{What}
-use Rattle.bus_script.specs.declared.line.What.TheVariants.{Offer as IsOffer, Ask as IsAsk}
 use Rattle.bus_script.specs.declared.line.DeviceSpec.{DeviceSpec}
 use Rattle.bus_script.specs.declared.line.DeviceSpec.TheVariants.{Beat as IsBeat, Down as IsDown}
 use Rattle.bus_script.specs.declared.said.Said.{Said}
-use Rattle.bus_script.specs.declared.said.Said.TheVariants.{Nothing, Offer, Beat, Down}
+use Rattle.bus_script.specs.declared.said.Said.TheVariants.{Nothing, Contact, Offer, Ring, Window, Beat, Down, Close, Phase}
+use Rattle.bus_script.specs.Parts.{is_settings, asks_in, this_part, phases_over, offered, channels_of, channels, has_ring, has_window, closed_in, device_of}
 use Rattle.bus_script.specs.Rows.{said_in}
-
--- a line that asks a device
-abbrev pub is_ask : What → Bool
-is_ask (IsOffer name device) = false
-is_ask (IsAsk device ask) = true
-
--- how many lines ask a device
-abbrev pub asks_in : List Line → ℕ
-asks_in lines = count_by (λ l. is_ask l.what) lines
-
--- two devices are of one kind
-abbrev pub same_kind : DeviceSpec → DeviceSpec → Bool
-same_kind IsBeat IsBeat = true
-same_kind IsBeat IsDown = false
-same_kind IsDown IsBeat = false
-same_kind IsDown IsDown = true
-
--- a line that offers a device of this name and kind
-abbrev pub offers : List ℕ → DeviceSpec → What → Bool
-offers name kind (IsOffer offered device) = bytes_eq offered name && same_kind device kind
-offers name kind (IsAsk device ask) = false
-
--- the first line offers a device of this name and kind
-abbrev pub is_device : List ℕ → DeviceSpec → List Line → Bool
-is_device name kind [] = false
-is_device name kind (l ∷ ls) = offers name kind l.what
-
--- the first line with words offers the one device, and each later one asks it
-abbrev pub has_place : List Line → Said → Bool
-has_place before Nothing = true
-has_place [] (Offer name kind) = true
-has_place (l ∷ ls) (Offer name kind) = false
-has_place before (Beat name seq) = is_device name IsBeat before
-has_place before (Down name flags) = is_device name IsDown before
 
 -- a reason, where a test fails
 abbrev pub unless : Bool → Why6 → Option Why6
 unless holds why = if holds then None else Some why
 
--- a line that says something has a place
-abbrev pub form_fault : List Line → Said → Option Why6
-form_fault before said = unless (has_place before said) Form
+-- the name that a line speaks of
+abbrev pub name_said : Said → Option (List ℕ)
+name_said Nothing = None
+name_said (Contact guest host) = None
+name_said (Offer name spec) = Some name
+name_said (Ring name pages) = Some name
+name_said (Window name size) = Some name
+name_said (Beat name seq) = Some name
+name_said (Down name flags) = Some name
+name_said (Close name) = Some name
+name_said Phase = None
 
--- there are 20,000 lines, whatever they hold
+-- the device of that name, where one was offered before
+abbrev pub device_said : List Line → Said → Option ℕ
+device_said before said = option_and_then (λ name. device_of name before) (name_said said)
+
+-- a line of settings
+abbrev pub says_settings : Said → Bool
+says_settings Nothing = false
+says_settings (Contact guest host) = true
+says_settings (Offer name spec) = true
+says_settings (Ring name pages) = true
+says_settings (Window name size) = true
+says_settings (Beat name seq) = false
+says_settings (Down name flags) = false
+says_settings (Close name) = false
+says_settings Phase = false
+
+-- Limit: there are 20,000 lines, whatever they hold
 abbrev pub line_limit : ℕ → Option Why6
 line_limit number = unless (nat_le number 20000) Limit
 
--- there are 4,096 requests
-abbrev pub ask_limit : ℕ → Said → Option Why6
-ask_limit asks Nothing = None
-ask_limit asks (Offer name kind) = None
-ask_limit asks (Beat name seq) = unless (nat_lt asks 4096) Limit
-ask_limit asks (Down name flags) = unless (nat_lt asks 4096) Limit
+-- a phase has 4,096 requests
+abbrev pub ask_limit : List Line → Option Why6
+ask_limit before = unless (nat_lt (asks_in (this_part before)) 4096) Limit
 
--- a sequence number has 64 bits, and flags have 32
+-- Limit: and the devices have 16 channels
+abbrev pub count_limit : List Line → Said → Option Why6
+count_limit before Nothing = None
+count_limit before (Contact guest host) = None
+count_limit before (Offer name spec) = unless (nat_le (channels before + channels_of spec) 16) Limit
+count_limit before (Ring name pages) = None
+count_limit before (Window name size) = None
+count_limit before (Beat name seq) = ask_limit before
+count_limit before (Down name flags) = ask_limit before
+count_limit before (Close name) = None
+count_limit before Phase = None
+
+-- no line with words stands before
+abbrev pub is_first : List Line → Bool
+is_first [] = true
+is_first (l ∷ ls) = false
+
+-- a device that an earlier phase closed
+abbrev pub is_closed_before : List Line → ℕ → Bool
+is_closed_before before device = option_map_or (λ phase. nat_lt phase (phases_over before)) (closed_in device before) false
+
+-- Order: the versions stand before all other lines, and what an earlier phase closed isn't closed again
+abbrev pub own_order : List Line → Option ℕ → Said → Option Why6
+own_order before device Nothing = None
+own_order before device (Contact guest host) = unless (is_first before) Order
+own_order before device (Offer name spec) = None
+own_order before device (Ring name pages) = None
+own_order before device (Window name size) = None
+own_order before device (Beat name seq) = None
+own_order before device (Down name flags) = None
+own_order before device (Close name) = unless (not (option_map_or (is_closed_before before) device false)) Order
+own_order before device Phase = None
+
+-- Order: settings stand before all lines of other kinds
+abbrev pub order_fault : List Line → Option ℕ → Said → Option Why6
+order_fault before device said = option_or (unless (not (says_settings said) || list_all (λ l. is_settings l.what) before) Order) (own_order before device said)
+
+abbrev pub is_beat : DeviceSpec → Bool
+is_beat IsBeat = true
+is_beat IsDown = false
+
+abbrev pub is_down : DeviceSpec → Bool
+is_down IsBeat = false
+is_down IsDown = true
+
+-- the device was offered, and it is of such a kind
+abbrev pub is_offered : (DeviceSpec → Bool) → List Line → Option ℕ → Bool
+is_offered kind before device = option_map_or kind (option_and_then (slice_get (offered before)) device) false
+
+-- UnknownName: the name was offered before, and as the kind of device that the line takes
+abbrev pub name_fault : List Line → Option ℕ → Said → Option Why6
+name_fault before device Nothing = None
+name_fault before device (Contact guest host) = None
+name_fault before device (Offer name spec) = None
+name_fault before device (Ring name pages) = unless (is_some device) UnknownName
+name_fault before device (Window name size) = unless (is_some device) UnknownName
+name_fault before device (Beat name seq) = unless (is_offered is_beat before device) UnknownName
+name_fault before device (Down name flags) = unless (is_offered is_down before device) UnknownName
+name_fault before device (Close name) = unless (is_some device) UnknownName
+name_fault before device Phase = None
+
+-- a device that this phase closes
+abbrev pub is_closed_here : List Line → ℕ → Bool
+is_closed_here before device = option_map_or (λ phase. phase == phases_over before) (closed_in device before) false
+
+-- Repeat: a name is offered once, a device has one line of each setting, and a phase closes it once
+abbrev pub repeat_fault : List Line → Option ℕ → Said → Option Why6
+repeat_fault before device Nothing = None
+repeat_fault before device (Contact guest host) = None
+repeat_fault before device (Offer name spec) = unless (not (is_some device)) Repeat
+repeat_fault before device (Ring name pages) = unless (not (option_map_or (λ d. has_ring d before) device false)) Repeat
+repeat_fault before device (Window name size) = unless (not (option_map_or (λ d. has_window d before) device false)) Repeat
+repeat_fault before device (Beat name seq) = None
+repeat_fault before device (Down name flags) = None
+repeat_fault before device (Close name) = unless (not (option_map_or (is_closed_here before) device false)) Repeat
+repeat_fault before device Phase = None
+
+-- Range: each value is in its range
 abbrev pub range_fault : Said → Option Why6
 range_fault Nothing = None
-range_fault (Offer name kind) = None
+range_fault (Contact guest host) = unless (is_some guest && is_some host) Range
+range_fault (Offer name spec) = None
+range_fault (Ring name pages) = unless (is_some pages) Range
+range_fault (Window name size) = unless (is_some size) Range
 range_fault (Beat name seq) = unless (is_some seq) Range
 range_fault (Down name flags) = unless (is_some flags) Range
+range_fault (Close name) = None
+range_fault Phase = None
+
+-- the first reason against a row that speaks of this device, in the order Limit, Order, UnknownName, Repeat, Range
+abbrev pub row_fault : ℕ → List Line → Option ℕ → Said → Option Why6
+row_fault number before device said =
+    option_or (option_or (option_or (option_or (option_or (line_limit number) (count_limit before said)) (order_fault before device said)) (name_fault before device said)) (repeat_fault before device said)) (range_fault said)
 
 -- the first reason against what a line says; one that is no row of the table says nothing in form
 abbrev pub fault_of : ℕ → List Line → Option Said → Option Why6
 fault_of number before None = Some Form
-fault_of number before (Some said) =
-    option_or (option_or (option_or (form_fault before said) (line_limit number)) (ask_limit (asks_in before) said)) (range_fault said)
+fault_of number before (Some said) = row_fault number before (device_said before said) said
 
 -- the first reason against a line
 abbrev pub fault_at : ℕ → List Line → List ℕ → Option Why6

@@ -9,7 +9,7 @@ use Rattle.bus_script.specs.Grammar.{lines_at, script_of}
 -- none of these lines is refused, numbered from n on and behind the lines before; in the end they say this
 abbrev pub Reads : ℕ → List Line → List (List ℕ) → List Line → Type 0
 Reads n before [] said = before ≡ said
-Reads n before (line ∷ rest) said = (fault_at n before line ≡ None) × Reads (n + 1) (before ++ lines_at n line) rest said
+Reads n before (line ∷ rest) said = (fault_at n before line ≡ None) × Reads (n + 1) (before ++ lines_at n before line) rest said
 
 -- the lines before it are right, and it is refused for this reason
 pub record IsFirstWrong (bytes : List ℕ) (fault : ScriptFault) : Type 0 where

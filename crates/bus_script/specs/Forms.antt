@@ -1,6 +1,8 @@
 -- The forms of words.
-use Rattle.std.specs.Prelude.{ℕ, ◌^◌, ◌*◌, ◌-◌, ◌+◌, ◌==◌, Bool, true, false, not, ◌&&◌, ◌||◌, nat_le, nat_lt, List, [], ◌∷◌, length, Option, Some, None, if◌then◌else◌}
-use Rattle.std.specs.List.{list_all}
+use Rattle.std.specs.Prelude.{ℕ, ◌^◌, ◌*◌, ◌-◌, ◌+◌, ◌==◌, Bool, true, false, not, ◌&&◌, ◌||◌, nat_le, nat_lt, List, [], ◌∷◌, length, Option, Some, None, if◌then◌else◌, option_and_then}
+use Rattle.std.specs.List.{list_all, list_any, slice_split}
+use Rattle.contact.specs.Versions.{version, versions}
+use Rattle.contact.specs.declared.version.Version.{Version}
 
 -- a to z
 abbrev pub is_lower : ℕ → Bool
@@ -42,7 +44,31 @@ number_of w = number_after 0 w
 abbrev pub in_u64 : ℕ → Option ℕ
 in_u64 n = if nat_lt n (2 ^ 64) then Some n else None
 
--- a number of 32 bits, where it is one
-abbrev pub in_u32 : Option ℕ → Option ℕ
-in_u32 None = None
-in_u32 (Some n) = if nat_lt n (2 ^ 32) then Some n else None
+-- a number from low to high, where it is one
+abbrev pub within : ℕ → ℕ → Option ℕ → Option ℕ
+within low high None = None
+within low high (Some n) = if nat_le low n && nat_le n high then Some n else None
+
+-- the one part before a dot and the one behind it
+abbrev pub pair_of : List (List ℕ) → Option (List ℕ × List ℕ)
+pair_of (a ∷ b ∷ []) = Some (a, b)
+pair_of others = None
+
+abbrev pub dotted : List ℕ → Option (List ℕ × List ℕ)
+dotted w = pair_of (slice_split (λ b. b == 46) w)
+
+-- a decimal number, a dot and a decimal number
+abbrev pub is_pair : Option (List ℕ × List ℕ) → Bool
+is_pair None = false
+is_pair (Some p) = is_decimal p.0 && is_decimal p.1
+
+abbrev pub is_version : List ℕ → Bool
+is_version w = is_pair (dotted w)
+
+-- a version of the list with these two numbers
+abbrev pub listed : ℕ → ℕ → Option Version
+listed major minor = if nat_lt minor 65536 && list_any (λ u. u == version major minor) versions then Some (record { 0 = version major minor }) else None
+
+-- the version of the list that a word writes, where it writes one
+abbrev pub version_of : List ℕ → Option Version
+version_of w = option_and_then (λ p. listed (number_of p.0) (number_of p.1)) (dotted w)

@@ -1,10 +1,12 @@
 pub mod Words
 pub mod Forms
+pub mod Parts
 pub mod Rows
 pub mod Faults
 pub mod Grammar
 pub mod First
 pub mod Parse
 pub mod WellFormed
+pub mod Draft
 pub mod Hex
 pub mod Report

@@ -1,19 +1,46 @@
 -- The text of a run's outcomes.
-use Rattle.std.specs.Prelude.{ℕ, ◌≡◌, Bool, true, false, List, [], ◌++◌, codes, count_by, length, filter}
+use Rattle.std.specs.Prelude.{ℕ, ◌≡◌, ◌+◌, ◌*◌, ◌/◌, ◌%◌, Bool, true, false, List, [], ◌∷◌, ◌++◌, codes, count_by, length, filter, take, nat_le}
 use Rattle.std.specs.List.{flat_map, zip}
 use Rattle.std.specs.Fmt.{decimal}
+use Rattle.contact.specs.Versions.{versions, IsVersion}
+use Rattle.contact.specs.declared.version.Version.{Version}
 use Rattle.util_ic.specs.declared.ic.IcAsk.TheVariants.{Beat as AskBeat, Down as AskDown}
 use Rattle.bus_script.specs.declared.line.Line.{Line}
 use Rattle.bus_script.specs.declared.line.What.{What}
-use Rattle.bus_script.specs.declared.line.What.TheVariants.{Offer as IsOffer, Ask as IsAsk}
+use Rattle.bus_script.specs.declared.line.What.TheVariants.{Contact as IsContact, Offer as IsOffer, RingSize as IsRingSize, Window as IsWindow, Ask as IsAsk, Shut as IsShut, Phase as IsPhase}
 use Rattle.bus_script.specs.declared.line.Ask.{Ask}
 use Rattle.bus_script.specs.declared.line.Ask.TheVariants.{Ic}
 use Rattle.bus_script.specs.declared.outcome.Reply.{Reply}
 use Rattle.bus_script.specs.declared.outcome.Reply.TheVariants.{Ic as IcReply}
 use Rattle.bus_script.specs.declared.outcome.LineResult.{LineResult}
-use Rattle.bus_script.specs.declared.outcome.LineResult.TheVariants.{Done, RescindedServed, Unserved, Gone, Closed}
+use Rattle.bus_script.specs.declared.outcome.LineResult.TheVariants.{Version as Agreed, Done, RescindedServed, Unserved, Gone, Closed}
 use Rattle.bus_script.specs.Hex.{hex_8}
-use Rattle.bus_script.specs.Faults.{is_ask, asks_in}
+use Rattle.bus_script.specs.Parts.{asks_in}
+
+-- the versions that a guest with this highest one may try, in order
+abbrev pub versions_from : ℕ → List ℕ
+versions_from guest = filter (λ v. nat_le v guest) versions
+
+-- the first ones that it tries
+abbrev pub tried : ℕ → ℕ → List ℕ
+tried guest count = take count (versions_from guest)
+
+-- the last one tried, or else this
+abbrev pub last_or : ℕ → List ℕ → ℕ
+last_or other [] = other
+last_or other (v ∷ vs) = last_or v vs
+
+-- MAJOR.MINOR
+abbrev pub version_text : ℕ → List ℕ
+version_text v = decimal (v / 65536) ++ (codes "." ++ decimal (v % 65536))
+
+-- each behind a space
+abbrev pub versions_text : List ℕ → List ℕ
+versions_text vs = flat_map (λ v. codes " " ++ version_text v) vs
+
+-- version V tried A B, where the last one tried is V
+abbrev pub contact_text : ℕ → ℕ → List ℕ
+contact_text guest count = codes "version " ++ (version_text (last_or 0 (tried guest count)) ++ (codes " tried" ++ versions_text (tried guest count)))
 
 -- seq SEQ, or status 0xSTATUS
 abbrev pub reply_text : Ask → Reply → List ℕ
@@ -22,24 +49,48 @@ reply_text (Ic (AskDown reason timeout flags)) (IcReply answer) = codes "status 
 
 -- done @SERIAL REPLY, and so on
 abbrev pub ask_text : Ask → LineResult → List ℕ
+ask_text ask (Agreed count) = []
 ask_text ask (Done serial reply) = codes "done @" ++ (decimal serial ++ (codes " " ++ reply_text ask reply))
 ask_text ask (RescindedServed serial) = codes "rescinded @" ++ decimal serial
 ask_text ask Unserved = codes "rescinded unserved"
 ask_text ask Gone = codes "gone"
 ask_text ask Closed = codes "closed"
 
--- an offer has no outcome
+-- the versions that were tried; no other outcome of a contact has a text
+abbrev pub agreed_text : Version → LineResult → List ℕ
+agreed_text guest (Agreed count) = contact_text guest.0 count
+agreed_text guest (Done serial reply) = []
+agreed_text guest (RescindedServed serial) = []
+agreed_text guest Unserved = []
+agreed_text guest Gone = []
+agreed_text guest Closed = []
+
+-- contact and requests have outcomes, and no other line has
 abbrev pub outcome_text : What → LineResult → List ℕ
+outcome_text (IsContact guest host) result = agreed_text guest result
 outcome_text (IsOffer name device) result = []
+outcome_text (IsRingSize device pages) result = []
+outcome_text (IsWindow device size) result = []
 outcome_text (IsAsk device ask) result = ask_text ask result
+outcome_text (IsShut device) result = []
+outcome_text IsPhase result = []
 
 -- the line's number and its outcome
 abbrev pub line_text : Line → LineResult → List ℕ
 line_text line result = decimal line.number ++ (codes " " ++ (outcome_text line.what result ++ codes "\n"))
 
--- a line prints where it asks a device
+-- a line that prints: a contact or a request
+abbrev pub tells : What → Bool
+tells (IsContact guest host) = true
+tells (IsOffer name device) = false
+tells (IsRingSize device pages) = false
+tells (IsWindow device size) = false
+tells (IsAsk device ask) = true
+tells (IsShut device) = false
+tells IsPhase = false
+
 abbrev pub prints : Line → Bool
-prints line = is_ask line.what
+prints line = tells line.what
 
 -- the lines that print, each with its outcome
 abbrev pub lines_text : List Line → List LineResult → List ℕ
@@ -47,10 +98,11 @@ lines_text lines results = flat_map (λ pair. line_text pair.0 pair.1) (zip (fil
 
 -- one outcome for each line that prints
 abbrev pub Answers : List Line → List LineResult → Type 0
-Answers lines results = length results ≡ asks_in lines
+Answers lines results = length results ≡ count_by prints lines
 
 -- served and completed
 abbrev pub is_done : LineResult → Bool
+is_done (Agreed count) = false
 is_done (Done serial reply) = true
 is_done (RescindedServed serial) = false
 is_done Unserved = false
@@ -59,6 +111,7 @@ is_done Closed = false
 
 -- rescinded, served or not
 abbrev pub is_rescinded : LineResult → Bool
+is_rescinded (Agreed count) = false
 is_rescinded (Done serial reply) = false
 is_rescinded (RescindedServed serial) = true
 is_rescinded Unserved = true
@@ -72,3 +125,23 @@ end_text requests done rescinded = codes "end requests " ++ (decimal requests ++
 -- each line that prints, and the counts
 abbrev pub report_of : List Line → List LineResult → List ℕ
 report_of lines results = lines_text lines results ++ end_text (asks_in lines) (count_by is_done results) (count_by is_rescinded results)
+
+-- the versions of a contact are in the list
+abbrev pub HasVersion : What → Type 0
+HasVersion (IsContact guest host) = IsVersion guest.0
+HasVersion (IsOffer name device) = Unit {0}
+HasVersion (IsRingSize device pages) = Unit {0}
+HasVersion (IsWindow device size) = Unit {0}
+HasVersion (IsAsk device ask) = Unit {0}
+HasVersion (IsShut device) = Unit {0}
+HasVersion IsPhase = Unit {0}
+
+-- no outcome of a line has more bytes
+abbrev pub most_text : What → ℕ
+most_text (IsContact guest host) = 55 + 42 * length (versions_from guest.0)
+most_text (IsOffer name device) = 0
+most_text (IsRingSize device pages) = 0
+most_text (IsWindow device size) = 0
+most_text (IsAsk device ask) = 51
+most_text (IsShut device) = 0
+most_text IsPhase = 0

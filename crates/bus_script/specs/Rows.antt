@@ -1,42 +1,72 @@
 -- The rows of the table of lines.
-use Rattle.std.specs.Prelude.{ℕ, ◌==◌, Bool, false, ◌&&◌, nat_le, List, [], ◌∷◌, codes, Option, Some, None, if◌then◌else◌}
+use Rattle.std.specs.Prelude.{ℕ, ◌^◌, ◌-◌, ◌==◌, Bool, false, ◌&&◌, nat_le, List, [], ◌∷◌, codes, Option, Some, None, if◌then◌else◌}
 use Rattle.std.specs.List.{list_all}
+use Rattle.std.specs.Option.{option_map}
 use Rattle.std.specs.Str.{bytes_eq}
-use Rattle.bus_script.specs.declared.line.DeviceSpec.{DeviceSpec}
 use Rattle.bus_script.specs.declared.line.DeviceSpec.TheVariants.{Beat as IsBeat, Down as IsDown}
 use Rattle.bus_script.specs.declared.said.Said.{Said}
-use Rattle.bus_script.specs.declared.said.Said.TheVariants.{Nothing, Offer, Beat, Down}
+use Rattle.bus_script.specs.declared.said.Said.TheVariants.{Nothing, Contact, Offer, Ring, Window, Beat, Down, Close, Phase}
 use Rattle.bus_script.specs.Words.{words}
-use Rattle.bus_script.specs.Forms.{is_name, is_decimal, number_of, in_u64, in_u32}
+use Rattle.bus_script.specs.Forms.{is_name, is_decimal, number_of, in_u64, within, is_version, version_of}
 
--- NAME, behind a kind of device
-abbrev pub named_row : DeviceSpec → List (List ℕ) → Option Said
-named_row kind (name ∷ []) = if is_name name then Some (Offer name kind) else None
-named_row kind others = None
+-- NAME
+abbrev pub name_alone : List (List ℕ) → Option (List ℕ)
+name_alone (name ∷ []) = if is_name name then Some name else None
+name_alone others = None
+
+-- NAME NUMBER
+abbrev pub name_and_number : List (List ℕ) → Option (List ℕ × Option ℕ)
+name_and_number (name ∷ number ∷ []) = if is_name name && is_decimal number then Some (name, in_u64 (number_of number)) else None
+name_and_number others = None
+
+-- GUEST HOST, behind contact
+abbrev pub contact_row : List (List ℕ) → Option Said
+contact_row (guest ∷ host ∷ []) = if is_version guest && is_version host then Some (Contact (version_of guest) (version_of host)) else None
+contact_row others = None
 
 -- hb NAME, or shutdown NAME, behind offer
 abbrev pub offer_row : List (List ℕ) → Option Said
 offer_row [] = None
 offer_row (kind ∷ others) =
-    if bytes_eq kind (codes "hb") then named_row IsBeat others else
-    if bytes_eq kind (codes "shutdown") then named_row IsDown others else None
+    if bytes_eq kind (codes "hb") then option_map (λ name. Offer name IsBeat) (name_alone others) else
+    if bytes_eq kind (codes "shutdown") then option_map (λ name. Offer name IsDown) (name_alone others) else None
+
+-- NAME PAGES, behind ring
+abbrev pub ring_row : List (List ℕ) → Option Said
+ring_row others = option_map (λ p. Ring p.0 (within 1 16 p.1)) (name_and_number others)
+
+-- NAME N, behind window
+abbrev pub window_row : List (List ℕ) → Option Said
+window_row others = option_map (λ p. Window p.0 (within 1 64 p.1)) (name_and_number others)
 
 -- NAME SEQ, behind beat
 abbrev pub beat_row : List (List ℕ) → Option Said
-beat_row (name ∷ seq ∷ []) = if is_name name && is_decimal seq then Some (Beat name (in_u64 (number_of seq))) else None
-beat_row others = None
+beat_row others = option_map (λ p. Beat p.0 p.1) (name_and_number others)
 
 -- NAME FLAGS, behind down
 abbrev pub down_row : List (List ℕ) → Option Said
-down_row (name ∷ flags ∷ []) = if is_name name && is_decimal flags then Some (Down name (in_u32 (in_u64 (number_of flags)))) else None
-down_row others = None
+down_row others = option_map (λ p. Down p.0 (within 0 (2 ^ 32 - 1) p.1)) (name_and_number others)
+
+-- NAME, behind close
+abbrev pub close_row : List (List ℕ) → Option Said
+close_row others = option_map Close (name_alone others)
+
+-- nothing, behind phase
+abbrev pub phase_row : List (List ℕ) → Option Said
+phase_row [] = Some Phase
+phase_row others = None
 
 -- the table of lines: what stands behind each key word
 abbrev pub row_of : List ℕ → List (List ℕ) → Option Said
 row_of key others =
+    if bytes_eq key (codes "contact") then contact_row others else
     if bytes_eq key (codes "offer") then offer_row others else
+    if bytes_eq key (codes "ring") then ring_row others else
+    if bytes_eq key (codes "window") then window_row others else
     if bytes_eq key (codes "beat") then beat_row others else
-    if bytes_eq key (codes "down") then down_row others else None
+    if bytes_eq key (codes "down") then down_row others else
+    if bytes_eq key (codes "close") then close_row others else
+    if bytes_eq key (codes "phase") then phase_row others else None
 
 -- a word that makes its line a comment, where it is the first
 abbrev pub begins_comment : List ℕ → Bool

@@ -1,35 +1,80 @@
 -- What every script has.
-use Rattle.std.specs.Prelude.{◌≡◌, List, [], ◌∷◌}
-use Rattle.util_ic.specs.declared.ic.IcAsk.TheVariants.{Beat as AskBeat, Down as AskDown}
+use Rattle.std.specs.Prelude.{ℕ, ◌≡◌, ◌+◌, ◌<◌, ◌≤◌, Bool, true, false, not, Some, None, IfSome, List, [], ◌∷◌, ◌++◌, length, map, All, count_by, slice_get, if◌then◌else◌}
+use Rattle.std.specs.List.{list_all}
+use Rattle.contact.specs.Versions.{IsVersion}
 use Rattle.bus_script.specs.declared.line.Line.{Line}
 use Rattle.bus_script.specs.declared.line.What.{What}
-use Rattle.bus_script.specs.declared.line.What.TheVariants.{Offer as IsOffer, Ask as IsAsk}
+use Rattle.bus_script.specs.declared.line.What.TheVariants.{Contact as IsContact, Offer as IsOffer, RingSize as IsRingSize, Window as IsWindow, Ask as IsAsk, Shut as IsShut, Phase as IsPhase}
 use Rattle.bus_script.specs.declared.line.DeviceSpec.{DeviceSpec}
-use Rattle.bus_script.specs.declared.line.DeviceSpec.TheVariants.{Beat as IsBeat, Down as IsDown}
-use Rattle.bus_script.specs.declared.line.Ask.{Ask}
-use Rattle.bus_script.specs.declared.line.Ask.TheVariants.{Ic}
+use Rattle.bus_script.specs.declared.said.Said.{Said}
+use Rattle.bus_script.specs.declared.said.Said.TheVariants.{Nothing, Contact, Offer, Ring, Window, Beat, Down, Close, Phase}
+use Rattle.bus_script.specs.Parts.{parts, this_part, offered, offered_by, named_by, asks_in, is_ask, is_settings, shuts, closed_in, channels, channels_of, device_of, kind_of, kind_asked}
 
--- the kind of device that is asked this
-abbrev pub kind_asked : Ask → DeviceSpec
-kind_asked (Ic (AskBeat seq)) = IsBeat
-kind_asked (Ic (AskDown reason timeout flags)) = IsDown
+-- a line that speaks of a device speaks of one that is offered, and a request of one of its kind; numbers are in their ranges
+abbrev pub IsRight : List DeviceSpec → What → Type 0
+IsRight kinds (IsContact guest host) = IsVersion guest.0 × IsVersion host.0
+IsRight kinds (IsOffer name device) = Unit {0}
+IsRight kinds (IsRingSize device pages) = (device < length kinds) × (1 ≤ pages) × (pages ≤ 16)
+IsRight kinds (IsWindow device size) = (device < length kinds) × (1 ≤ size) × (size ≤ 64)
+IsRight kinds (IsAsk device ask) = slice_get (map kind_of kinds) device ≡ Some (kind_asked ask)
+IsRight kinds (IsShut device) = device < length kinds
+IsRight kinds IsPhase = Unit {0}
 
--- it asks the one device, which is of this kind
-abbrev pub Asks : DeviceSpec → What → Type 0
-Asks kind (IsOffer name device) = ⊥
-Asks kind (IsAsk device ask) = (device ≡ 0) × (kind_asked ask ≡ kind)
+-- each of these lines is right
+abbrev pub AllRight : List DeviceSpec → List Line → Type 0
+AllRight kinds [] = Unit {0}
+AllRight kinds (l ∷ ls) = IsRight kinds l.what × AllRight kinds ls
 
--- each of these lines asks the one device
-abbrev pub AllAsk : DeviceSpec → List Line → Type 0
-AllAsk kind [] = Unit {0}
-AllAsk kind (l ∷ ls) = Asks kind l.what × AllAsk kind ls
+-- the line says which versions the guest and its host have
+abbrev pub is_contact : What → Bool
+is_contact (IsContact guest host) = true
+is_contact (IsOffer name device) = false
+is_contact (IsRingSize device pages) = false
+is_contact (IsWindow device size) = false
+is_contact (IsAsk device ask) = false
+is_contact (IsShut device) = false
+is_contact IsPhase = false
 
--- it offers the device that these lines ask
-abbrev pub OffersFor : What → List Line → Type 0
-OffersFor (IsOffer name kind) lines = AllAsk kind lines
-OffersFor (IsAsk device ask) lines = ⊥
+-- behind the first line none says versions
+abbrev pub contact_first : List Line → Bool
+contact_first [] = true
+contact_first (l ∷ ls) = list_all (λ m. not (is_contact m.what)) ls
 
--- the first line offers a device, and the later ones ask it
-abbrev pub IsScript : List Line → Type 0
-IsScript [] = Unit {0}
-IsScript (l ∷ ls) = OffersFor l.what ls
+-- no line of settings stands behind a line of another kind
+abbrev pub settings_first : List Line → Bool
+settings_first [] = true
+settings_first (l ∷ ls) = if is_settings l.what then settings_first ls else list_all (λ m. not (is_settings m.what)) ls
+
+-- What every script has: each line is right among the devices that the script offers, at most 16 of them with 16 channels; settings stand first, and the versions before them all; a phase has at most 4,096 requests; a device is closed once at most
+pub record IsScript (lines : List Line) : Type 0 where
+  pub right : AllRight (offered lines) lines
+  pub contact : contact_first lines ≡ true
+  pub settings : settings_first lines ≡ true
+  pub few : length (offered lines) ≤ 16
+  pub channels : channels lines ≤ 16
+  pub short : length lines ≤ 20000
+  pub asks : All (λ part. asks_in part ≤ 4096) (parts lines)
+  pub closed : (device : ℕ) → count_by (λ l. shuts device l.what) lines ≤ 1
+
+-- the values that a line says are in their ranges, where it says any
+abbrev pub InRange : Said → Type 0
+InRange Nothing = Unit {0}
+InRange (Contact guest host) = IfSome guest (λ v. IsVersion v.0) × IfSome host (λ v. IsVersion v.0)
+InRange (Offer name spec) = Unit {0}
+InRange (Ring name pages) = IfSome pages (λ n. (1 ≤ n) × (n ≤ 16))
+InRange (Window name size) = IfSome size (λ n. (1 ≤ n) × (n ≤ 64))
+InRange (Beat name seq) = Unit {0}
+InRange (Down name flags) = Unit {0}
+InRange (Close name) = Unit {0}
+InRange Phase = Unit {0}
+
+-- a line of this may stand behind these lines
+pub record Fits (before : List Line) (what : What) : Type 0 where
+  pub right : IsRight (offered before ++ offered_by what) what
+  pub contact : is_contact what ≡ true → before ≡ []
+  pub settings : is_settings what ≡ true → list_all (λ l. is_settings l.what) before ≡ true
+  pub few : (spec : DeviceSpec) → offered_by what ≡ spec ∷ [] → channels before + channels_of spec ≤ 16
+  pub new : (name : List ℕ) → named_by what ≡ name ∷ [] → device_of name before ≡ None
+  pub asks : is_ask what ≡ true → asks_in (this_part before) < 4096
+  pub closed : (device : ℕ) → shuts device what ≡ true → closed_in device before ≡ None
+  pub short : length before < 20000

@@ -5,7 +5,7 @@ ghost use Rattle.std.specs.Str.Lines.{lines, strip_carriage_return};
 ghost use Rattle.bus_script.specs.Words.{words};
 
 /// What stands before the first `at`, and what stands after it.
-fn cut(bytes: &[u8], at: u8) -> Option<(&[u8], &[u8])>
+pub fn cut(bytes: &[u8], at: u8) -> Option<(&[u8], &[u8])>
     ensures parts { MatchOption result
         (slice_split (λ b. b == at) bytes.now ≡ bytes.now ∷ [])
         (λ cut. slice_split (λ b. b == at) bytes.now ≡ cut.0.now ∷ slice_split (λ b. b == at) cut.1.now) }

@@ -2,7 +2,7 @@
 ghost use Rattle.std.specs.Prelude.{◌≡◌};
 ghost use Rattle.bus_script.specs.declared.fault.ParseFault.TheVariants.{Memory};
 
-use std::alloc::AllocFailed;
+use std::alloc::{AllocError, AllocFailed};
 use std::error::Error;
 use std::fmt;
 
@@ -79,6 +79,14 @@ impl<T: Drop> From<AllocFailed<T>> for ParseFault {
     ghost from_gives = { λ _ e. e ≡ Memory };
 
     fn from(_: AllocFailed<T>) -> Self {
+        ParseFault::Memory
+    }
+}
+
+impl From<AllocError> for ParseFault {
+    ghost from_gives = { λ _ e. e ≡ Memory };
+
+    fn from(_: AllocError) -> Self {
         ParseFault::Memory
     }
 }

@@ -2,6 +2,7 @@
 #![tactic(auto)]
 
 mod cut;
+mod draft;
 mod fault;
 mod hex;
 mod law;
@@ -16,6 +17,7 @@ mod said;
 mod script;
 #[cfg(test)]
 mod tests;
+mod version;
 mod writing;
 
 pub use cut::first_line;

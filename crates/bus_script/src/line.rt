@@ -1,6 +1,7 @@
 //! What the lines of a script say.
 
 use crate::Name;
+use contact::Version;
 use util_ic::IcAsk;
 
 /// A device that a script offers.
@@ -22,10 +23,20 @@ pub enum Ask {
 /// What a line with words says. Devices count from 0, in order of offer.
 #[derive(Drop)]
 pub enum What {
+    /// The highest versions of the guest and of its host.
+    Contact { guest: Version, host: Version },
     /// The host offers a device under a name.
     Offer { name: Name, device: DeviceSpec },
+    /// Each ring of a device has this many data pages of 4,096 bytes.
+    RingSize { device: u32, pages: u32 },
+    /// A channel of a device has at most this many requests open.
+    Window { device: u32, size: u32 },
     /// A device is asked.
     Ask { device: u32, ask: Ask },
+    /// A device is closed at the end of this phase, for good.
+    Shut { device: u32 },
+    /// The next phase begins.
+    Phase,
 }
 
 /// A line with words, and its number; lines count from 1.

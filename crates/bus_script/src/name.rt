@@ -1,9 +1,14 @@
 //! Names of devices.
-ghost use Rattle.std.specs.Prelude.{◌≡◌, ◌<◌, ◌≤◌, List, length};
+ghost use Rattle.std.specs.Prelude.{◌≡◌, ◌<◌, ◌≤◌, ◌∷◌, [], List, length, bytes_eq};
 ghost use Rattle.std.specs.List.{list_all};
+ghost use Rattle.std.specs.Cmp.{partial_equiv_from_equiv};
+ghost use Rattle.std.specs.Cmp.Lexicographic.{nat_list_eq_equiv};
+ghost use Rattle.std.specs.Cmp.Rules.{hashing};
+ghost use Rattle.std.proofs.Common.{rules};
 ghost use Rattle.bus_script.specs.Forms.{is_name, is_name_byte, is_lower};
 
 use crate::number::is_digit;
+use std::hash::{Hash, Hasher};
 use std::marker::Model;
 
 /// A name of 1 to 16 bytes. Contracts see the list of them.
@@ -40,9 +45,42 @@ impl Name {
 
     /// The bytes of the name.
     pub fn bytes(&self) -> &[u8]
-        ensures { result.now ≡ self.now }
+        ensures bytes { result.now ≡ self.now }
+        ensures some { 0 < length result.now }
+        ensures short { length result.now ≤ 16 }
     {
         &self.bytes[..self.len]
+    }
+
+    /// The same name.
+    pub fn again(&self) -> Name
+        ensures { result ≡ self.now }
+    {
+        Name::of(self.bytes())
+    }
+}
+
+impl PartialEq for Name {
+    ghost eq = { λ a b. bytes_eq a b };
+
+    ghost laws = { partial_equiv_from_equiv nat_list_eq_equiv };
+
+    fn eq(&self, other: &Name) -> bool {
+        self.bytes() == other.bytes()
+    }
+}
+
+impl Eq for Name {
+    ghost laws = { nat_list_eq_equiv };
+}
+
+impl Hash for Name {
+    ghost hash_input = { λ name. name ∷ [] };
+
+    ghost respects_eq = { Prim.search (hashing, rules) };
+
+    fn hash<H: Hasher>(&self, state: &mut H) {
+        state.write(self.bytes());
     }
 }
 

@@ -1,7 +1,7 @@
 //! Numbers in decimal digits.
-ghost use Rattle.std.specs.Prelude.{◌≡◌, ◌<◌, ◌≤◌, ◌^◌, List, length, Option, Some, None, true};
+ghost use Rattle.std.specs.Prelude.{◌≡◌, ◌<◌, ◌≤◌, ◌^◌, List, length, Option, Some, None, IfSome, true};
 ghost use Rattle.std.specs.List.{list_all};
-ghost use Rattle.bus_script.specs.Forms.{is_decimal, is_digit, has_plain_front, number_after, number_of, in_u64, in_u32};
+ghost use Rattle.bus_script.specs.Forms.{is_decimal, is_digit, has_plain_front, number_after, number_of, in_u64, within};
 
 /// Whether a byte is a decimal digit.
 pub fn is_digit(c: u8) -> bool
@@ -51,12 +51,13 @@ pub fn number_of(word: &[u8]) -> Option<u64>
     Some(n)
 }
 
-/// A number of 32 bits, where it is one.
-pub fn in_u32(number: Option<u64>) -> Option<u32>
-    ensures { result ≡ in_u32 number }
+/// A number from low to high, where it is one.
+pub fn within(low: u32, high: u32, number: Option<u64>) -> Option<u32>
+    ensures number { result ≡ within low high number }
+    ensures range { IfSome result (λ n. (low ≤ n) × (n ≤ high)) }
 {
     match number {
-        Some(n) if n <= u32::MAX as u64 => Some(n as u32),
+        Some(n) if low as u64 <= n && n <= high as u64 => Some(n as u32),
         _ => None,
     }
 }

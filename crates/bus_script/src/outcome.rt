@@ -13,6 +13,8 @@ pub enum Reply {
 /// from 0 over the whole run.
 #[derive(Clone, Copy, Debug, PartialEq, Eq)]
 pub enum LineResult {
+    /// The guest and its host agreed on a version; the guest tried this many of them.
+    Version { tried: u32 },
     /// It was served and completed.
     Done { serial: u32, reply: Reply },
     /// It was served and not completed, for its channel was rescinded.

@@ -1,87 +1,115 @@
 //! A script, read from its bytes.
-ghost use Rattle.std.specs.Prelude.{◌≡◌, ◌+◌, ◌<◌, ◌≤◌, ◌^◌, ◌∷◌, ◌++◌, [], List, length, Option, Some, None, OnOk, IfErr};
+ghost use Rattle.std.specs.Prelude.{◌≡◌, ◌+◌, ◌<◌, ◌≤◌, ◌^◌, ◌∷◌, ◌++◌, [], List, length, Option, Some, None, OnOk, IfErr, IfSome, unwrap_or};
 ghost use Rattle.bus_script.specs.declared.fault.ParseFault.TheVariants.{Memory};
-ghost use Rattle.bus_script.specs.Faults.{asks_in};
-ghost use Rattle.bus_script.specs.Grammar.{what_of, said_lines, script_of};
-ghost use Rattle.bus_script.specs.Parse.{Parses};
+ghost use Rattle.bus_script.specs.Parts.{offered};
+ghost use Rattle.bus_script.specs.Faults.{device_said, row_fault, fault_at};
+ghost use Rattle.bus_script.specs.Grammar.{or_zero, numbered, what_of, lines_at, script_of};
+ghost use Rattle.bus_script.specs.WellFormed.{InRange};
+ghost use Rattle.bus_script.specs.Parse.{Parses, WrongAt};
 
 use crate::cut::first_line;
-use crate::refusal::fault_of;
+use crate::draft::Draft;
+use crate::refusal::{device_said, row_fault};
 use crate::row::said_in;
 use crate::said::Said;
-use crate::{Ask, Line, ParseFault, Script, ScriptFault, What};
+use crate::{Ask, ParseFault, Script, ScriptFault, Why6};
+use contact::Version;
 use std::alloc::Global;
 use util_ic::IcAsk;
 
-/// Reads a script, or finds its first wrong line and the first reason against it: `Form` where
-/// its words are no row of the table of lines or it has no place behind the lines before, `Limit`
-/// where it is line 20,001 or the 4,097th request, `Range` where its number is too great. It
-/// answers `Memory` for want of memory alone.
+/// Reads a script, or finds its first wrong line and the first reason against it. `Form`: its
+/// words are no row of the table of lines, or a word has not its form. `Limit`: it is line 20,001,
+/// the 4,097th request of its phase, or the offer of a 17th channel. `Order`: it is a line of
+/// settings behind one of another kind, a `contact` behind another line, or closes what an earlier
+/// phase closed. `UnknownName`: its name was not offered before, or not as the kind of device that
+/// it takes. `Repeat`: it says what stands before already. `Range`: a value of it is out of range.
+/// The reasons come in this order. It answers `Memory` for want of memory alone.
 pub fn parse(alloc: Global, bytes: &[u8]) -> Result<Script, ParseFault>
     ensures { Parses (script_of bytes.now) result }
 {
-    let mut lines = Vec::new(alloc);
-    let mut asks = 0;
+    let mut draft = Draft::make(alloc);
     let mut rest = bytes;
     let mut number: u32 = 1;
     while let Some((line, after)) = first_line(rest) {
-        let said = said_in(line);
-        match fault_of(number, &lines, asks, &said) {
-            Some(why) => return Err(ParseFault::Script(ScriptFault { line: number, why })),
-            None => {}
-        }
-        asks += count_asks(&said);
-        push_line(&mut lines, number, said)?;
+        read_line(&mut draft, number, line)?;
         number += 1;
         rest = after;
     }
-    Ok(Script { lines })
+    Ok(Script {
+        lines: draft.lines(),
+    })
 }
 
-fn count_asks(said: &Option<Said>) -> u32
-    ensures count { result ≡ asks_in (said_lines 0 said.now) }
-    ensures most { result ≤ 1 }
+/// Adds a line to those before it, where nothing stands against it.
+fn read_line(draft: &mut Draft, number: u32, line: &[u8]) -> Result<(), ParseFault>
+    requires { length draft.old < number }
+    ensures right { OnOk result (fault_at number draft.old line.now ≡ None) }
+    ensures within { OnOk result (number ≤ 20000) }
+    ensures ok { OnOk result (draft.new ≡ draft.old ++ lines_at number draft.old line.now) }
+    ensures err { IfErr result (WrongAt number draft.old line.now) }
 {
+    let Some(said) = said_in(line) else {
+        return Err(wrong(number, Why6::Form));
+    };
+    let device = device_said(draft, &said);
+    match row_fault(number, draft, device, &said) {
+        Some(why) => return Err(wrong(number, why)),
+        None => {}
+    }
+    push(draft, number, device, said)
+}
+
+fn wrong(line: u32, why: Why6) -> ParseFault
+    ensures { result ≡ ParseFault.Script (record { line = line; why = why }) }
+{
+    ParseFault::Script(ScriptFault { line, why })
+}
+
+/// Adds what a line says of this device, against which nothing stands.
+fn push(draft: &mut Draft, number: u32, device: Option<u32>, said: Said) -> Result<(), ParseFault>
+    requires device { device ≡ device_said draft.old said }
+    requires within { IfSome device (λ d. d < length (offered draft.old)) }
+    requires right { row_fault number draft.old device said ≡ None }
+    requires behind { length draft.old < number }
+    requires range { InRange said }
+    ensures within { OnOk result (number ≤ 20000) }
+    ensures ok { OnOk result (draft.new ≡ draft.old ++ numbered number (what_of device said)) }
+    ensures err { IfErr result (λ e. e ≡ Memory) }
+{
+    let device = device.unwrap_or(0);
     match said {
-        Some(Said::Beat(..)) | Some(Said::Down(..)) => 1,
-        _ => 0,
+        Said::Nothing => Ok(()),
+        Said::Contact(guest, host) => { draft.push_contact(number, or_zero(guest), or_zero(host)) }
+        Said::Offer(name, spec) => draft.push_offer(number, name, spec),
+        Said::Ring(_, pages) => draft.push_ring(number, device, pages.unwrap_or(0)),
+        Said::Window(_, size) => draft.push_window(number, device, size.unwrap_or(0)),
+        Said::Beat(_, seq) => draft.push_ask(number, device, beat(seq)),
+        Said::Down(_, flags) => draft.push_ask(number, device, down(flags)),
+        Said::Close(_) => draft.push_shut(number, device),
+        Said::Phase => draft.push_phase(number),
     }
 }
 
-fn push_line(lines: &mut Vec<Line>, number: u32, said: Option<Said>) -> Result<(), ParseFault>
-    ensures ok { OnOk result (lines.new.items ≡ lines.old.items ++ said_lines number said) }
-    ensures err { IfErr result (λ e. e ≡ ParseFault.Memory) }
+fn or_zero(version: Option<Version>) -> Version
+    ensures { result ≡ or_zero version }
 {
-    if let Some(said) = said {
-        if let Some(what) = what_of(said) {
-            lines.push(Line { number, what })?;
-        }
-    }
-    Ok(())
+    version.unwrap_or(Version(0))
 }
 
-fn what_of(said: Said) -> Option<What>
-    ensures { result ≡ what_of said }
+fn beat(seq: Option<u64>) -> Ask
+    ensures { result ≡ Ask.Ic (IcAsk.Beat (unwrap_or seq 0)) }
 {
-    match said {
-        Said::Nothing => None,
-        Said::Offer(name, device) => Some(What::Offer { name, device }),
-        Said::Beat(_, seq) => Some(ask_of(IcAsk::Beat {
-            seq: seq.unwrap_or(0),
-        })),
-        Said::Down(_, flags) => Some(ask_of(IcAsk::Down {
-            reason: 0,
-            timeout: 0,
-            flags: flags.unwrap_or(0),
-        })),
-    }
+    Ask::Ic(IcAsk::Beat {
+        seq: seq.unwrap_or(0),
+    })
 }
 
-fn ask_of(ask: IcAsk) -> What
-    ensures { result ≡ What.Ask 0 (Ask.Ic ask) }
+fn down(flags: Option<u32>) -> Ask
+    ensures { result ≡ Ask.Ic (IcAsk.Down 0 0 (unwrap_or flags 0)) }
 {
-    What::Ask {
-        device: 0,
-        ask: Ask::Ic(ask),
-    }
+    Ask::Ic(IcAsk::Down {
+        reason: 0,
+        timeout: 0,
+        flags: flags.unwrap_or(0),
+    })
 }

@@ -1,52 +1,12 @@
 //! Why a line is refused after the lines before it.
-ghost use Rattle.std.specs.Prelude.{◌≡◌, ◌<◌, ◌≤◌, List, length, Option, Some, None};
-ghost use Rattle.bus_script.specs.Faults.{is_ask, asks_in, same_kind, offers, is_device, has_place, unless, form_fault, line_limit, ask_limit, range_fault, fault_of};
+ghost use Rattle.std.specs.Prelude.{◌≡◌, ◌<◌, ◌≤◌, List, length, Option, Some, None, IfSome, slice_get, option_and_then, false};
+ghost use Rattle.std.specs.Option.{option_map_or};
+ghost use Rattle.bus_script.specs.Parts.{offered, has_ring, has_window};
+ghost use Rattle.bus_script.specs.Faults.{unless, device_said, says_settings, line_limit, ask_limit, count_limit, is_closed_before, own_order, order_fault, name_fault, is_closed_here, repeat_fault, range_fault, row_fault};
 
+use crate::draft::{Draft, channels_of};
 use crate::said::Said;
-use crate::{DeviceSpec, Line, What, Why6};
-
-fn same_kind(a: DeviceSpec, b: DeviceSpec) -> bool
-    ensures { result ≡ same_kind a b }
-{
-    match (a, b) {
-        (DeviceSpec::Beat, DeviceSpec::Beat) => true,
-        (DeviceSpec::Down, DeviceSpec::Down) => true,
-        _ => false,
-    }
-}
-
-fn offers(name: &[u8], kind: DeviceSpec, what: &What) -> bool
-    ensures { result ≡ offers name.now kind what.now }
-{
-    match what {
-        What::Offer {
-            name: offered,
-            device,
-        } => offered.bytes() == name && same_kind(*device, kind),
-        What::Ask { .. } => false,
-    }
-}
-
-/// The one device of a script is what its first line with words offers.
-fn is_device(name: &[u8], kind: DeviceSpec, before: &[Line]) -> bool
-    ensures { result ≡ is_device name.now kind before.now }
-{
-    match before {
-        [first, ..] => offers(name, kind, &first.what),
-        [] => false,
-    }
-}
-
-fn has_place(before: &[Line], said: &Said) -> bool
-    ensures { result ≡ has_place before.now said.now }
-{
-    match said {
-        Said::Nothing => true,
-        Said::Offer(..) => before.is_empty(),
-        Said::Beat(name, _) => is_device(name.bytes(), DeviceSpec::Beat, before),
-        Said::Down(name, _) => is_device(name.bytes(), DeviceSpec::Down, before),
-    }
-}
+use crate::{DeviceSpec, Why6};
 
 fn unless(holds: bool, why: Why6) -> Option<Why6>
     ensures { result ≡ unless holds why }
@@ -54,10 +14,29 @@ fn unless(holds: bool, why: Why6) -> Option<Why6>
     if holds { None } else { Some(why) }
 }
 
-fn form_fault(before: &[Line], said: &Said) -> Option<Why6>
-    ensures { result ≡ form_fault before.now said.now }
+/// The device that a line speaks of, where one of its name was offered before.
+pub fn device_said(before: &Draft, said: &Said) -> Option<u32>
+    ensures device { result ≡ device_said before.now said.now }
+    ensures within { IfSome result (λ d. d < length (offered before.now)) }
 {
-    unless(has_place(before, said), Why6::Form)
+    match said {
+        Said::Offer(name, _)
+        | Said::Ring(name, _)
+        | Said::Window(name, _)
+        | Said::Beat(name, _)
+        | Said::Down(name, _)
+        | Said::Close(name) => before.device_of(name),
+        Said::Nothing | Said::Contact(..) | Said::Phase => None,
+    }
+}
+
+fn says_settings(said: &Said) -> bool
+    ensures { result ≡ says_settings said.now }
+{
+    match said {
+        Said::Contact(..) | Said::Offer(..) | Said::Ring(..) | Said::Window(..) => true,
+        _ => false,
+    }
 }
 
 fn line_limit(number: u32) -> Option<Why6>
@@ -66,12 +45,126 @@ fn line_limit(number: u32) -> Option<Why6>
     unless(number <= 20_000, Why6::Limit)
 }
 
-fn ask_limit(asks: u32, said: &Said) -> Option<Why6>
-    ensures { result ≡ ask_limit asks said.now }
+fn ask_limit(before: &Draft) -> Option<Why6>
+    ensures { result ≡ ask_limit before.now }
+{
+    unless(before.asks() < 4096, Why6::Limit)
+}
+
+fn count_limit(before: &Draft, said: &Said) -> Option<Why6>
+    ensures { result ≡ count_limit before.now said.now }
 {
     match said {
-        Said::Nothing | Said::Offer(..) => None,
-        Said::Beat(..) | Said::Down(..) => unless(asks < 4096, Why6::Limit),
+        Said::Offer(_, spec) => {
+            unless(before.channels() + channels_of(*spec) <= 16, Why6::Limit)
+        }
+        Said::Beat(..) | Said::Down(..) => ask_limit(before),
+        _ => None,
+    }
+}
+
+fn is_closed_before(before: &Draft, device: Option<u32>) -> bool
+    requires { IfSome device (λ d. d < length (offered before.now)) }
+    ensures { result ≡ option_map_or (is_closed_before before.now) device false }
+{
+    match device {
+        Some(device) => before.is_closed_before(device),
+        None => false,
+    }
+}
+
+fn own_order(before: &Draft, device: Option<u32>, said: &Said) -> Option<Why6>
+    requires { IfSome device (λ d. d < length (offered before.now)) }
+    ensures { result ≡ own_order before.now device said.now }
+{
+    match said {
+        Said::Contact(..) => unless(before.is_first(), Why6::Order),
+        Said::Close(..) => unless(!is_closed_before(before, device), Why6::Order),
+        _ => None,
+    }
+}
+
+fn order_fault(before: &Draft, device: Option<u32>, said: &Said) -> Option<Why6>
+    requires { IfSome device (λ d. d < length (offered before.now)) }
+    ensures { result ≡ order_fault before.now device said.now }
+{
+    unless(
+        !says_settings(said) || before.is_all_settings(),
+        Why6::Order,
+    )
+    .or(own_order(before, device, said))
+}
+
+fn spec_of(before: &Draft, device: Option<u32>) -> Option<DeviceSpec>
+    requires { IfSome device (λ d. d < length (offered before.now)) }
+    ensures { result ≡ option_and_then (slice_get (offered before.now)) device }
+{
+    match device {
+        Some(device) => Some(before.spec_at(device)),
+        None => None,
+    }
+}
+
+fn name_fault(before: &Draft, device: Option<u32>, said: &Said) -> Option<Why6>
+    requires { IfSome device (λ d. d < length (offered before.now)) }
+    ensures { result ≡ name_fault before.now device said.now }
+{
+    match said {
+        Said::Ring(..) | Said::Window(..) | Said::Close(..) => {
+            unless(device.is_some(), Why6::UnknownName)
+        }
+        Said::Beat(..) => {
+            let spec = spec_of(before, device);
+            unless(matches!(spec, Some(DeviceSpec::Beat)), Why6::UnknownName)
+        }
+        Said::Down(..) => {
+            let spec = spec_of(before, device);
+            unless(matches!(spec, Some(DeviceSpec::Down)), Why6::UnknownName)
+        }
+        _ => None,
+    }
+}
+
+fn has_ring(before: &Draft, device: Option<u32>) -> bool
+    requires { IfSome device (λ d. d < length (offered before.now)) }
+    ensures { result ≡ option_map_or (λ d. has_ring d before.now) device false }
+{
+    match device {
+        Some(device) => before.has_ring(device),
+        None => false,
+    }
+}
+
+fn has_window(before: &Draft, device: Option<u32>) -> bool
+    requires { IfSome device (λ d. d < length (offered before.now)) }
+    ensures { result ≡ option_map_or (λ d. has_window d before.now) device false }
+{
+    match device {
+        Some(device) => before.has_window(device),
+        None => false,
+    }
+}
+
+fn is_closed_here(before: &Draft, device: Option<u32>) -> bool
+    requires { IfSome device (λ d. d < length (offered before.now)) }
+    ensures { result ≡ option_map_or (is_closed_here before.now) device false }
+{
+    match device {
+        Some(device) => before.is_closed_here(device),
+        None => false,
+    }
+}
+
+fn repeat_fault(before: &Draft, device: Option<u32>, said: &Said) -> Option<Why6>
+    requires { IfSome device (λ d. d < length (offered before.now)) }
+    ensures { result ≡ repeat_fault before.now device said.now }
+{
+    match said {
+        Said::Offer(..) => unless(device.is_none(), Why6::Repeat),
+        Said::Ring(..) => unless(!has_ring(before, device), Why6::Repeat),
+        Said::Window(..) => unless(!has_window(before, device), Why6::Repeat),
+        Said::Close(..) => unless(!is_closed_here(before, device), Why6::Repeat),
+        _ => None,
     }
 }
 
@@ -79,23 +172,25 @@ fn range_fault(said: &Said) -> Option<Why6>
     ensures { result ≡ range_fault said.now }
 {
     match said {
-        Said::Nothing | Said::Offer(..) => None,
+        Said::Contact(guest, host) => unless(guest.is_some() && host.is_some(), Why6::Range),
+        Said::Ring(_, number) | Said::Window(_, number) | Said::Down(_, number) => {
+            unless(number.is_some(), Why6::Range)
+        }
         Said::Beat(_, seq) => unless(seq.is_some(), Why6::Range),
-        Said::Down(_, flags) => unless(flags.is_some(), Why6::Range),
+        _ => None,
     }
 }
 
-/// The first reason against what a line says, after the lines before it, of which `asks` ask a
-/// device. The reasons come in the order Form, Limit, Range.
-pub fn fault_of(number: u32, before: &[Line], asks: u32, said: &Option<Said>) -> Option<Why6>
-    requires { asks ≡ asks_in before.now }
-    ensures { result ≡ fault_of number before.now said.now }
+/// The first reason against a row that speaks of this device, after the lines before it. The
+/// reasons come in the order Limit, Order, UnknownName, Repeat, Range.
+pub fn row_fault(number: u32, before: &Draft, device: Option<u32>, said: &Said) -> Option<Why6>
+    requires { IfSome device (λ d. d < length (offered before.now)) }
+    ensures { result ≡ row_fault number before.now device said.now }
 {
-    match said {
-        None => Some(Why6::Form),
-        Some(said) => form_fault(before, said)
-            .or(line_limit(number))
-            .or(ask_limit(asks, said))
-            .or(range_fault(said)),
-    }
+    line_limit(number)
+        .or(count_limit(before, said))
+        .or(order_fault(before, device, said))
+        .or(name_fault(before, device, said))
+        .or(repeat_fault(before, device, said))
+        .or(range_fault(said))
 }

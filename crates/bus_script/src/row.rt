@@ -1,18 +1,22 @@
 //! The rows of the table of lines.
-ghost use Rattle.std.specs.Prelude.{◌≡◌, ◌<◌, ◌≤◌, List, length, Option, Some, None};
+ghost use Rattle.std.specs.Prelude.{◌≡◌, ◌<◌, ◌≤◌, List, length, Option, Some, None, IfSome};
 ghost use Rattle.std.specs.List.{list_all};
+ghost use Rattle.std.specs.Option.{option_map};
 ghost use Rattle.bus_script.specs.Words.{words};
-ghost use Rattle.bus_script.specs.Rows.{is_printable, said_in, said_by, begins_comment, row_of, offer_row, named_row, beat_row, down_row};
+ghost use Rattle.bus_script.specs.WellFormed.{InRange};
+ghost use Rattle.bus_script.specs.Rows.{is_printable, said_in, said_by, begins_comment, row_of, name_alone, name_and_number, contact_row, offer_row, ring_row, window_row, beat_row, down_row, close_row, phase_row};
 
 use crate::cut::first_word;
 use crate::name::is_name;
-use crate::number::{in_u32, is_decimal, number_of};
+use crate::number::{is_decimal, number_of, within};
 use crate::said::Said;
+use crate::version::{is_version, version_of};
 use crate::{DeviceSpec, Name};
 
 /// What a line says, where it has printable bytes alone and its words are a row of the table.
 pub fn said_in(line: &[u8]) -> Option<Said>
-    ensures { result ≡ said_in line.now }
+    ensures said { result ≡ said_in line.now }
+    ensures range { IfSome result InRange }
 {
     if are_printable(line) {
         said_by(line)
@@ -29,7 +33,8 @@ fn are_printable(line: &[u8]) -> bool
 
 /// A line without words, and one whose first word begins with `#`, is passed over.
 fn said_by(line: &[u8]) -> Option<Said>
-    ensures { result ≡ said_by (words line.now) }
+    ensures said { result ≡ said_by (words line.now) }
+    ensures range { IfSome result InRange }
 {
     match first_word(line) {
         None => Some(Said::Nothing),
@@ -53,64 +58,133 @@ fn begins_comment(word: &[u8]) -> bool
 }
 
 fn row_of(key: &[u8], rest: &[u8]) -> Option<Said>
-    ensures { result ≡ row_of key.now (words rest.now) }
+    ensures said { result ≡ row_of key.now (words rest.now) }
+    ensures range { IfSome result InRange }
 {
-    if key == b"offer".as_slice() {
+    if key == b"contact".as_slice() {
+        contact_row(rest)
+    } else if key == b"offer".as_slice() {
         offer_row(rest)
+    } else if key == b"ring".as_slice() {
+        ring_row(rest)
+    } else if key == b"window".as_slice() {
+        window_row(rest)
     } else if key == b"beat".as_slice() {
         beat_row(rest)
     } else if key == b"down".as_slice() {
         down_row(rest)
+    } else if key == b"close".as_slice() {
+        close_row(rest)
+    } else if key == b"phase".as_slice() {
+        phase_row(rest)
     } else {
         None
+    }
+}
+
+fn name_alone(rest: &[u8]) -> Option<Name>
+    ensures { result ≡ name_alone (words rest.now) }
+{
+    let (name, rest) = first_word(rest)?;
+    match first_word(rest) {
+        None if is_name(name) => Some(Name::of(name)),
+        _ => None,
+    }
+}
+
+fn name_and_number(rest: &[u8]) -> Option<(Name, Option<u64>)>
+    ensures { result ≡ name_and_number (words rest.now) }
+{
+    let (name, rest) = first_word(rest)?;
+    let (number, rest) = first_word(rest)?;
+    match first_word(rest) {
+        None if is_name(name) && is_decimal(number) => { Some((Name::of(name), number_of(number))) }
+        _ => None,
+    }
+}
+
+fn contact_row(rest: &[u8]) -> Option<Said>
+    ensures said { result ≡ contact_row (words rest.now) }
+    ensures range { IfSome result InRange }
+{
+    let (guest, rest) = first_word(rest)?;
+    let (host, rest) = first_word(rest)?;
+    match first_word(rest) {
+        None if is_version(guest) && is_version(host) => {
+            Some(Said::Contact(version_of(guest), version_of(host)))
+        }
+        _ => None,
     }
 }
 
 fn offer_row(rest: &[u8]) -> Option<Said>
-    ensures { result ≡ offer_row (words rest.now) }
+    ensures said { result ≡ offer_row (words rest.now) }
+    ensures range { IfSome result InRange }
 {
     let (kind, rest) = first_word(rest)?;
     if kind == b"hb".as_slice() {
-        named_row(DeviceSpec::Beat, rest)
+        plain_offer(DeviceSpec::Beat, rest)
     } else if kind == b"shutdown".as_slice() {
-        named_row(DeviceSpec::Down, rest)
+        plain_offer(DeviceSpec::Down, rest)
     } else {
         None
     }
 }
 
-fn named_row(kind: DeviceSpec, rest: &[u8]) -> Option<Said>
-    ensures { result ≡ named_row kind (words rest.now) }
+fn plain_offer(spec: DeviceSpec, rest: &[u8]) -> Option<Said>
+    ensures said { result ≡ option_map (λ name. Said.Offer name spec) (name_alone (words rest.now)) }
+    ensures range { IfSome result InRange }
 {
-    let (name, rest) = first_word(rest)?;
-    match first_word(rest) {
-        None if is_name(name) => Some(Said::Offer(Name::of(name), kind)),
-        _ => None,
-    }
+    let name = name_alone(rest)?;
+    Some(Said::Offer(name, spec))
+}
+
+fn ring_row(rest: &[u8]) -> Option<Said>
+    ensures said { result ≡ ring_row (words rest.now) }
+    ensures range { IfSome result InRange }
+{
+    let (name, pages) = name_and_number(rest)?;
+    Some(Said::Ring(name, within(1, 16, pages)))
+}
+
+fn window_row(rest: &[u8]) -> Option<Said>
+    ensures said { result ≡ window_row (words rest.now) }
+    ensures range { IfSome result InRange }
+{
+    let (name, size) = name_and_number(rest)?;
+    Some(Said::Window(name, within(1, 64, size)))
 }
 
 fn beat_row(rest: &[u8]) -> Option<Said>
-    ensures { result ≡ beat_row (words rest.now) }
+    ensures said { result ≡ beat_row (words rest.now) }
+    ensures range { IfSome result InRange }
 {
-    let (name, rest) = first_word(rest)?;
-    let (seq, rest) = first_word(rest)?;
-    match first_word(rest) {
-        None if is_name(name) && is_decimal(seq) => {
-            Some(Said::Beat(Name::of(name), number_of(seq)))
-        }
-        _ => None,
-    }
+    let (name, seq) = name_and_number(rest)?;
+    Some(Said::Beat(name, seq))
 }
 
 fn down_row(rest: &[u8]) -> Option<Said>
-    ensures { result ≡ down_row (words rest.now) }
+    ensures said { result ≡ down_row (words rest.now) }
+    ensures range { IfSome result InRange }
 {
-    let (name, rest) = first_word(rest)?;
-    let (flags, rest) = first_word(rest)?;
+    let (name, flags) = name_and_number(rest)?;
+    Some(Said::Down(name, within(0, u32::MAX, flags)))
+}
+
+fn close_row(rest: &[u8]) -> Option<Said>
+    ensures said { result ≡ close_row (words rest.now) }
+    ensures range { IfSome result InRange }
+{
+    let name = name_alone(rest)?;
+    Some(Said::Close(name))
+}
+
+fn phase_row(rest: &[u8]) -> Option<Said>
+    ensures said { result ≡ phase_row (words rest.now) }
+    ensures range { IfSome result InRange }
+{
     match first_word(rest) {
-        None if is_name(name) && is_decimal(flags) => {
-            Some(Said::Down(Name::of(name), in_u32(number_of(flags))))
-        }
-        _ => None,
+        None => Some(Said::Phase),
+        Some(_) => None,
     }
 }

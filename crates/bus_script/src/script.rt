@@ -1,38 +1,35 @@
 //! A script: its lines with words.
-ghost use Rattle.std.specs.Prelude.{◌≡◌, ◌≤◌, List, length};
-ghost use Rattle.bus_script.specs.Faults.{asks_in};
+ghost use Rattle.std.specs.Prelude.{◌≡◌, List};
 ghost use Rattle.bus_script.specs.WellFormed.{IsScript};
 
 use crate::Line;
 use std::marker::Model;
 
-/// The lines with words of a script, in order. Contracts see the list of them. The first offers
-/// the one device, and the others ask it.
+/// The lines with words of a script, in order. Contracts see the list of them.
 #[derive(Drop)]
 pub struct Script {
     pub(crate) lines: Vec<Line>,
 }
 
 impl Model for Script {
-    ghost use Rattle.std.specs.Prelude.{List, ◌≤◌, length};
+    ghost use Rattle.std.specs.Prelude.{List};
     ghost use Rattle.bus_script.specs.declared.line.Line.{Line};
-    ghost use Rattle.bus_script.specs.Faults.{asks_in};
     ghost use Rattle.bus_script.specs.WellFormed.{IsScript};
 
     ghost Value = { List Line };
 
     ghost view = { λ s. s.lines.items };
 
-    ghost invariant = { λ s. IsScript s.lines.items × (length s.lines.items ≤ 20000) × (asks_in s.lines.items ≤ 4096) };
+    ghost invariant = { λ s. IsScript s.lines.items };
 }
 
 impl Script {
-    /// The lines with words, in order.
+    /// The lines with words, in order. Each is right among the devices that the script offers, at
+    /// most 16 of them; settings stand first, a phase has at most 4,096 requests, and a device is
+    /// closed at most once.
     pub fn lines(&self) -> &[Line]
         ensures lines { result.now ≡ self.now }
-        ensures well_formed { IsScript self.now }
-        ensures short { length self.now ≤ 20000 }
-        ensures few { asks_in self.now ≤ 4096 }
+        ensures script { IsScript self.now }
     {
         &self.lines
     }

@@ -1,11 +1,12 @@
 //! Scripts that are read or refused, and reports byte for byte.
 
-ghost use Rattle.std.specs.Prelude.{◌≡◌};
-ghost use Rattle.bus_script.specs.Faults.{is_ask, asks_in};
+ghost use Rattle.std.specs.Prelude.{◌≡◌, count_by};
+ghost use Rattle.bus_script.specs.Report.{tells, prints};
 
 use crate::{
     Ask, DeviceSpec, LineResult, ParseFault, Reply, Script, ScriptFault, What, Why6, parse, report,
 };
+use contact::Version;
 use std::alloc::Global;
 use std::process::Abort;
 use std::test::Fail;
@@ -34,97 +35,252 @@ fn accepted(rt: &(impl Abort + AllocGlobal), bytes: &[u8], lines: usize) {
     }
 }
 
+// What each line of a whole script says.
 #[test]
 fn reads_lines(rt: HostRuntime) -> Result<(), Fail> {
     let script = parse(
         rt.alloc(),
-        b"# one\r\n\noffer  hb hb \n beat hb 18446744073709551615",
+        b"# one\r\n\ncontact  5.2 4.0\noffer hb hb \n offer shutdown s\nring s 16\nwindow hb 64\nbeat hb 18446744073709551615\ndown s 6\nclose s\nphase",
     )?;
+    let wanted = [
+        (
+            3,
+            What::Contact {
+                guest: Version(0x5_0002),
+                host: Version(0x4_0000),
+            },
+        ),
+        (
+            6,
+            What::RingSize {
+                device: 1,
+                pages: 16,
+            },
+        ),
+        (
+            7,
+            What::Window {
+                device: 0,
+                size: 64,
+            },
+        ),
+        (
+            8,
+            What::Ask {
+                device: 0,
+                ask: Ask::Ic(IcAsk::Beat { seq: u64::MAX }),
+            },
+        ),
+        (
+            9,
+            What::Ask {
+                device: 1,
+                ask: Ask::Ic(IcAsk::Down {
+                    reason: 0,
+                    timeout: 0,
+                    flags: 6,
+                }),
+            },
+        ),
+        (10, What::Shut { device: 1 }),
+        (11, What::Phase),
+    ];
     let lines = script.lines();
-    assert_eq!(rt; lines.len(), 2);
-    assert_eq!(rt; lines[0].number, 3);
-    match &lines[0].what {
+    assert_eq!(rt; lines.len(), 9);
+    match &lines[2].what {
         What::Offer { name, device } => {
-            assert_eq!(rt; name.bytes(), b"hb".as_slice());
-            assert_eq!(rt; *device, DeviceSpec::Beat);
+            assert_eq!(rt; name.bytes(), b"s".as_slice());
+            assert_eq!(rt; *device, DeviceSpec::Down);
         }
-        What::Ask { .. } => assert!(rt; false),
+        _ => assert!(rt; false),
     }
-    assert_eq!(rt; lines[1].number, 4);
-    match &lines[1].what {
-        What::Offer { .. } => assert!(rt; false),
-        What::Ask { device, ask } => {
-            assert_eq!(rt; *device, 0);
-            assert_eq!(rt; *ask, Ask::Ic(IcAsk::Beat { seq: u64::MAX }));
+    let mut at = 0;
+    for line in lines {
+        if at < wanted.len() && line.number == wanted[at].0 {
+            assert!(rt; same(&line.what, &wanted[at].1));
+            at += 1;
         }
     }
+    assert_eq!(rt; at, wanted.len());
     Ok(())
+}
+
+fn same(a: &What, b: &What) -> bool {
+    match (a, b) {
+        (What::Contact { guest, host }, What::Contact { guest: g, host: h }) => {
+            guest == g && host == h
+        }
+        (
+            What::RingSize { device, pages },
+            What::RingSize {
+                device: d,
+                pages: p,
+            },
+        ) => { device == d && pages == p }
+        (What::Window { device, size }, What::Window { device: d, size: s }) => {
+            device == d && size == s
+        }
+        (What::Ask { device, ask }, What::Ask { device: d, ask: a }) => device == d && ask == a,
+        (What::Shut { device }, What::Shut { device: d }) => device == d,
+        (What::Phase, What::Phase) => true,
+        _ => false,
+    }
 }
 
 #[test]
 fn accepts(rt: HostRuntime) {
-    accepted(&rt, b"", 0);
-    accepted(&rt, b"\n\r\n  \n# printable", 0);
-    accepted(&rt, b"offer hb hb\nbeat hb 41\n", 2);
-    accepted(
-        &rt,
-        b"offer shutdown sd\ndown sd 0\ndown sd 4\r\ndown sd 4294967295\r\n",
-        4,
-    );
-    accepted(&rt, b"offer hb abcdefghijklmno_\n", 1);
-    accepted(&rt, b"offer hb phase\nbeat phase 0\n#beat x 1\n", 2);
+    let scripts = [
+        (b"".as_slice(), 0),
+        (b"\n\r\n  \n# printable".as_slice(), 0),
+        (b"offer hb hb\nbeat hb 41\n".as_slice(), 2),
+        (
+            b"offer shutdown sd\ndown sd 0\r\ndown sd 4294967295\r\n".as_slice(),
+            3,
+        ),
+        (b"offer hb abcdefghijklmno_\n".as_slice(), 1),
+        (
+            b"offer hb phase\noffer shutdown disk\nbeat phase 0\n#beat x 1\n".as_slice(),
+            3,
+        ),
+        (b"contact 2.4 5.2\nphase\nphase\n".as_slice(), 3),
+        (b"contact 3.0 5.0\n".as_slice(), 1),
+        (b"offer hb a\nring a 1\nwindow a 1\nclose a\n".as_slice(), 4),
+        (
+            b"offer hb a\noffer hb b\nclose a\nphase\nclose b\nbeat a 1\n".as_slice(),
+            6,
+        ),
+        (
+            b"offer hb a\nring a 2\noffer hb b\nwindow a 2\n".as_slice(),
+            4,
+        ),
+    ];
+    for (bytes, lines) in scripts {
+        accepted(&rt, bytes, lines);
+    }
 }
 
 #[test]
-fn refuses(rt: HostRuntime) {
-    refused(&rt, b"beat hb 1\n", 1, Why6::Form);
-    refused(&rt, b"offer hb hb\nbeat hb 007\n", 2, Why6::Form);
-    refused(
-        &rt,
-        b"offer hb hb\nbeat hb 18446744073709551616\n",
-        2,
-        Why6::Range,
-    );
-    refused(
-        &rt,
-        b"offer hb hb\nbeat hb 99999999999999999999\n",
-        2,
-        Why6::Range,
-    );
-    refused(
-        &rt,
-        b"offer hb hb\nbeat hb 100000000000000000000\n",
-        2,
-        Why6::Form,
-    );
-    refused(
-        &rt,
-        b"offer hb hb\nbeat other 18446744073709551616\n",
-        2,
-        Why6::Form,
-    );
-    refused(&rt, b"offer hb abcdefghijklmnopq\n", 1, Why6::Form);
-    refused(&rt, b"offer hb 0\n", 1, Why6::Form);
-    refused(&rt, b"offer hb h\noffer hb g\n", 2, Why6::Form);
-    refused(
-        &rt,
-        b"offer hb h\nbeat h\nbeat h 18446744073709551616\n",
-        2,
-        Why6::Form,
-    );
-    refused(&rt, b"offer hb h\nbeat h 1 2\n", 2, Why6::Form);
-    refused(&rt, b"offer hb h\nbeat h 1\r", 2, Why6::Form);
-    refused(&rt, b"offer hb h\nbeat h 1\r\r\n", 2, Why6::Form);
-    refused(&rt, b"# \x7F\n", 1, Why6::Form);
-    refused(&rt, b"offer\thb h\n", 1, Why6::Form);
-    refused(&rt, b"offer shutdown s\nbeat s 1\n", 2, Why6::Form);
-    refused(&rt, b"offer hb h\ndown h 1\n", 2, Why6::Form);
-    refused(
-        &rt,
-        b"offer shutdown s\ndown s 4294967296\n",
-        2,
-        Why6::Range,
-    );
+fn refuses_forms(rt: HostRuntime) {
+    let scripts = [
+        (b"beat hb 007\n".as_slice(), 1),
+        (b"offer hb hb\nbeat hb 007\n".as_slice(), 2),
+        (b"offer hb h\nbeat h 100000000000000000000\n".as_slice(), 2),
+        (b"offer hb abcdefghijklmnopq\n".as_slice(), 1),
+        (b"offer hb 0\n".as_slice(), 1),
+        (b"offer hb\n".as_slice(), 1),
+        (b"offer disk d\n".as_slice(), 1),
+        (b"offer hb h\nbeat h\n".as_slice(), 2),
+        (b"offer hb h\nbeat h 1 2\n".as_slice(), 2),
+        (b"offer hb h\nbeat h 1\r".as_slice(), 2),
+        (b"offer hb h\nbeat h 1\r\r\n".as_slice(), 2),
+        (b"# \x7F\n".as_slice(), 1),
+        (b"offer\thb h\n".as_slice(), 1),
+        (b"contact 5.2\n".as_slice(), 1),
+        (b"contact 5.02 5.2\n".as_slice(), 1),
+        (b"contact 5.2.1 5.2\n".as_slice(), 1),
+        (b"contact 5 5.2\n".as_slice(), 1),
+        (b"contact 5.2 5.2 5.2\n".as_slice(), 1),
+        (b"phase 1\n".as_slice(), 1),
+        (b"close\n".as_slice(), 1),
+        (b"offer hb h\nrescind h after 1\n".as_slice(), 2),
+    ];
+    for (bytes, line) in scripts {
+        refused(&rt, bytes, line, Why6::Form);
+    }
+}
+
+#[test]
+fn refuses_others(rt: HostRuntime) {
+    let scripts = [
+        (b"beat hb 1\n".as_slice(), 1, Why6::UnknownName),
+        (
+            b"beat hb 18446744073709551616\n".as_slice(),
+            1,
+            Why6::UnknownName,
+        ),
+        (
+            b"offer shutdown s\nbeat s 1\n".as_slice(),
+            2,
+            Why6::UnknownName,
+        ),
+        (b"offer hb h\ndown h 1\n".as_slice(), 2, Why6::UnknownName),
+        (b"ring h 0\n".as_slice(), 1, Why6::UnknownName),
+        (b"close h\n".as_slice(), 1, Why6::UnknownName),
+        (b"offer hb a\noffer hb a\n".as_slice(), 2, Why6::Repeat),
+        (
+            b"offer hb a\noffer shutdown a\n".as_slice(),
+            2,
+            Why6::Repeat,
+        ),
+        (
+            b"offer hb a\nring a 1\nring a 17\n".as_slice(),
+            3,
+            Why6::Repeat,
+        ),
+        (
+            b"offer hb a\nwindow a 1\nwindow a 2\n".as_slice(),
+            3,
+            Why6::Repeat,
+        ),
+        (
+            b"offer hb a\nclose a\nclose a\n".as_slice(),
+            3,
+            Why6::Repeat,
+        ),
+        (
+            b"offer hb a\nclose a\nphase\nclose a\n".as_slice(),
+            4,
+            Why6::Order,
+        ),
+        (
+            b"offer hb a\nbeat a 1\noffer hb b\n".as_slice(),
+            3,
+            Why6::Order,
+        ),
+        (b"offer hb a\nphase\nring b 0\n".as_slice(), 3, Why6::Order),
+        (
+            b"offer hb a\nclose a\nwindow a 1\n".as_slice(),
+            3,
+            Why6::Order,
+        ),
+        (b"offer hb a\ncontact 5.2 5.2\n".as_slice(), 2, Why6::Order),
+        (
+            b"contact 5.2 5.2\ncontact 9.9 5.2\n".as_slice(),
+            2,
+            Why6::Order,
+        ),
+        (b"phase\ncontact 5.2 5.2\n".as_slice(), 2, Why6::Order),
+        (b"contact 5.3 5.2\n".as_slice(), 1, Why6::Range),
+        (b"contact 4.65538 5.2\n".as_slice(), 1, Why6::Range),
+        (
+            b"contact 18446744073709551616.0 5.2\n".as_slice(),
+            1,
+            Why6::Range,
+        ),
+        (b"contact 5.2 0.0\n".as_slice(), 1, Why6::Range),
+        (b"offer hb a\nring a 0\n".as_slice(), 2, Why6::Range),
+        (b"offer hb a\nring a 17\n".as_slice(), 2, Why6::Range),
+        (b"offer hb a\nwindow a 0\n".as_slice(), 2, Why6::Range),
+        (b"offer hb a\nwindow a 65\n".as_slice(), 2, Why6::Range),
+        (
+            b"offer hb hb\nbeat hb 18446744073709551616\n".as_slice(),
+            2,
+            Why6::Range,
+        ),
+        (
+            b"offer hb hb\nbeat hb 99999999999999999999\n".as_slice(),
+            2,
+            Why6::Range,
+        ),
+        (
+            b"offer shutdown s\ndown s 4294967296\n".as_slice(),
+            2,
+            Why6::Range,
+        ),
+    ];
+    for (bytes, line, why) in scripts {
+        refused(&rt, bytes, line, why);
+    }
 }
 
 #[test]
@@ -145,8 +301,18 @@ fn limits(rt: HostRuntime) -> Result<(), Fail> {
         asks.extend_from_slice(b"beat h 1\n")?;
     }
     accepted(&rt, &asks, 4_097);
-    asks.extend_from_slice(b"beat h 18446744073709551616\n")?;
-    refused(&rt, &asks, 4_098, Why6::Limit);
+    let mut over = asks.clone()?;
+    over.extend_from_slice(b"beat g 18446744073709551616\n")?;
+    refused(&rt, &over, 4_098, Why6::Limit);
+    asks.extend_from_slice(b"phase\nbeat h 1\n")?;
+    accepted(&rt, &asks, 4_099);
+
+    let offers =
+        b"offer hb a\noffer hb b\noffer hb c\noffer hb d\noffer hb e\noffer hb f\noffer hb g\noffer hb h\noffer hb i\noffer hb j\noffer hb k\noffer hb l\noffer hb m\noffer hb n\noffer hb o\noffer hb p\n";
+    accepted(&rt, offers, 16);
+    let mut over = offers.to_vec(rt.alloc())?;
+    over.extend_from_slice(b"offer hb a\n")?;
+    refused(&rt, &over, 17, Why6::Limit);
     Ok(())
 }
 
@@ -155,16 +321,16 @@ fn done(serial: u32, status: u32, seq: u64) -> LineResult {
     LineResult::Done { serial, reply }
 }
 
-fn count_asks(script: &Script) -> usize
-    ensures { result ≡ asks_in script.now }
+fn count_prints(script: &Script) -> usize
+    ensures { result ≡ count_by prints script.now }
 {
-    script.lines().iter().filter(|l| is_ask(&l.what)).count()
+    script.lines().iter().filter(|l| tells(&l.what)).count()
 }
 
-fn is_ask(what: &What) -> bool
-    ensures { result ≡ is_ask what.now }
+fn tells(what: &What) -> bool
+    ensures { result ≡ tells what.now }
 {
-    matches!(what, What::Ask { .. })
+    matches!(what, What::Contact { .. } | What::Ask { .. })
 }
 
 // The report of these bytes with these outcomes is this text.
@@ -175,7 +341,7 @@ fn reported(
     wanted: &[u8],
 ) -> Result<(), Fail> {
     let script = parse(rt.alloc(), bytes)?;
-    assert_eq!(*rt; results.len(), count_asks(&script));
+    assert_eq!(*rt; results.len(), count_prints(&script));
     let text = report(rt.alloc(), &script, results)?;
     assert_eq!(*rt; text.as_slice(), wanted);
     Ok(())
@@ -186,15 +352,21 @@ fn reports(rt: HostRuntime) -> Result<(), Fail> {
     reported(&rt, b"", &[], b"end requests 0 done 0 rescinded 0\n")?;
     reported(
         &rt,
-        b"offer hb hb\nbeat hb 41\n",
-        &[done(0, 0, 42)],
-        b"2 done @0 seq 42\nend requests 1 done 1 rescinded 0\n",
+        b"contact 5.2 4.0\n",
+        &[LineResult::Version { tried: 5 }],
+        b"1 version 4.0 tried 5.2 5.1 5.0 4.1 4.0\nend requests 0 done 0 rescinded 0\n",
     )?;
     reported(
         &rt,
-        b"offer hb hb\nbeat hb 18446744073709551615\n",
-        &[done(0, 0, 0)],
-        b"2 done @0 seq 0\nend requests 1 done 1 rescinded 0\n",
+        b"contact 3.0 2.4\n",
+        &[LineResult::Version { tried: 2 }],
+        b"1 version 2.4 tried 3.0 2.4\nend requests 0 done 0 rescinded 0\n",
+    )?;
+    reported(
+        &rt,
+        b"offer hb hb\nbeat hb 41\n",
+        &[done(0, 0, 42)],
+        b"2 done @0 seq 42\nend requests 1 done 1 rescinded 0\n",
     )?;
     reported(
         &rt,
@@ -204,13 +376,14 @@ fn reports(rt: HostRuntime) -> Result<(), Fail> {
     )?;
     reported(
         &rt,
-        b"offer hb h\nbeat h 1\nbeat h 2\nbeat h 3\nbeat h 4\n",
+        b"contact 5.2 5.2\noffer hb h\nring h 2\nwindow h 8\nbeat h 1\nbeat h 2\nclose h\nphase\nbeat h 3\nbeat h 4\n",
         &[
+            LineResult::Version { tried: 1 },
             LineResult::RescindedServed { serial: 9 },
             LineResult::Unserved,
             LineResult::Gone,
             LineResult::Closed,
         ],
-        b"2 rescinded @9\n3 rescinded unserved\n4 gone\n5 closed\nend requests 4 done 0 rescinded 2\n",
+        b"1 version 5.2 tried 5.2\n5 rescinded @9\n6 rescinded unserved\n9 gone\n10 closed\nend requests 4 done 0 rescinded 2\n",
     )
 }

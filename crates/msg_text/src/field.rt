@@ -7,6 +7,7 @@ use crate::push::{push_decimal, push_digits, push_numbers, push_runs};
 use crate::shown::Shown;
 use std::alloc::AllocError;
 
+// A field's name between spaces.
 fn push_name(text: &mut Vec<u8>, name: &str) -> Result<(), AllocError>
     ensures text { OnOk result (text.new.items ≡ text.old.items ++ (32 ∷ (name.now ++ (32 ∷ [])))) }
     ensures short { OnOk result (vec_len text.new ≤ vec_len text.old + 2 + length name.now) }

@@ -36,6 +36,7 @@ pub fn decode_text(alloc: Global, bytes: &[u8]) -> Result<Vec<u8>, ParseFault>
     Ok(text)
 }
 
+// What is wrong with this line.
 fn fault_at(number: u32, why: Why6) -> ParseFault
     ensures { result ≡ ParseFault.Script (record { line = number; why = why }) }
 {

@@ -20,6 +20,7 @@ pub fn push_bytes(text: &mut Vec<u8>, bytes: &[u8]) -> Result<(), AllocError>
     Ok(())
 }
 
+// The header of a page list: its fields in order, but for the padding.
 fn push_header(text: &mut Vec<u8>, h: &GpadlHeader) -> Result<(), AllocError>
     ensures text { OnOk result (text.new.items ≡ text.old.items ++ msg_text (Msg.GpadlHeader h.now)) }
     ensures short { OnOk result (vec_len text.new ≤ vec_len text.old + 3300) }
@@ -40,6 +41,7 @@ fn push_header(text: &mut Vec<u8>, h: &GpadlHeader) -> Result<(), AllocError>
     Ok(())
 }
 
+// A body of a page list: its fields in order, but for the padding.
 fn push_body(text: &mut Vec<u8>, b: &GpadlBody) -> Result<(), AllocError>
     ensures text { OnOk result (text.new.items ≡ text.old.items ++ msg_text (Msg.GpadlBody b.now)) }
     ensures short { OnOk result (vec_len text.new ≤ vec_len text.old + 3300) }
@@ -210,6 +212,7 @@ fn push_msg(text: &mut Vec<u8>, message: &Msg) -> Result<(), AllocError>
     Ok(())
 }
 
+// The name of a field that is checked.
 fn checked_name(name: FieldName) -> &'static str
     ensures value { result.now ≡ checked_name name }
     ensures short { length result.now ≤ 12 }
@@ -220,6 +223,7 @@ fn checked_name(name: FieldName) -> &'static str
     }
 }
 
+// A fault: its kind, and its numbers in the order of its fields.
 fn push_fault(text: &mut Vec<u8>, fault: &MsgFault) -> Result<(), AllocError>
     ensures text { OnOk result (text.new.items ≡ text.old.items ++ fault_text fault.now) }
     ensures short { OnOk result (vec_len text.new ≤ vec_len text.old + 3300) }

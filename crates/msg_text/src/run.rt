@@ -5,7 +5,9 @@ ghost use Rattle.msg_text.specs.Runs.{run, runs_of, front_len};
 /// So many of one byte.
 #[derive(Clone, Copy)]
 pub struct Run {
+    /// The byte.
     pub byte: u8,
+    /// How many of it stand one after the other.
     pub count: usize,
 }
 

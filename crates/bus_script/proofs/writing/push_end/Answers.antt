@@ -1,4 +1,4 @@
-use Rattle.std.proofs.Common.{length, count_by}
+use Rattle.std.proofs.Common.{count_by}
 use Rattle.std.specs.Prelude.{codes}
 use Rattle.std.specs.Fmt.{decimal}
 use Rattle.bus_script.specs.Report.{is_done, is_rescinded}
@@ -8,7 +8,7 @@ use Rattle.bus_script.proofs.writing.push_end.Goals as goal
 pub returns-clause-text : goal.returns-clause-text
 returns-clause-text c =
     let results = c.args.results.now in
-    let whole = pushed_seven c.args.text.now.items (codes "end requests ") (decimal (length results)) (codes " done ") (decimal (count_by is_done results))
+    let whole = pushed_seven c.args.text.now.items (codes "end requests ") (decimal c.args.asks) (codes " done ") (decimal (count_by is_done results))
     (codes " rescinded ") (decimal (count_by is_rescinded results)) (codes "\n") in
     cc (
       whole,

@@ -1,0 +1,268 @@
+-- A line against which nothing stands fits behind the lines before it.
+use Rattle.std.proofs.Common.{◌≡◌, ℕ, ◌+◌, ◌<◌, ◌≤◌, Bool, true, false, List, [], ◌∷◌, ◌++◌, length, map, refl, sym, ap, ◌∙◌, subst, arith, zero, suc, is_some, IfSome}
+use Rattle.std.specs.Prelude.{◌||◌, ◌&&◌, ◌==◌, not, nat_lt, nat_le, Option, Some, None, slice_get, unwrap_or, option_map}
+use Rattle.std.specs.List.{list_all}
+use Rattle.std.specs.Option.{option_or, option_map_or}
+use Rattle.std.proofs.lemmas.Bool.Decides.{nat_tests}
+use Rattle.std.proofs.lemmas.List.{append-nil}
+use Rattle.contact.specs.declared.version.Version.{Version}
+use Rattle.contact.specs.Versions.{IsVersion}
+use Rattle.util_ic.specs.declared.ic.IcAsk.TheVariants.{Beat as AskBeat, Down as AskDown}
+use Rattle.bus_script.specs.declared.fault.Why6.{Why6}
+use Rattle.bus_script.specs.declared.fault.Why6.TheVariants.{Limit, Order}
+use Rattle.bus_script.specs.declared.line.Line.{Line}
+use Rattle.bus_script.specs.declared.line.What.TheVariants.{Contact as IsContact, Offer as IsOffer, RingSize as IsRingSize, Window as IsWindow, Ask as IsAsk, Shut as IsShut, Phase as IsPhase}
+use Rattle.bus_script.specs.declared.line.Ask.{Ask}
+use Rattle.bus_script.specs.declared.line.Ask.TheVariants.{Ic}
+use Rattle.bus_script.specs.declared.line.DeviceSpec.{DeviceSpec}
+use Rattle.bus_script.specs.declared.line.DeviceSpec.TheVariants.{Beat as IsBeat, Down as IsDown}
+use Rattle.bus_script.specs.declared.said.Said.{Said}
+use Rattle.bus_script.specs.declared.said.Said.TheVariants.{Contact, Offer, Ring, Window, Beat, Down, Close, Phase}
+use Rattle.bus_script.specs.Parts.{is_settings, offered, kind_of, kind_asked, phases_over, closed_in, channels, channels_of, device_of}
+use Rattle.bus_script.specs.Faults.{unless, device_said, says_settings, line_limit, ask_limit, count_limit, is_first, is_closed_before, own_order, order_fault, is_beat, is_down, is_offered, name_fault, is_closed_here, repeat_fault, range_fault, row_fault}
+use Rattle.bus_script.specs.Grammar.{or_zero}
+use Rattle.bus_script.specs.WellFormed.{InRange, Fits}
+use Rattle.bus_script.proofs.Phases.{closed_by}
+
+or_none : (a b : Option Why6) → option_or a b ≡ None → (a ≡ None) × (b ≡ None)
+or_none None b is = (refl, is)
+or_none (Some why) b is = absurd (cc)
+
+unless_none : (b : Bool) (why : Why6) → unless b why ≡ None → b ≡ true
+unless_none true why is = refl
+unless_none false why is = absurd (cc)
+
+-- nothing stands against a line
+record Stands (number : ℕ) (before : List Line) (device : Option ℕ) (said : Said) : Type 0 where
+  line : number ≤ 20000
+  count : count_limit before said ≡ None
+  order : order_fault before device said ≡ None
+  name : name_fault before device said ≡ None
+  repeat : repeat_fault before device said ≡ None
+  range : range_fault said ≡ None
+
+stands : (number : ℕ) (before : List Line) (device : Option ℕ) (said : Said) → row_fault number before device said ≡ None → Stands number before device said
+stands number before device said free =
+    let five = or_none _ (range_fault said) free in
+    let four = or_none _ (repeat_fault before device said) five.0 in
+    let three = or_none _ (name_fault before device said) four.0 in
+    let two = or_none _ (order_fault before device said) three.0 in
+    let one = or_none (line_limit number) (count_limit before said) two.0 in
+    let line = unless_none (nat_le number 20000) Limit one.0 in
+    record {
+      line = grind (arith, nat_tests, line);
+      count = one.1;
+      order = two.1;
+      name = three.1;
+      repeat = four.1;
+      range = five.1;
+    }
+
+some_is : {X : Type 0} (o : Option X) → is_some o ≡ true → (x : X) × (o ≡ Some x)
+some_is None holds = absurd (cc)
+some_is (Some x) holds = (x, refl)
+
+both_true : (a b : Bool) → (a && b) ≡ true → (a ≡ true) × (b ≡ true)
+both_true true true is = (refl, refl)
+both_true true false is = absurd (cc)
+both_true false b is = absurd (cc)
+
+not_true : (b : Bool) → not b ≡ true → b ≡ false
+not_true true is = absurd (cc)
+not_true false is = refl
+
+first_is : (before : List Line) → is_first before ≡ true → before ≡ []
+first_is [] holds = refl
+first_is (l ∷ ls) holds = absurd (cc)
+
+own_free : (before : List Line) (device : Option ℕ) (said : Said) → order_fault before device said ≡ None → own_order before device said ≡ None
+own_free before device said free = (or_none (unless (not (says_settings said) || list_all (λ l. is_settings l.what) before) Order) (own_order before device said) free).1
+
+-- settings stand behind settings
+settings_stand : (before : List Line) (b : Bool) (own : Option Why6) (why : Why6) → option_or (unless (not true || b) why) own ≡ None → b ≡ true
+settings_stand before b own why free = unless_none b why ((or_none _ own free).0)
+
+kind_at : (specs : List DeviceSpec) (d : ℕ) (spec : DeviceSpec) → slice_get specs d ≡ Some spec → slice_get (map kind_of specs) d ≡ Some (kind_of spec)
+kind_at [] d spec is = absurd (cc)
+kind_at (s ∷ specs) zero spec is = ap (option_map kind_of) is
+kind_at (s ∷ specs) (suc d) spec is = kind_at specs d spec is
+
+beat_is : (spec : DeviceSpec) → is_beat spec ≡ true → spec ≡ IsBeat
+beat_is IsBeat is = refl
+beat_is IsDown is = absurd (cc)
+
+down_is : (spec : DeviceSpec) → is_down spec ≡ true → spec ≡ IsDown
+down_is IsBeat is = absurd (cc)
+down_is IsDown is = refl
+
+-- the device of such a kind that was offered
+offered_is : (kind : DeviceSpec → Bool) (before : List Line) (device : Option ℕ) → is_offered kind before device ≡ true
+    → (spec : DeviceSpec) × (slice_get (offered before) (unwrap_or device 0) ≡ Some spec) × (kind spec ≡ true)
+offered_is kind before None is = absurd (cc)
+offered_is kind before (Some d) is = at (slice_get (offered before) d) refl is
+  where
+    at : (o : Option DeviceSpec) → slice_get (offered before) d ≡ o → option_map_or kind o false ≡ true → (spec : DeviceSpec) × (slice_get (offered before) d ≡ Some spec) × (kind spec ≡ true)
+    at None same holds = absurd (cc)
+    at (Some spec) same holds = (spec, same, holds)
+
+right_ask : (before : List Line) (device : Option ℕ) (spec : DeviceSpec) (ask : Ask) → slice_get (offered before) (unwrap_or device 0) ≡ Some spec → kind_of spec ≡ kind_asked ask
+    → slice_get (map kind_of (offered before ++ [])) (unwrap_or device 0) ≡ Some (kind_asked ask)
+right_ask before device spec ask is kind =
+    ap (λ specs. slice_get (map kind_of specs) (unwrap_or device 0)) (append-nil (offered before)) ∙ kind_at (offered before) (unwrap_or device 0) spec is ∙ ap Some kind
+
+within_offered : (before : List Line) (device : Option ℕ) → is_some device ≡ true → IfSome device (λ d. d < length (offered before)) → unwrap_or device 0 < length (offered before ++ [])
+within_offered before None there within = absurd (cc)
+within_offered before (Some d) there within = subst (λ (specs : List DeviceSpec). d < length specs) (sym (append-nil (offered before))) within
+
+open_is : (before : List Line) (d : ℕ) → is_closed_before before d ≡ false → is_closed_here before d ≡ false → closed_in d before ≡ None
+open_is before d earlier here = at (closed_in d before) refl earlier here
+  where
+    at : (o : Option ℕ) → closed_in d before ≡ o → option_map_or (λ p. nat_lt p (phases_over before)) o false ≡ false → option_map_or (λ p. p == phases_over before) o false ≡ false → closed_in d before ≡ None
+    at None same less is = same
+    at (Some p) same less is = let most = closed_by 0 d before p same in absurd (grind (arith, nat_tests, less, is, most))
+
+eq_is : (a b : ℕ) → (a == b) ≡ true → a ≡ b
+eq_is a b is = grind (arith, nat_tests, is)
+
+module _ (number : ℕ) (before : List Line) (behind : length before < number) where
+  pub fits_contact : (guest host : Option Version) (device : Option ℕ) → row_fault number before device (Contact guest host) ≡ None → InRange (Contact guest host)
+      → Fits before (IsContact (or_zero guest) (or_zero host))
+  fits_contact guest host device free range =
+      let s = stands number before device (Contact guest host) free in
+      let there = both_true _ _ (unless_none _ _ s.range) in
+      record {
+        right = (version_is guest there.0 range.0, version_is host there.1 range.1);
+        contact = λ is. first_is before (unless_none _ _ (own_free before device (Contact guest host) s.order));
+        settings = λ is. settings_stand before _ _ _ s.order;
+        few = λ one is. absurd (cc);
+        new = λ name is. absurd (cc);
+        asks = λ is. absurd (cc);
+        closed = λ d is. absurd (cc);
+        short = omega (arith, s.line, behind);
+      }
+    where
+      version_is : (v : Option Version) → is_some v ≡ true → IfSome v (λ u. IsVersion u.0) → IsVersion ((or_zero v).0)
+      version_is None there in_range = absurd (cc)
+      version_is (Some v) there in_range = in_range
+
+  pub fits_offer : (name : List ℕ) (spec : DeviceSpec) (device : Option ℕ) → device ≡ device_said before (Offer name spec) → row_fault number before device (Offer name spec) ≡ None → Fits before (IsOffer name spec)
+  fits_offer name spec device said free =
+      let s = stands number before device (Offer name spec) free in
+      let room = unless_none _ _ s.count in
+      record {
+        right = tt;
+        contact = λ is. absurd (cc);
+        settings = λ is. settings_stand before _ _ _ s.order;
+        few = λ one is. let same : spec ≡ one = cc (is) in subst (λ d. channels before + channels_of d ≤ 16) same (grind (arith, nat_tests, room));
+        new = λ other is. let same : name ≡ other = cc (is) in ap (λ n. device_of n before) (sym same) ∙ sym said ∙ none_is device (not_true _ (unless_none _ _ s.repeat));
+        asks = λ is. absurd (cc);
+        closed = λ d is. absurd (cc);
+        short = omega (arith, s.line, behind);
+      }
+    where
+      none_is : (o : Option ℕ) → is_some o ≡ false → o ≡ None
+      none_is None is = refl
+      none_is (Some d) is = absurd (cc)
+
+  pub fits_ring : (name : List ℕ) (pages device : Option ℕ) → row_fault number before device (Ring name pages) ≡ None → InRange (Ring name pages) → IfSome device (λ d. d < length (offered before))
+      → Fits before (IsRingSize (unwrap_or device 0) (unwrap_or pages 0))
+  fits_ring name pages device free range within =
+      let s = stands number before device (Ring name pages) free in
+      record {
+        right = (within_offered before device (unless_none _ _ s.name) within, (in_range pages (unless_none _ _ s.range) range).0, (in_range pages (unless_none _ _ s.range) range).1);
+        contact = λ is. absurd (cc);
+        settings = λ is. settings_stand before _ _ _ s.order;
+        few = λ one is. absurd (cc);
+        new = λ other is. absurd (cc);
+        asks = λ is. absurd (cc);
+        closed = λ d is. absurd (cc);
+        short = omega (arith, s.line, behind);
+      }
+    where
+      in_range : (o : Option ℕ) → is_some o ≡ true → IfSome o (λ n. (1 ≤ n) × (n ≤ 16)) → (1 ≤ unwrap_or o 0) × (unwrap_or o 0 ≤ 16)
+      in_range None there is = absurd (cc)
+      in_range (Some n) there is = is
+
+  pub fits_window : (name : List ℕ) (size device : Option ℕ) → row_fault number before device (Window name size) ≡ None → InRange (Window name size) → IfSome device (λ d. d < length (offered before))
+      → Fits before (IsWindow (unwrap_or device 0) (unwrap_or size 0))
+  fits_window name size device free range within =
+      let s = stands number before device (Window name size) free in
+      record {
+        right = (within_offered before device (unless_none _ _ s.name) within, (in_range size (unless_none _ _ s.range) range).0, (in_range size (unless_none _ _ s.range) range).1);
+        contact = λ is. absurd (cc);
+        settings = λ is. settings_stand before _ _ _ s.order;
+        few = λ one is. absurd (cc);
+        new = λ other is. absurd (cc);
+        asks = λ is. absurd (cc);
+        closed = λ d is. absurd (cc);
+        short = omega (arith, s.line, behind);
+      }
+    where
+      in_range : (o : Option ℕ) → is_some o ≡ true → IfSome o (λ n. (1 ≤ n) × (n ≤ 64)) → (1 ≤ unwrap_or o 0) × (unwrap_or o 0 ≤ 64)
+      in_range None there is = absurd (cc)
+      in_range (Some n) there is = is
+
+  fits_ask : (ask : Ask) (device : Option ℕ) (spec : DeviceSpec) → slice_get (offered before) (unwrap_or device 0) ≡ Some spec → kind_of spec ≡ kind_asked ask → ask_limit before ≡ None → number ≤ 20000
+      → Fits before (IsAsk (unwrap_or device 0) ask)
+  fits_ask ask device spec at kind room line =
+      let less = unless_none _ _ room in
+      record {
+        right = right_ask before device spec ask at kind;
+        contact = λ is. absurd (cc);
+        settings = λ is. absurd (cc);
+        few = λ one is. absurd (cc);
+        new = λ other is. absurd (cc);
+        asks = λ is. grind (arith, nat_tests, less);
+        closed = λ d is. absurd (cc);
+        short = omega (arith, line, behind);
+      }
+
+  pub fits_beat : (name : List ℕ) (seq device : Option ℕ) → row_fault number before device (Beat name seq) ≡ None → Fits before (IsAsk (unwrap_or device 0) (Ic (AskBeat (unwrap_or seq 0))))
+  fits_beat name seq device free =
+      let s = stands number before device (Beat name seq) free in
+      let found = offered_is is_beat before device (unless_none _ _ s.name) in
+      fits_ask (Ic (AskBeat (unwrap_or seq 0))) device found.0 found.1 (ap kind_of (beat_is found.0 found.2)) s.count s.line
+
+  pub fits_down : (name : List ℕ) (flags device : Option ℕ) → row_fault number before device (Down name flags) ≡ None → Fits before (IsAsk (unwrap_or device 0) (Ic (AskDown 0 0 (unwrap_or flags 0))))
+  fits_down name flags device free =
+      let s = stands number before device (Down name flags) free in
+      let found = offered_is is_down before device (unless_none _ _ s.name) in
+      fits_ask (Ic (AskDown 0 0 (unwrap_or flags 0))) device found.0 found.1 (ap kind_of (down_is found.0 found.2)) s.count s.line
+
+  pub fits_close : (name : List ℕ) (device : Option ℕ) → row_fault number before device (Close name) ≡ None → IfSome device (λ d. d < length (offered before)) → Fits before (IsShut (unwrap_or device 0))
+  fits_close name device free within =
+      let s = stands number before device (Close name) free in
+      let named = unless_none _ _ s.name in
+      let earlier = not_true _ (unless_none _ _ (own_free before device (Close name) s.order)) in
+      let here = not_true _ (unless_none _ _ s.repeat) in
+      record {
+        right = within_offered before device named within;
+        contact = λ is. absurd (cc);
+        settings = λ is. absurd (cc);
+        few = λ one is. absurd (cc);
+        new = λ other is. absurd (cc);
+        asks = λ is. absurd (cc);
+        closed = λ d is. subst (λ e. closed_in e before ≡ None) (eq_is (unwrap_or device 0) d is) (open_at device named earlier here);
+        short = omega (arith, s.line, behind);
+      }
+    where
+      open_at : (o : Option ℕ) → is_some o ≡ true → option_map_or (is_closed_before before) o false ≡ false → option_map_or (is_closed_here before) o false ≡ false → closed_in (unwrap_or o 0) before ≡ None
+      open_at None there earlier here = absurd (cc)
+      open_at (Some d) there earlier here = open_is before d earlier here
+
+  pub fits_phase : (device : Option ℕ) → row_fault number before device Phase ≡ None → Fits before IsPhase
+  fits_phase device free =
+      let s = stands number before device Phase free in
+      record {
+        right = tt;
+        contact = λ is. absurd (cc);
+        settings = λ is. absurd (cc);
+        few = λ one is. absurd (cc);
+        new = λ other is. absurd (cc);
+        asks = λ is. absurd (cc);
+        closed = λ d is. absurd (cc);
+        short = omega (arith, s.line, behind);
+      }
+
+  pub line_is : (device : Option ℕ) (said : Said) → row_fault number before device said ≡ None → number ≤ 20000
+  line_is device said free = let s = stands number before device said free in s.line

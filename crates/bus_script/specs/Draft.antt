@@ -1,0 +1,25 @@
+-- What a script's reader keeps of the lines before, so that no line is looked at twice.
+use Rattle.std.specs.Prelude.{ℕ, ◌≡◌, Bool, List, length, Some, slice_get}
+use Rattle.std.specs.List.{list_all}
+use Rattle.bus_script.specs.declared.line.Line.{Line}
+use Rattle.bus_script.specs.declared.draft.Seen.{Seen}
+use Rattle.bus_script.specs.Parts.{is_settings, asks_in, this_part, phases_over, offered, names, channels, has_ring, has_window, closed_in}
+use Rattle.bus_script.specs.WellFormed.{IsScript}
+
+-- what the lines say of a device
+pub record IsSeen (lines : List Line) (device : ℕ) (seen : Seen) : Type 0 where
+  pub spec : slice_get (offered lines) device ≡ Some seen.spec
+  pub ring : seen.ring ≡ has_ring device lines
+  pub window : seen.window ≡ has_window device lines
+  pub closed : seen.closed ≡ closed_in device lines
+
+-- the devices' names, what the lines say of each, and the counts are those of the lines
+pub record Keeps (lines : List Line) (keys : List (List ℕ)) (seen : List Seen) (count asks phase : ℕ) (settings : Bool) : Type 0 where
+  pub script : IsScript lines
+  pub names : keys ≡ names lines
+  pub many : length seen ≡ length (offered lines)
+  pub each : (device : ℕ) (s : Seen) → slice_get seen device ≡ Some s → IsSeen lines device s
+  pub channels : count ≡ channels lines
+  pub asked : asks ≡ asks_in (this_part lines)
+  pub over : phase ≡ phases_over lines
+  pub all_settings : settings ≡ list_all (λ l. is_settings l.what) lines
