@@ -1,10 +1,10 @@
 -- Laws of runs.
-use Rattle.std.specs.Prelude.{ℕ, ◌≡◌, List, [], ◌∷◌, ◌++◌, length}
+use Rattle.std.specs.Prelude.{ℕ, ◌≡◌, List, [], ◌∷◌, ◌++◌, length, count_by}
 use Rattle.bus_script.specs.declared.line.Line.{Line}
 use Rattle.bus_script.specs.declared.line.DeviceSpec.{DeviceSpec}
 use Rattle.bus_script.specs.declared.line.Ask.{Ask}
 use Rattle.bus_script.specs.declared.outcome.LineResult.{LineResult}
-use Rattle.bus_script.specs.Faults.{asks_in}
+use Rattle.bus_script.specs.Report.{prints}
 use Rattle.ring_model.specs.Lists.{Lists}
 use Rattle.bus_model.specs.Served.{Served}
 use Rattle.bus_model.specs.Wants.{Script, Replied, Encodes, Answers}
@@ -28,4 +28,4 @@ OneMore = (kind : DeviceSpec) (asks : List Ask) (old new : Lists) (served : List
 
 -- each line that prints has one outcome
 abbrev pub OneEach : Type 0
-OneEach = (lines : List Line) (settled : List ChannelRun) (histories : List DeviceHistory) (results : List LineResult) → IsBusRun lines settled histories results → length results ≡ asks_in lines
+OneEach = (lines : List Line) (settled : List ChannelRun) (histories : List DeviceHistory) (results : List LineResult) → IsBusRun lines settled histories results → length results ≡ count_by prints lines

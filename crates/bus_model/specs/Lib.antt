@@ -1,8 +1,7 @@
 pub mod Served
 pub mod Wants
 pub mod Channel
-pub mod Parts
+pub mod Dests
 pub mod Logs
 pub mod Run
 pub mod Laws
-pub mod One

@@ -7,7 +7,8 @@ use Rattle.bus_script.specs.declared.line.DeviceSpec.{DeviceSpec}
 use Rattle.bus_script.specs.declared.outcome.LineResult.{LineResult}
 use Rattle.bus_model.specs.Served.{Served, done_of}
 use Rattle.bus_model.specs.Channel.{IsChannelRun}
-use Rattle.bus_model.specs.Parts.{Address, At, dests, asks_to, addresses, parts, offered, is_opened}
+use Rattle.bus_script.specs.Parts.{parts, offered}
+use Rattle.bus_model.specs.Dests.{Address, At, Fixed, dests, asks_to, addresses, is_opened}
 use Rattle.bus_model.specs.Logs.{Recorded, Grows, EachHistory, log_of}
 use Rattle.bus_model.specs.declared.channel_run.ChannelRun.{ChannelRun}
 use Rattle.bus_model.specs.declared.history.DeviceHistory.{DeviceHistory}
@@ -29,15 +30,15 @@ Carries true phase relid device kind asks (r ∷ []) served =
 Carries true phase relid device kind asks (r ∷ s ∷ runs) served = ⊥
 
 -- the channel with this place among the phase's channels; relids count from 1
-pub record IsChannelPhase (part : List Line) (phase place : ℕ) (c : ChannelPhase) : Type 0 where
+pub record IsChannelPhase (earlier part : List Line) (phase place : ℕ) (c : ChannelPhase) : Type 0 where
   pub device : c.device ≡ place
-  pub opened : c.opened ≡ is_opened c.device part
-  pub carries : Carries c.opened phase (place + 1) c.device c.kind (asks_to place (dests part)) c.runs c.served
+  pub opened : c.opened ≡ is_opened c.device earlier part
+  pub carries : Carries c.opened phase (place + 1) c.device c.kind (asks_to place (dests earlier part)) c.runs c.served
 
 -- the channels from one on, in order of their relids
-abbrev pub EachChannel : List Line → ℕ → ℕ → List ChannelPhase → Type 0
-EachChannel part phase place [] = Unit {0}
-EachChannel part phase place (c ∷ channels) = IsChannelPhase part phase place c × EachChannel part phase (place + 1) channels
+abbrev pub EachChannel : List Line → List Line → ℕ → ℕ → List ChannelPhase → Type 0
+EachChannel earlier part phase place [] = Unit {0}
+EachChannel earlier part phase place (c ∷ channels) = IsChannelPhase earlier part phase place c × EachChannel earlier part phase (place + 1) channels
 
 -- a device in one phase: its history before and after
 pub record DevicePhase : Type 0 where
@@ -61,28 +62,29 @@ outcomes_of c = map done_of c.served
 -- the outcome of a line
 abbrev pub outcome_at : List (List LineResult) → Address → Option LineResult
 outcome_at outcomes (At channel place) = slice_get (slice_index_or outcomes channel []) place
+outcome_at outcomes (Fixed result) = Some result
 
--- one phase: a channel for each device, the devices' histories before and after it, and an outcome for each line that prints
-pub record PhaseRuns (kinds : List DeviceSpec) (phase : ℕ) (part : List Line) (before after : List (List Recorded)) (runs : List ChannelRun) (told : List LineResult) : Type 0 where
+-- one phase behind earlier lines: a channel for each device, the devices' histories before and after it, and an outcome for each line that prints
+pub record PhaseRuns (kinds : List DeviceSpec) (phase : ℕ) (earlier part : List Line) (before after : List (List Recorded)) (runs : List ChannelRun) (told : List LineResult) : Type 0 where
   pub channels : List ChannelPhase
   pub devices : List DevicePhase
   pub channel_kinds : map (λ c. c.kind) channels ≡ kinds
   pub device_kinds : map (λ d. d.kind) devices ≡ kinds
   pub before_is : map (λ d. d.before) devices ≡ before
   pub after_is : map (λ d. d.after) devices ≡ after
-  pub each_channel : EachChannel part phase 0 channels
+  pub each_channel : EachChannel earlier part phase 0 channels
   pub each_device : EachDevice 0 channels devices
   pub runs_are : runs ≡ flat_map (λ c. c.runs) channels
-  pub outcomes : map (λ r. Some r) told ≡ map (outcome_at (map outcomes_of channels)) (addresses part)
+  pub outcomes : map (λ r. Some r) told ≡ map (outcome_at (map outcomes_of channels)) (addresses earlier part)
 
--- phases, one after the other: histories go on, and what was carried and the outcomes stand in order
-abbrev pub RunFrom : List DeviceSpec → ℕ → List (List Line) → List (List Recorded) → List ChannelRun → List (List Recorded) → List LineResult → Type 0
-RunFrom kinds phase [] before settled after results = (settled ≡ []) × (after ≡ before) × (results ≡ [])
-RunFrom kinds phase (part ∷ rest) before settled after results =
+-- phases, one after the other, behind the lines of the earlier ones: histories go on, and what was carried and the outcomes stand in order
+abbrev pub RunFrom : List DeviceSpec → ℕ → List Line → List (List Line) → List (List Recorded) → List ChannelRun → List (List Recorded) → List LineResult → Type 0
+RunFrom kinds phase earlier [] before settled after results = (settled ≡ []) × (after ≡ before) × (results ≡ [])
+RunFrom kinds phase earlier (part ∷ rest) before settled after results =
     (runs : List ChannelRun) × (told : List LineResult) × (between : List (List Recorded)) × (settled' : List ChannelRun) × (results' : List LineResult) ×
-    PhaseRuns kinds phase part before between runs told × RunFrom kinds (phase + 1) rest between settled' after results' × (settled ≡ runs ++ settled') × (results ≡ told ++ results')
+    PhaseRuns kinds phase earlier part before between runs told × RunFrom kinds (phase + 1) (earlier ++ part) rest between settled' after results' × (settled ≡ runs ++ settled') × (results ≡ told ++ results')
 
 -- The run of a script: each history begins with nothing, is legal, and goes on phase by phase
 pub record IsBusRun (lines : List Line) (settled : List ChannelRun) (histories : List DeviceHistory) (results : List LineResult) : Type 0 where
-  pub phases : RunFrom (offered lines) 0 (parts lines) (map (λ k. []) (offered lines)) settled (map log_of histories) results
+  pub phases : RunFrom (offered lines) 0 [] (parts lines) (map (λ k. []) (offered lines)) settled (map log_of histories) results
   pub legal : EachHistory (offered lines) histories

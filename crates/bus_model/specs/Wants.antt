@@ -4,10 +4,9 @@ use Rattle.bus_script.specs.declared.line.Ask.{Ask}
 use Rattle.bus_script.specs.declared.line.Ask.TheVariants.{Ic as AskIc}
 use Rattle.bus_script.specs.declared.line.DeviceSpec.{DeviceSpec}
 use Rattle.bus_script.specs.declared.line.DeviceSpec.TheVariants.{Beat, Down}
+use Rattle.bus_script.specs.Parts.{kind_of}
 use Rattle.bus_script.specs.declared.outcome.Reply.{Reply}
 use Rattle.bus_script.specs.declared.outcome.Reply.TheVariants.{Ic as ReplyIc}
-use Rattle.contact.specs.declared.kind.Kind.{Kind}
-use Rattle.contact.specs.declared.kind.Kind.TheVariants.{Beat as KindBeat, Down as KindDown}
 use Rattle.vm_page.specs.Words.{bytes_in}
 use Rattle.pkt_desc.specs.Packets.{id_of, payload_of}
 use Rattle.util_ic.specs.Packets.{ask_packet, negotiate_packet, served_packet, answer_packet}
@@ -22,11 +21,6 @@ pub data Want : Type 0 where
 pub data Back : Type 0 where
   Started : Back
   Replied : Reply → Back
-
--- the kind of a device
-abbrev pub kind_of : DeviceSpec → Kind
-kind_of Beat = KindBeat
-kind_of Down = KindDown
 
 -- the requests with which a channel of this kind starts up: a utility service negotiates its versions
 abbrev pub startup : DeviceSpec → List Want

@@ -1,0 +1,60 @@
+-- The plan of a phase.
+use Rattle.std.specs.Prelude.{ℕ, ◌≡◌, ◌<◌, List, [], ◌∷◌, ◌++◌, length, map, Some, slice_index_or}
+use Rattle.std.specs.List.{list_any}
+use Rattle.bus_script.specs.declared.line.Line.{Line}
+use Rattle.bus_script.specs.declared.line.Ask.{Ask}
+use Rattle.bus_script.specs.declared.outcome.LineResult.{LineResult}
+use Rattle.bus_model.specs.Dests.{Dest, ToChannel, Known, Address, At, Fixed, dests, asks_to, addresses_from, addresses, wants_open}
+use Rattle.bus_model.specs.Run.{outcome_at}
+use Rattle.bus_plan.specs.Flags.{AreMarked}
+use Rattle.bus_plan.specs.declared.address.Address.{Address as Slot}
+use Rattle.bus_plan.specs.declared.address.Address.TheVariants.{At as SlotAt, Fixed as SlotFixed}
+use Rattle.bus_plan.specs.declared.plan.PartPlan.{PartPlan}
+
+-- each request goes to one of so many channels
+abbrev pub LeadsBelow : ℕ → Dest → Type 0
+LeadsBelow channels (ToChannel c ask) = c < channels
+LeadsBelow channels (Known result) = Unit {0}
+
+abbrev pub AllLeadBelow : ℕ → List Dest → Type 0
+AllLeadBelow channels [] = Unit {0}
+AllLeadBelow channels (d ∷ ds) = LeadsBelow channels d × AllLeadBelow channels ds
+
+-- each channel has its requests
+pub record IsDealt (channels : ℕ) (ds : List Dest) (piles : List (List Ask)) : Type 0 where
+  pub count : length piles ≡ channels
+  pub each : (k : ℕ) → k < channels → slice_index_or piles k [] ≡ asks_to k ds
+
+abbrev pub place_of : Slot → Address
+place_of (SlotAt channel place) = At channel place
+place_of (SlotFixed result) = Fixed result
+
+abbrev pub places_of : List Slot → List Address
+places_of slots = map place_of slots
+
+-- the plan of the lines done, before those left
+pub record IsPlanned (channels : ℕ) (all : List Address) (done left : List Dest) (piles : List (List Ask)) (slots : List Slot) : Type 0 where
+  pub dealt : IsDealt channels done piles
+  pub rest : places_of slots ++ addresses_from done left ≡ all
+
+-- the plan of a phase behind earlier lines, with so many devices
+pub record IsPlan (channels : ℕ) (earlier part : List Line) (plan : PartPlan) : Type 0 where
+  pub asks : IsDealt channels (dests earlier part) plan.asks
+  pub count : length plan.wanted.items ≡ channels
+  pub wanted : AreMarked (λ k. list_any (λ l. wants_open k l.what) part) plan.wanted.items
+  pub places : places_of plan.addresses.items ≡ addresses earlier part
+
+-- the outcome stands there
+abbrev pub IsThere : List (List LineResult) → Address → Type 0
+IsThere outcomes (At channel place) = (channel < length outcomes) × (place < length (slice_index_or outcomes channel []))
+IsThere outcomes (Fixed result) = Unit {0}
+
+abbrev pub AllThere : List (List LineResult) → List Address → Type 0
+AllThere outcomes [] = Unit {0}
+AllThere outcomes (a ∷ rest) = IsThere outcomes a × AllThere outcomes rest
+
+-- the outcomes at these addresses stand behind the old ones
+pub record Tells (outcomes : List (List LineResult)) (places : List Address) (old new : List LineResult) : Type 0 where
+  pub told : List LineResult
+  pub more : new ≡ old ++ told
+  pub each : map (λ r. Some r) told ≡ map (outcome_at outcomes) places

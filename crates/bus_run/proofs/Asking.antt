@@ -1,0 +1,190 @@
+-- What the lines of a phase ask of the channels.
+use Rattle.std.proofs.Common.{◌≡◌, ℕ, suc, ◌+◌, ◌<◌, ◌≤◌, ◌==◌, Bool, true, false, cond, List, [], ◌∷◌, ◌++◌, length, length-append, append_assoc, refl, ap, sym, ◌∙◌, arith, slice_index_or, slice_get, Option, Some, None}
+use Rattle.std.specs.Prelude.{map, filter, not, ◌&&◌, ◌||◌, is_none}
+use Rattle.std.specs.List.{list_any}
+use Rattle.std.proofs.lemmas.List.{length-map, get_or-map}
+use Rattle.std.proofs.lemmas.List.Sums.{length-filter}
+use Rattle.std.proofs.lemmas.Grind.{flat_map-append}
+use Rattle.std.proofs.lemmas.Option.{slice_get_within, get_or_from_slice_get}
+use Rattle.std.proofs.lemmas.Bool.Decides.{nat_tests}
+use Rattle.contact.specs.declared.kind.Kind.{Kind}
+use Rattle.bus_script.specs.declared.line.Line.{Line}
+use Rattle.bus_script.specs.declared.line.What.{What}
+use Rattle.bus_script.specs.declared.line.What.TheVariants.{Contact as IsContact, Offer as IsOffer, RingSize as IsRingSize, Window as IsWindow, Ask as IsAsk, Shut as IsShut, Phase as IsPhase}
+use Rattle.bus_script.specs.declared.line.Ask.{Ask}
+use Rattle.bus_script.specs.declared.line.DeviceSpec.{DeviceSpec}
+use Rattle.bus_script.specs.declared.line.DeviceSpec.TheVariants.{Beat}
+use Rattle.bus_script.specs.declared.outcome.LineResult.{LineResult}
+use Rattle.bus_script.specs.declared.outcome.LineResult.TheVariants.{Closed}
+use Rattle.bus_script.specs.Parts.{is_ask, asks_in, kind_of, kind_asked}
+use Rattle.bus_script.specs.WellFormed.{IsRight, AllRight}
+use Rattle.bus_model.specs.Dests.{Dest, ToChannel, Known, ended_by, dest_of, dest_in, dests, asked_in, asks_to, wants_open, is_opened, address_of, addresses_from}
+use Rattle.bus_plan.specs.Flags.{IsBelow, AllBelow, AreMarked, closed_by}
+use Rattle.bus_plan.specs.Plans.{LeadsBelow, AllLeadBelow, IsThere, AllThere}
+use Rattle.bus_run.specs.Serve.{AllAsk}
+use Rattle.bus_run.specs.Desk.{opened_by}
+
+-- right lines speak of devices that are offered
+
+asked_within : (kinds : List DeviceSpec) (device : ℕ) (kind : Kind) → slice_get (map kind_of kinds) device ≡ Some kind → device < length kinds
+asked_within kinds device kind fits = omega (arith, slice_get_within (map kind_of kinds) device kind fits, length-map kinds kind_of)
+
+below_line : (kinds : List DeviceSpec) (w : What) → IsRight kinds w → IsBelow (length kinds) w
+below_line kinds (IsContact guest host) right = tt
+below_line kinds (IsOffer name spec) right = tt
+below_line kinds (IsRingSize device pages) right = tt
+below_line kinds (IsWindow device size) right = tt
+below_line kinds (IsAsk device ask) right = asked_within kinds device (kind_asked ask) right
+below_line kinds (IsShut device) right = right
+below_line kinds IsPhase right = tt
+
+pub below_all : (kinds : List DeviceSpec) (part : List Line) → AllRight kinds part → AllBelow (length kinds) part
+below_all kinds [] right = tt
+below_all kinds (l ∷ part) right = (below_line kinds l.what right.0, below_all kinds part right.1)
+
+lead_of : (count : ℕ) (o : Option LineResult) (device : ℕ) (ask : Ask) → device < count → LeadsBelow count (dest_of o device ask)
+lead_of count None device ask less = less
+lead_of count (Some result) device ask less = tt
+
+lead_line : (kinds : List DeviceSpec) (earlier : List Line) (w : What) (ds : List Dest) → IsRight kinds w → AllLeadBelow (length kinds) ds → AllLeadBelow (length kinds) (dest_in earlier w ++ ds)
+lead_line kinds earlier (IsContact guest host) ds right rest = (tt, rest)
+lead_line kinds earlier (IsOffer name spec) ds right rest = rest
+lead_line kinds earlier (IsRingSize device pages) ds right rest = rest
+lead_line kinds earlier (IsWindow device size) ds right rest = rest
+lead_line kinds earlier (IsAsk device ask) ds right rest = (lead_of (length kinds) (ended_by device earlier) device ask (asked_within kinds device (kind_asked ask) right), rest)
+lead_line kinds earlier (IsShut device) ds right rest = rest
+lead_line kinds earlier IsPhase ds right rest = rest
+
+pub lead_all : (kinds : List DeviceSpec) (earlier part : List Line) → AllRight kinds part → AllLeadBelow (length kinds) (dests earlier part)
+lead_all kinds earlier [] right = tt
+lead_all kinds earlier (l ∷ part) right = lead_line kinds earlier l.what (dests earlier part) right.0 (lead_all kinds earlier part right.1)
+
+-- a channel is asked what its device serves
+
+ask_if : (b : Bool) (spec : DeviceSpec) (ask : Ask) (asks : List Ask) → (b ≡ true → kind_asked ask ≡ kind_of spec) → AllAsk spec asks → AllAsk spec (cond b (ask ∷ []) [] ++ asks)
+ask_if true spec ask asks here rest = (here refl, rest)
+ask_if false spec ask asks here rest = rest
+
+ask_of : (spec : DeviceSpec) (k : ℕ) (o : Option LineResult) (device : ℕ) (ask : Ask) (ds : List Dest) → ((device == k) ≡ true → kind_asked ask ≡ kind_of spec) → AllAsk spec (asks_to k ds) → AllAsk spec (asks_to k (dest_of o device ask ∷ ds))
+ask_of spec k None device ask ds here rest = ask_if (device == k) spec ask (asks_to k ds) here rest
+ask_of spec k (Some result) device ask ds here rest = rest
+
+kind_here : (kinds : List DeviceSpec) (device k : ℕ) (kind : Kind) → slice_get (map kind_of kinds) device ≡ Some kind → (device == k) ≡ true → kind ≡ kind_of (slice_index_or kinds k Beat)
+kind_here kinds device k kind fits same =
+    let e : device ≡ k = grind (arith, nat_tests) in
+    sym (ap (λ (n : ℕ). kind_of (slice_index_or kinds n Beat)) (sym e) ∙ sym (get_or-map kind_of kinds device Beat (kind_of Beat) (asked_within kinds device kind fits)) ∙ get_or_from_slice_get (map kind_of kinds) device kind (kind_of Beat) fits)
+
+asks_line : (kinds : List DeviceSpec) (earlier : List Line) (k : ℕ) (w : What) (ds : List Dest) → IsRight kinds w → AllAsk (slice_index_or kinds k Beat) (asks_to k ds) → AllAsk (slice_index_or kinds k Beat) (asks_to k (dest_in earlier w ++ ds))
+asks_line kinds earlier k (IsContact guest host) ds right rest = rest
+asks_line kinds earlier k (IsOffer name spec) ds right rest = rest
+asks_line kinds earlier k (IsRingSize device pages) ds right rest = rest
+asks_line kinds earlier k (IsWindow device size) ds right rest = rest
+asks_line kinds earlier k (IsAsk device ask) ds right rest = ask_of (slice_index_or kinds k Beat) k (ended_by device earlier) device ask ds (kind_here kinds device k (kind_asked ask) right) rest
+asks_line kinds earlier k (IsShut device) ds right rest = rest
+asks_line kinds earlier k IsPhase ds right rest = rest
+
+pub asks_all : (kinds : List DeviceSpec) (earlier : List Line) (k : ℕ) (part : List Line) → AllRight kinds part → AllAsk (slice_index_or kinds k Beat) (asks_to k (dests earlier part))
+asks_all kinds earlier k [] right = tt
+asks_all kinds earlier k (l ∷ part) right = asks_line kinds earlier k l.what (dests earlier part) right.0 (asks_all kinds earlier k part right.1)
+
+-- a channel is asked no more than the phase asks
+
+few_if : (b : Bool) (ask : Ask) (asks : List Ask) (n : ℕ) → length asks ≤ n → length (cond b (ask ∷ []) [] ++ asks) ≤ suc n
+few_if true ask asks n le = omega (arith, le)
+few_if false ask asks n le = omega (arith, le)
+
+few_of : (k : ℕ) (o : Option LineResult) (device : ℕ) (ask : Ask) (ds : List Dest) (n : ℕ) → length (asks_to k ds) ≤ n → length (asks_to k (dest_of o device ask ∷ ds)) ≤ suc n
+few_of k None device ask ds n le = few_if (device == k) ask (asks_to k ds) n le
+few_of k (Some result) device ask ds n le = omega (arith, le)
+
+few_line : (earlier : List Line) (k : ℕ) (w : What) (l : Line) (ds : List Dest) (ls : List Line) → length (asks_to k ds) ≤ length ls → length (asks_to k (dest_in earlier w ++ ds)) ≤ length (cond (is_ask w) (l ∷ ls) ls)
+few_line earlier k (IsContact guest host) l ds ls le = le
+few_line earlier k (IsOffer name spec) l ds ls le = le
+few_line earlier k (IsRingSize device pages) l ds ls le = le
+few_line earlier k (IsWindow device size) l ds ls le = le
+few_line earlier k (IsAsk device ask) l ds ls le = few_of k (ended_by device earlier) device ask ds (length ls) le
+few_line earlier k (IsShut device) l ds ls le = le
+few_line earlier k IsPhase l ds ls le = le
+
+few_shown : (earlier : List Line) (k : ℕ) (part : List Line) → length (asks_to k (dests earlier part)) ≤ length (filter (λ l. is_ask l.what) part)
+few_shown earlier k [] = omega arith
+few_shown earlier k (l ∷ part) = few_line earlier k l.what l (dests earlier part) (filter (λ l. is_ask l.what) part) (few_shown earlier k part)
+
+pub few_all : (earlier : List Line) (k : ℕ) (part : List Line) → length (asks_to k (dests earlier part)) ≤ asks_in part
+few_all earlier k part = omega (arith, few_shown earlier k part, length-filter (λ l. is_ask l.what) part)
+
+-- a channel that isn't opened is asked nothing
+
+other_asks : (k : ℕ) (o : Option LineResult) (device : ℕ) (ask : Ask) → (device == k) ≡ false → asked_in k (dest_of o device ask) ≡ []
+other_asks k None device ask other = ap (λ (b : Bool). cond b (ask ∷ []) []) other
+other_asks k (Some result) device ask other = refl
+
+ended_asks : (k : ℕ) (o : Option LineResult) (device : ℕ) (ask : Ask) → is_none o ≡ false → asked_in k (dest_of o device ask) ≡ []
+ended_asks k None device ask not = cc (not)
+ended_asks k (Some result) device ask not = refl
+
+none_asked : (b : Bool) (k : ℕ) (earlier : List Line) (device : ℕ) (ask : Ask) → (device == k) ≡ b → (is_none (ended_by k earlier) && b) ≡ false → asked_in k (dest_of (ended_by device earlier) device ask) ≡ []
+none_asked true k earlier device ask same not =
+    let e : device ≡ k = grind (arith, nat_tests) in
+    ended_asks k (ended_by device earlier) device ask (ap (λ (n : ℕ). is_none (ended_by n earlier)) e ∙ left_of (is_none (ended_by k earlier)) not)
+  where
+    left_of : (a : Bool) → (a && true) ≡ false → a ≡ false
+    left_of true h = h
+    left_of false h = refl
+none_asked false k earlier device ask same not = other_asks k (ended_by device earlier) device ask same
+
+none_line : (k : ℕ) (earlier : List Line) (w : What) (ds : List Dest) → (is_none (ended_by k earlier) && wants_open k w) ≡ false → asks_to k ds ≡ [] → asks_to k (dest_in earlier w ++ ds) ≡ []
+none_line k earlier (IsContact guest host) ds not rest = rest
+none_line k earlier (IsOffer name spec) ds not rest = rest
+none_line k earlier (IsRingSize device pages) ds not rest = rest
+none_line k earlier (IsWindow device size) ds not rest = rest
+none_line k earlier (IsAsk device ask) ds not rest = ap (λ (l : List Ask). l ++ asks_to k ds) (none_asked (device == k) k earlier device ask refl not) ∙ rest
+none_line k earlier (IsShut device) ds not rest = rest
+none_line k earlier IsPhase ds not rest = rest
+
+and_or : (a b c : Bool) → (a && (b || c)) ≡ false → ((a && b) ≡ false) × ((a && c) ≡ false)
+and_or true true c h = absurd (cc (h))
+and_or true false c h = (refl, h)
+and_or false b c h = (refl, refl)
+
+pub none_all : (k : ℕ) (earlier part : List Line) → is_opened k earlier part ≡ false → asks_to k (dests earlier part) ≡ []
+none_all k earlier [] not = refl
+none_all k earlier (l ∷ part) not =
+    let each = and_or (is_none (ended_by k earlier)) (wants_open k l.what) (list_any (λ l. wants_open k l.what) part) not in
+    none_line k earlier l.what (dests earlier part) each.0 (none_all k earlier part each.1)
+
+-- the flags tell which channels are opened
+
+is_not : (b : Bool) → not b ≡ is_none (cond b (Some Closed) None)
+is_not true = refl
+is_not false = refl
+
+pub opened_is : (earlier part : List Line) (closed wanted : List Bool) (k : ℕ) → AreMarked (closed_by earlier) closed → AreMarked (λ k. list_any (λ l. wants_open k l.what) part) wanted → k < length closed → k < length wanted → opened_by closed wanted k ≡ is_opened k earlier part
+opened_is earlier part closed wanted k shut wants in_closed in_wanted =
+    ap (λ (b : Bool). not b && slice_index_or wanted k false) (shut k in_closed)
+    ∙ ap (λ (b : Bool). not (closed_by earlier k) && b) (wants k in_wanted)
+    ∙ ap (λ (b : Bool). b && list_any (λ l. wants_open k l.what) part) (is_not (closed_by earlier k))
+
+-- an outcome stands at each address
+
+pub asks_append : (k : ℕ) (xs ys : List Dest) → asks_to k (xs ++ ys) ≡ asks_to k xs ++ asks_to k ys
+asks_append k xs ys = flat_map-append (asked_in k) xs ys
+
+first_to : (c : ℕ) (ask : Ask) (ds : List Dest) → length (asks_to c (ToChannel c ask ∷ ds)) ≡ 1 + length (asks_to c ds)
+first_to c ask ds = let same : (c == c) ≡ true = grind (arith, nat_tests) in ap (λ (b : Bool). length (cond b (ask ∷ []) [] ++ asks_to c ds)) same ∙ omega arith
+
+there_one : (outcomes : List (List LineResult)) (before : List Dest) (d : Dest) (ds : List Dest) → LeadsBelow (length outcomes) d → ((k : ℕ) → k < length outcomes → length (slice_index_or outcomes k []) ≡ length (asks_to k (before ++ d ∷ ds)))
+    → IsThere outcomes (address_of before d)
+there_one outcomes before (ToChannel c ask) ds below long = (
+  below,
+  omega (arith, long c below, ap length (asks_append c before (ToChannel c ask ∷ ds)), length-append (asks_to c before) (asks_to c (ToChannel c ask ∷ ds)), first_to c ask ds),
+)
+there_one outcomes before (Known result) ds below long = tt
+
+pub there_all : (outcomes : List (List LineResult)) (before ds : List Dest) → AllLeadBelow (length outcomes) ds → ((k : ℕ) → k < length outcomes → length (slice_index_or outcomes k []) ≡ length (asks_to k (before ++ ds))) → AllThere outcomes (addresses_from before ds)
+there_all outcomes before [] below long = tt
+there_all outcomes before (d ∷ ds) below long =
+    let same : (before ++ d ∷ []) ++ ds ≡ before ++ d ∷ ds = append_assoc before (d ∷ []) ds in (
+      there_one outcomes before d ds below.0 long,
+      there_all outcomes (before ++ d ∷ []) ds below.1 (λ k less. long k less ∙ ap (λ l. length (asks_to k l)) (sym same)),
+    )

@@ -1,0 +1,10 @@
+pub mod Turns
+pub mod Across
+pub mod Serving
+pub mod Histories
+pub mod Growing
+pub mod DevicesRun
+pub mod Asking
+pub mod RingSizes
+pub mod PhaseRun
+pub mod Phases

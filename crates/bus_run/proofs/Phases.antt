@@ -1,0 +1,215 @@
+-- The devices of a script, and its phases one after the other.
+use Rattle.std.proofs.Common.{◌≡◌, ℕ, zero, suc, ◌+◌, ◌*◌, ◌<◌, ◌≤◌, Bool, true, false, cond, nat_lt, replicate, List, [], ◌∷◌, ◌++◌, length, append_assoc, take, drop, get_or, refl, ap, sym, ◌∙◌, subst, arith, inl, inr, Option, Some, None, slice_set, slice_index_or}
+use Rattle.std.specs.Prelude.{map, All, MatchOption, ⊤, is_some, IsTrue, ◌↔◌}
+use Rattle.std.proofs.lemmas.Bool.{cases_eq}
+use Rattle.std.proofs.lemmas.Bool.Decides.{nat_tests}
+use Rattle.std.specs.List.{slice_split, onto_first}
+use Rattle.std.proofs.Math.ListN.{length-set}
+use Rattle.std.proofs.lemmas.List.{take_more, drop_more, append-nil, map-append, length-map, drop-set-lt, drop-drop, drop_all, length-drop, length-replicate, get_or-replicate}
+use Rattle.std.proofs.lemmas.List.Elements.{All-append}
+use Rattle.std.proofs.lemmas.Grind.{flat_map-append}
+use Rattle.bus_script.specs.declared.line.Line.{Line}
+use Rattle.bus_script.specs.declared.line.DeviceSpec.{DeviceSpec}
+use Rattle.bus_script.specs.declared.outcome.LineResult.{LineResult}
+use Rattle.bus_script.specs.Parts.{parts, ends_part, offered, offered_by}
+use Rattle.bus_script.specs.WellFormed.{AllRight}
+use Rattle.bus_model.specs.Logs.{EachHistory, IsHistory, log_of}
+use Rattle.bus_model.specs.Run.{PhaseRuns, RunFrom, IsBusRun}
+use Rattle.bus_model.specs.declared.channel_run.ChannelRun.{ChannelRun}
+use Rattle.bus_model.specs.declared.history.DeviceHistory.{DeviceHistory}
+use Rattle.bus_plan.specs.Flags.{AreMarked, closed_by}
+use Rattle.bus_run.specs.declared.desk.Desk.{Desk}
+use Rattle.bus_run.specs.declared.desk.Desk.TheVariants.{Out}
+use Rattle.bus_run.specs.declared.runner.Runner.{Runner}
+use Rattle.bus_run.specs.Desk.{spec_of, desk_log, IsFresh, IsReady}
+use Rattle.bus_run.specs.Whole.{PhaseRan, AreFresh, RingsOf, parts_left, NextWithin, behind, RunsOn, RunsSoFar}
+use Rattle.bus_run.proofs.DevicesRun.{desk_here, rest_on}
+
+-- new devices
+
+pub fresh_more : (kinds : List DeviceSpec) (desks new : List Desk) (spec : DeviceSpec) (desk : Desk) → AreFresh kinds desks → IsFresh spec desk → new ≡ desks ++ desk ∷ [] → AreFresh (kinds ++ spec ∷ []) new
+fresh_more kinds desks new spec desk old fresh is = subst (AreFresh (kinds ++ spec ∷ [])) (sym is) (record {
+  kinds_are = map-append spec_of desks (desk ∷ []) ∙ ap (λ l. l ++ spec_of desk ∷ []) old.kinds_are ∙ ap (λ k. kinds ++ k ∷ []) fresh.spec;
+  logs = map-append desk_log desks (desk ∷ []) ∙ ap (λ l. l ++ desk_log desk ∷ []) old.logs ∙ ap (λ k. map (λ k. []) kinds ++ k ∷ []) fresh.log ∙ sym (map-append (λ k. []) kinds (spec ∷ []));
+  ready = All-append (IsReady 0) desks (desk ∷ []) old.ready one;
+})
+  where
+    one : All (IsReady 0) (desk ∷ [])
+    one zero d less = record { kept = fresh.kept; few = omega (arith, ap length fresh.log) }
+    one (suc k) d less = absurd (omega (arith, less))
+
+pub offered_taken : (lines : List Line) (i : ℕ) (line : Line) → i < length lines → line ≡ get_or lines i line → offered (take (i + 1) lines) ≡ offered (take i lines) ++ offered_by line.what
+offered_taken lines i line less is =
+    ap offered (take_more lines i line less ∙ ap (λ x. take i lines ++ x ∷ []) (sym is))
+    ∙ flat_map-append (λ l. offered_by l.what) (take i lines) (line ∷ [])
+    ∙ ap (λ l. offered (take i lines) ++ l) (append-nil (offered_by line.what))
+
+-- histories at the end
+
+each_history : (kinds : List DeviceSpec) (histories : List DeviceHistory) (k : DeviceSpec) (h : DeviceHistory) → EachHistory kinds histories → IsHistory k h → EachHistory (kinds ++ k ∷ []) (histories ++ h ∷ [])
+each_history [] [] k h each one = (one, tt)
+each_history [] (g ∷ histories) k h each one = absurd each
+each_history (j ∷ kinds) [] k h each one = absurd each
+each_history (j ∷ kinds) (g ∷ histories) k h each one = (each.0, each_history kinds histories k h each.1 one)
+
+pub record HistoriesSoFar (i : ℕ) (old desks : List Desk) (histories : List DeviceHistory) : Type 0 where
+  pub logs : map log_of histories ≡ map desk_log (take i old)
+  pub legal : EachHistory (map spec_of (take i old)) histories
+  pub rest : drop i desks ≡ drop i old
+  pub count : length desks ≡ length old
+
+pub history_more : (i : ℕ) (old desks : List Desk) (histories : List DeviceHistory) (desk : Desk) (h : DeviceHistory) → HistoriesSoFar i old desks histories → i < length desks → desk ≡ get_or desks i desk → log_of h ≡ desk_log desk → IsHistory (spec_of desk) h
+    → HistoriesSoFar (i + 1) old (slice_set desks i Out) (histories ++ h ∷ [])
+history_more i old desks histories desk h so_far less is log legal =
+    let within : i < length old = omega (arith, less, so_far.count) in
+    let here : get_or old i desk ≡ desk = desk_here old desks i desk so_far.rest less within is in
+    let taken : take (i + 1) old ≡ take i old ++ desk ∷ [] = take_more old i desk within ∙ ap (λ (d : Desk). take i old ++ d ∷ []) here in
+    record {
+      logs = map-append log_of histories (h ∷ []) ∙ ap (λ l. l ++ log_of h ∷ []) so_far.logs ∙ ap (λ x. map desk_log (take i old) ++ x ∷ []) log ∙ sym (ap (map desk_log) taken ∙ map-append desk_log (take i old) (desk ∷ []));
+      legal = subst (λ k. EachHistory k (histories ++ h ∷ [])) (sym (ap (map spec_of) taken ∙ map-append spec_of (take i old) (desk ∷ []))) (each_history (map spec_of (take i old)) histories (spec_of desk) h so_far.legal legal);
+      rest = drop-set-lt (i + 1) desks i Out (omega arith) ∙ rest_on old desks i desk so_far.rest less within;
+      count = length-set desks i Out ∙ so_far.count;
+    }
+
+-- lines of a phase
+
+pub right_drop : (kinds : List DeviceSpec) (n : ℕ) (lines : List Line) → AllRight kinds lines → AllRight kinds (drop n lines)
+right_drop kinds zero lines right = right
+right_drop kinds (suc n) [] right = tt
+right_drop kinds (suc n) (l ∷ lines) right = right_drop kinds n lines right.1
+
+pub right_take : (kinds : List DeviceSpec) (n : ℕ) (lines : List Line) → AllRight kinds lines → AllRight kinds (take n lines)
+right_take kinds zero lines right = tt
+right_take kinds (suc n) [] right = tt
+right_take kinds (suc n) (l ∷ lines) right = (right.0, right_take kinds n lines right.1)
+
+-- phases
+
+one_more : (b : Bool) (l : Line) (ps : List (List Line)) (n : ℕ) → 1 ≤ length ps → length ps ≤ n + 1 → (1 ≤ length (cond b ([] ∷ ps) (onto_first l ps))) × (length (cond b ([] ∷ ps) (onto_first l ps)) ≤ suc n + 1)
+one_more true l ps n some few = (omega arith, omega (arith, few))
+one_more false l [] n some few = absurd (omega (arith, some))
+one_more false l (p ∷ ps) n some few = (omega arith, omega (arith, few))
+
+pub count_parts : (lines : List Line) → (1 ≤ length (parts lines)) × (length (parts lines) ≤ length lines + 1)
+count_parts [] = (omega arith, omega arith)
+count_parts (l ∷ lines) = one_more (ends_part l) l (slice_split ends_part lines) (length lines) (count_parts lines).0 (count_parts lines).1
+
+-- a phase is left exactly where the next one begins somewhere
+pub next_is : (lines : List Line) (phase : ℕ) (next : Option ℕ) → parts_left lines next ≡ drop phase (parts lines) → is_some next ≡ nat_lt phase (length (parts lines))
+next_is lines phase None left =
+    let over : length (drop phase (parts lines)) ≡ 0 = sym (ap length left) in
+    grind (arith, nat_tests, length-drop phase (parts lines), over)
+next_is lines phase (Some at) left =
+    let some : 1 ≤ length (drop phase (parts lines)) = omega (arith, ap length left, (count_parts (drop at lines)).0) in
+    grind (arith, nat_tests, length-drop phase (parts lines), some)
+
+pub no_next : (lines : List Line) (phase : ℕ) (next : Option ℕ) → next ≡ None → parts_left lines next ≡ drop phase (parts lines) → phase < length (parts lines) → ⊥
+no_next lines phase next none left more =
+    let over : length (drop phase (parts lines)) ≡ 0 = sym (ap length left) ∙ ap (λ n. length (parts_left lines n)) none in
+    let long = length-drop phase (parts lines) in
+    omega (arith, over, long, more)
+
+pub over_now : (lines : List Line) (r : Runner) (b : Bool) → RunsSoFar lines r → (IsTrue b ↔ (r.phase < length (parts lines))) → b ≡ false → r.phase ≡ length (parts lines)
+over_now lines r b so_far same not = by_place r.phase (length (parts lines)) so_far.counted (λ less. let it : b ≡ true = same.1 less in let no : true ≡ false = sym it ∙ not in cc (no))
+  where
+    by_place : (m n : ℕ) → m ≤ n → (m < n → ⊥) → m ≡ n
+    by_place m n le more = elim (cases_eq m n) [
+      | inl e ↦ e
+      | inr ne ↦ absurd (more (omega (arith, le, ne)))
+    ]
+
+-- the phase that stands first among those left
+pub this_phase : (ps : List (List Line)) (phase : ℕ) (part : List Line) (rest : List (List Line)) → part ∷ rest ≡ drop phase ps → (phase < length ps) × ((P : List Line → Type 0) → All P ps → P part) × (rest ≡ drop (phase + 1) ps)
+this_phase ps phase part rest left =
+    let less : phase < length ps = omega (arith, ap length left, length-drop phase ps) in
+    let heads : part ∷ rest ≡ get_or ps phase part ∷ drop (phase + 1) ps = left ∙ drop_more ps phase part less in
+    let head : part ≡ get_or ps phase part = ap (λ l. get_or l 0 part) heads in
+    (less, (λ P all. subst P (sym head) (all phase part less)), ap (drop 1) heads)
+
+pub part_next : (lines part : List Line) (at : ℕ) (next : Option ℕ) → MatchOption next (parts (drop at lines) ≡ part ∷ []) (λ n. parts (drop at lines) ≡ part ∷ parts (drop n (drop at lines))) → parts (drop at lines) ≡ part ∷ parts_left lines (behind at next)
+part_next lines part at None is = is
+part_next lines part at (Some n) is = is ∙ ap (λ l. part ∷ parts l) (drop-drop n at lines)
+
+pub within_next : (lines : List Line) (at : ℕ) (next : Option ℕ) → at ≤ length lines → MatchOption next ⊤ (λ n. n ≤ length (drop at lines)) → NextWithin lines (behind at next)
+within_next lines at None le is = tt
+within_next lines at (Some n) le is = omega (arith, le, is, length-drop at lines)
+
+pub fits_next : (lines : List Line) (at : ℕ) (next : Option ℕ) → at ≤ length lines → length lines ≤ 20000 → MatchOption next ⊤ (λ n. n ≤ length (drop at lines)) → MatchOption next ⊤ (λ n. at + n ≤ 20000)
+fits_next lines at None le few is = is
+fits_next lines at (Some n) le few is = omega (arith, le, few, is, length-drop at lines)
+
+pub runs_on : (kinds : List DeviceSpec) (all : List (List Line)) (phase : ℕ) (earlier part : List Line) (left : List (List Line)) (desks desks' : List Desk) (settled settled' : List ChannelRun) (results results' : List LineResult)
+    → map spec_of desks ≡ kinds → RunsOn kinds all phase earlier (part ∷ left) desks settled results → PhaseRan phase earlier part desks desks' settled settled' results results' → RunsOn kinds all (phase + 1) (earlier ++ part) left desks' settled' results'
+runs_on kinds all phase earlier part left desks desks' settled settled' results results' are on ran s after r run =
+    let first : PhaseRuns kinds phase earlier part (map desk_log desks) (map desk_log desks') ran.runs ran.told = subst (λ k. PhaseRuns k phase earlier part (map desk_log desks) (map desk_log desks') ran.runs ran.told) are ran.phase_runs in
+    let whole = on (ran.runs ++ s) after (ran.told ++ r) (ran.runs, ran.told, map desk_log desks', s, r, first, run, refl, refl) in
+    let settled_are : settled ++ (ran.runs ++ s) ≡ settled' ++ s = sym (append_assoc settled ran.runs s) ∙ ap (λ l. l ++ s) (sym ran.settled_are) in
+    let results_are : results ++ (ran.told ++ r) ≡ results' ++ r = sym (append_assoc results ran.told r) ∙ ap (λ l. l ++ r) (sym ran.results_are) in
+    subst (λ l. RunFrom kinds 0 [] all (map (λ k. []) kinds) l after (results' ++ r)) settled_are (subst (λ l. RunFrom kinds 0 [] all (map (λ k. []) kinds) (settled ++ (ran.runs ++ s)) after l) results_are whole)
+
+-- no phase ran
+pub start : (lines : List Line) (r : Runner) → AreFresh (offered lines) r.desks.items → RingsOf lines (length r.desks.items) r.pages.items → r.closed.items ≡ replicate (length r.desks.items) false → r.phase ≡ 0 → r.next ≡ Some 0 → r.settled.items ≡ [] → r.results.items ≡ []
+    → RunsSoFar lines r
+start lines r fresh rings none phase next settled results = record {
+  earlier = [];
+  runs = λ s after told run.
+      subst (λ l. RunFrom (offered lines) 0 [] (parts lines) (map (λ k. []) (offered lines)) (l ++ s) after (r.results.items ++ told)) (sym settled)
+      (subst (λ l. RunFrom (offered lines) 0 [] (parts lines) (map (λ k. []) (offered lines)) s after (l ++ told)) (sym results)
+      (subst (λ l. RunFrom (offered lines) 0 [] (parts lines) l s after told) fresh.logs
+      (subst (λ p. RunFrom (offered lines) p [] (parts lines) (map desk_log r.desks.items) s after told) phase
+      (subst (λ n. RunFrom (offered lines) r.phase [] (parts_left lines n) (map desk_log r.desks.items) s after told) next run))));
+  left = ap (parts_left lines) next ∙ ap (λ p. drop p (parts lines)) (sym phase);
+  within = subst (NextWithin lines) (sym next) (omega arith);
+  counted = omega (arith, phase);
+  kinds = fresh.kinds_are;
+  ready = λ k d less. record { kept = (fresh.ready k d less).kept; few = omega (arith, (fresh.ready k d less).few) };
+  rings = rings;
+  closed = λ k less. let within : k < length r.desks.items = omega (arith, less, ap length none, length-replicate (length r.desks.items) false) in ap (λ l. slice_index_or l k false) none ∙ get_or-replicate (length r.desks.items) k false false within;
+  closed_count = ap length none ∙ length-replicate (length r.desks.items) false;
+}
+
+-- one more phase ran
+pub go_on : (lines part : List Line) (old new : Runner) (at : ℕ) (next : Option ℕ) → RunsSoFar lines old → old.next ≡ Some at → length lines ≤ 20000
+    → MatchOption next (parts (drop at lines) ≡ part ∷ []) (λ n. parts (drop at lines) ≡ part ∷ parts (drop n (drop at lines))) → MatchOption next ⊤ (λ n. n ≤ length (drop at lines))
+    → ((earlier : List Line) → AreMarked (closed_by earlier) old.closed.items → PhaseRan old.phase earlier part old.desks.items new.desks.items old.settled.items new.settled.items old.results.items new.results.items)
+    → ((earlier : List Line) → AreMarked (closed_by earlier) old.closed.items → AreMarked (closed_by (earlier ++ part)) new.closed.items)
+    → length new.closed.items ≡ length old.closed.items → All (IsReady (4096 * (old.phase + 1))) new.desks.items → new.phase ≡ old.phase + 1 → new.next ≡ behind at next → new.pages.items ≡ old.pages.items → RunsSoFar lines new
+go_on lines part old new at next so_far here few split within ran closed count ready phase moved pages =
+    let cut : parts (drop at lines) ≡ part ∷ parts_left lines (behind at next) = part_next lines part at next split in
+    let left : part ∷ parts_left lines (behind at next) ≡ drop old.phase (parts lines) = sym cut ∙ ap (parts_left lines) (sym here) ∙ so_far.left in
+    let one = ran so_far.earlier so_far.closed in
+    let this = this_phase (parts lines) old.phase part (parts_left lines (behind at next)) left in
+    let started : at ≤ length lines = subst (NextWithin lines) here so_far.within in
+    let desks : length new.desks.items ≡ length old.desks.items = sym (length-map new.desks.items spec_of) ∙ ap length one.kinds ∙ length-map old.desks.items spec_of in
+    let runs : RunsOn (offered lines) (parts lines) old.phase so_far.earlier (part ∷ parts_left lines (behind at next)) old.desks.items old.settled.items old.results.items =
+    subst (λ ps. RunsOn (offered lines) (parts lines) old.phase so_far.earlier ps old.desks.items old.settled.items old.results.items) (ap (parts_left lines) here ∙ cut) so_far.runs in
+    let on = runs_on (offered lines) (parts lines) old.phase so_far.earlier part (parts_left lines (behind at next)) old.desks.items new.desks.items old.settled.items new.settled.items old.results.items new.results.items so_far.kinds runs one in
+    record {
+      earlier = so_far.earlier ++ part;
+      runs = subst (λ p. RunsOn (offered lines) (parts lines) p (so_far.earlier ++ part) (parts_left lines new.next) new.desks.items new.settled.items new.results.items) (sym phase)
+          (subst (λ n. RunsOn (offered lines) (parts lines) (old.phase + 1) (so_far.earlier ++ part) (parts_left lines n) new.desks.items new.settled.items new.results.items) (sym moved) on);
+      left = ap (parts_left lines) moved ∙ this.2 ∙ ap (λ p. drop p (parts lines)) (sym phase);
+      within = subst (NextWithin lines) (sym moved) (within_next lines at next started within);
+      counted = omega (arith, phase, this.0);
+      kinds = one.kinds ∙ so_far.kinds;
+      ready = subst (λ p. All (IsReady (4096 * p)) new.desks.items) (sym phase) ready;
+      rings = subst (λ n. RingsOf lines n new.pages.items) (sym desks) (subst (RingsOf lines (length old.desks.items)) (sym pages) so_far.rings);
+      closed = closed so_far.earlier so_far.closed;
+      closed_count = count ∙ so_far.closed_count ∙ sym desks;
+    }
+
+-- all phases ran
+pub finish : (lines : List Line) (r : Runner) (histories : List DeviceHistory) → RunsSoFar lines r → r.phase ≡ length (parts lines) → map log_of histories ≡ map desk_log r.desks.items → EachHistory (map spec_of r.desks.items) histories
+    → IsBusRun lines r.settled.items histories r.results.items
+finish lines r histories so_far over logs legal =
+    let kinds = offered lines in
+    let none : parts_left lines r.next ≡ [] = so_far.left ∙ drop_all r.phase (parts lines) (omega (arith, over)) in
+    let nothing : RunFrom kinds r.phase so_far.earlier (parts_left lines r.next) (map desk_log r.desks.items) [] (map desk_log r.desks.items) [] =
+    subst (λ ps. RunFrom kinds r.phase so_far.earlier ps (map desk_log r.desks.items) [] (map desk_log r.desks.items) []) (sym none) (refl, refl, refl) in
+    let whole : RunFrom kinds 0 [] (parts lines) (map (λ k. []) kinds) (r.settled.items ++ []) (map desk_log r.desks.items) (r.results.items ++ []) = so_far.runs [] (map desk_log r.desks.items) [] nothing in
+    let a = subst (λ l. RunFrom kinds 0 [] (parts lines) (map (λ k. []) kinds) l (map desk_log r.desks.items) (r.results.items ++ [])) (append-nil r.settled.items) whole in
+    let b = subst (λ l. RunFrom kinds 0 [] (parts lines) (map (λ k. []) kinds) r.settled.items (map desk_log r.desks.items) l) (append-nil r.results.items) a in
+    record {
+      phases = subst (λ l. RunFrom kinds 0 [] (parts lines) (map (λ k. []) kinds) r.settled.items l r.results.items) (sym logs) b;
+      legal = subst (λ k. EachHistory k histories) so_far.kinds legal;
+    }

@@ -1,0 +1,55 @@
+use Rattle.std.proofs.Common.{◌++◌, ◌∷◌, [], ap, sym, ◌∙◌, subst}
+use Rattle.pkt_desc.specs.Packets.{id_of}
+use Rattle.util_ic.specs.Asks.{ask_of}
+use Rattle.util_ic.specs.Packets.{answer_packet}
+use Rattle.bus_model.specs.Wants.{request_bytes}
+use Rattle.bus_run.specs.Packets.{IsRequest}
+use Rattle.bus_run.proofs.Turns.{ok_of, err_of, got_room, guest_not_empty, guest_took, guest_rests, same_cells}
+use Rattle.bus_run.proofs.crossing.guest_serves.Goals as goal
+
+pub serve_request-served-requires-clause-packet : goal.serve_request-served-requires-clause-packet
+serve_request-served-requires-clause-packet g c κs asked =
+    let m = ok_of _ _ c.take.result c.in-Ok.taken c.take.follows.holds-at-none.2 c.in-Ok.is in
+    subst IsRequest (sym (c.words.ensures ∙ guest_took c.requires.waits.0 c.args.pair.now c.requires.waits.1 _ _ m.2)) c.requires.waits.2
+
+pub serve_request-served-requires-clause-asks : goal.serve_request-served-requires-clause-asks
+serve_request-served-requires-clause-asks g c κs asked =
+    let m = ok_of _ _ c.take.result c.in-Ok.taken c.take.follows.holds-at-none.2 c.in-Ok.is in
+    let is = c.words.ensures ∙ guest_took c.requires.waits.0 c.args.pair.now c.requires.waits.1 _ _ m.2 in
+    (c.requires.waits.3.0, ap (λ q. ask_of c.args.kind (request_bytes q)) is ∙ c.requires.waits.3.1)
+
+pub unreachable-requires : goal.unreachable-requires
+unreachable-requires g c =
+    let m = err_of _ _ c.take.result c.in-Err.field-0 c.take.follows.holds-at-none.2 c.in-Err.is in
+    guest_not_empty c.requires.waits.0 c.args.pair.now c.requires.waits.1 m.1
+
+pub returns-clause-waits : goal.returns-clause-waits
+returns-clause-waits g c =
+    let m = ok_of _ _ c.take.result c.in-Ok.taken c.take.follows.holds-at-none.2 c.in-Ok.is in
+    let is = guest_took c.requires.waits.0 c.args.pair.now c.requires.waits.1 _ _ m.2 in
+    guest_rests c.requires.waits.0 c.args.pair.now c.requires.waits.1 c.take.follows.lender-at-none c.commit.new.self c.take.follows.holds-at-none.0 c.commit.ensures.pair (m.3 ∙ ap (λ w. c.args.pair.now.guest.state.got ++ w ∷ []) is)
+    c.take.follows.holds-at-none.1 c.take.follows.holds-at-none.3 c.commit.ensures.committed c.commit.ensures.kept c.commit.ensures.awake c.commit.ensures.other
+
+pub returns-clause-got : goal.returns-clause-got
+returns-clause-got g c p w request =
+    let m = ok_of _ _ c.take.result c.in-Ok.taken c.take.follows.holds-at-none.2 c.in-Ok.is in
+    let is = guest_took p c.args.pair.now w _ _ m.2 in (
+      c.commit.ensures.kept.got ∙ (m.3 ∙ ap (λ w. c.args.pair.now.guest.state.got ++ w ∷ []) is),
+      c.serve_request-served.ensures.packet ∙ ap (λ q. answer_packet (id_of q) (request_bytes q) c.serve_request-served.result.1.reply) (c.words.ensures ∙ is),
+    )
+
+pub returns-clause-serves : goal.returns-clause-serves
+returns-clause-serves g c p ask w asked =
+    let m = ok_of _ _ c.take.result c.in-Ok.taken c.take.follows.holds-at-none.2 c.in-Ok.is in
+    let is = c.words.ensures ∙ guest_took p c.args.pair.now w _ _ m.2 in
+    c.serve_request-served.ensures.serves ask (ap (λ q. ask_of c.args.kind (request_bytes q)) is ∙ asked)
+
+pub returns-clause-room : goal.returns-clause-room
+returns-clause-room g c =
+    let m = ok_of _ _ c.take.result c.in-Ok.taken c.take.follows.holds-at-none.2 c.in-Ok.is in
+    let is = guest_took c.requires.waits.0 c.args.pair.now c.requires.waits.1 _ _ m.2 in
+    got_room c.args.pair.now.guest c.take.follows.lender-at-none.guest c.commit.new.self.guest _ c.requires.waits.0 c.take.follows.holds-at-none.1 c.commit.ensures.kept m.1 is c.requires.waits.2
+
+pub returns-clause-cells : goal.returns-clause-cells
+returns-clause-cells g c =
+    same_cells c.take.follows.lender-at-none c.commit.new.self c.take.follows.holds-at-none.0 c.commit.ensures.pair c.commit.ensures.other ∙ same_cells c.args.pair.now c.take.follows.lender-at-none c.requires.waits.1.pair c.take.follows.holds-at-none.0 c.take.follows.holds-at-none.3

@@ -1,0 +1,12 @@
+use Rattle.bus_run.proofs.Growing.{none_served, first_state}
+use Rattle.bus_run.proofs.desk.fresh.Goals as goal
+
+pub returns-clause-history : goal.returns-clause-history
+returns-clause-history g c =
+    let m = g.M.Machine in
+    none_served m.after m.reply_to c.args.machine c.in_ok-seats.seats.items _ c.in_ok-seats.ensures c.close.ensures.closes
+
+pub returns-clause-state : goal.returns-clause-state
+returns-clause-state g c =
+    let m = g.M.Machine in
+    first_state m.first m.after m.reply_to c.args.machine c.close.result.0 c.in_ok-seats.seats.items _ c.in_ok-seats.ensures (returns-clause-history g c) c.close.ensures.first c.close.ensures.leaves

@@ -1,0 +1,16 @@
+use Rattle.std.proofs.Common.{◌≡◌, ap, subst, ◌∙◌, refl, length, arith, replicate, false}
+use Rattle.bus_script.specs.Parts.{offered}
+use Rattle.bus_run.specs.Whole.{AreFresh, RingsOf}
+use Rattle.bus_run.proofs.Phases.{start}
+use Rattle.bus_run.proofs.runner.Runner.make.Goals as goal
+
+pub returns-clause-so_far : goal.returns-clause-so_far
+returns-clause-so_far c =
+    let lines = c.args.script.now in
+    let desks = c.in_ok-desks.desks in
+    let fresh = subst (λ l. AreFresh (offered l) desks.items) c.lines-lines.ensures.lines c.in_ok-desks.ensures in
+    let long : c.len.result ≡ length desks.items = omega (arith, c.len.ensures, desks.ok.0) in
+    let long_2 : c.len-2.result ≡ length desks.items = omega (arith, c.len-2.ensures, desks.ok.0) in
+    let rings = subst (λ n. RingsOf lines n c.in_ok-pages.pages.items) long (subst (λ l. RingsOf l c.len.result c.in_ok-pages.pages.items) c.lines-lines.ensures.lines c.in_ok-pages.ensures) in
+    let none = c.in_ok-closed.ensures.items_if_clones_equal (λ y same. same) ∙ ap (λ n. replicate n false) long_2 in
+    start lines _ fresh rings none refl refl c.new.ensures.items c.new-2.ensures.items

@@ -1,0 +1,64 @@
+use Rattle.std.proofs.Common.{◌≡◌, ◌≤◌, ◌++◌, ◌∷◌, [], ap, sym, subst, ◌∙◌, refl, length, take, drop, arith, rules}
+use Rattle.std.specs.Prelude.{map, MatchOption, ⊤}
+use Rattle.std.proofs.lemmas.List.{with_items_is, places}
+use Rattle.bus_script.specs.Parts.{parts, offered, asks_in}
+use Rattle.bus_script.specs.WellFormed.{AllRight}
+use Rattle.bus_plan.specs.Flags.{AreMarked, closed_by}
+use Rattle.bus_run.specs.Desk.{spec_of, AreRings}
+use Rattle.bus_run.specs.Whole.{parts_left, behind}
+use Rattle.bus_run.proofs.RingSizes.{are_rings}
+use Rattle.bus_run.proofs.Phases.{right_drop, right_take, this_phase, part_next, count_parts, go_on, no_next}
+use Rattle.bus_run.proofs.runner.Runner.run_next.Goals as goal
+
+pub unreachable-requires : goal.unreachable-requires
+unreachable-requires g c = no_next c.args.script.now c.args.self.now.phase c.args.self.now.next c.in_default.is c.requires.so_far.left c.requires.more
+
+pub run_phase-requires-clause-right : goal.run_phase-requires-clause-right
+run_phase-requires-clause-right g c κs asked =
+    let lines = c.args.script.now in
+    let front = c.first_part-next.ensures.front in
+    let rest = c.split_at.ensures.back ∙ ap (drop c.in-Some.at) c.lines.ensures.lines in
+    subst (AllRight (map spec_of c.args.self.now.desks.items)) (sym (front.1 ∙ ap (take front.0) rest))
+    (right_take (map spec_of c.args.self.now.desks.items) front.0 (drop c.in-Some.at lines) (right_drop (map spec_of c.args.self.now.desks.items) c.in-Some.at lines
+    (subst (λ k. AllRight k lines) (sym c.requires.so_far.kinds) c.lines.ensures.script.right)))
+
+pub run_phase-requires-clause-asks : goal.run_phase-requires-clause-asks
+run_phase-requires-clause-asks g c κs asked =
+    let lines = c.args.script.now in
+    let at = c.in-Some.at in
+    let rest = c.split_at.ensures.back ∙ ap (drop at) c.lines.ensures.lines in
+    let part = c.first_part-next.result.0.now in
+    let next = c.first_part-next.result.1 in
+    let cut = part_next lines part at next (subst (λ l. MatchOption next (parts l ≡ part ∷ []) (λ n. parts l ≡ part ∷ parts (drop n l))) rest c.first_part-next.ensures.parts) in
+    let this = this_phase (parts lines) c.args.self.now.phase part (parts_left lines (behind at next)) (sym cut ∙ ap (parts_left lines) (sym c.in-Some.is) ∙ c.requires.so_far.left) in
+    this.1 (λ p. asks_in p ≤ 4096) c.lines.ensures.script.asks
+
+pub run_phase-requires-clause-rings : goal.run_phase-requires-clause-rings
+run_phase-requires-clause-rings g c κs asked =
+    subst AreRings (sym c.deref.ensures.value) (are_rings (offered c.args.script.now) c.args.script.now (length c.args.self.now.desks.items) c.args.self.now.pages.items c.lines.ensures.script.right c.requires.so_far.rings)
+
+pub run_phase-requires-clause-phase : goal.run_phase-requires-clause-phase
+run_phase-requires-clause-phase g c κs asked = omega (arith, c.requires.more, (count_parts c.args.script.now).1, c.lines.ensures.script.short)
+
+pub overflow_add-self : goal.overflow_add-self
+overflow_add-self g c =
+    let few : c.args.self.now.phase ≤ 20000 = omega (arith, c.requires.more, (count_parts c.args.script.now).1, c.lines.ensures.script.short) in
+    search (rules, arith, few)
+
+pub returns-clause-so_far : goal.returns-clause-so_far
+returns-clause-so_far g c =
+    let lines = c.args.script.now in
+    let at = c.in-Some.at in
+    let old = c.args.self.now in
+    let rest = c.split_at.ensures.back ∙ ap (drop at) c.lines.ensures.lines in
+    let part = c.first_part-next.result.0.now in
+    let next = c.first_part-next.result.1 in
+    let split = subst (λ l. MatchOption next (parts l ≡ part ∷ []) (λ n. parts l ≡ part ∷ parts (drop n l))) rest c.first_part-next.ensures.parts in
+    let within = subst (λ l. MatchOption next ⊤ (λ n. n ≤ length l)) rest c.first_part-next.ensures.within in
+    let before = c.deref_mut.ensures.value in
+    let whole = with_items_is old.closed c.run_phase.new.closed (search (rules, places)) in
+    let ran = c.in_ok-run_phase.ensures in
+    go_on lines part old _ at next c.requires.so_far c.in-Some.is c.lines.ensures.script.short split within
+    (λ earlier marked. ran.ran earlier (subst (AreMarked (closed_by earlier)) (sym before) marked))
+    (λ earlier marked. subst (AreMarked (closed_by (earlier ++ part))) (sym whole) (ran.closed earlier (subst (AreMarked (closed_by earlier)) (sym before) marked)))
+    (ap length whole ∙ ran.count ∙ ap length before) ran.ready refl c.behind-self.ensures refl

@@ -1,0 +1,5 @@
+pub mod Packets
+pub mod Turn
+pub mod Serve
+pub mod Desk
+pub mod Whole

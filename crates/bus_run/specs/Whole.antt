@@ -1,0 +1,67 @@
+-- A phase, and the phases that are left.
+use Rattle.std.specs.Prelude.{ℕ, ◌≡◌, ◌+◌, ◌*◌, ◌<◌, ◌≤◌, List, [], ◌++◌, length, map, drop, All, Option, Some, None, slice_index_or}
+use Rattle.bus_script.specs.declared.line.Line.{Line}
+use Rattle.bus_script.specs.declared.line.DeviceSpec.{DeviceSpec}
+use Rattle.bus_script.specs.declared.outcome.LineResult.{LineResult}
+use Rattle.bus_script.specs.Parts.{parts, offered, ring_pages_of}
+use Rattle.bus_model.specs.Logs.{Recorded}
+use Rattle.bus_model.specs.Run.{PhaseRuns, RunFrom}
+use Rattle.bus_model.specs.declared.channel_run.ChannelRun.{ChannelRun}
+use Rattle.bus_plan.specs.Flags.{AreMarked, closed_by}
+use Rattle.bus_run.specs.declared.desk.Desk.{Desk}
+use Rattle.bus_run.specs.declared.runner.Runner.{Runner}
+use Rattle.bus_run.specs.Desk.{spec_of, desk_log, IsReady}
+
+-- a phase went by, behind these earlier lines
+pub record PhaseRan (phase : ℕ) (earlier part : List Line) (old new : List Desk) (settled settled' : List ChannelRun) (results results' : List LineResult) : Type 0 where
+  pub runs : List ChannelRun
+  pub told : List LineResult
+  pub phase_runs : PhaseRuns (map spec_of old) phase earlier part (map desk_log old) (map desk_log new) runs told
+  pub kinds : map spec_of new ≡ map spec_of old
+  pub settled_are : settled' ≡ settled ++ runs
+  pub results_are : results' ≡ results ++ told
+
+-- new devices of these kinds
+pub record AreFresh (kinds : List DeviceSpec) (desks : List Desk) : Type 0 where
+  pub kinds_are : map spec_of desks ≡ kinds
+  pub logs : map desk_log desks ≡ map (λ k. []) kinds
+  pub ready : All (IsReady 0) desks
+
+-- the rings of so many devices are as big as the lines say
+pub record RingsOf (lines : List Line) (devices : ℕ) (pages : List ℕ) : Type 0 where
+  pub count : length pages ≡ devices
+  pub each : (k : ℕ) → k < devices → slice_index_or pages k 1 ≡ ring_pages_of k lines
+
+-- the phases that are left, where the next one begins at this line
+abbrev pub parts_left : List Line → Option ℕ → List (List Line)
+parts_left lines None = []
+parts_left lines (Some at) = parts (drop at lines)
+
+-- it begins at one of the lines, or behind the last
+abbrev pub NextWithin : List Line → Option ℕ → Type 0
+NextWithin lines None = Unit {0}
+NextWithin lines (Some at) = at ≤ length lines
+
+-- a place counted from another one
+abbrev pub behind : ℕ → Option ℕ → Option ℕ
+behind at None = None
+behind at (Some n) = Some (at + n)
+
+-- a run of what is left, from here on, makes a run of all
+abbrev pub RunsOn : List DeviceSpec → List (List Line) → ℕ → List Line → List (List Line) → List Desk → List ChannelRun → List LineResult → Type 0
+RunsOn kinds all phase earlier left desks settled results =
+    (settled' : List ChannelRun) (after : List (List Recorded)) (results' : List LineResult) → RunFrom kinds phase earlier left (map desk_log desks) settled' after results'
+    → RunFrom kinds 0 [] all (map (λ k. []) kinds) (settled ++ settled') after (results ++ results')
+
+-- The first phases of a script ran, as many as the runner counts
+pub record RunsSoFar (lines : List Line) (r : Runner) : Type 0 where
+  pub earlier : List Line
+  pub runs : RunsOn (offered lines) (parts lines) r.phase earlier (parts_left lines r.next) r.desks.items r.settled.items r.results.items
+  pub left : parts_left lines r.next ≡ drop r.phase (parts lines)
+  pub within : NextWithin lines r.next
+  pub counted : r.phase ≤ length (parts lines)
+  pub kinds : map spec_of r.desks.items ≡ offered lines
+  pub ready : All (IsReady (4096 * r.phase)) r.desks.items
+  pub rings : RingsOf lines (length r.desks.items) r.pages.items
+  pub closed : AreMarked (closed_by earlier) r.closed.items
+  pub closed_count : length r.closed.items ≡ length r.desks.items

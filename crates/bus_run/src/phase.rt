@@ -1,0 +1,50 @@
+//! One phase of a script.
+ghost use Rattle.std.specs.Prelude.{◌≡◌, ◌+◌, ◌*◌, ◌≤◌, ◌++◌, List, length, map, All, OnOk};
+ghost use Rattle.bus_script.specs.declared.line.Line.{Line as OneLine};
+ghost use Rattle.bus_script.specs.Parts.{asks_in};
+ghost use Rattle.bus_script.specs.WellFormed.{AllRight};
+ghost use Rattle.bus_plan.specs.Flags.{AreMarked, closed_by};
+ghost use Rattle.bus_run.specs.Desk.{spec_of, IsReady, AreRings};
+ghost use Rattle.bus_run.specs.Whole.{PhaseRan};
+
+use crate::desk::Desk;
+use crate::devices::run_devices;
+use bus_model::ChannelRun;
+use bus_plan::{mark_closed, plan_part, tell};
+use bus_script::{Line, LineResult};
+use io_edge::Gate;
+use std::alloc::{AllocError, Global};
+
+/// Plans a phase, runs its channels, tells the outcomes of its lines in their order, and notes which devices it closed.
+pub fn run_phase<R, G: Gate>(
+    rt: &R,
+    gate: &G,
+    alloc: Global,
+    phase: u32,
+    part: &[Line],
+    pages: &[u32],
+    closed: &mut [bool],
+    desks: &mut Vec<Desk>,
+    settled: &mut Vec<ChannelRun>,
+    results: &mut Vec<LineResult>,
+) -> Result<(), AllocError>
+    requires ready { All (IsReady (4096 * phase)) desks.old.items }
+    requires right { AllRight (map spec_of desks.old.items) part.now }
+    requires asks { asks_in part.now ≤ 4096 }
+    requires earlier { (earlier : List OneLine) × AreMarked (closed_by earlier) closed.old }
+    requires closed { length closed.old ≡ length desks.old.items }
+    requires pages { length pages.now ≡ length desks.old.items }
+    requires rings { AreRings pages.now }
+    requires few { length desks.old.items ≤ 16 }
+    requires phase { phase ≤ 20000 }
+    ensures ran { OnOk result ((earlier : List OneLine) → AreMarked (closed_by earlier) closed.old → PhaseRan phase earlier part.now desks.old.items desks.new.items settled.old.items settled.new.items results.old.items results.new.items) }
+    ensures ready { OnOk result (All (IsReady (4096 * (phase + 1))) desks.new.items) }
+    ensures closed { OnOk result ((earlier : List OneLine) → AreMarked (closed_by earlier) closed.old → AreMarked (closed_by (earlier ++ part.now)) closed.new) }
+    ensures count { OnOk result (length closed.new ≡ length closed.old) }
+{
+    let plan = plan_part(alloc, closed, part)?;
+    let outcomes = run_devices(rt, gate, alloc, phase, &plan, closed, pages, desks, settled)?;
+    tell(&outcomes, &plan.addresses, results)?;
+    mark_closed(closed, part);
+    Ok(())
+}

@@ -1,0 +1,204 @@
+//! The run of a script, phase by phase.
+ghost use Rattle.std.specs.Prelude.{◌≡◌, ◌+◌, ◌<◌, ◌≤◌, ◌∷◌, [], ◌++◌, List, length, map, take, drop, All, IfOk, OnOk, IsTrue, ◌↔◌, count_by, MatchOption, ⊤};
+ghost use Rattle.bus_model.specs.Logs.{log_of, EachHistory};
+ghost use Rattle.bus_model.specs.Run.{IsBusRun};
+ghost use Rattle.bus_script.specs.Parts.{parts, offered, offered_by};
+ghost use Rattle.bus_script.specs.declared.line.Line.{Line as OneLine};
+ghost use Rattle.bus_script.specs.declared.line.DeviceSpec.{DeviceSpec as OneSpec};
+ghost use Rattle.bus_script.specs.Report.{prints};
+ghost use Rattle.bus_run.specs.Desk.{IsKept, spec_of, desk_log};
+ghost use Rattle.bus_run.specs.Whole.{AreFresh, RunsSoFar, behind};
+
+use crate::desk::{Desk, history_of, new_desk};
+use crate::phase::run_phase;
+use crate::rings::all_ring_pages;
+use bus_model::{ChannelRun, DeviceHistory};
+use bus_plan::first_part;
+use bus_script::{Line, LineResult, Script, What};
+use io_edge::Gate;
+use std::alloc::{AllocError, Global};
+use std::mem;
+
+/// What a run of a script gives: what each channel carried, in order of phase and then of relid; what each device served, in order of offer; and the
+/// outcome of each line that prints.
+#[derive(Drop)]
+pub struct Ran {
+    pub settled: Vec<ChannelRun>,
+    pub histories: Vec<DeviceHistory>,
+    pub results: Vec<LineResult>,
+}
+
+/// A script under way, between two of its phases.
+#[derive(Drop)]
+pub struct Runner {
+    desks: Vec<Desk>,
+    pages: Vec<u32>,
+    closed: Vec<bool>,
+    phase: u32,
+    // where the lines of the next phase begin
+    next: Option<usize>,
+    settled: Vec<ChannelRun>,
+    results: Vec<LineResult>,
+}
+
+/// The device that a line offers.
+fn offer(alloc: Global, desks: &mut Vec<Desk>, what: &What) -> Result<(), AllocError>
+    ensures { OnOk result ((kinds : List OneSpec) → AreFresh kinds desks.old.items → AreFresh (kinds ++ offered_by what.now) desks.new.items) }
+{
+    match what {
+        What::Offer { name: _, device } => {
+            desks.push(new_desk(alloc, *device)?)?;
+            Ok(())
+        }
+        What::Contact { .. } => Ok(()),
+        What::RingSize { .. } => Ok(()),
+        What::Window { .. } => Ok(()),
+        What::Ask { .. } => Ok(()),
+        What::Shut { .. } => Ok(()),
+        What::Phase => Ok(()),
+    }
+}
+
+/// The devices that a script offers.
+fn new_desks(alloc: Global, lines: &[Line]) -> Result<Vec<Desk>, AllocError>
+    ensures { IfOk result (λ desks. AreFresh (offered lines.now) desks.items) }
+{
+    let mut desks = Vec::new(alloc);
+    for line in lines {
+        offer(alloc, &mut desks, &line.what)?;
+    }
+    Ok(desks)
+}
+
+/// What the devices served.
+fn histories_of(alloc: Global, mut desks: Vec<Desk>) -> Result<Vec<DeviceHistory>, AllocError>
+    requires { All IsKept desks.items }
+    ensures logs { IfOk result (λ histories. map log_of histories.items ≡ map desk_log desks.items) }
+    ensures legal { IfOk result (λ histories. EachHistory (map spec_of desks.items) histories.items) }
+{
+    let mut histories = Vec::new(alloc);
+    for i in 0..desks.len() {
+        let desk = mem::replace(&mut desks[i], Desk::Out);
+        histories.push(history_of(desk))?;
+    }
+    Ok(histories)
+}
+
+/// A place counted from another one.
+fn behind(at: usize, next: Option<usize>) -> Option<usize>
+    requires { MatchOption next ⊤ (λ n. at + n ≤ 20000) }
+    ensures { result ≡ behind at next }
+{
+    match next {
+        Some(n) => Some(at + n),
+        None => None,
+    }
+}
+
+impl Runner {
+    /// Offers the devices of a script, of which no phase has run.
+    pub fn make(alloc: Global, script: &Script) -> Result<Runner, AllocError>
+        ensures so_far { IfOk result (RunsSoFar script.now) }
+        ensures phase { IfOk result (λ runner. runner.phase ≡ 0) }
+    {
+        let lines = script.lines();
+        let desks = new_desks(alloc, lines)?;
+        let pages = all_ring_pages(alloc, desks.len(), lines)?;
+        let closed = vec![in alloc; false; desks.len()]?;
+        Ok(Runner {
+            desks,
+            pages,
+            closed,
+            phase: 0,
+            next: Some(0),
+            settled: Vec::new(alloc),
+            results: Vec::new(alloc),
+        })
+    }
+
+    /// How many phases have run.
+    pub fn phase(&self) -> u32
+        ensures { result ≡ self.now.phase }
+    {
+        self.phase
+    }
+
+    /// Whether a phase of the script is left.
+    pub fn has_next(&self) -> bool
+        ensures { (lines : List OneLine) → RunsSoFar lines self.now → IsTrue result ↔ (self.now.phase < length (parts lines)) }
+    {
+        self.next.is_some()
+    }
+
+    /// Runs the next phase: its channels are opened in order of their relids, serve their requests, and are ended.
+    pub fn run_next<R, G: Gate>(
+        &mut self,
+        rt: &R,
+        gate: &G,
+        alloc: Global,
+        script: &Script,
+    ) -> Result<(), AllocError>
+        requires so_far { RunsSoFar script.now self.old }
+        requires more { self.old.phase < length (parts script.now) }
+        ensures so_far { OnOk result (RunsSoFar script.now self.new) }
+        ensures phase { OnOk result (self.new.phase ≡ self.old.phase + 1) }
+    {
+        let Some(at) = self.next else {
+            unreachable!();
+        };
+        let (_, rest) = script.lines().split_at(at);
+        let (part, next) = first_part(rest);
+        run_phase(
+            rt,
+            gate,
+            alloc,
+            self.phase,
+            part,
+            &self.pages,
+            &mut self.closed,
+            &mut self.desks,
+            &mut self.settled,
+            &mut self.results,
+        )?;
+        self.phase += 1;
+        self.next = behind(at, next);
+        Ok(())
+    }
+
+    /// What ran, once no phase of the script is left.
+    pub fn end(self, alloc: Global) -> Result<Ran, AllocError>
+        requires { (lines : List OneLine) × RunsSoFar lines self × (self.phase ≡ length (parts lines)) }
+        ensures run { IfOk result (λ ran. (lines : List OneLine) → RunsSoFar lines self → self.phase ≡ length (parts lines) → IsBusRun lines ran.settled.items ran.histories.items ran.results.items) }
+    {
+        let Runner {
+            desks,
+            settled,
+            results,
+            ..
+        } = self;
+        let histories = histories_of(alloc, desks)?;
+        Ok(Ran {
+            settled,
+            histories,
+            results,
+        })
+    }
+}
+
+/// Runs a script, phase by phase.
+pub fn run_script<R, G: Gate>(
+    rt: &R,
+    gate: &G,
+    alloc: Global,
+    script: &Script,
+) -> Result<Ran, AllocError>
+    ensures run { IfOk result (λ ran. IsBusRun script.now ran.settled.items ran.histories.items ran.results.items) }
+    ensures each { IfOk result (λ ran. length ran.results.items ≡ count_by prints script.now) }
+{
+    let mut runner = Runner::make(alloc, script)?;
+    while runner.has_next() {
+        runner.run_next(rt, gate, alloc, script)?;
+    }
+    let ran = runner.end(alloc)?;
+    Ok(ran)
+}
