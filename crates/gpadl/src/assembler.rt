@@ -62,6 +62,27 @@ impl Assembler {
         }
     }
 
+    /// The fault for which `feed` would refuse a message, but for want of memory.
+    pub fn fault(&self, m: &Msg) -> Option<GpadlFault>
+        ensures { result ≡ fault_of self.now m.now }
+    {
+        match m {
+            Msg::GpadlHeader(h) => self.header_fault(h),
+            Msg::GpadlBody(b) => match &self.building {
+                Some(building) => building.fault(b),
+                None => Some(GpadlFault::Handle { id: b.gpadl }),
+            },
+            _ => None,
+        }
+    }
+
+    /// Whether a list with this handle is live.
+    pub fn is_live(&self, handle: u32) -> bool
+        ensures { result ≡ is_live self.now.live handle }
+    {
+        self.live.contains(&handle)
+    }
+
     /// Ends a live list: false exactly where none has the handle. It takes no memory.
     pub fn torn(&mut self, handle: u32) -> bool
         ensures was { result ≡ is_live self.old.live handle }
@@ -127,7 +148,7 @@ impl Assembler {
             Some(building) => building.handle() == handle,
             None => false,
         };
-        built || self.live.contains(&handle)
+        built || self.is_live(handle)
     }
 }
 
