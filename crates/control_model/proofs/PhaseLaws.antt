@@ -1,0 +1,111 @@
+-- The openings of all phases, one phase after the other.
+use Rattle.std.proofs.Common.{◌≡◌, ◌∙◌, ℕ, zero, suc, ◌+◌, ◌-◌, ◌<◌, ◌≤◌, Bool, true, false, cond, not, ◌&&◌, ◌||◌, nat_lt, List, [], ◌∷◌, ◌++◌, length, map, filter, take, drop, get_or, slice_range, Some, None, refl, sym, ap, arith, append_assoc}
+use Rattle.std.proofs.lemmas.List.{take-take, drop-take, take-append-drop}
+use Rattle.std.proofs.lemmas.List.FromFn.{get_or-map-range_with_len}
+use Rattle.std.proofs.lemmas.List.Folds.{list_any-append}
+use Rattle.std.proofs.lemmas.Bool.Decides.{nat_tests}
+use Rattle.std.specs.List.{list_any, position, position_or_len, range_with_len}
+use Rattle.bus_script.specs.declared.line.Line.{Line}
+use Rattle.bus_script.specs.Parts.{parts, shuts}
+use Rattle.control_model.specs.declared.opening.Opening.{Opening}
+use Rattle.control_model.specs.declared.planning.Next.{Next}
+use Rattle.control_model.specs.declared.planning.Served.{Served}
+use Rattle.control_model.specs.Plan.{first_gpadl}
+use Rattle.control_model.specs.Openings.{is_opened, devices_by_phase, openings_from, pages_in, numbered, wants_open}
+use Rattle.control_model.specs.Dealing.{served_of, is_closed, opens, opens_one, size_in, no_device, rest_of}
+
+-- a test that passes among the first n, by the place of the first one that passes
+and_none : (a b : Bool) → b ≡ false → (a && b) ≡ false
+and_none true b e = e
+and_none false b e = refl
+
+test_on : (k n : ℕ) (b : Bool) → nat_lt k n ≡ b → nat_lt (1 + k) (suc n) ≡ b
+test_on k n true e = grind (arith, nat_tests, e)
+test_on k n false e = grind (arith, nat_tests, e)
+
+any_on : (b t : Bool) (k len n : ℕ) → t ≡ (nat_lt k len && nat_lt k n) → (b || t) ≡ (nat_lt (cond (not b) (1 + k) 0) (suc len) && nat_lt (cond (not b) (1 + k) 0) (suc n))
+any_on true t k len n e =
+    let one : nat_lt 0 (suc len) ≡ true = grind (arith, nat_tests) in
+    let two : nat_lt 0 (suc n) ≡ true = grind (arith, nat_tests) in
+    rw (one, two) refl
+any_on false t k len n e =
+    e ∙ ap (λ b. b && nat_lt k n) (sym (test_on k len (nat_lt k len) refl)) ∙ ap (λ b. nat_lt (1 + k) (suc len) && b) (sym (test_on k n (nat_lt k n) refl))
+
+any_take : {X : Type 0} (p : X → Bool) (xs : List X) (n : ℕ) → list_any p (take n xs) ≡ (nat_lt (position_or_len p xs) (length xs) && nat_lt (position_or_len p xs) n)
+any_take p [] zero = refl
+any_take p [] (suc n) = refl
+any_take p (x ∷ xs) zero =
+    sym (and_none (nat_lt (position_or_len p (x ∷ xs)) (length (x ∷ xs))) (nat_lt (position_or_len p (x ∷ xs)) 0) (let none : nat_lt (position_or_len p (x ∷ xs)) 0 ≡ false = grind (arith, nat_tests) in none))
+any_take p (x ∷ xs) (suc n) = any_on (p x) (list_any p (take n xs)) (position_or_len p xs) (length xs) n (any_take p xs n)
+
+closed_by : (k len n : ℕ) (b : Bool) → nat_lt k len ≡ b → is_closed (cond b (Some k) None) n ≡ (b && nat_lt k n)
+closed_by k len n true e = refl
+closed_by k len n false e = refl
+
+-- a device was closed by an earlier line
+closed_is : (p : Line → Bool) (lines : List Line) (n : ℕ) → is_closed (position p lines) n ≡ list_any p (take n lines)
+closed_is p lines n = closed_by (position_or_len p lines) (length lines) n (nat_lt (position_or_len p lines) (length lines)) refl ∙ sym (any_take p lines n)
+
+-- two tests that answer alike below a number
+same_chosen : (p q : ℕ → Bool) (a n : ℕ) → ((k : ℕ) → k < a + n → p k ≡ q k) → filter p (range_with_len a n) ≡ filter q (range_with_len a n)
+same_chosen p q a zero same = refl
+same_chosen p q a (suc n) same =
+    let rest = same_chosen p q (a + 1) n (λ k few. same k (omega (arith, few))) in
+    let here = same a (omega arith) in
+    ap (λ b. cond b (a ∷ filter p (range_with_len (a + 1) n)) (filter p (range_with_len (a + 1) n))) here ∙ ap (λ l. cond (q a) (a ∷ l) l) rest
+
+-- what was made so far, and what is left
+pub record SoFar (lines : List Line) (devices : List Served) (start : ℕ) (made : List (List Opening)) (next : Next) : Type 0 where
+  pub earlier : List Line
+  pub all : numbered (size_in devices) first_gpadl 0 (devices_by_phase (length devices) [] (parts lines)) ≡ made ++ numbered (size_in devices) next.gpadl next.page (devices_by_phase (length devices) earlier (rest_of lines start))
+  pub closed : (device : ℕ) → list_any (λ l. shuts device l.what) earlier ≡ list_any (λ l. shuts device l.what) (take start lines)
+
+-- the devices that are opened are those that the definition says
+opened_same : (lines part earlier : List Line) (devices : List Served) (start : ℕ) → devices ≡ map (served_of lines) (range_with_len 0 (length devices)) → ((device : ℕ) → list_any (λ l. shuts device l.what) earlier ≡ list_any (λ l. shuts device l.what) (take start lines))
+    → filter (opens devices part start) (range_with_len 0 (length devices)) ≡ filter (is_opened earlier part) (range_with_len 0 (length devices))
+opened_same lines part earlier devices start table closed =
+    same_chosen (opens devices part start) (is_opened earlier part) 0 (length devices) (λ k few.
+    let n = length devices in
+    let item : get_or devices k no_device ≡ served_of lines k = ap (λ (ds : List Served). get_or ds k no_device) table ∙ get_or-map-range_with_len (served_of lines) 0 n k k no_device (omega (arith, few)) (omega arith) in
+    ap (λ (d : Served). opens_one part start d k) item
+    ∙ ap (λ b. not b && list_any (λ l. wants_open k l.what) part) (closed_is (λ l. shuts k l.what) lines start ∙ sym (closed k)))
+
+range_join : (lines : List Line) (start end : ℕ) → start ≤ end → take end lines ≡ take start lines ++ slice_range lines start end
+range_join lines start end from =
+    let sum : start + (end - start) ≡ end = omega (arith, from) in
+    sym (take-append-drop start (take end lines))
+    ∙ ap (λ l. l ++ drop start (take end lines)) (take-take start end lines from)
+    ∙ ap (λ l. take start lines ++ l) (ap (λ k. drop start (take k lines)) (sym sum) ∙ drop-take start (end - start) lines)
+
+-- one phase more
+pub phase_on : (lines : List Line) (devices : List Served) (start end : ℕ) (made : List (List Opening)) (next next' : Next) (os : List Opening)
+    → devices ≡ map (served_of lines) (range_with_len 0 (length devices)) → SoFar lines devices start made next → start ≤ end
+    → rest_of lines start ≡ slice_range lines start end ∷ rest_of lines (end + 1)
+    → ((device : ℕ) → list_any (λ l. shuts device l.what) (take (end + 1) lines) ≡ list_any (λ l. shuts device l.what) (take end lines))
+    → os ≡ openings_from (size_in devices) next.gpadl next.page (filter (opens devices (slice_range lines start end) start) (range_with_len 0 (length devices)))
+    → next'.gpadl ≡ next.gpadl + length (filter (opens devices (slice_range lines start end) start) (range_with_len 0 (length devices)))
+    → next'.page ≡ next.page + pages_in (size_in devices) (filter (opens devices (slice_range lines start end) start) (range_with_len 0 (length devices)))
+    → SoFar lines devices (end + 1) (made ++ os ∷ []) next'
+phase_on lines devices start end made next next' os table so_far from cut shut is gpadl page =
+    let S = size_in devices in
+    let n = length devices in
+    let part = slice_range lines start end in
+    let coded = filter (opens devices part start) (range_with_len 0 n) in
+    let meant = filter (is_opened so_far.earlier part) (range_with_len 0 n) in
+    let same : coded ≡ meant = opened_same lines part so_far.earlier devices start table so_far.closed in
+    let rest : List (List ℕ) = devices_by_phase n (so_far.earlier ++ part) (rest_of lines (end + 1)) in
+    let one : openings_from S next.gpadl next.page meant ≡ os = ap (openings_from S next.gpadl next.page) (sym same) ∙ sym is in
+    let g : next.gpadl + length meant ≡ next'.gpadl = ap (λ (l : List ℕ). next.gpadl + length l) (sym same) ∙ sym gpadl in
+    let p : next.page + pages_in S meant ≡ next'.page = ap (λ (l : List ℕ). next.page + pages_in S l) (sym same) ∙ sym page in
+    let left : numbered S next.gpadl next.page (devices_by_phase n so_far.earlier (rest_of lines start)) ≡ os ∷ numbered S next'.gpadl next'.page rest =
+    ap (λ r. numbered S next.gpadl next.page (devices_by_phase n so_far.earlier r)) cut
+    ∙ ap (λ o. o ∷ numbered S (next.gpadl + length meant) (next.page + pages_in S meant) rest) one
+    ∙ ap (λ k. os ∷ numbered S k (next.page + pages_in S meant) rest) g ∙ ap (λ k. os ∷ numbered S next'.gpadl k rest) p in
+    record {
+      earlier = so_far.earlier ++ part;
+      all = so_far.all ∙ ap (λ l. made ++ l) left ∙ sym (append_assoc made (os ∷ []) (numbered S next'.gpadl next'.page rest));
+      closed = λ device.
+          let P : Line → Bool = λ l. shuts device l.what in
+          list_any-append P so_far.earlier part ∙ ap (λ b. b || list_any P part) (so_far.closed device) ∙ sym (list_any-append P (take start lines) part)
+          ∙ ap (list_any P) (sym (range_join lines start end from)) ∙ sym (shut device);
+    }

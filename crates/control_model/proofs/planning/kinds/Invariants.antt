@@ -1,0 +1,6 @@
+use Rattle.std.proofs.Common.{◌≡◌, take, map}
+use Rattle.bus_script.specs.Parts.{kind_of, offered}
+use Rattle.control_model.proofs.planning.kinds.Given as goal
+
+abbrev pub invariant-loop-line : goal.invariant-loop-line
+invariant-loop-line l = l.kinds.items ≡ map kind_of (offered (take l.line-index l.lines))

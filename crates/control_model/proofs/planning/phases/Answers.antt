@@ -1,0 +1,19 @@
+use Rattle.std.proofs.Common.{◌∙◌, ◌∷◌, [], ◌+◌, List, map, ap, sym, subst, arith}
+use Rattle.std.proofs.lemmas.List.{map-append}
+use Rattle.control_model.specs.declared.opening.Opening.{Opening}
+use Rattle.control_model.proofs.PhaseLaws.{SoFar, phase_on}
+use Rattle.control_model.proofs.planning.phases.Goals as goal
+
+pub loop-start-preserved : goal.loop-start-preserved
+loop-start-preserved c =
+    let end = c.part_end-end.result in
+    let on = phase_on c.args.lines.now c.args.devices.now c.loop-start.start end (map (λ phase. phase.items) c.loop-start.phases.items) c.loop-start.next c.openings.new.next c.in_ok-openings.openings.items
+    c.requires.table c.loop-start.invariant.so_far c.part_end-end.ensures.within.0 c.part_end-end.ensures.cut c.part_end-end.ensures.shut c.in_ok-openings.ensures.openings c.in_ok-openings.ensures.gpadl c.in_ok-openings.ensures.page in
+    let pushed = ap (map (λ phase. phase.items)) c.in_ok-push.ensures.items ∙ map-append (λ phase. phase.items) c.loop-start.phases.items (c.in_ok-openings.openings ∷ []) in
+    record {
+      so_far = subst (λ (made : List (List Opening)). SoFar c.args.lines.now c.args.devices.now (end + 1) made c.openings.new.next) (sym pushed) on;
+      within = omega (arith, c.part_end-end.ensures.within.1);
+      few = omega (arith, c.in_ok-push.ensures.len, c.loop-start.invariant.few, c.part_end-end.ensures.within.0);
+      gpadl = omega (arith, c.in_ok-push.ensures.len, c.loop-start.invariant.gpadl, c.in_ok-openings.ensures.few_more.0);
+      page = omega (arith, c.in_ok-push.ensures.len, c.loop-start.invariant.page, c.in_ok-openings.ensures.few_more.1);
+    }

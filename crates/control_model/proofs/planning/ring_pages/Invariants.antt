@@ -1,0 +1,6 @@
+use Rattle.std.proofs.Common.{◌≡◌, drop}
+use Rattle.bus_script.specs.Parts.{ring_pages_of}
+use Rattle.control_model.proofs.planning.ring_pages.Given as goal
+
+abbrev pub invariant-loop-line : goal.invariant-loop-line
+invariant-loop-line l = ring_pages_of l.device (drop l.line-index l.lines) ≡ ring_pages_of l.device l.lines

@@ -1,0 +1,86 @@
+-- The channels of one side, and what the tables say of versions and classes.
+use Rattle.std.specs.Prelude.{ℕ, ◌-◌, ◌==◌, Bool, true, false, ◌&&◌, List, [], ◌∷◌, ◌++◌, slice_get, slice_set, nat_le, nat_lt, Option, Some, None, Result, Ok, Err, if◌then◌else◌}
+use Rattle.std.specs.List.{list_any, position}
+use Rattle.std.specs.Str.{bytes_eq}
+use Rattle.contact.specs.Versions.{versions}
+use Rattle.contact.specs.Classes.{class_id}
+use Rattle.contact.specs.declared.version.Version.{Version}
+use Rattle.contact.specs.declared.kind.Kind.{Kind}
+use Rattle.contact.specs.declared.kind.Kind.TheVariants.{Beat, Down, Disk, Net}
+use Rattle.chan_state.specs.declared.state.State.{State}
+use Rattle.chan_state.specs.declared.event.Event.{Event}
+use Rattle.chan_state.specs.declared.action.Action.{Action}
+use Rattle.chan_state.specs.declared.chan_state.ChanState.{ChanState}
+use Rattle.chan_state.specs.Life.{transition}
+use Rattle.control_model.specs.declared.channel.Channel.{Channel}
+use Rattle.control_model.specs.declared.fault.ControlFault.{ControlFault}
+use Rattle.control_model.specs.declared.fault.ControlFault.TheVariants.{State as StateRefused}
+use Rattle.control_model.specs.declared.change.Change.{Change}
+use Rattle.control_model.specs.declared.change.Change.TheVariants.{Same, Offered, Now}
+
+-- the greatest version below this one
+abbrev pub first_below : ℕ → List ℕ → Option Version
+first_below v [] = None
+first_below v (u ∷ us) = if nat_lt u v then Some (record { 0 = u }) else first_below v us
+
+abbrev pub version_below : Version → Option Version
+version_below v = first_below v.0 versions
+
+-- a host with this highest version accepts one that is asked for
+abbrev pub accepts : Version → ℕ → Bool
+accepts highest asked = nat_le asked highest.0 && list_any (λ u. u == asked) versions
+
+-- the kind with a class id, if one has it
+abbrev pub kind_with : List ℕ → Option Kind
+kind_with id =
+    if bytes_eq id (class_id Beat) then Some Beat else
+    if bytes_eq id (class_id Down) then Some Down else
+    if bytes_eq id (class_id Disk) then Some Disk else
+    if bytes_eq id (class_id Net) then Some Net else None
+
+-- two kinds are the same
+abbrev pub same_kind : Kind → Kind → Bool
+same_kind Beat Beat = true
+same_kind Down Down = true
+same_kind Disk Disk = true
+same_kind Net Net = true
+same_kind _ _ = false
+
+abbrev pub is_kind : Kind → Option Kind → Bool
+is_kind kind None = false
+is_kind kind (Some other) = same_kind kind other
+
+-- the channel with a relid: relids count from 1, in order of offer
+abbrev pub by_relid : {X : Type 0} → List X → ℕ → Option X
+by_relid channels relid = if relid == 0 then None else slice_get channels (relid - 1)
+
+-- the state after an event and what is to be done, where the table of a channel's life has a row
+abbrev pub row_of : ChanState → Event → Option (State × Action)
+row_of life e = transition life.side life.state e
+
+-- a channel in another state
+abbrev pub stands : ChanState → State → ChanState
+stands life state = record { side = life.side; state = state }
+
+-- a guest's channel after an event, or the refusal where the table has no row
+abbrev pub lived_by : Channel → Event → Option (State × Action) → Result Channel ControlFault
+lived_by c e None = Err (StateRefused (record { state = c.life.state; event = e }))
+lived_by c e (Some row) = Ok (record { life = stands c.life row.0; gpadl = c.gpadl })
+
+abbrev pub lived : Channel → Event → Result Channel ControlFault
+lived c e = lived_by c e (row_of c.life e)
+
+-- what becomes of a guest's channels
+abbrev pub changed : List Channel → Change → List Channel
+changed channels Same = channels
+changed channels (Offered channel) = channels ++ channel ∷ []
+changed channels (Now relid channel) = slice_set channels (relid - 1) channel
+
+-- the page list that a channel set up has this handle
+abbrev pub is_handle : ℕ → Option ℕ → Bool
+is_handle gpadl None = false
+is_handle gpadl (Some handle) = handle == gpadl
+
+-- the place of the channel that set up the page list with a handle
+abbrev pub place_of_list : List Channel → ℕ → Option ℕ
+place_of_list channels gpadl = position (λ channel. is_handle gpadl channel.gpadl) channels

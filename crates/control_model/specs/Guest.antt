@@ -1,0 +1,281 @@
+-- A guest's control: what it waits for, what it does about each message, and what it refuses.
+use Rattle.std.specs.Prelude.{◌≡◌, ℕ, ◌+◌, ◌==◌, ◌<◌, Bool, true, false, not, ◌&&◌, ◌||◌, List, [], ◌∷◌, ◌++◌, length, slice_get, nat_le, Option, Some, None, is_some, Result, Ok, Err, if◌then◌else◌}
+use Rattle.contact.specs.declared.version.Version.{Version}
+use Rattle.contact.specs.declared.part.Part.{Part}
+use Rattle.contact.specs.declared.part.Part.TheVariants.{Contact, PhaseStart, PhaseEnd, Unload}
+use Rattle.contact.specs.declared.kind.Kind.{Kind}
+use Rattle.contact.specs.declared.channel_offer.OfferFault.TheVariants.{Class}
+use Rattle.contact.specs.Versions.{version, IsVersion}
+use Rattle.io_edge.specs.declared.side.Side.TheVariants.{Guest as GuestSide}
+use Rattle.chan_state.specs.declared.state.State.{State}
+use Rattle.chan_state.specs.declared.state.State.TheVariants.{Offered as IsOffered}
+use Rattle.chan_state.specs.declared.event.Event.TheVariants.{WantOpen, WantClose, WantRelease, ResultSeen, TorndownSeen, RescindSeen}
+use Rattle.gpadl.specs.declared.fault.GpadlFault.TheVariants.{Handle}
+use Rattle.vmbus_msg.specs.Grammar.{type_of}
+use Rattle.vmbus_msg.specs.declared.msg.Msg.{Msg}
+use Rattle.vmbus_msg.specs.declared.msg.Msg.TheVariants.{OfferChannel, RescindChannelOffer, AllOffersDelivered, OpenChannelResult, GpadlCreated, GpadlTorndown, VersionResponse, UnloadResponse}
+use Rattle.control_model.specs.declared.opening.Opening.{Opening}
+use Rattle.control_model.specs.declared.channel.Channel.{Channel}
+use Rattle.control_model.specs.declared.change.Change.{Change}
+use Rattle.control_model.specs.declared.change.Change.TheVariants.{Same, Offered, Now}
+use Rattle.control_model.specs.declared.burst.Burst.TheVariants.{Empty, One, Two, PageList}
+use Rattle.control_model.specs.declared.fault.ControlFault.{ControlFault}
+use Rattle.control_model.specs.declared.fault.ControlFault.TheVariants.{Gpadl, Relid, Offer, Unasked, Memory}
+use Rattle.control_model.specs.declared.guest_wait.GuestWait.{GuestWait}
+use Rattle.control_model.specs.declared.guest_wait.GuestWait.TheVariants.{Nothing, Response, Offers, Created, Opened, Torn, Unloaded}
+use Rattle.control_model.specs.declared.guest_turn.GuestTurn.{GuestTurn}
+use Rattle.control_model.specs.Plan.{BusPlan, opening_in}
+use Rattle.control_model.specs.Messages.{propose, request, open_on, close, teardown, release, farewell, Sends, Fits}
+use Rattle.control_model.specs.Channels.{version_below, kind_with, is_kind, by_relid, lived, changed, place_of_list}
+
+-- all that contracts see of a guest's control
+pub record GuestSeen : Type 0 where
+  pub plan : BusPlan
+  pub part : Option Part
+  pub awaits : GuestWait
+  pub version : Option Version
+  pub channels : List Channel
+  pub posted : List Msg
+  pub fed : List Msg
+
+-- a guest's control that was made from a plan, before its first part
+abbrev pub new_guest : BusPlan → GuestSeen
+new_guest plan = record { plan = plan; part = None; awaits = Nothing; version = None; channels = []; posted = []; fed = [] }
+
+abbrev pub waits_for_nothing : GuestWait → Bool
+waits_for_nothing Nothing = true
+waits_for_nothing _ = false
+
+-- a part has begun, and nothing more of it is to be sent or taken
+abbrev pub guest_done : GuestSeen → Bool
+guest_done g = is_some g.part && waits_for_nothing g.awaits
+
+-- no part has begun, or the last one is done
+abbrev pub can_begin : GuestSeen → Bool
+can_begin g = not (is_some g.part) || waits_for_nothing g.awaits
+
+-- the state of the channel with a relid, if there is one
+abbrev pub state_at : Option Channel → Option State
+state_at None = None
+state_at (Some c) = Some c.life.state
+
+abbrev pub state_of : GuestSeen → ℕ → Option State
+state_of g relid = state_at (by_relid g.channels relid)
+
+-- nothing comes of it
+abbrev pub idle : GuestSeen → GuestTurn
+idle g = record { awaits = g.awaits; version = g.version; heard = Same; wished = Same; burst = Empty }
+
+-- the opening with this place in the part under way
+abbrev pub opening_of : GuestSeen → ℕ → Option Opening
+opening_of g place = opening_in g.plan g.part place
+
+-- goes on with the opening at a place, if there is one: its page list is sent
+abbrev pub lists_next : GuestTurn → ℕ → Option Opening → GuestTurn
+lists_next turn place None = record turn { awaits = Nothing }
+lists_next turn place (Some o) = record turn { awaits = Created place; burst = PageList o }
+
+-- the guest wants a channel closed: where the table has a row for it, CLOSECHANNEL and GPADL_TEARDOWN are sent
+abbrev pub closes_by : GuestTurn → Opening → Result Channel ControlFault → GuestTurn
+closes_by turn o (Err fault) = turn
+closes_by turn o (Ok now) = record turn { wished = Now o.relid now; burst = Two (close o.relid) (teardown o) }
+
+abbrev pub closes : GuestTurn → Opening → Option Channel → GuestTurn
+closes turn o None = turn
+closes turn o (Some c) = closes_by turn o (lived c WantClose)
+
+-- goes on with the opening at a place, if there is one: its channel is closed
+abbrev pub closes_next : GuestTurn → List Channel → ℕ → Option Opening → GuestTurn
+closes_next turn channels place None = record turn { awaits = Nothing }
+closes_next turn channels place (Some o) = closes (record turn { awaits = Torn place }) o (by_relid channels o.relid)
+
+-- the guest unloads from 3.0 on
+abbrev pub can_unload : Option Version → Bool
+can_unload None = false
+can_unload (Some v) = nat_le (version 3 0) v.0
+
+-- INITIATE_CONTACT, with a version
+abbrev pub proposal : GuestSeen → Version → GuestTurn
+proposal g v = record (idle g) { awaits = Response v; burst = One (propose v.0) }
+
+-- what the guest sends unasked at the start of a part
+abbrev pub guest_begins : GuestSeen → Part → GuestTurn
+guest_begins g Contact = proposal g g.plan.guest
+guest_begins g (PhaseStart phase) = lists_next (idle g) 0 (opening_in g.plan (Some (PhaseStart phase)) 0)
+guest_begins g (PhaseEnd phase) = closes_next (idle g) g.channels 0 (opening_in g.plan (Some (PhaseEnd phase)) 0)
+guest_begins g Unload =
+    if can_unload g.version then record (idle g) { awaits = Unloaded; burst = One farewell } else record (idle g) { awaits = Nothing }
+
+-- VERSION_RESPONSE, 1 or 0: the guest asks for the offers, or proposes the next lower version
+abbrev pub proposes : GuestSeen → Option Version → GuestTurn
+proposes g None = idle g
+proposes g (Some lower) = proposal g lower
+
+abbrev pub answered : GuestSeen → Version → ℕ → GuestTurn
+answered g v supported =
+    if supported == 1 then record (idle g) { awaits = Offers; version = Some v; burst = One request } else
+    if supported == 0 then proposes g (version_below v) else idle g
+
+abbrev pub hears_response : GuestSeen → GuestWait → ℕ → GuestTurn
+hears_response g (Response v) supported = answered g v supported
+hears_response g _ supported = idle g
+
+-- OFFERCHANNEL: the next device's, of its kind, with the next relid
+abbrev pub offered_channel : Channel
+offered_channel = record { life = record { side = GuestSide; state = IsOffered }; gpadl = None }
+
+abbrev pub awaits_offers : GuestWait → Bool
+awaits_offers Offers = true
+awaits_offers _ = false
+
+abbrev pub is_next_offer : GuestSeen → Kind → ℕ → ℕ → Bool
+is_next_offer g kind sub relid =
+    awaits_offers g.awaits && (relid == length g.channels + 1) && (sub == 0) && is_kind kind (slice_get g.plan.kinds (length g.channels))
+
+abbrev pub takes_offer : GuestSeen → Kind → ℕ → ℕ → GuestTurn
+takes_offer g kind sub relid = if is_next_offer g kind sub relid then record (idle g) { heard = Offered offered_channel } else idle g
+
+abbrev pub hears_offer : GuestSeen → List ℕ → ℕ → ℕ → Option Kind → Result GuestTurn ControlFault
+hears_offer g if_type sub relid None = Err (Offer (Class if_type))
+hears_offer g if_type sub relid (Some kind) = Ok (takes_offer g kind sub relid)
+
+-- ALLOFFERS_DELIVERED, behind the last offer
+abbrev pub hears_delivered : GuestSeen → GuestTurn
+hears_delivered g =
+    if awaits_offers g.awaits && (length g.channels == length g.plan.kinds) then record (idle g) { awaits = Nothing } else idle g
+
+-- GPADL_CREATED, for the page list that was sent: the guest wants its channel open
+abbrev pub opens : GuestSeen → ℕ → Opening → Result Channel ControlFault → GuestTurn
+opens g place o (Err fault) = idle g
+opens g place o (Ok now) =
+    record (idle g) { awaits = Opened place; wished = Now o.relid (record { life = now.life; gpadl = Some o.gpadl }); burst = One (open_on o) }
+
+abbrev pub created_for : GuestSeen → ℕ → ℕ → ℕ → ℕ → Channel → Option Opening → GuestTurn
+created_for g place relid gpadl status c None = idle g
+created_for g place relid gpadl status c (Some o) =
+    if (o.relid == relid) && (o.gpadl == gpadl) && (status == 0) then opens g place o (lived c WantOpen) else idle g
+
+abbrev pub created_while : GuestSeen → GuestWait → ℕ → ℕ → ℕ → Channel → GuestTurn
+created_while g (Created place) relid gpadl status c = created_for g place relid gpadl status c (opening_of g place)
+created_while g _ relid gpadl status c = idle g
+
+abbrev pub hears_created : GuestSeen → ℕ → ℕ → ℕ → Option Channel → Result GuestTurn ControlFault
+hears_created g relid gpadl status None = Err (Relid relid)
+hears_created g relid gpadl status (Some c) = Ok (created_while g g.awaits relid gpadl status c)
+
+-- OPENCHANNEL_RESULT: the channel is open with status 0, and the guest goes on with the next opening
+abbrev pub opened_for : GuestSeen → GuestTurn → ℕ → ℕ → ℕ → Option Opening → GuestTurn
+opened_for g turn place relid status None = turn
+opened_for g turn place relid status (Some o) =
+    if (o.relid == relid) && (status == 0) then lists_next turn (place + 1) (opening_of g (place + 1)) else turn
+
+abbrev pub opened_while : GuestSeen → GuestTurn → GuestWait → ℕ → ℕ → GuestTurn
+opened_while g turn (Opened place) relid status = opened_for g turn place relid status (opening_of g place)
+opened_while g turn _ relid status = turn
+
+abbrev pub result_by : GuestSeen → ℕ → ℕ → Result Channel ControlFault → Result GuestTurn ControlFault
+result_by g relid status (Err fault) = Err fault
+result_by g relid status (Ok now) = Ok (opened_while g (record (idle g) { heard = Now relid now }) g.awaits relid status)
+
+abbrev pub hears_result : GuestSeen → ℕ → ℕ → Option Channel → Result GuestTurn ControlFault
+hears_result g relid status None = Err (Relid relid)
+hears_result g relid status (Some c) = result_by g relid status (lived c (ResultSeen status))
+
+-- GPADL_TORNDOWN: the channel is closed, and the guest goes on with the next opening
+abbrev pub torn_for : GuestSeen → GuestTurn → ℕ → ℕ → Option Opening → GuestTurn
+torn_for g turn place relid None = turn
+torn_for g turn place relid (Some o) = if o.relid == relid then closes_next turn g.channels (place + 1) (opening_of g (place + 1)) else turn
+
+abbrev pub torn_while : GuestSeen → GuestTurn → GuestWait → ℕ → GuestTurn
+torn_while g turn (Torn place) relid = torn_for g turn place relid (opening_of g place)
+torn_while g turn _ relid = turn
+
+abbrev pub torn_by : GuestSeen → ℕ → Result Channel ControlFault → Result GuestTurn ControlFault
+torn_by g relid (Err fault) = Err fault
+torn_by g relid (Ok now) = Ok (torn_while g (record (idle g) { heard = Now relid now }) g.awaits relid)
+
+abbrev pub torn_at : GuestSeen → ℕ → ℕ → Option Channel → Result GuestTurn ControlFault
+torn_at g gpadl place None = Err (Gpadl (Handle gpadl))
+torn_at g gpadl place (Some c) = torn_by g (place + 1) (lived c TorndownSeen)
+
+abbrev pub hears_torndown : GuestSeen → ℕ → Option ℕ → Result GuestTurn ControlFault
+hears_torndown g gpadl None = Err (Gpadl (Handle gpadl))
+hears_torndown g gpadl (Some place) = torn_at g gpadl place (slice_get g.channels place)
+
+-- RESCIND_CHANNELOFFER: the guest settles, and gives the channel back
+abbrev pub releases : GuestSeen → ℕ → Channel → Result Channel ControlFault → GuestTurn
+releases g relid seen (Err fault) = record (idle g) { heard = Now relid seen }
+releases g relid seen (Ok now) = record (idle g) { heard = Now relid seen; wished = Now relid now; burst = One (release relid) }
+
+abbrev pub rescind_by : GuestSeen → ℕ → Result Channel ControlFault → Result GuestTurn ControlFault
+rescind_by g relid (Err fault) = Err fault
+rescind_by g relid (Ok seen) = Ok (releases g relid seen (lived seen WantRelease))
+
+abbrev pub hears_rescind : GuestSeen → ℕ → Option Channel → Result GuestTurn ControlFault
+hears_rescind g relid None = Err (Relid relid)
+hears_rescind g relid (Some c) = rescind_by g relid (lived c RescindSeen)
+
+-- UNLOAD_RESPONSE
+abbrev pub hears_unloaded : GuestSeen → GuestWait → GuestTurn
+hears_unloaded g Unloaded = record (idle g) { awaits = Nothing }
+hears_unloaded g _ = idle g
+
+-- the guest's table: what comes of each message, or why it is refused
+abbrev pub guest_hears : GuestSeen → Msg → Result GuestTurn ControlFault
+guest_hears g (OfferChannel padding if_type if_instance reserved1 reserved2 chn_flags mmio user sub reserved3 relid monitorid monitor interrupt connection) = hears_offer g if_type sub relid (kind_with if_type)
+guest_hears g (RescindChannelOffer padding relid) = hears_rescind g relid (by_relid g.channels relid)
+guest_hears g (AllOffersDelivered padding) = Ok (hears_delivered g)
+guest_hears g (OpenChannelResult padding relid openid status) = hears_result g relid status (by_relid g.channels relid)
+guest_hears g (GpadlCreated padding relid gpadl status) = hears_created g relid gpadl status (by_relid g.channels relid)
+guest_hears g (GpadlTorndown padding gpadl) = hears_torndown g gpadl (place_of_list g.channels gpadl)
+guest_hears g (VersionResponse padding supported state padding2 conn) = Ok (hears_response g g.awaits supported)
+guest_hears g (UnloadResponse padding) = Ok (hears_unloaded g g.awaits)
+guest_hears g m = Err (Unasked (type_of m))
+
+-- the version that is proposed is one of the list
+abbrev pub IsListed : GuestWait → Type 0
+IsListed (Response v) = IsVersion v.0
+IsListed _ = Unit {0}
+
+-- there are at most 16 channels
+abbrev pub HasRoom : List Channel → Change → Type 0
+HasRoom channels (Offered channel) = length channels < 16
+HasRoom channels _ = Unit {0}
+
+-- a wish adds no channel
+abbrev pub AddsNone : Change → Type 0
+AddsNone (Offered channel) = ⊥
+AddsNone _ = Unit {0}
+
+-- a turn can be made
+abbrev pub IsFit : GuestSeen → GuestTurn → Type 0
+IsFit g turn = Fits turn.burst × IsListed turn.awaits × HasRoom g.channels turn.heard × AddsNone turn.wished
+
+-- a guest after a turn in which it sent these messages, and was fed these
+abbrev pub guest_after : GuestSeen → Option Part → GuestTurn → List Msg → List Msg → GuestSeen
+guest_after g part turn sent fed = record {
+  plan = g.plan;
+  part = part;
+  awaits = turn.awaits;
+  version = turn.version;
+  channels = changed (changed g.channels turn.heard) turn.wished;
+  posted = g.posted ++ sent;
+  fed = g.fed ++ fed;
+}
+
+-- a part begins: it sends what the part begins with
+pub record GuestBegins (old : GuestSeen) (part : Part) (sent : List Msg) (new : GuestSeen) : Type 0 where
+  pub sends : Sends old.plan (guest_begins old part).burst sent
+  pub now : new ≡ guest_after old (Some part) (guest_begins old part) sent []
+
+-- a message is taken: what comes of it is sent
+pub record GuestTakes (old : GuestSeen) (m : Msg) (sent : List Msg) (new : GuestSeen) : Type 0 where
+  pub turn : GuestTurn
+  pub hears : guest_hears old m ≡ Ok turn
+  pub sends : Sends old.plan turn.burst sent
+  pub now : new ≡ guest_after old old.part turn sent (m ∷ [])
+
+-- a refusal: the message's own fault, or want of memory where it has none
+abbrev pub Refuses : {T : Type 0} → Result T ControlFault → ControlFault → Type 0
+Refuses (Ok turn) fault = fault ≡ Memory
+Refuses (Err own) fault = fault ≡ own

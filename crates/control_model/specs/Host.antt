@@ -1,0 +1,248 @@
+-- A host's control: what it waits for, what it does about each message, and what it refuses.
+use Rattle.std.specs.Prelude.{◌≡◌, ℕ, ◌+◌, ◌==◌, Bool, true, false, not, ◌&&◌, ◌||◌, List, [], ◌∷◌, ◌++◌, filter, length, map, slice_set, ◌-◌, Option, Some, None, is_some, Result, Ok, Err, if◌then◌else◌}
+use Rattle.contact.specs.declared.version.Version.{Version}
+use Rattle.contact.specs.declared.part.Part.{Part}
+use Rattle.contact.specs.declared.part.Part.TheVariants.{Contact, PhaseStart, PhaseEnd, Unload}
+use Rattle.io_edge.specs.declared.side.Side.TheVariants.{Host as HostSide}
+use Rattle.chan_state.specs.declared.state.State.{State}
+use Rattle.chan_state.specs.declared.state.State.TheVariants.{Offered as IsOffered, Rescinded as IsRescinded}
+use Rattle.chan_state.specs.declared.event.Event.TheVariants.{OpenSeen, CloseSeen, TeardownSeen, ReleaseSeen}
+use Rattle.chan_state.specs.declared.action.Action.{Action}
+use Rattle.chan_state.specs.declared.action.Action.TheVariants.{SendResult, SendTorndown}
+use Rattle.chan_state.specs.declared.chan_state.ChanState.{ChanState}
+use Rattle.gpadl.specs.declared.fault.GpadlFault.{GpadlFault}
+use Rattle.gpadl.specs.declared.fault.GpadlFault.TheVariants.{Handle}
+use Rattle.gpadl.specs.Assembly.{Partial, Assembly, is_live, built, fault_of}
+use Rattle.gpadl.specs.Whole.{next}
+use Rattle.vmbus_msg.specs.Grammar.{type_of}
+use Rattle.vmbus_msg.specs.declared.msg.Msg.{Msg}
+use Rattle.vmbus_msg.specs.declared.msg.Msg.TheVariants.{RequestOffers, OpenChannel, CloseChannel, GpadlHeader, GpadlBody, GpadlTeardown, RelidReleased, InitiateContact, Unload as UnloadSeen}
+use Rattle.control_model.specs.declared.opening.Opening.{Opening}
+use Rattle.control_model.specs.declared.burst.Burst.{Burst}
+use Rattle.control_model.specs.declared.burst.Burst.TheVariants.{Empty, One, Offers}
+use Rattle.control_model.specs.declared.fault.ControlFault.{ControlFault}
+use Rattle.control_model.specs.declared.fault.ControlFault.TheVariants.{State as StateFault, Gpadl, Relid, Unasked}
+use Rattle.control_model.specs.declared.host_wait.HostWait.{HostWait}
+use Rattle.control_model.specs.declared.host_wait.HostWait.TheVariants.{Nothing, Contact as AwaitsContact, Request, List as AwaitsList, Open, Close, Teardown, Unload as AwaitsUnload}
+use Rattle.control_model.specs.Plan.{BusPlan, opening_in}
+use Rattle.control_model.specs.Messages.{respond, created, opened, torndown, farewell_taken, Sends}
+use Rattle.control_model.specs.Channels.{accepts, by_relid, row_of, stands}
+use Rattle.control_model.specs.Guest.{can_unload}
+
+-- all that contracts see of a host's control
+pub record HostSeen : Type 0 where
+  pub plan : BusPlan
+  pub part : Option Part
+  pub awaits : HostWait
+  pub version : Option Version
+  pub channels : List ChanState
+  pub lists : Assembly
+  pub posted : List Msg
+  pub fed : List Msg
+
+-- a host's control that was made from a plan, before its first part
+abbrev pub new_host : BusPlan → HostSeen
+new_host plan = record { plan = plan; part = None; awaits = Nothing; version = None; channels = []; lists = record { building = None; live = [] }; posted = []; fed = [] }
+
+-- what comes of a message, or of the start of a part, at a host
+pub record HostTurn : Type 0 where
+  pub awaits : HostWait
+  pub version : Option Version
+  pub channels : List ChanState
+  pub lists : Assembly
+  pub burst : Burst
+
+abbrev pub host_waits_for_nothing : HostWait → Bool
+host_waits_for_nothing Nothing = true
+host_waits_for_nothing _ = false
+
+-- a part has begun, and nothing more of it is to be sent or taken
+abbrev pub host_done : HostSeen → Bool
+host_done h = is_some h.part && host_waits_for_nothing h.awaits
+
+-- the state of the channel with a relid, if there is one
+abbrev pub life_at : Option ChanState → Option State
+life_at None = None
+life_at (Some life) = Some life.state
+
+abbrev pub host_state_of : HostSeen → ℕ → Option State
+host_state_of h relid = life_at (by_relid h.channels relid)
+
+-- no part has begun, or the last one is done
+abbrev pub host_can_begin : HostSeen → Bool
+host_can_begin h = not (is_some h.part) || host_waits_for_nothing h.awaits
+
+-- nothing comes of it
+abbrev pub at_rest : HostSeen → HostTurn
+at_rest h = record { awaits = h.awaits; version = h.version; channels = h.channels; lists = h.lists; burst = Empty }
+
+-- the opening with this place in the part under way
+abbrev pub opening_for : HostSeen → ℕ → Option Opening
+opening_for h place = opening_in h.plan h.part place
+
+-- waits for the opening at a place, if there is one
+abbrev pub waits_list : ℕ → Option Opening → HostWait
+waits_list place None = Nothing
+waits_list place (Some o) = AwaitsList place
+
+abbrev pub waits_close : ℕ → Option Opening → HostWait
+waits_close place None = Nothing
+waits_close place (Some o) = Close place
+
+-- what the host waits for at the start of a part: it sends nothing unasked
+abbrev pub host_begins : HostSeen → Part → HostTurn
+host_begins h Contact = record (at_rest h) { awaits = AwaitsContact }
+host_begins h (PhaseStart phase) = record (at_rest h) { awaits = waits_list 0 (opening_in h.plan (Some (PhaseStart phase)) 0) }
+host_begins h (PhaseEnd phase) = record (at_rest h) { awaits = waits_close 0 (opening_in h.plan (Some (PhaseEnd phase)) 0) }
+host_begins h Unload = record (at_rest h) { awaits = if can_unload h.version then AwaitsUnload else Nothing }
+
+-- the opening is of this channel
+abbrev pub is_of : ℕ → Option Opening → Bool
+is_of relid None = false
+is_of relid (Some o) = o.relid == relid
+
+-- INITIATE_CONTACT: answered by 1 where the host has the version, and by 0 otherwise
+abbrev pub hears_contact : HostSeen → HostWait → ℕ → HostTurn
+hears_contact h AwaitsContact asked =
+    if accepts h.plan.host asked then record (at_rest h) { awaits = Request; version = Some (record { 0 = asked }); burst = One (respond 1) } else
+    record (at_rest h) { burst = One (respond 0) }
+hears_contact h _ asked = at_rest h
+
+-- REQUESTOFFERS: each device is offered
+abbrev pub hears_request : HostSeen → HostWait → HostTurn
+hears_request h Request =
+    record (at_rest h) { awaits = Nothing; channels = map (λ kind. record { side = HostSide; state = IsOffered }) h.plan.kinds; burst = Offers }
+hears_request h _ = at_rest h
+
+-- a channel's page list came: it is created once it is whole
+abbrev pub listed : HostSeen → HostWait → Partial → HostWait
+listed h (AwaitsList place) p = if is_of p.relid (opening_for h place) then Open place else AwaitsList place
+listed h awaits p = awaits
+
+abbrev pub lists_by : HostSeen → Assembly → Option Partial → HostTurn
+lists_by h lists None = record (at_rest h) { lists = lists }
+lists_by h lists (Some p) =
+    if length p.pages == p.want then record (at_rest h) { awaits = listed h h.awaits p; lists = lists; burst = One (created p.relid p.handle) } else
+    record (at_rest h) { lists = lists }
+
+-- GPADL_HEADER and GPADL_BODY, which go to the assembler
+abbrev pub hears_piece : HostSeen → Msg → Option GpadlFault → Result HostTurn ControlFault
+hears_piece h m None = Ok (lists_by h (next h.lists m) (built h.lists.building m))
+hears_piece h m (Some fault) = Err (Gpadl fault)
+
+abbrev pub hears_header : HostSeen → ℕ → Msg → Option ChanState → Result HostTurn ControlFault
+hears_header h relid m None = Err (Relid relid)
+hears_header h relid m (Some life) = hears_piece h m (fault_of h.lists m)
+
+-- a channel goes on
+abbrev pub goes_on : HostSeen → ℕ → ChanState → State → List ChanState
+goes_on h relid life state = slice_set h.channels (relid - 1) (stands life state)
+
+-- OPENCHANNEL, answered by status 0 where the table says so
+abbrev pub opened_then : HostSeen → HostWait → ℕ → HostWait
+opened_then h (Open place) relid = if is_of relid (opening_for h place) then waits_list (place + 1) (opening_for h (place + 1)) else Open place
+opened_then h awaits relid = awaits
+
+abbrev pub opened_burst : ℕ → ℕ → Action → Burst
+opened_burst relid openid SendResult = One (opened relid openid)
+opened_burst relid openid _ = Empty
+
+abbrev pub open_by : HostSeen → ℕ → ℕ → ChanState → Option (State × Action) → Result HostTurn ControlFault
+open_by h relid openid life None = Err (StateFault (record { state = life.state; event = OpenSeen }))
+open_by h relid openid life (Some row) =
+    Ok (record (at_rest h) { awaits = opened_then h h.awaits relid; channels = goes_on h relid life row.0; burst = opened_burst relid openid row.1 })
+
+abbrev pub hears_open : HostSeen → ℕ → ℕ → Option ChanState → Result HostTurn ControlFault
+hears_open h relid openid None = Err (Relid relid)
+hears_open h relid openid (Some life) = open_by h relid openid life (row_of life OpenSeen)
+
+-- CLOSECHANNEL
+abbrev pub closed_then : HostSeen → HostWait → ℕ → HostWait
+closed_then h (Close place) relid = if is_of relid (opening_for h place) then Teardown place else Close place
+closed_then h awaits relid = awaits
+
+abbrev pub close_by : HostSeen → ℕ → ChanState → Option (State × Action) → Result HostTurn ControlFault
+close_by h relid life None = Err (StateFault (record { state = life.state; event = CloseSeen }))
+close_by h relid life (Some row) = Ok (record (at_rest h) { awaits = closed_then h h.awaits relid; channels = goes_on h relid life row.0 })
+
+abbrev pub hears_close : HostSeen → ℕ → Option ChanState → Result HostTurn ControlFault
+hears_close h relid None = Err (Relid relid)
+hears_close h relid (Some life) = close_by h relid life (row_of life CloseSeen)
+
+-- GPADL_TEARDOWN: the page list isn't live any more
+abbrev pub torn_then : HostSeen → HostWait → ℕ → HostWait
+torn_then h (Teardown place) relid = if is_of relid (opening_for h place) then waits_close (place + 1) (opening_for h (place + 1)) else Teardown place
+torn_then h awaits relid = awaits
+
+abbrev pub without : Assembly → ℕ → Assembly
+without lists gpadl = record { building = lists.building; live = filter (λ handle. not (handle == gpadl)) lists.live }
+
+abbrev pub tears : HostSeen → ℕ → HostTurn → Action → HostTurn
+tears h gpadl turn SendTorndown = record turn { lists = without h.lists gpadl; burst = One (torndown gpadl) }
+tears h gpadl turn _ = turn
+
+abbrev pub teardown_by : HostSeen → ℕ → ℕ → ChanState → Option (State × Action) → Result HostTurn ControlFault
+teardown_by h relid gpadl life None = Err (StateFault (record { state = life.state; event = TeardownSeen }))
+teardown_by h relid gpadl life (Some row) =
+    Ok (tears h gpadl (record (at_rest h) { awaits = torn_then h h.awaits relid; channels = goes_on h relid life row.0 }) row.1)
+
+-- the rescind of a channel ends its page list, so no handle is asked of it then
+abbrev pub is_rescinded : State → Bool
+is_rescinded IsRescinded = true
+is_rescinded _ = false
+
+abbrev pub hears_teardown : HostSeen → ℕ → ℕ → Option ChanState → Result HostTurn ControlFault
+hears_teardown h relid gpadl None = Err (Relid relid)
+hears_teardown h relid gpadl (Some life) =
+    if is_rescinded life.state || is_live h.lists.live gpadl then teardown_by h relid gpadl life (row_of life TeardownSeen) else Err (Gpadl (Handle gpadl))
+
+-- RELID_RELEASED
+abbrev pub release_by : HostSeen → ℕ → ChanState → Option (State × Action) → Result HostTurn ControlFault
+release_by h relid life None = Err (StateFault (record { state = life.state; event = ReleaseSeen }))
+release_by h relid life (Some row) = Ok (record (at_rest h) { channels = goes_on h relid life row.0 })
+
+abbrev pub hears_release : HostSeen → ℕ → Option ChanState → Result HostTurn ControlFault
+hears_release h relid None = Err (Relid relid)
+hears_release h relid (Some life) = release_by h relid life (row_of life ReleaseSeen)
+
+-- UNLOAD
+abbrev pub hears_unload : HostSeen → HostWait → HostTurn
+hears_unload h AwaitsUnload = record (at_rest h) { awaits = Nothing; burst = One farewell_taken }
+hears_unload h _ = at_rest h
+
+-- the host's table: what comes of each message, or why it is refused
+abbrev pub host_hears : HostSeen → Msg → Result HostTurn ControlFault
+host_hears h (RequestOffers padding) = Ok (hears_request h h.awaits)
+host_hears h (OpenChannel padding relid openid gpadl target_vp downstream user) = hears_open h relid openid (by_relid h.channels relid)
+host_hears h (CloseChannel padding relid) = hears_close h relid (by_relid h.channels relid)
+host_hears h (GpadlHeader header) = hears_header h header.relid (GpadlHeader header) (by_relid h.channels header.relid)
+host_hears h (GpadlBody body) = hears_piece h (GpadlBody body) (fault_of h.lists (GpadlBody body))
+host_hears h (GpadlTeardown padding relid gpadl) = hears_teardown h relid gpadl (by_relid h.channels relid)
+host_hears h (RelidReleased padding relid) = hears_release h relid (by_relid h.channels relid)
+host_hears h (InitiateContact padding asked target_vcpu page monitor1 monitor2) = Ok (hears_contact h h.awaits asked)
+host_hears h (UnloadSeen padding) = Ok (hears_unload h h.awaits)
+host_hears h m = Err (Unasked (type_of m))
+
+-- a host after a turn in which it sent these messages, and was fed these
+abbrev pub host_after : HostSeen → Option Part → HostTurn → List Msg → List Msg → HostSeen
+host_after h part turn sent fed = record {
+  plan = h.plan;
+  part = part;
+  awaits = turn.awaits;
+  version = turn.version;
+  channels = turn.channels;
+  lists = turn.lists;
+  posted = h.posted ++ sent;
+  fed = h.fed ++ fed;
+}
+
+-- a part begins: the host sends nothing
+abbrev pub HostBegins : HostSeen → Part → HostSeen → Type 0
+HostBegins old part new = new ≡ host_after old (Some part) (host_begins old part) [] []
+
+-- a message is taken: what comes of it is sent
+pub record HostTakes (old : HostSeen) (m : Msg) (sent : List Msg) (new : HostSeen) : Type 0 where
+  pub turn : HostTurn
+  pub hears : host_hears old m ≡ Ok turn
+  pub sends : Sends old.plan turn.burst sent
+  pub now : new ≡ host_after old old.part turn sent (m ∷ [])

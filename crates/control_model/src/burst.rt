@@ -1,0 +1,18 @@
+//! What one side sends at a time.
+use crate::Opening;
+use vmbus_msg::Msg;
+
+/// The messages that a side sends, one after the other, before it listens again.
+#[derive(Clone, Copy)]
+pub enum Burst {
+    /// None.
+    Empty,
+    /// One message.
+    One(Msg),
+    /// Two messages.
+    Two(Msg, Msg),
+    /// The page list of a channel that is being opened: GPADL_HEADER and its GPADL_BODY messages.
+    PageList(Opening),
+    /// An OFFERCHANNEL for each device, and ALLOFFERS_DELIVERED.
+    Offers,
+}

@@ -1,0 +1,22 @@
+//! What a guest waits for.
+use contact::Version;
+
+/// The next message that a guest's control waits for in a part. Openings count from 0, in the order
+/// of the phase.
+#[derive(Clone, Copy)]
+pub enum GuestWait {
+    /// None: the part is done, or none has begun.
+    Nothing,
+    /// VERSION_RESPONSE, to this version.
+    Response(Version),
+    /// An OFFERCHANNEL for each device, and then ALLOFFERS_DELIVERED.
+    Offers,
+    /// GPADL_CREATED, for the page list of this opening.
+    Created(usize),
+    /// OPENCHANNEL_RESULT, for the channel of this opening.
+    Opened(usize),
+    /// GPADL_TORNDOWN, for the page list of this opening.
+    Torn(usize),
+    /// UNLOAD_RESPONSE.
+    Unloaded,
+}

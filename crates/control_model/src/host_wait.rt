@@ -1,0 +1,23 @@
+//! What a host waits for.
+
+/// The next message that a host's control waits for in a part. Openings count from 0, in the order
+/// of the phase.
+#[derive(Clone, Copy)]
+pub enum HostWait {
+    /// None: the part is done, or none has begun.
+    Nothing,
+    /// INITIATE_CONTACT.
+    Contact,
+    /// REQUESTOFFERS.
+    Request,
+    /// GPADL_HEADER and its bodies, for the page list of this opening.
+    List(usize),
+    /// OPENCHANNEL, for the channel of this opening.
+    Open(usize),
+    /// CLOSECHANNEL, for the channel of this opening.
+    Close(usize),
+    /// GPADL_TEARDOWN, for the page list of this opening.
+    Teardown(usize),
+    /// UNLOAD.
+    Unload,
+}

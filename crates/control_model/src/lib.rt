@@ -1,0 +1,32 @@
+//! The control paths of a guest and of its host: what each sends, what it takes, and what it waits
+//! for. Both ends' controls are proved to go by these definitions.
+//!
+//! Source: `channel_message_table` and the handlers that it names (drivers/hv/channel_mgmt.c), and
+//! `vmbus_establish_gpadl`, `__vmbus_open` and `vmbus_close_internal` (drivers/hv/channel.c) of Linux
+//! 6.12.
+#![tactic(auto)]
+
+mod burst;
+mod change;
+mod channel;
+mod fault;
+mod guest_turn;
+mod guest_wait;
+mod host_wait;
+mod opening;
+mod plan;
+mod planning;
+mod sending;
+mod version;
+
+pub use burst::Burst;
+pub use change::Change;
+pub use channel::Channel;
+pub use fault::ControlFault;
+pub use guest_turn::GuestTurn;
+pub use guest_wait::GuestWait;
+pub use host_wait::HostWait;
+pub use opening::Opening;
+pub use plan::Plan;
+pub use sending::{messages, open_on, release, teardown, type_of};
+pub use version::version_below;

@@ -1,0 +1,14 @@
+//! One opening of a channel.
+
+/// A channel that is opened at the start of a phase, and closed at its end.
+#[derive(Clone, Copy)]
+pub struct Opening {
+    /// The channel's number.
+    pub relid: u32,
+    /// The data pages of each of its two rings, of 4,096 bytes.
+    pub ring_pages: u32,
+    /// The handle of the page list that it is opened on.
+    pub gpadl: u32,
+    /// The number of the list's first page. The others follow it.
+    pub first_page: u64,
+}

@@ -1,0 +1,261 @@
+//! The plan of a script.
+ghost use Rattle.std.specs.Prelude.{◌≡◌, ◌+◌, ◌*◌, ◌^◌, ◌<◌, ◌≤◌, Bool, Option, List, [], ◌∷◌, ◌++◌, ℕ, length, map, filter, take, slice_range, nat_lt, vec_len, vec_capacity, IfOk, IfSome, OnOk};
+ghost use Rattle.std.specs.Option.{option_to_list};
+ghost use Rattle.std.specs.List.{list_any, position, range_with_len};
+ghost use Rattle.bus_script.specs.Parts.{parts, is_phase, offered_by, offered, kind_of, ring_pages_of, shuts};
+ghost use Rattle.control_model.specs.Plan.{first_gpadl};
+ghost use Rattle.control_model.specs.Openings.{devices_by_phase, numbered, guest_in, host_in, wants_open, openings_from, pages_in};
+ghost use Rattle.control_model.specs.Dealing.{served_of, opens_one, is_closed, opens, size_in, HasSizes, Dealt, rest_of};
+
+use crate::Opening;
+use bus_script::{DeviceSpec, Line, What};
+use contact::{Kind, Version};
+use std::alloc::{AllocError, Global};
+
+// The highest version of both ends where a script says none, 5.2.
+const HIGHEST: Version = Version(0x0005_0002);
+
+// The handle of the first page list.
+const FIRST_GPADL: u32 = 0xE1E10;
+
+/// The highest versions of the guest and of its host.
+pub fn versions(lines: &[Line]) -> (Version, Version)
+    ensures guest { result.0 ≡ guest_in lines.now }
+    ensures host { result.1 ≡ host_in lines.now }
+{
+    if let [line, ..] = lines {
+        if let What::Contact { guest, host } = &line.what {
+            return (*guest, *host);
+        }
+    }
+    (HIGHEST, HIGHEST)
+}
+
+/// The kinds of the devices, in order of offer.
+pub fn kinds(alloc: Global, lines: &[Line]) -> Result<Vec<Kind>, AllocError>
+    ensures { IfOk result (λ kinds. kinds.items ≡ map kind_of (offered lines.now)) }
+{
+    let mut kinds = Vec::new(alloc);
+    for line in lines {
+        if let Some(kind) = kind_offered(&line.what) {
+            kinds.push(kind)?;
+        }
+    }
+    Ok(kinds)
+}
+
+// The kind of device that a line offers.
+fn kind_offered(what: &What) -> Option<Kind>
+    ensures { option_to_list result ≡ map kind_of (offered_by what.now) }
+{
+    match what {
+        What::Offer { device, .. } => Some(kind_of(*device)),
+        _ => None,
+    }
+}
+
+// The kind of a device.
+fn kind_of(device: DeviceSpec) -> Kind
+    ensures { result ≡ kind_of device }
+{
+    match device {
+        DeviceSpec::Beat => Kind::Beat,
+        DeviceSpec::Down => Kind::Down,
+    }
+}
+
+// What the lines say of a device for all phases.
+#[derive(Clone, Copy)]
+pub struct Served {
+    // The data pages of each of its rings.
+    pub ring_pages: u32,
+    // The place of the line that closes it, if one does.
+    pub shut: Option<usize>,
+}
+
+/// What the lines say of each device.
+pub fn table_of(alloc: Global, lines: &[Line], count: u32) -> Result<Vec<Served>, AllocError>
+    ensures { IfOk result (λ devices. devices.items ≡ map (served_of lines.now) (range_with_len 0 count)) }
+{
+    let mut devices = Vec::with_capacity(alloc, count as usize)?;
+    for device in 0..count {
+        devices.push_reserved(Served {
+            ring_pages: ring_pages(lines, device),
+            shut: first_shut(lines, device),
+        });
+    }
+    Ok(devices)
+}
+
+// The data pages of each ring of a device: those that its line says, or 1.
+fn ring_pages(lines: &[Line], device: u32) -> u32
+    ensures { result ≡ ring_pages_of device lines.now }
+{
+    for line in lines {
+        if let What::RingSize { device: d, pages } = &line.what {
+            if *d == device {
+                return *pages;
+            }
+        }
+    }
+    1
+}
+
+// The place of the first line that closes a device.
+fn first_shut(lines: &[Line], device: u32) -> Option<usize>
+    ensures { result ≡ position (λ l. shuts device l.what) lines.now }
+{
+    lines.iter().position(|l| is_shut(&l.what, device))
+}
+
+// Whether a line closes a device.
+fn is_shut(what: &What, device: u32) -> bool
+    ensures { result ≡ shuts device what.now }
+{
+    match what {
+        What::Shut { device: d } => *d == device,
+        _ => false,
+    }
+}
+
+// Whether a device is opened for a line.
+fn wants_open(what: &What, device: u32) -> bool
+    ensures { result ≡ wants_open device what.now }
+{
+    match what {
+        What::Ask { device: d, .. } => *d == device,
+        What::Shut { device: d } => *d == device,
+        _ => false,
+    }
+}
+
+// Whether a device was closed by a line before this place.
+fn is_closed(shut: Option<usize>, start: usize) -> bool
+    ensures { result ≡ is_closed shut start }
+{
+    match shut {
+        Some(place) => place < start,
+        None => false,
+    }
+}
+
+/// Whether a line begins the next phase.
+pub fn is_phase(what: &What) -> bool
+    ensures { result ≡ is_phase what.now }
+{
+    matches!(what, What::Phase)
+}
+
+// The end of the phase whose lines begin at a place: the next line that begins a phase, or the end.
+fn part_end(lines: &[Line], start: usize) -> usize
+    requires { start ≤ length lines.now }
+    ensures within { (start ≤ result) × (result ≤ length lines.now) }
+    ensures cut { rest_of lines.now start ≡ slice_range lines.now start result ∷ rest_of lines.now (result + 1) }
+    ensures shut { (device : ℕ) → list_any (λ l. shuts device l.what) (take (result + 1) lines.now) ≡ list_any (λ l. shuts device l.what) (take result lines.now) }
+{
+    for i in start..lines.len() {
+        if is_phase(&lines[i].what) {
+            return i;
+        }
+    }
+    lines.len()
+}
+
+/// The openings of each phase.
+pub fn phases(
+    alloc: Global,
+    lines: &[Line],
+    devices: &[Served],
+) -> Result<Vec<Vec<Opening>>, AllocError>
+    requires few { length devices.now ≤ 16 }
+    requires sizes { HasSizes devices.now }
+    requires table { devices.now ≡ map (served_of lines.now) (range_with_len 0 (length devices.now)) }
+    requires short { length lines.now ≤ 20000 }
+    ensures { IfOk result (λ phases. map (λ phase. phase.items) phases.items ≡ numbered (size_in devices.now) first_gpadl 0 (devices_by_phase (length devices.now) [] (parts lines.now))) }
+{
+    let mut phases = Vec::new(alloc);
+    let mut next = Next {
+        gpadl: FIRST_GPADL,
+        page: 0,
+    };
+    let mut start = 0;
+    while start <= lines.len() {
+        let end = part_end(lines, start);
+        let part = &lines[start..end];
+        let openings = openings(alloc, part, start, devices, &mut next)?;
+        phases.push(openings)?;
+        start = end + 1;
+    }
+    Ok(phases)
+}
+
+/// The next handle, and the next page number.
+#[derive(Clone, Copy)]
+pub struct Next {
+    pub gpadl: u32,
+    pub page: u64,
+}
+
+/// The openings of a phase: its lines begin at a place of the script.
+pub fn openings(
+    alloc: Global,
+    part: &[Line],
+    start: usize,
+    devices: &[Served],
+    next: &mut Next,
+) -> Result<Vec<Opening>, AllocError>
+    requires few { length devices.now ≤ 16 }
+    requires sizes { HasSizes devices.now }
+    requires gpadl { next.old.gpadl + 16 < 2 ^ 32 }
+    requires page { next.old.page + 16 * 34 < 2 ^ 64 }
+    ensures openings { IfOk result (λ os. os.items ≡ openings_from (size_in devices.now) next.old.gpadl next.old.page (filter (opens devices.now part.now start) (range_with_len 0 (length devices.now)))) }
+    ensures gpadl { OnOk result (next.new.gpadl ≡ next.old.gpadl + length (filter (opens devices.now part.now start) (range_with_len 0 (length devices.now)))) }
+    ensures page { OnOk result (next.new.page ≡ next.old.page + pages_in (size_in devices.now) (filter (opens devices.now part.now start) (range_with_len 0 (length devices.now)))) }
+    ensures few_more { OnOk result ((next.new.gpadl ≤ next.old.gpadl + 16) × (next.new.page ≤ next.old.page + 16 * 34)) }
+{
+    let mut openings = Vec::with_capacity(alloc, devices.len())?;
+    for (i, device) in devices.iter().enumerate() {
+        let opened = opens(part, start, *device, i as u32);
+        deal(opened, i as u32, *device, &mut openings, next);
+    }
+    Ok(openings)
+}
+
+// Opens a device, where that is so: the opening takes the next handle and the next pages.
+fn deal(opened: bool, number: u32, device: Served, openings: &mut Vec<Opening>, next: &mut Next)
+    requires room { vec_len openings.old < vec_capacity openings.old }
+    requires size { device.ring_pages ≤ 16 }
+    requires number { number < 16 }
+    requires gpadl { next.old.gpadl + 1 < 2 ^ 32 }
+    requires page { next.old.page + 34 < 2 ^ 64 }
+    ensures dealt { Dealt opened number device.ring_pages openings.old.items next.old openings.new.items next.new }
+    ensures few { vec_len openings.new ≤ vec_len openings.old + 1 }
+    ensures capacity { vec_capacity openings.new ≡ vec_capacity openings.old }
+    ensures gpadl { next.new.gpadl ≤ next.old.gpadl + 1 }
+    ensures page { next.new.page ≤ next.old.page + 34 }
+{
+    if opened {
+        openings.push_reserved(Opening {
+            relid: number + 1,
+            ring_pages: device.ring_pages,
+            gpadl: next.gpadl,
+            first_page: next.page,
+        });
+        next.gpadl += 1;
+        next.page += 2 * u64::from(device.ring_pages) + 2;
+    }
+}
+
+// Whether a device is opened in a phase.
+fn opens(part: &[Line], start: usize, device: Served, number: u32) -> bool
+    ensures { result ≡ opens_one part.now start device number }
+{
+    !is_closed(device.shut, start) && is_wanted(part, number)
+}
+
+// Whether a device is opened for one of these lines.
+fn is_wanted(part: &[Line], device: u32) -> bool
+    ensures { result ≡ list_any (λ l. wants_open device l.what) part.now }
+{
+    part.iter().any(|l| wants_open(&l.what, device))
+}

@@ -1,0 +1,140 @@
+//! The messages that the two sides send.
+ghost use Rattle.std.specs.List.{range_with_len};
+ghost use Rattle.std.specs.Prelude.{◌≡◌, ◌+◌, ◌^◌, ◌<◌, ◌≤◌, [], ◌∷◌, ◌++◌, length, IfOk};
+ghost use Rattle.contact.specs.Classes.{offers_from};
+ghost use Rattle.gpadl.specs.Cut.{AreMessagesOf};
+ghost use Rattle.vmbus_msg.specs.Grammar.{type_of};
+ghost use Rattle.control_model.specs.Plan.{IsOpening};
+ghost use Rattle.control_model.specs.Messages.{open_on, teardown, release, delivered, pages_from, Sends, Fits};
+
+use crate::{Burst, Opening, Plan};
+use contact::offers;
+use gpadl::to_messages;
+use std::alloc::{AllocError, Global};
+use vmbus_msg::Msg;
+
+/// OPENCHANNEL, for a channel whose page list the host knows.
+pub fn open_on(o: &Opening) -> Msg
+    requires { IsOpening o.now }
+    ensures { result ≡ open_on o.now }
+{
+    Msg::OpenChannel {
+        padding: 0,
+        relid: o.relid,
+        openid: o.relid,
+        gpadl: o.gpadl,
+        target_vp: 0,
+        downstream: o.ring_pages + 1,
+        user: [0; 120],
+    }
+}
+
+/// GPADL_TEARDOWN, for the page list of a channel that was closed.
+pub fn teardown(o: &Opening) -> Msg
+    ensures { result ≡ teardown o.now }
+{
+    Msg::GpadlTeardown {
+        padding: 0,
+        relid: o.relid,
+        gpadl: o.gpadl,
+    }
+}
+
+/// RELID_RELEASED: a channel is given back.
+pub fn release(relid: u32) -> Msg
+    ensures { result ≡ release relid }
+{
+    Msg::RelidReleased { padding: 0, relid }
+}
+
+/// A message's type.
+pub fn type_of(m: &Msg) -> u32
+    ensures { result ≡ type_of m.now }
+{
+    match m {
+        Msg::OfferChannel { .. } => 1,
+        Msg::RescindChannelOffer { .. } => 2,
+        Msg::RequestOffers { .. } => 3,
+        Msg::AllOffersDelivered { .. } => 4,
+        Msg::OpenChannel { .. } => 5,
+        Msg::OpenChannelResult { .. } => 6,
+        Msg::CloseChannel { .. } => 7,
+        Msg::GpadlHeader(_) => 8,
+        Msg::GpadlBody(_) => 9,
+        Msg::GpadlCreated { .. } => 10,
+        Msg::GpadlTeardown { .. } => 11,
+        Msg::GpadlTorndown { .. } => 12,
+        Msg::RelidReleased { .. } => 13,
+        Msg::InitiateContact { .. } => 14,
+        Msg::VersionResponse { .. } => 15,
+        Msg::Unload { .. } => 16,
+        Msg::UnloadResponse { .. } => 17,
+    }
+}
+
+/// The messages of a burst, in order: at most 17.
+pub fn messages(alloc: Global, plan: &Plan, burst: &Burst) -> Result<Vec<Msg>, AllocError>
+    requires { Fits burst.now }
+    ensures sends { IfOk result (λ sent. Sends plan.now burst.now sent.items) }
+    ensures few { IfOk result (λ sent. length sent.items ≤ 17) }
+{
+    match burst {
+        Burst::Empty => Ok(Vec::new(alloc)),
+        Burst::One(m) => one(alloc, m),
+        Burst::Two(m, n) => two(alloc, m, n),
+        Burst::PageList(o) => page_list(alloc, o),
+        Burst::Offers => all_offers(alloc, plan),
+    }
+}
+
+// One message.
+fn one(alloc: Global, m: &Msg) -> Result<Vec<Msg>, AllocError>
+    ensures { IfOk result (λ sent. sent.items ≡ m.now ∷ []) }
+{
+    let mut sent = Vec::with_capacity(alloc, 1)?;
+    sent.push_reserved(*m);
+    Ok(sent)
+}
+
+// Two messages.
+fn two(alloc: Global, m: &Msg, n: &Msg) -> Result<Vec<Msg>, AllocError>
+    ensures { IfOk result (λ sent. sent.items ≡ m.now ∷ n.now ∷ []) }
+{
+    let mut sent = Vec::with_capacity(alloc, 2)?;
+    sent.push_reserved(*m);
+    sent.push_reserved(*n);
+    Ok(sent)
+}
+
+// The page list of an opening.
+fn page_list(alloc: Global, o: &Opening) -> Result<Vec<Msg>, AllocError>
+    requires { IsOpening o.now }
+    ensures sends { IfOk result (λ sent. AreMessagesOf o.now.relid o.now.gpadl (pages_from o.now) sent.items) }
+    ensures few { IfOk result (λ sent. length sent.items ≤ 2) }
+{
+    let count = 2 * o.ring_pages + 2;
+    let pages = numbers(alloc, o.first_page, count)?;
+    to_messages(alloc, o.relid, o.gpadl, pages.as_slice())
+}
+
+// So many page numbers, from this one on.
+fn numbers(alloc: Global, first: u64, count: u32) -> Result<Vec<u64>, AllocError>
+    requires { first + count < 2 ^ 64 }
+    ensures { IfOk result (λ pages. pages.items ≡ range_with_len first count) }
+{
+    let mut pages = Vec::with_capacity(alloc, count as usize)?;
+    for i in 0..count {
+        pages.push_reserved(first + u64::from(i));
+    }
+    Ok(pages)
+}
+
+// All offers, and that they were all.
+fn all_offers(alloc: Global, plan: &Plan) -> Result<Vec<Msg>, AllocError>
+    ensures sends { IfOk result (λ sent. sent.items ≡ offers_from 1 plan.now.kinds ++ delivered ∷ []) }
+    ensures few { IfOk result (λ sent. length sent.items ≤ 17) }
+{
+    let mut sent = offers(alloc, plan.kinds())?;
+    sent.push(Msg::AllOffersDelivered { padding: 0 })?;
+    Ok(sent)
+}

@@ -1,0 +1,108 @@
+-- Both begin the next part.
+use Rattle.std.proofs.Common.{◌≡◌, ◌∙◌, ℕ, suc, ◌+◌, ◌<◌, nat_le, nat_lt, Bool, true, false, List, [], ◌∷◌, ◌++◌, length, map, Option, Some, None, if◌then◌else◌, refl, sym, ap, subst, arith}
+use Rattle.std.proofs.lemmas.Bool.Decides.{nat_tests}
+use Rattle.contact.specs.declared.version.Version.{Version}
+use Rattle.contact.specs.declared.part.Part.{Part}
+use Rattle.contact.specs.declared.part.Part.TheVariants.{Contact, PhaseStart, PhaseEnd, Unload}
+use Rattle.contact.specs.Versions.{version}
+use Rattle.chan_state.specs.declared.state.State.TheVariants.{Opened}
+use Rattle.chan_state.specs.declared.chan_state.ChanState.{ChanState}
+use Rattle.vmbus_msg.specs.declared.msg.Msg.{Msg}
+use Rattle.control_model.specs.declared.opening.Opening.{Opening}
+use Rattle.control_model.specs.declared.channel.Channel.{Channel}
+use Rattle.control_model.specs.declared.change.Change.TheVariants.{Same}
+use Rattle.control_model.specs.declared.burst.Burst.TheVariants.{One}
+use Rattle.control_model.specs.declared.guest_wait.GuestWait.TheVariants.{Nothing, Unloaded}
+use Rattle.control_model.specs.declared.guest_turn.GuestTurn.{GuestTurn}
+use Rattle.control_model.specs.declared.host_wait.HostWait.TheVariants.{Nothing as HostNothing, Unload as AwaitsUnload}
+use Rattle.control_model.specs.Plan.{BusPlan, part_after, IsPlan}
+use Rattle.control_model.specs.Messages.{farewell, Sends}
+use Rattle.control_model.specs.Guest.{GuestSeen, idle, guest_begins, guest_after}
+use Rattle.control_model.specs.Host.{HostSeen, HostTurn, at_rest, host_begins, host_after}
+use Rattle.control_run.specs.Stand.{phase_of, At, marked, guest_is, host_is, guest_before, host_before}
+use Rattle.control_run.specs.Talk.{Logs, Talk, Meet, a_guest, a_host, live_ones}
+use Rattle.control_run.specs.Talk.Talk.{fresh, proposes, contacted, started, ended, leaves, is_over}
+use Rattle.control_run.proofs.Marks.{by_test, marked_here}
+use Rattle.control_run.proofs.Plans.{facts}
+use Rattle.control_run.proofs.Lower.{tries_first}
+use Rattle.control_run.proofs.Next.{NextIsOpen, next_list, next_close}
+
+-- what both sides sent and were fed, once a part began
+abbrev pub begun_logs : Logs → List Msg → Logs
+begun_logs logs sent = record { guest_posted = logs.guest_posted ++ sent; guest_fed = logs.guest_fed ++ []; host_posted = logs.host_posted ++ []; host_fed = logs.host_fed ++ [] }
+
+-- both agree once a part began
+abbrev pub Begins : BusPlan → Logs → GuestSeen → HostSeen → Part → Type 0
+Begins plan logs g h part = (sent : List Msg) → Sends plan (guest_begins g part).burst sent
+    → Talk plan (begun_logs logs sent) (guest_after g (Some part) (guest_begins g part) sent []) (host_after h (Some part) (host_begins h part) [] []) sent []
+
+begins_contact : (plan : BusPlan) (logs : Logs) → IsPlan plan → Begins plan logs (a_guest plan logs None Nothing None []) (a_host plan logs None HostNothing None [] (live_ones [])) Contact
+begins_contact plan logs planned = λ sent e.
+    let g : GuestSeen = a_guest plan logs None Nothing None [] in
+    let h : HostSeen = a_host plan logs None HostNothing None [] (live_ones []) in
+    subst (λ s. Talk plan (begun_logs logs sent) (guest_after g (Some Contact) (guest_begins g Contact) sent []) (host_after h (Some Contact) (host_begins h Contact) [] []) s []) (sym e) (proposes plan.guest (tries_first plan planned))
+
+begins_phase : (plan : BusPlan) (logs : Logs) (part : Option Part) (v : Version) (guests : List Channel) (hosts : List ChanState) (phase : ℕ) → IsPlan plan → phase < length plan.phases → Meet plan v guests hosts (guest_before plan phase) (host_before plan phase)
+    → Begins plan logs (a_guest plan logs part Nothing (Some v) guests) (a_host plan logs part HostNothing (Some v) hosts (live_ones [])) (PhaseStart phase)
+begins_phase plan logs part v guests hosts phase planned in_plan meet = λ sent sends.
+    (next_list plan v guests hosts phase 0 [] (phase_of plan phase) Nothing Same planned in_plan refl refl meet (begun_logs logs sent) sent sends).talk
+
+first_open : (plan : BusPlan) (v : Version) (guests : List Channel) (hosts : List ChanState) (phase : ℕ) (os : List Opening) → IsPlan plan → phase < length plan.phases → phase_of plan phase ≡ os
+    → Meet plan v guests hosts (marked (guest_is Opened) os (guest_before plan phase)) (marked (host_is Opened) os (host_before plan phase)) → NextIsOpen guests os
+first_open plan v guests hosts phase [] planned in_plan is meet = tt
+first_open plan v guests hosts phase (o ∷ left) planned in_plan is meet =
+    let at : At plan phase 0 [] o left = record { in_plan = in_plan; phase_is = is; place_is = refl } in
+    let fact = facts plan phase 0 [] o left planned at in
+    meet.guest.each o.relid fact.fits.named fact.known ∙ ap (λ c. Some c) (marked_here (guest_is Opened) o left (guest_before plan phase))
+
+begins_end : (plan : BusPlan) (logs : Logs) (v : Version) (guests : List Channel) (hosts : List ChanState) (phase : ℕ) → IsPlan plan → phase < length plan.phases
+    → Meet plan v guests hosts (marked (guest_is Opened) (phase_of plan phase) (guest_before plan phase)) (marked (host_is Opened) (phase_of plan phase) (host_before plan phase))
+    → Begins plan logs (a_guest plan logs (Some (PhaseStart phase)) Nothing (Some v) guests) (a_host plan logs (Some (PhaseStart phase)) HostNothing (Some v) hosts (live_ones (map (λ o. o.gpadl) (phase_of plan phase)))) (PhaseEnd phase)
+begins_end plan logs v guests hosts phase planned in_plan meet = λ sent sends.
+    (next_close plan v guests hosts phase 0 [] (phase_of plan phase) Nothing Same planned in_plan refl refl meet (first_open plan v guests hosts phase (phase_of plan phase) planned in_plan refl meet) (begun_logs logs sent) sent sends).talk
+
+begins_unload : (plan : BusPlan) (logs : Logs) (part : Option Part) (v : Version) (guests : List Channel) (hosts : List ChanState) → Meet plan v guests hosts (guest_before plan (length plan.phases)) (host_before plan (length plan.phases))
+    → Begins plan logs (a_guest plan logs part Nothing (Some v) guests) (a_host plan logs part HostNothing (Some v) hosts (live_ones [])) Unload
+begins_unload plan logs part v guests hosts meet =
+    let g : GuestSeen = a_guest plan logs part Nothing (Some v) guests in
+    let h : HostSeen = a_host plan logs part HostNothing (Some v) hosts (live_ones []) in
+    let turn : Bool → GuestTurn = λ b. if b then record (idle g) { awaits = Unloaded; burst = One farewell } else record (idle g) { awaits = Nothing } in
+    let host : Bool → HostTurn = λ b. record (at_rest h) { awaits = if b then AwaitsUnload else HostNothing } in
+    let P : Bool → Type 0 = λ b. (sent : List Msg) → Sends plan (turn b).burst sent
+    → Talk plan (begun_logs logs sent) (guest_after g (Some Unload) (turn b) sent []) (host_after h (Some Unload) (host b) [] []) sent [] in
+    by_test {P = P (nat_le (version 3 0) v.0)} (nat_le (version 3 0) v.0)
+    (λ e. subst P (sym e) (λ sent f. subst (λ s. Talk plan (begun_logs logs sent) (guest_after g (Some Unload) (turn true) sent []) (host_after h (Some Unload) (host true) [] []) s []) (sym f) (leaves v guests hosts meet)))
+    (λ e. subst P (sym e) (λ sent f. subst (λ s. Talk plan (begun_logs logs sent) (guest_after g (Some Unload) (turn false) sent []) (host_after h (Some Unload) (host false) [] []) s []) (sym f) (is_over v guests hosts meet)))
+
+begins_behind : (plan : BusPlan) (logs : Logs) (v : Version) (guests : List Channel) (hosts : List ChanState) (phase : ℕ) (part : Part) → IsPlan plan → phase < length plan.phases → Meet plan v guests hosts (guest_before plan (suc phase)) (host_before plan (suc phase))
+    → part_after plan (Some (PhaseEnd phase)) ≡ Some part
+    → Begins plan logs (a_guest plan logs (Some (PhaseEnd phase)) Nothing (Some v) guests) (a_host plan logs (Some (PhaseEnd phase)) HostNothing (Some v) hosts (live_ones [])) part
+begins_behind plan logs v guests hosts phase part planned in_plan meet is =
+    let g : GuestSeen = a_guest plan logs (Some (PhaseEnd phase)) Nothing (Some v) guests in
+    let h : HostSeen = a_host plan logs (Some (PhaseEnd phase)) HostNothing (Some v) hosts (live_ones []) in
+    let one : suc phase ≡ phase + 1 = omega arith in
+    by_test {P = Begins plan logs g h part} (nat_lt (phase + 1) (length plan.phases))
+    (λ e.
+    let less : phase + 1 < length plan.phases = grind (arith, nat_tests, e) in
+    let so : Some (PhaseStart (phase + 1)) ≡ Some part = sym (ap (λ b. if b then Some (PhaseStart (phase + 1)) else Some Unload) e) ∙ is in
+    let same_part : PhaseStart (phase + 1) ≡ part = cc in
+    let now : Meet plan v guests hosts (guest_before plan (phase + 1)) (host_before plan (phase + 1)) = subst (λ n. Meet plan v guests hosts (guest_before plan n) (host_before plan n)) one meet in
+    subst (Begins plan logs g h) same_part (begins_phase plan logs (Some (PhaseEnd phase)) v guests hosts (phase + 1) planned less now))
+    (λ e.
+    let last : suc phase ≡ length plan.phases = grind (arith, nat_tests, e, in_plan) in
+    let so : Some Unload ≡ Some part = sym (ap (λ b. if b then Some (PhaseStart (phase + 1)) else Some Unload) e) ∙ is in
+    let same_part : Unload ≡ part = cc in
+    let now : Meet plan v guests hosts (guest_before plan (length plan.phases)) (host_before plan (length plan.phases)) = subst (λ n. Meet plan v guests hosts (guest_before plan n) (host_before plan n)) last meet in
+    subst (Begins plan logs g h) same_part (begins_unload plan logs (Some (PhaseEnd phase)) v guests hosts now))
+
+pub begins : (plan : BusPlan) (logs : Logs) (g : GuestSeen) (h : HostSeen) (part : Part) → IsPlan plan → Talk plan logs g h [] [] → part_after plan g.part ≡ Some part → Begins plan logs g h part
+begins plan logs g h part planned fresh is = let same_part : Contact ≡ part = cc in subst (Begins plan logs (a_guest plan logs None Nothing None []) (a_host plan logs None HostNothing None [] (live_ones []))) same_part (begins_contact plan logs planned)
+begins plan logs g h part planned (contacted v guests hosts meet) is =
+    let some = planned.some in
+    let same_part : PhaseStart 0 ≡ part = cc in
+    subst (Begins plan logs (a_guest plan logs (Some Contact) Nothing (Some v) guests) (a_host plan logs (Some Contact) HostNothing (Some v) hosts (live_ones []))) same_part (begins_phase plan logs (Some Contact) v guests hosts 0 planned (omega (arith, some)) meet)
+begins plan logs g h part planned (started v guests hosts phase in_plan meet) is =
+    let same_part : PhaseEnd phase ≡ part = cc in
+    subst (Begins plan logs (a_guest plan logs (Some (PhaseStart phase)) Nothing (Some v) guests) (a_host plan logs (Some (PhaseStart phase)) HostNothing (Some v) hosts (live_ones (map (λ o. o.gpadl) (phase_of plan phase))))) same_part (begins_end plan logs v guests hosts phase planned in_plan meet)
+begins plan logs g h part planned (ended v guests hosts phase in_plan meet) is = begins_behind plan logs v guests hosts phase part planned in_plan meet is
+begins plan logs g h part planned (is_over v guests hosts meet) is = absurd (cc)

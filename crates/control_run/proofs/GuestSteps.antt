@@ -1,0 +1,256 @@
+-- The guest takes the first message on its way to it.
+use Rattle.std.proofs.Common.{◌≡◌, ◌≢◌, ◌∙◌, ℕ, suc, ◌+◌, ◌-◌, ◌<◌, ◌==◌, true, List, [], ◌∷◌, ◌++◌, length, replicate, slice_get, slice_set, Some, None, Ok, refl, sym, ap, subst, append_assoc, length-append, arith}
+use Rattle.std.proofs.lemmas.Bool.{eq-eqb}
+use Rattle.std.proofs.lemmas.List.{length-replicate}
+use Rattle.contact.specs.declared.version.Version.{Version}
+use Rattle.contact.specs.declared.kind.Kind.{Kind}
+use Rattle.contact.specs.declared.part.Part.TheVariants.{Contact, PhaseStart, PhaseEnd, Unload}
+use Rattle.contact.specs.Classes.{class_id, offer, offers_from}
+use Rattle.chan_state.specs.declared.state.State.TheVariants.{Opening as IsOpening, Opened, Closing, Closed}
+use Rattle.chan_state.specs.declared.event.Event.TheVariants.{WantOpen}
+use Rattle.chan_state.specs.declared.chan_state.ChanState.{ChanState}
+use Rattle.vmbus_msg.specs.declared.msg.Msg.{Msg}
+use Rattle.control_model.specs.declared.opening.Opening.{Opening}
+use Rattle.control_model.specs.declared.channel.Channel.{Channel}
+use Rattle.control_model.specs.declared.change.Change.TheVariants.{Offered, Now}
+use Rattle.control_model.specs.declared.burst.Burst.TheVariants.{One}
+use Rattle.control_model.specs.declared.guest_wait.GuestWait.TheVariants.{Nothing, Response, Offers, Created, Opened as AwaitsOpened, Torn, Unloaded}
+use Rattle.control_model.specs.declared.guest_turn.GuestTurn.{GuestTurn}
+use Rattle.control_model.specs.declared.host_wait.HostWait.TheVariants.{Nothing as HostNothing, Contact as AwaitsContact, Request, Open as AwaitsOpen}
+use Rattle.control_model.specs.Plan.{BusPlan, opening_at, IsPlan}
+use Rattle.control_model.specs.Channels.{by_relid, lived, is_handle, place_of_list}
+use Rattle.control_model.specs.Messages.{respond, delivered, created, open_on, opened, torndown, farewell_taken, Sends}
+use Rattle.control_model.specs.Guest.{GuestSeen, idle, offered_channel, proposal, proposes, answered, takes_offer, hears_offer, opens, created_for, hears_created, opened_for, hears_result, torn_at, torn_for, hears_torndown, lists_next, closes_next, guest_hears, guest_after}
+use Rattle.control_model.specs.Host.{HostSeen, waits_list, waits_close}
+use Rattle.control_model.proofs.KindLaws.{kind_of_class}
+use Rattle.control_run.specs.Stand.{phase_of, At, marked, guest_is, host_is, guest_before, host_before, Stand, handles}
+use Rattle.control_run.specs.Talk.{Logs, Talk, Meet, Tries, Agreed, a_guest, a_host, live_ones}
+use Rattle.control_run.specs.Talk.Talk.{proposes as IsProposing, accepts, refuses, asks, offering, offered, contacted, listed, opens as IsOpened, is_open, torn, may_leave, is_over}
+use Rattle.control_run.specs.Laws.{measure}
+use Rattle.control_run.proofs.Marks.{same, at_relid, marked_apart, marked_here, marked_there, stand_mark, stand_join, stand_at}
+use Rattle.control_run.proofs.Plans.{facts, get_from, opening_here, done_more, place_more}
+use Rattle.control_run.proofs.Lower.{lower_one}
+use Rattle.control_run.proofs.Offering.{kind_same, one_more, all_alike}
+use Rattle.control_run.proofs.Handles.{all_front, can_open, find_list, closing_handle}
+use Rattle.control_run.proofs.Next.{heard_so, NextIsOpen, next_list, next_close}
+
+-- what both sides sent and were fed, once the guest took a message
+abbrev pub guest_logs : Logs → List Msg → Msg → Logs
+guest_logs logs sent m = record { guest_posted = logs.guest_posted ++ sent; guest_fed = logs.guest_fed ++ m ∷ []; host_posted = logs.host_posted; host_fed = logs.host_fed }
+
+-- a message is taken, and the talk goes on
+pub record GuestStep (plan : BusPlan) (logs : Logs) (g : GuestSeen) (h : Logs → HostSeen) (to_host : List Msg) (m : Msg) (to_guest : List Msg) : Type 0 where
+  pub turn : GuestTurn
+  pub hears : guest_hears g m ≡ Ok turn
+  pub goes : (sent : List Msg) → Sends plan turn.burst sent → Talk plan (guest_logs logs sent m) (guest_after g g.part turn sent (m ∷ [])) (h (guest_logs logs sent m)) (to_host ++ sent) to_guest
+  pub falls : (sent : List Msg) → Sends plan turn.burst sent → measure (guest_after g g.part turn sent (m ∷ [])) (to_host ++ sent) < measure g to_host
+
+-- VERSION_RESPONSE
+pub step_accepts : (plan : BusPlan) (logs : Logs) (v : Version) → IsPlan plan → Agreed plan v
+    → GuestStep plan logs (a_guest plan logs (Some Contact) (Response v) None []) (λ after. a_host plan after (Some Contact) Request (Some v) [] (live_ones [])) [] (respond 1) []
+step_accepts plan logs v planned agreed =
+    let g : GuestSeen = a_guest plan logs (Some Contact) (Response v) None [] in
+    let turn : GuestTurn = answered g v 1 in
+    let few = planned.few in
+    record {
+      turn = turn;
+      hears = refl;
+      goes = λ sent e.
+          let h : HostSeen = a_host plan (guest_logs logs sent (respond 1)) (Some Contact) Request (Some v) [] (live_ones []) in
+          subst (λ s. Talk plan (guest_logs logs sent (respond 1)) (guest_after g g.part turn sent (respond 1 ∷ [])) h s []) (sym e) (asks v agreed);
+      falls = λ sent e. let count = ap length e in omega (arith, count, few);
+    }
+
+pub step_refuses : (plan : BusPlan) (logs : Logs) (v : Version) → IsPlan plan → Tries plan v → plan.host.0 < v.0
+    → GuestStep plan logs (a_guest plan logs (Some Contact) (Response v) None []) (λ after. a_host plan after (Some Contact) AwaitsContact None [] (live_ones [])) [] (respond 0) []
+step_refuses plan logs v planned tries above =
+    let g : GuestSeen = a_guest plan logs (Some Contact) (Response v) None [] in
+    let low = lower_one plan v planned tries above in
+    let turn : GuestTurn = proposal g low.lower in
+    let less = low.less in
+    record {
+      turn = turn;
+      hears = ap (λ x. Ok (proposes g x)) low.is;
+      goes = λ sent e.
+          let h : HostSeen = a_host plan (guest_logs logs sent (respond 0)) (Some Contact) AwaitsContact None [] (live_ones []) in
+          subst (λ s. Talk plan (guest_logs logs sent (respond 0)) (guest_after g g.part turn sent (respond 0 ∷ [])) h s []) (sym e) (IsProposing low.lower low.tries);
+      falls = λ sent e. let count = ap length e in omega (arith, count, less);
+    }
+
+-- OFFERCHANNEL
+next_offer : (plan : BusPlan) (logs : Logs) (v : Version) (hosts : List ChanState) (n : ℕ) (seen : List Kind) (kind : Kind) (left : List Kind) → Agreed plan v → Stand hosts plan (host_before plan 0) → plan.kinds ≡ seen ++ kind ∷ left → n ≡ length seen
+    → Talk plan logs (a_guest plan logs (Some Contact) Offers (Some v) (replicate (n + 1) offered_channel)) (a_host plan logs (Some Contact) HostNothing (Some v) hosts (live_ones [])) [] (offers_from (n + 1 + 1) left ++ delivered ∷ [])
+next_offer plan logs v hosts n seen kind [] agreed stand is count =
+    let all : n + 1 ≡ length plan.kinds = omega (arith, count, ap length is, length-append seen (kind ∷ [])) in
+    offered v hosts (n + 1) agreed stand all
+next_offer plan logs v hosts n seen kind (next ∷ left) agreed stand is count =
+    let more : n + 1 ≡ length (seen ++ kind ∷ []) = omega (arith, count, length-append seen (kind ∷ [])) in
+    offering v hosts (n + 1) (seen ++ kind ∷ []) next left agreed stand (is ∙ sym (append_assoc seen (kind ∷ []) (next ∷ left))) more
+
+pub step_offering : (plan : BusPlan) (logs : Logs) (v : Version) (hosts : List ChanState) (n : ℕ) (seen : List Kind) (kind : Kind) (left : List Kind) → Agreed plan v → Stand hosts plan (host_before plan 0) → plan.kinds ≡ seen ++ kind ∷ left → n ≡ length seen
+    → GuestStep plan logs (a_guest plan logs (Some Contact) Offers (Some v) (replicate n offered_channel)) (λ after. a_host plan after (Some Contact) HostNothing (Some v) hosts (live_ones [])) [] (offer kind (n + 1) 0) (offers_from (n + 1 + 1) left ++ delivered ∷ [])
+step_offering plan logs v hosts n seen kind left agreed stand is count =
+    let guests : List Channel = replicate n offered_channel in
+    let g : GuestSeen = a_guest plan logs (Some Contact) Offers (Some v) guests in
+    let turn : GuestTurn = record (idle g) { heard = Offered offered_channel } in
+    let m : Msg = offer kind (n + 1) 0 in
+    let many : length guests ≡ n = length-replicate n offered_channel in
+    let all : length plan.kinds ≡ length seen + suc (length left) = ap length is ∙ length-append seen (kind ∷ left) in
+    let here : slice_get plan.kinds n ≡ Some kind = ap (λ ks. slice_get ks n) is ∙ ap (slice_get (seen ++ kind ∷ left)) count ∙ get_from seen (kind ∷ left) in
+    let takes : takes_offer g kind 0 (n + 1) ≡ turn = rw (many, same (n + 1), here, kind_same kind) refl in
+    let next : suc n ≡ n + 1 = omega arith in
+    let more : guests ++ offered_channel ∷ [] ≡ replicate (n + 1) offered_channel = one_more n offered_channel ∙ ap (λ k. replicate k offered_channel) next in
+    record {
+      turn = turn;
+      hears = ap (hears_offer g (class_id kind) 0 (n + 1)) (kind_of_class kind (class_id kind) refl) ∙ ap (λ t. Ok t) takes;
+      goes = λ sent e.
+          let logs2 : Logs = guest_logs logs sent m in
+          let h : HostSeen = a_host plan logs2 (Some Contact) HostNothing (Some v) hosts (live_ones []) in
+          let rest : List Msg = offers_from (n + 1 + 1) left ++ delivered ∷ [] in
+          let there : Talk plan logs2 (a_guest plan logs2 (Some Contact) Offers (Some v) (guests ++ offered_channel ∷ [])) h [] rest =
+          subst (λ cs. Talk plan logs2 (a_guest plan logs2 (Some Contact) Offers (Some v) cs) h [] rest) (sym more) (next_offer plan logs2 v hosts n seen kind left agreed stand is count) in
+          subst (λ s. Talk plan logs2 (a_guest plan logs2 (Some Contact) Offers (Some v) (guests ++ offered_channel ∷ [])) h s rest) (sym e) there;
+      falls = λ sent e.
+          let sends = ap length e in
+          let longer : length (guests ++ offered_channel ∷ []) ≡ length guests + 1 = length-append guests (offered_channel ∷ []) in
+          omega (arith, sends, longer, many, all, count);
+    }
+
+-- ALLOFFERS_DELIVERED
+pub step_offered : (plan : BusPlan) (logs : Logs) (v : Version) (hosts : List ChanState) (n : ℕ) → Agreed plan v → Stand hosts plan (host_before plan 0) → n ≡ length plan.kinds
+    → GuestStep plan logs (a_guest plan logs (Some Contact) Offers (Some v) (replicate n offered_channel)) (λ after. a_host plan after (Some Contact) HostNothing (Some v) hosts (live_ones [])) [] delivered []
+step_offered plan logs v hosts n agreed stand all =
+    let guests : List Channel = replicate n offered_channel in
+    let g : GuestSeen = a_guest plan logs (Some Contact) Offers (Some v) guests in
+    let turn : GuestTurn = record (idle g) { awaits = Nothing } in
+    let many : length guests ≡ length plan.kinds = length-replicate n offered_channel ∙ all in
+    let whole : (length guests == length plan.kinds) ≡ true = eq-eqb (length guests) (length plan.kinds) many in
+    record {
+      turn = turn;
+      hears = rw whole refl;
+      goes = λ sent e.
+          let logs2 : Logs = guest_logs logs sent delivered in
+          let h : HostSeen = a_host plan logs2 (Some Contact) HostNothing (Some v) hosts (live_ones []) in
+          subst (λ s. Talk plan logs2 (a_guest plan logs2 (Some Contact) Nothing (Some v) guests) h s []) (sym e) (contacted v guests hosts (record { agreed = agreed; guest = all_alike plan n offered_channel all; host = stand }));
+      falls = λ sent e. let sends = ap length e in omega (arith, sends, many);
+    }
+
+-- GPADL_CREATED
+pub step_listed : (plan : BusPlan) (logs : Logs) (v : Version) (guests : List Channel) (hosts : List ChanState) (phase place : ℕ) (done : List Opening) (o : Opening) (left : List Opening) → IsPlan plan
+    → At plan phase place done o left → Meet plan v guests hosts (marked (guest_is Opened) done (guest_before plan phase)) (marked (host_is Opened) done (host_before plan phase))
+    → GuestStep plan logs (a_guest plan logs (Some (PhaseStart phase)) (Created place) (Some v) guests) (λ after. a_host plan after (Some (PhaseStart phase)) (AwaitsOpen place) (Some v) hosts (live_ones (handles (done ++ o ∷ [])))) [] (created o.relid o.gpadl) []
+step_listed plan logs v guests hosts phase place done o left planned at meet =
+    let g : GuestSeen = a_guest plan logs (Some (PhaseStart phase)) (Created place) (Some v) guests in
+    let m : Msg = created o.relid o.gpadl in
+    let fact = facts plan phase place done o left planned at in
+    let c : Channel = guest_before plan phase o.relid in
+    let now : Channel = guest_is IsOpening o in
+    let turn : GuestTurn = record (idle g) { awaits = AwaitsOpened place; wished = Now o.relid now; burst = One (open_on o) } in
+    let known : by_relid guests o.relid ≡ Some c = stand_at guests plan (guest_is Opened) done o (guest_before plan phase) c meet.guest fact.fits.named fact.known fact.done_apart refl in
+    let asked : created_for g place o.relid o.gpadl 0 c (Some o) ≡ opens g place o (lived c WantOpen) = rw (same o.relid, same o.gpadl) refl in
+    let after : Stand (slice_set guests (o.relid - 1) now) plan (marked (guest_is Opened) done (marked (guest_is IsOpening) (o ∷ []) (guest_before plan phase))) =
+    stand_mark guests plan (guest_is Opened) (guest_is IsOpening) done o (guest_before plan phase) (guest_before plan phase) meet.guest fact.fits.named fact.known fact.done_apart (λ q off. refl) in
+    record {
+      turn = turn;
+      hears = ap (hears_created g o.relid o.gpadl 0) known ∙ ap (λ x. Ok (created_for g place o.relid o.gpadl 0 c x)) (opening_here plan phase place done o left at) ∙ ap (λ t. Ok t) (asked ∙ ap (opens g place o) (can_open plan phase o.relid));
+      goes = λ sent e.
+          let logs2 : Logs = guest_logs logs sent m in
+          let h : HostSeen = a_host plan logs2 (Some (PhaseStart phase)) (AwaitsOpen place) (Some v) hosts (live_ones (handles (done ++ o ∷ []))) in
+          subst (λ s. Talk plan logs2 (guest_after g g.part turn sent (m ∷ [])) h s []) (sym e)
+          (IsOpened v (slice_set guests (o.relid - 1) now) hosts phase place done o left at (record { agreed = meet.agreed; guest = after; host = meet.host }));
+      falls = λ sent e. let sends = ap length e in omega (arith, sends);
+    }
+
+-- OPENCHANNEL_RESULT
+pub step_open : (plan : BusPlan) (logs : Logs) (v : Version) (guests : List Channel) (hosts : List ChanState) (phase place : ℕ) (done : List Opening) (o : Opening) (left : List Opening) → IsPlan plan
+    → At plan phase place done o left → Meet plan v guests hosts (marked (guest_is Opened) done (marked (guest_is IsOpening) (o ∷ []) (guest_before plan phase))) (marked (host_is Opened) (done ++ o ∷ []) (host_before plan phase))
+    → GuestStep plan logs (a_guest plan logs (Some (PhaseStart phase)) (AwaitsOpened place) (Some v) guests) (λ after. a_host plan after (Some (PhaseStart phase)) (waits_list (place + 1) (opening_at plan phase (place + 1))) (Some v) hosts (live_ones (handles (done ++ o ∷ [])))) [] (opened o.relid o.relid) []
+step_open plan logs v guests hosts phase place done o left planned at meet =
+    let g : GuestSeen = a_guest plan logs (Some (PhaseStart phase)) (AwaitsOpened place) (Some v) guests in
+    let m : Msg = opened o.relid o.relid in
+    let fact = facts plan phase place done o left planned at in
+    let base : ℕ → Channel = guest_before plan phase in
+    let now : Channel = guest_is Opened o in
+    let heard : GuestTurn = heard_so (AwaitsOpened place) v (Now o.relid now) in
+    let turn : GuestTurn = lists_next heard (place + 1) (opening_at plan phase (place + 1)) in
+    let known : by_relid guests o.relid ≡ Some (guest_is IsOpening o) = stand_at guests plan (guest_is Opened) done o (marked (guest_is IsOpening) (o ∷ []) base) (guest_is IsOpening o) meet.guest fact.fits.named fact.known fact.done_apart (marked_here (guest_is IsOpening) o [] base) in
+    let asked : opened_for g heard place o.relid 0 (Some o) ≡ turn = rw (same o.relid) refl in
+    let after : Stand (slice_set guests (o.relid - 1) now) plan (marked (guest_is Opened) (done ++ o ∷ []) base) =
+    stand_join guests plan (guest_is Opened) done o (marked (guest_is IsOpening) (o ∷ []) base) base meet.guest fact.fits.named fact.known fact.done_apart (λ q off. sym (marked_there (guest_is IsOpening) o [] base q off)) in
+    let goes_on = next_list plan v guests hosts phase (place + 1) (done ++ o ∷ []) left (AwaitsOpened place) (Now o.relid now) planned at.in_plan (done_more plan phase place done o left at) (place_more plan phase place done o left at) (record { agreed = meet.agreed; guest = after; host = meet.host }) in
+    let few : place < length (phase_of plan phase) = omega (arith, at.place_is, ap length at.phase_is, length-append done (o ∷ left)) in
+    record {
+      turn = turn;
+      hears = ap (hears_result g o.relid 0) known ∙ ap (λ x. Ok (opened_for g heard place o.relid 0 x)) (opening_here plan phase place done o left at) ∙ ap (λ t. Ok t) asked;
+      goes = λ sent sends. (goes_on (guest_logs logs sent m) sent sends).talk;
+      falls = λ sent sends. let most = (goes_on (guest_logs logs sent m) sent sends).few in omega (arith, most, few);
+    }
+
+-- GPADL_TORNDOWN
+next_opened : (plan : BusPlan) (v : Version) (guests : List Channel) (hosts : List ChanState) (phase place : ℕ) (done : List Opening) (o : Opening) (left : List Opening) (at_host : ℕ → ChanState) → IsPlan plan
+    → At plan phase place done o left → Meet plan v guests hosts (marked (guest_is Closed) done (marked (guest_is Closing) (o ∷ []) (marked (guest_is Opened) left (guest_before plan phase)))) at_host → NextIsOpen guests left
+next_opened plan v guests hosts phase place done o [] at_host planned at meet = tt
+next_opened plan v guests hosts phase place done o (p ∷ left) at_host planned at meet =
+    let there : At plan phase (place + 1) (done ++ o ∷ []) p left = record { in_plan = at.in_plan; phase_is = done_more plan phase place done o (p ∷ left) at; place_is = place_more plan phase place done o (p ∷ left) at } in
+    let fact = facts plan phase (place + 1) (done ++ o ∷ []) p left planned there in
+    let apart = all_front (λ q. q.relid ≢ p.relid) done (o ∷ []) fact.done_apart in
+    let base : ℕ → Channel = guest_before plan phase in
+    stand_at guests plan (guest_is Closed) done p (marked (guest_is Closing) (o ∷ []) (marked (guest_is Opened) (p ∷ left) base)) (guest_is Opened p) meet.guest fact.fits.named fact.known apart.0
+    (marked_there (guest_is Closing) o [] (marked (guest_is Opened) (p ∷ left) base) p.relid (λ e. apart.1.0 (sym e)) ∙ marked_here (guest_is Opened) p left base)
+
+pub step_torn : (plan : BusPlan) (logs : Logs) (v : Version) (guests : List Channel) (hosts : List ChanState) (phase place : ℕ) (done : List Opening) (o : Opening) (left : List Opening) → IsPlan plan
+    → At plan phase place done o left → Meet plan v guests hosts (marked (guest_is Closed) done (marked (guest_is Closing) (o ∷ []) (marked (guest_is Opened) left (guest_before plan phase)))) (marked (host_is Closed) (done ++ o ∷ []) (marked (host_is Opened) left (host_before plan phase)))
+    → GuestStep plan logs (a_guest plan logs (Some (PhaseEnd phase)) (Torn place) (Some v) guests) (λ after. a_host plan after (Some (PhaseEnd phase)) (waits_close (place + 1) (opening_at plan phase (place + 1))) (Some v) hosts (live_ones (handles left))) [] (torndown o.gpadl) []
+step_torn plan logs v guests hosts phase place done o left planned at meet =
+    let g : GuestSeen = a_guest plan logs (Some (PhaseEnd phase)) (Torn place) (Some v) guests in
+    let m : Msg = torndown o.gpadl in
+    let fact = facts plan phase place done o left planned at in
+    let base : ℕ → Channel = marked (guest_is Opened) left (guest_before plan phase) in
+    let stands : ℕ → Channel = marked (guest_is Closed) done (marked (guest_is Closing) (o ∷ []) base) in
+    let now : Channel = guest_is Closed o in
+    let heard : ℕ → GuestTurn = λ relid. heard_so (Torn place) v (Now relid now) in
+    let turn : GuestTurn = closes_next (heard o.relid) guests (place + 1) (opening_at plan phase (place + 1)) in
+    let closing : stands o.relid ≡ guest_is Closing o = marked_apart (guest_is Closed) done (marked (guest_is Closing) (o ∷ []) base) o.relid fact.done_apart ∙ marked_here (guest_is Closing) o [] base in
+    let known : slice_get guests (o.relid - 1) ≡ Some (guest_is Closing o) = sym (at_relid guests o.relid fact.fits.named) ∙ meet.guest.each o.relid fact.fits.named fact.known ∙ ap (λ c. Some c) closing in
+    let mine : is_handle o.gpadl (stands o.relid).gpadl ≡ true = ap (λ c. is_handle o.gpadl c.gpadl) closing ∙ same o.gpadl in
+    let found : place_of_list guests o.gpadl ≡ Some (o.relid - 1) = find_list guests plan stands o.relid o.gpadl meet.guest fact.fits.named fact.known mine (closing_handle plan phase done o left fact) in
+    let named = fact.fits.named in
+    let back : o.relid - 1 + 1 ≡ o.relid = omega (arith, named) in
+    let asked : torn_for g (heard o.relid) place o.relid (Some o) ≡ turn = rw (same o.relid) refl in
+    let after : Stand (slice_set guests (o.relid - 1) now) plan (marked (guest_is Closed) (done ++ o ∷ []) base) =
+    stand_join guests plan (guest_is Closed) done o (marked (guest_is Closing) (o ∷ []) base) base meet.guest fact.fits.named fact.known fact.done_apart (λ q off. sym (marked_there (guest_is Closing) o [] base q off)) in
+    let goes_on = next_close plan v guests hosts phase (place + 1) (done ++ o ∷ []) left (Torn place) (Now o.relid now) planned at.in_plan (done_more plan phase place done o left at) (place_more plan phase place done o left at) (record { agreed = meet.agreed; guest = after; host = meet.host })
+    (next_opened plan v guests hosts phase place done o left (marked (host_is Closed) (done ++ o ∷ []) (marked (host_is Opened) left (host_before plan phase))) planned at meet) in
+    let few : place < length (phase_of plan phase) = omega (arith, at.place_is, ap length at.phase_is, length-append done (o ∷ left)) in
+    record {
+      turn = turn;
+      hears = ap (hears_torndown g o.gpadl) found ∙ ap (torn_at g o.gpadl (o.relid - 1)) known ∙ ap (λ r. Ok (torn_for g (heard r) place r (opening_at plan phase place))) back ∙ ap (λ x. Ok (torn_for g (heard o.relid) place o.relid x)) (opening_here plan phase place done o left at) ∙ ap (λ t. Ok t) asked;
+      goes = λ sent sends. (goes_on (guest_logs logs sent m) sent sends).talk;
+      falls = λ sent sends. let most = (goes_on (guest_logs logs sent m) sent sends).few in omega (arith, most, few);
+    }
+
+-- UNLOAD_RESPONSE
+pub step_left : (plan : BusPlan) (logs : Logs) (v : Version) (guests : List Channel) (hosts : List ChanState) → Meet plan v guests hosts (guest_before plan (length plan.phases)) (host_before plan (length plan.phases))
+    → GuestStep plan logs (a_guest plan logs (Some Unload) Unloaded (Some v) guests) (λ after. a_host plan after (Some Unload) HostNothing (Some v) hosts (live_ones [])) [] farewell_taken []
+step_left plan logs v guests hosts meet =
+    let g : GuestSeen = a_guest plan logs (Some Unload) Unloaded (Some v) guests in
+    let turn : GuestTurn = record (idle g) { awaits = Nothing } in
+    record {
+      turn = turn;
+      hears = refl;
+      goes = λ sent e.
+          let logs2 : Logs = guest_logs logs sent farewell_taken in
+          subst (λ s. Talk plan logs2 (guest_after g g.part turn sent (farewell_taken ∷ [])) (a_host plan logs2 (Some Unload) HostNothing (Some v) hosts (live_ones [])) s []) (sym e) (is_over v guests hosts meet);
+      falls = λ sent e. let sends = ap length e in omega (arith, sends);
+    }
+
+-- each moment at which a message is on its way to the guest
+pub guest_step : (plan : BusPlan) (logs : Logs) (g : GuestSeen) (h : HostSeen) (m : Msg) (to_host to_guest : List Msg) → IsPlan plan → Talk plan logs g h to_host (m ∷ to_guest) → GuestStep plan logs g (λ after. record h { posted = after.host_posted; fed = after.host_fed }) to_host m to_guest
+guest_step plan logs g h m to_host to_guest planned (accepts v agreed) = step_accepts plan logs v planned agreed
+guest_step plan logs g h m to_host to_guest planned (refuses v tries above) = step_refuses plan logs v planned tries above
+guest_step plan logs g h m to_host to_guest planned (offering v hosts n seen kind left agreed stand is count) = step_offering plan logs v hosts n seen kind left agreed stand is count
+guest_step plan logs g h m to_host to_guest planned (offered v hosts n agreed stand all) = step_offered plan logs v hosts n agreed stand all
+guest_step plan logs g h m to_host to_guest planned (listed v guests hosts phase place done o left at meet) = step_listed plan logs v guests hosts phase place done o left planned at meet
+guest_step plan logs g h m to_host to_guest planned (is_open v guests hosts phase place done o left at meet) = step_open plan logs v guests hosts phase place done o left planned at meet
+guest_step plan logs g h m to_host to_guest planned (torn v guests hosts phase place done o left at meet) = step_torn plan logs v guests hosts phase place done o left planned at meet
+guest_step plan logs g h m to_host to_guest planned (may_leave v guests hosts meet) = step_left plan logs v guests hosts meet

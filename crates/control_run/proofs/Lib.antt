@@ -1,0 +1,14 @@
+pub mod Marks
+pub mod Plans
+pub mod Lower
+pub mod Pieces
+pub mod Next
+pub mod Offering
+pub mod Handles
+pub mod GuestSteps
+pub mod HostSteps
+pub mod HostLists
+pub mod Beginning
+pub mod Ending
+pub mod Going
+pub mod Handing

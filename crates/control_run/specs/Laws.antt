@@ -1,0 +1,100 @@
+-- What holds of a guest and its host at each moment of their talk.
+use Rattle.std.specs.Prelude.{◌≡◌, ℕ, ◌+◌, ◌*◌, ◌-◌, ◌<◌, ◌≤◌, ◌==◌, true, List, [], ◌∷◌, ◌++◌, length, Option, Some, None, is_some, Ok, if◌then◌else◌}
+use Rattle.std.specs.List.{list_any}
+use Rattle.contact.specs.declared.version.Version.{Version}
+use Rattle.contact.specs.declared.part.Part.{Part}
+use Rattle.contact.specs.declared.part.Part.TheVariants.{PhaseStart, PhaseEnd, Unload}
+use Rattle.chan_state.specs.declared.state.State.{State}
+use Rattle.chan_state.specs.declared.state.State.TheVariants.{Offered, Closed}
+use Rattle.vmbus_msg.specs.declared.msg.Msg.{Msg}
+use Rattle.control_model.specs.declared.guest_turn.GuestTurn.{GuestTurn}
+use Rattle.control_model.specs.declared.guest_wait.GuestWait.{GuestWait}
+use Rattle.control_model.specs.declared.guest_wait.GuestWait.TheVariants.{Nothing, Response, Offers, Created, Opened, Torn, Unloaded}
+use Rattle.control_model.specs.Plan.{BusPlan, part_after, all_openings, IsPlan}
+use Rattle.control_model.specs.Guest.{new_guest, GuestSeen, state_of, guest_done, guest_hears, GuestBegins, GuestTakes}
+use Rattle.control_model.specs.Host.{new_host, HostSeen, HostTurn, host_state_of, host_done, host_hears, HostBegins, HostTakes}
+use Rattle.control_run.specs.Stand.{phase_of}
+use Rattle.control_run.specs.Talk.{Logs, Talk, Agreed}
+
+abbrev pub logs_of : GuestSeen → HostSeen → Logs
+logs_of g h = record { guest_posted = g.posted; guest_fed = g.fed; host_posted = h.posted; host_fed = h.fed }
+
+-- Both controls and the messages on their way to the host and to the guest are at one moment of a talk, and each side was fed what the other sent, but for what is on its way.
+pub record Agrees (plan : BusPlan) (g : GuestSeen) (h : HostSeen) (to_host to_guest : List Msg) : Type 0 where
+  pub planned : IsPlan plan
+  pub talk : Talk plan (logs_of g h) g h to_host to_guest
+  pub guest_sent : g.posted ≡ h.fed ++ to_host
+  pub host_sent : h.posted ≡ g.fed ++ to_guest
+
+-- how many openings the phase has that a part starts or ends
+abbrev pub openings_of : BusPlan → Option Part → ℕ
+openings_of plan (Some (PhaseStart phase)) = length (phase_of plan phase)
+openings_of plan (Some (PhaseEnd phase)) = length (phase_of plan phase)
+openings_of plan part = 0
+
+-- a bound on the messages that are still to come while a guest waits
+abbrev pub still_to_come : GuestSeen → GuestWait → ℕ
+still_to_come g Nothing = 0
+still_to_come g (Response v) = 32 + 2 * v.0
+still_to_come g Offers = length g.plan.kinds + 1 - length g.channels
+still_to_come g (Created place) = 64 * (openings_of g.plan g.part - place) + 2
+still_to_come g (Opened place) = 64 * (openings_of g.plan g.part - place)
+still_to_come g (Torn place) = 4 * (openings_of g.plan g.part - place)
+still_to_come g Unloaded = 1
+
+-- the measure of a talk
+abbrev pub measure : GuestSeen → List Msg → ℕ
+measure g to_host = still_to_come g g.awaits + length to_host
+
+-- two new controls of one plan agree
+abbrev pub NewOnesAgree : Type 0
+NewOnesAgree = (plan : BusPlan) → IsPlan plan → Agrees plan (new_guest plan) (new_host plan) [] []
+
+-- both begin the part that comes next, and agree: what the guest sent is on its way
+abbrev pub BothBegin : Type 0
+BothBegin = (plan : BusPlan) (g g' : GuestSeen) (h h' : HostSeen) (part : Part) (sent : List Msg)
+    → Agrees plan g h [] [] → part_after plan g.part ≡ Some part → GuestBegins g part sent g' → HostBegins h part h' → Agrees plan g' h' sent []
+
+-- the first message on its way to the host is not refused, and both still agree when it was taken
+abbrev pub HostGoesOn : Type 0
+HostGoesOn = (plan : BusPlan) (g : GuestSeen) (h : HostSeen) (m : Msg) (to_host to_guest : List Msg) → Agrees plan g h (m ∷ to_host) to_guest
+    → ((turn : HostTurn) × (host_hears h m ≡ Ok turn))
+    × ((sent : List Msg) (h' : HostSeen) → HostTakes h m sent h' → Agrees plan g h' to_host (to_guest ++ sent) × (measure g to_host < measure g (m ∷ to_host)))
+
+-- the first message on its way to the guest is not refused, and both still agree when it was taken
+abbrev pub GuestGoesOn : Type 0
+GuestGoesOn = (plan : BusPlan) (g : GuestSeen) (h : HostSeen) (m : Msg) (to_host to_guest : List Msg) → Agrees plan g h to_host (m ∷ to_guest)
+    → ((turn : GuestTurn) × (guest_hears g m ≡ Ok turn))
+    × ((sent : List Msg) (g' : GuestSeen) → GuestTakes g m sent g' → Agrees plan g' h (to_host ++ sent) to_guest × (measure g' (to_host ++ sent) < measure g to_host))
+
+-- where no message is on its way, both are done
+abbrev pub BothDone : Type 0
+BothDone = (plan : BusPlan) (g : GuestSeen) (h : HostSeen) → Agrees plan g h [] [] → is_some g.part ≡ true → (guest_done g ≡ true) × (host_done h ≡ true) × (h.part ≡ g.part)
+
+-- at most 32 messages are on their way to each side
+abbrev pub FewOnTheirWay : Type 0
+FewOnTheirWay = (plan : BusPlan) (g : GuestSeen) (h : HostSeen) (to_host to_guest : List Msg) → Agrees plan g h to_host to_guest → (length to_host ≤ 32) × (length to_guest ≤ 32)
+
+-- at the end a channel that a phase opened is closed, and each other one is offered
+abbrev pub last_state : BusPlan → ℕ → State
+last_state plan relid = if list_any (λ o. o.relid == relid) (all_openings plan.phases) then Closed else Offered
+
+-- both are done with the farewell: one version, which is the greatest that both know; channels that were opened are closed at both, and the others are offered; and each was fed what the other sent
+pub record IsOver (plan : BusPlan) (g : GuestSeen) (h : HostSeen) : Type 0 where
+  pub guest_part : g.part ≡ Some Unload
+  pub host_part : h.part ≡ Some Unload
+  pub guest_done : guest_done g ≡ true
+  pub host_done : host_done h ≡ true
+  pub version : Version
+  pub agreed : Agreed plan version
+  pub at_guest : g.version ≡ Some version
+  pub at_host : h.version ≡ Some version
+  pub guest_many : length g.channels ≡ length plan.kinds
+  pub host_many : length h.channels ≡ length plan.kinds
+  pub guest_each : (relid : ℕ) → 1 ≤ relid → relid ≤ length plan.kinds → state_of g relid ≡ Some (last_state plan relid)
+  pub host_each : (relid : ℕ) → 1 ≤ relid → relid ≤ length plan.kinds → host_state_of h relid ≡ Some (last_state plan relid)
+  pub guest_sent : g.posted ≡ h.fed
+  pub host_sent : h.posted ≡ g.fed
+
+abbrev pub EndsWell : Type 0
+EndsWell = (plan : BusPlan) (g : GuestSeen) (h : HostSeen) → Agrees plan g h [] [] → g.part ≡ Some Unload → IsOver plan g h

@@ -1,0 +1,4 @@
+pub mod Stand
+pub mod Talk
+pub mod Laws
+pub mod Path

@@ -1,0 +1,53 @@
+-- Where the channels of both sides stand.
+use Rattle.std.specs.Prelude.{◌≡◌, ℕ, zero, suc, ◌<◌, ◌≤◌, ◌==◌, List, [], ◌∷◌, ◌++◌, length, map, slice_index_or, Some, if◌then◌else◌}
+use Rattle.io_edge.specs.declared.side.Side.TheVariants.{Guest as GuestSide, Host as HostSide}
+use Rattle.chan_state.specs.declared.state.State.{State}
+use Rattle.chan_state.specs.declared.state.State.TheVariants.{Offered, Closed}
+use Rattle.chan_state.specs.declared.chan_state.ChanState.{ChanState}
+use Rattle.control_model.specs.declared.opening.Opening.{Opening}
+use Rattle.control_model.specs.declared.channel.Channel.{Channel}
+use Rattle.control_model.specs.Plan.{BusPlan}
+use Rattle.control_model.specs.Channels.{by_relid}
+use Rattle.control_model.specs.Guest.{offered_channel}
+
+-- the openings of a phase
+abbrev pub phase_of : BusPlan → ℕ → List Opening
+phase_of plan phase = slice_index_or plan.phases phase []
+
+-- an opening's place in a phase: those before it, and those behind it
+pub record At (plan : BusPlan) (phase place : ℕ) (done : List Opening) (o : Opening) (left : List Opening) : Type 0 where
+  pub in_plan : phase < length plan.phases
+  pub phase_is : phase_of plan phase ≡ done ++ o ∷ left
+  pub place_is : place ≡ length done
+
+-- the channels of these openings stand so, and each other one as it did
+abbrev pub marked : {X : Type 0} → (Opening → X) → List Opening → (ℕ → X) → ℕ → X
+marked so [] before relid = before relid
+marked so (o ∷ os) before relid = if o.relid == relid then so o else marked so os before relid
+
+-- a channel of an opening, at the guest and at the host
+abbrev pub guest_is : State → Opening → Channel
+guest_is state o = record { life = record { side = GuestSide; state = state }; gpadl = Some o.gpadl }
+
+abbrev pub host_is : State → Opening → ChanState
+host_is state o = record { side = HostSide; state = state }
+
+-- before a phase each channel that an earlier one opened is closed, and each other one is offered
+abbrev pub before_phase : {X : Type 0} → BusPlan → (Opening → X) → X → ℕ → ℕ → X
+before_phase plan closed offered zero relid = offered
+before_phase plan closed offered (suc phase) relid = marked closed (phase_of plan phase) (before_phase plan closed offered phase) relid
+
+abbrev pub guest_before : BusPlan → ℕ → ℕ → Channel
+guest_before plan phase = before_phase plan (guest_is Closed) offered_channel phase
+
+abbrev pub host_before : BusPlan → ℕ → ℕ → ChanState
+host_before plan phase = before_phase plan (host_is Closed) (record { side = HostSide; state = Offered }) phase
+
+-- there is a channel for each device, and each stands so
+pub record Stand {X : Type 0} (channels : List X) (plan : BusPlan) (stands : ℕ → X) : Type 0 where
+  pub many : length channels ≡ length plan.kinds
+  pub each : (relid : ℕ) → 1 ≤ relid → relid ≤ length plan.kinds → by_relid channels relid ≡ Some (stands relid)
+
+-- the handles of page lists
+abbrev pub handles : List Opening → List ℕ
+handles os = map (λ o. o.gpadl) os

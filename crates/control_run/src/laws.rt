@@ -1,0 +1,38 @@
+//! Laws of the talk between a guest's control and its host's. The functions do nothing: each one's
+//! contract is the law.
+ghost use Rattle.control_run.specs.Laws.{NewOnesAgree, BothBegin, HostGoesOn, GuestGoesOn, BothDone, FewOnTheirWay, EndsWell};
+
+/// A guest and a host that were made from one plan agree.
+pub fn new_ones_agree()
+    ensures { NewOnesAgree }
+{}
+
+/// Both begin the part that comes next, and agree.
+pub fn both_begin()
+    ensures { BothBegin }
+{}
+
+/// The host doesn't refuse the first message on its way to it, and both agree once it was taken.
+pub fn host_goes_on()
+    ensures { HostGoesOn }
+{}
+
+/// The guest doesn't refuse the first message on its way to it, and both agree once it was taken.
+pub fn guest_goes_on()
+    ensures { GuestGoesOn }
+{}
+
+/// Where no message is on its way, both are done.
+pub fn both_done()
+    ensures { BothDone }
+{}
+
+/// At most 32 messages are on their way to each side.
+pub fn few_on_their_way()
+    ensures { FewOnTheirWay }
+{}
+
+/// What holds of both once they are done with the farewell.
+pub fn ends_well()
+    ensures { EndsWell }
+{}

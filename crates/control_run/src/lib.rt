@@ -1,0 +1,10 @@
+//! The control paths of a guest and its host, run together.
+#![tactic(auto)]
+
+mod laws;
+mod path;
+
+pub use laws::{
+    both_begin, both_done, ends_well, few_on_their_way, guest_goes_on, host_goes_on, new_ones_agree,
+};
+pub use path::ControlPath;

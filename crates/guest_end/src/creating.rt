@@ -1,0 +1,94 @@
+//! A page list is sent, and its channel opened once the host knows it.
+ghost use Rattle.std.specs.Prelude.{◌≡◌, Some, IfOk};
+ghost use Rattle.control_model.specs.Plan.{opening_in, IsOpening};
+ghost use Rattle.control_model.specs.Channels.{by_relid, lived};
+ghost use Rattle.control_model.specs.Guest.{IsFit, lists_next, opens, created_for, created_while, hears_created};
+
+use crate::GuestControl;
+use crate::turns::lived;
+use chan_state::Event;
+use contact::Part;
+use control_model::{Burst, Change, Channel, ControlFault, GuestTurn, GuestWait, Opening, open_on};
+
+impl GuestControl {
+    // Goes on with the opening at a place, if there is one: its page list is sent.
+    pub(crate) fn list_next(&self, turn: GuestTurn, part: Option<Part>, place: usize) -> GuestTurn
+        requires { IsFit self.now turn }
+        ensures turn { result ≡ lists_next turn place (opening_in self.now.plan part place) }
+        ensures fits { IsFit self.now result }
+    {
+        match self.plan.opening(part, place) {
+            Some(o) => GuestTurn {
+                awaits: GuestWait::Created(place),
+                burst: Burst::PageList(o),
+                ..turn
+            },
+            None => GuestTurn {
+                awaits: GuestWait::Nothing,
+                ..turn
+            },
+        }
+    }
+
+    // GPADL_CREATED: the channel is opened, where it is of the page list that was sent.
+    pub(crate) fn hears_created(
+        &self,
+        relid: u32,
+        gpadl: u32,
+        status: u32,
+    ) -> Result<GuestTurn, ControlFault>
+        ensures turn { result ≡ hears_created self.now relid gpadl status (by_relid self.now.channels relid) }
+        ensures fits { IfOk result (λ turn. IsFit self.now turn) }
+    {
+        let Some(channel) = self.channel(relid) else {
+            return Err(ControlFault::Relid { value: relid });
+        };
+        match self.awaits {
+            GuestWait::Created(place) => Ok(self.created(place, relid, gpadl, status, channel)),
+            _ => Ok(self.idle()),
+        }
+    }
+
+    // The same, while a page list waits for it.
+    fn created(
+        &self,
+        place: usize,
+        relid: u32,
+        gpadl: u32,
+        status: u32,
+        channel: Channel,
+    ) -> GuestTurn
+        ensures turn { result ≡ created_for self.now place relid gpadl status channel (opening_in self.now.plan self.now.part place) }
+        ensures fits { IsFit self.now result }
+    {
+        match self.plan.opening(self.part, place) {
+            Some(o) if o.relid == relid && o.gpadl == gpadl && status == 0 => {
+                self.open(place, o, channel)
+            }
+            _ => self.idle(),
+        }
+    }
+
+    // The guest wants the channel open.
+    fn open(&self, place: usize, o: Opening, channel: Channel) -> GuestTurn
+        requires { IsOpening o }
+        ensures turn { result ≡ opens self.now place o (lived channel Event.WantOpen) }
+        ensures fits { IsFit self.now result }
+    {
+        match lived(channel, Event::WantOpen) {
+            Ok(now) => GuestTurn {
+                awaits: GuestWait::Opened(place),
+                wished: Change::Now {
+                    relid: o.relid,
+                    channel: Channel {
+                        life: now.life,
+                        gpadl: Some(o.gpadl),
+                    },
+                },
+                burst: Burst::One(open_on(&o)),
+                ..self.idle()
+            },
+            Err(_) => self.idle(),
+        }
+    }
+}

@@ -1,0 +1,20 @@
+//! The guest's end of the bus: its side of the control path.
+//!
+//! Source: `vmbus_negotiate_version` (drivers/hv/connection.c), `vmbus_request_offers`, the handlers
+//! of `channel_message_table` (drivers/hv/channel_mgmt.c), `__vmbus_open` and `vmbus_close_internal`
+//! (drivers/hv/channel.c) of Linux 6.12.
+#![tactic(auto)]
+
+mod control;
+mod creating;
+mod offering;
+mod opening;
+mod proposing;
+mod rescinding;
+mod tearing;
+#[cfg(test)]
+mod tests;
+mod turns;
+
+pub use control::GuestControl;
+pub use control_model::ControlFault;

@@ -1,0 +1,46 @@
+//! A channel is open.
+ghost use Rattle.std.specs.Prelude.{◌≡◌, IfOk};
+ghost use Rattle.control_model.specs.Plan.{opening_in};
+ghost use Rattle.control_model.specs.Channels.{by_relid};
+ghost use Rattle.control_model.specs.Guest.{IsFit, hears_result, opened_for, opened_while};
+
+use crate::GuestControl;
+use crate::turns::lived;
+use chan_state::Event;
+use control_model::{Change, ControlFault, GuestTurn, GuestWait};
+
+impl GuestControl {
+    // OPENCHANNEL_RESULT: where it is of the channel that was opened last, and says that it is open,
+    // the guest goes on with the next opening.
+    pub(crate) fn hears_result(&self, relid: u32, status: u32) -> Result<GuestTurn, ControlFault>
+        ensures turn { result ≡ hears_result self.now relid status (by_relid self.now.channels relid) }
+        ensures fits { IfOk result (λ turn. IsFit self.now turn) }
+    {
+        let Some(channel) = self.channel(relid) else {
+            return Err(ControlFault::Relid { value: relid });
+        };
+        let channel = lived(channel, Event::ResultSeen { status })?;
+        let turn = GuestTurn {
+            heard: Change::Now { relid, channel },
+            ..self.idle()
+        };
+        match self.awaits {
+            GuestWait::Opened(place) => Ok(self.opened(turn, place, relid, status)),
+            _ => Ok(turn),
+        }
+    }
+
+    // The same, while an opening waits for it.
+    fn opened(&self, turn: GuestTurn, place: usize, relid: u32, status: u32) -> GuestTurn
+        requires { IsFit self.now turn }
+        ensures turn { result ≡ opened_for self.now turn place relid status (opening_in self.now.plan self.now.part place) }
+        ensures fits { IsFit self.now result }
+    {
+        match self.plan.opening(self.part, place) {
+            Some(o) if o.relid == relid && status == 0 => {
+                self.list_next(turn, self.part, place + 1)
+            }
+            _ => turn,
+        }
+    }
+}

@@ -1,0 +1,45 @@
+//! The host takes an offer back.
+ghost use Rattle.std.specs.Prelude.{◌≡◌, IfOk};
+ghost use Rattle.control_model.specs.Channels.{by_relid, lived};
+ghost use Rattle.control_model.specs.Guest.{IsFit, hears_rescind, releases};
+
+use crate::GuestControl;
+use crate::turns::lived;
+use chan_state::Event;
+use control_model::{Burst, Change, Channel, ControlFault, GuestTurn, release};
+
+impl GuestControl {
+    // RESCIND_CHANNELOFFER: the guest gives the channel back.
+    pub(crate) fn hears_rescind(&self, relid: u32) -> Result<GuestTurn, ControlFault>
+        ensures turn { result ≡ hears_rescind self.now relid (by_relid self.now.channels relid) }
+        ensures fits { IfOk result (λ turn. IsFit self.now turn) }
+    {
+        let Some(channel) = self.channel(relid) else {
+            return Err(ControlFault::Relid { value: relid });
+        };
+        let seen = lived(channel, Event::RescindSeen)?;
+        Ok(self.released(relid, seen))
+    }
+
+    // The channel is given back, at once.
+    fn released(&self, relid: u32, seen: Channel) -> GuestTurn
+        ensures turn { result ≡ releases self.now relid seen (lived seen Event.WantRelease) }
+        ensures fits { IsFit self.now result }
+    {
+        let turn = GuestTurn {
+            heard: Change::Now {
+                relid,
+                channel: seen,
+            },
+            ..self.idle()
+        };
+        match lived(seen, Event::WantRelease) {
+            Ok(channel) => GuestTurn {
+                wished: Change::Now { relid, channel },
+                burst: Burst::One(release(relid)),
+                ..turn
+            },
+            Err(_) => turn,
+        }
+    }
+}

@@ -1,0 +1,161 @@
+//! A host's control.
+ghost use Rattle.std.specs.Prelude.{◌≡◌, ◌+◌, ◌≤◌, [], length, IfOk, OnOk, OnErr, IsTrue, Some};
+ghost use Rattle.control_model.specs.Openings.{plan_of};
+ghost use Rattle.control_model.specs.Host.{new_host, host_hears, host_done, host_state_of, host_can_begin, HostBegins};
+ghost use Rattle.host_end.specs.Feeding.{Comes};
+ghost use Rattle.control_model.specs.Channels.{by_relid};
+ghost use Rattle.control_model.specs.Plan.{part_after};
+
+use bus_script::Script;
+use chan_state::{ChanState, State};
+use contact::{Part, Version};
+use control_model::{ControlFault, HostWait, Plan, type_of};
+use gpadl::Assembler;
+use mail_box::MailBox;
+use std::alloc::{AllocError, Global};
+use std::marker::Model;
+use vmbus_msg::Msg;
+
+/// The host's end of the control path: it answers a guest's control messages.
+///
+/// Contracts see the plan that it goes by, the part under way and what it waits for in it, the
+/// agreed version, its channels and page lists, and all messages that it posted and was fed.
+#[derive(Drop)]
+pub struct HostControl {
+    pub(crate) alloc: Global,
+    pub(crate) plan: Plan,
+    part: Option<Part>,
+    pub(crate) awaits: HostWait,
+    pub(crate) version: Option<Version>,
+    pub(crate) channels: Vec<ChanState>,
+    pub(crate) lists: Assembler,
+    pub(crate) posted: Vec<Msg>,
+    pub(crate) fed: Vec<Msg>,
+}
+
+impl Model for HostControl {
+    ghost use Rattle.control_model.specs.Openings.{plan_of};
+    ghost use Rattle.control_model.specs.Host.{new_host, HostSeen};
+
+    ghost Value = { HostSeen };
+
+    ghost view = { λ c. record { plan = c.plan; part = c.part; awaits = c.awaits; version = c.version; channels = c.channels.items; lists = c.lists; posted = c.posted.items; fed = c.fed.items } };
+}
+
+impl HostControl {
+    /// The control of a script's host, before its first part.
+    pub fn make(alloc: Global, script: &Script) -> Result<HostControl, AllocError>
+        ensures { IfOk result (λ control. control ≡ new_host (plan_of script.now)) }
+    {
+        let plan = Plan::of(alloc, script)?;
+        Ok(HostControl {
+            alloc,
+            plan,
+            part: None,
+            awaits: HostWait::Nothing,
+            version: None,
+            channels: Vec::new(alloc),
+            lists: Assembler::make(alloc),
+            posted: Vec::new(alloc),
+            fed: Vec::new(alloc),
+        })
+    }
+
+    /// Whether a part has begun and this side has sent and taken all its messages of that part, of
+    /// which there may be none.
+    pub fn done(&self) -> bool
+        ensures { result ≡ host_done self.now }
+    {
+        self.part.is_some() && matches!(self.awaits, HostWait::Nothing)
+    }
+
+    /// The agreed version: none before it was told.
+    pub fn version(&self) -> Option<Version>
+        ensures { result ≡ self.now.version }
+    {
+        self.version
+    }
+
+    /// The state of the channel with this relid: none where no channel has it.
+    pub fn state(&self, relid: u32) -> Option<State>
+        ensures { result ≡ host_state_of self.now relid }
+    {
+        match self.life(relid) {
+            Some(life) => Some(life.state()),
+            None => None,
+        }
+    }
+
+    /// The part that began last: none before the first.
+    pub fn part(&self) -> Option<Part>
+        ensures { result ≡ self.now.part }
+    {
+        self.part
+    }
+
+    /// All messages that it posted, in order.
+    pub fn posted(&self) -> &[Msg]
+        ensures { result.now ≡ self.now.posted }
+    {
+        &self.posted
+    }
+
+    /// All messages that it was fed and took, in order.
+    pub fn fed(&self) -> &[Msg]
+        ensures { result.now ≡ self.now.fed }
+    {
+        &self.fed
+    }
+
+    // The life of the channel with this relid.
+    pub(crate) fn life(&self, relid: u32) -> Option<ChanState>
+        ensures { result ≡ by_relid self.now.channels relid }
+    {
+        if relid == 0 {
+            return None;
+        }
+        self.channels.get(relid as usize - 1).copied()
+    }
+
+    /// Begins a part, which is the next one. The host sends nothing unasked.
+    pub fn begin(&mut self, part: Part, _post: &mut MailBox) -> Result<(), AllocError>
+        requires part { part_after self.old.plan self.old.part ≡ Some part }
+        requires ready { IsTrue (host_can_begin self.old) }
+        requires post { _post.old ≡ record { size = 64; queue = [] } }
+        ensures begun { OnOk result (HostBegins self.old part self.new) }
+        ensures refused { OnErr result (self.new ≡ self.old) }
+        ensures post { _post.new ≡ _post.old }
+    {
+        self.awaits = self.first_wait(part);
+        self.part = Some(part);
+        Ok(())
+    }
+
+    /// Takes a message of the guest, and puts what comes of it into `post`.
+    ///
+    /// It refuses, in this order: as `Unasked` a message of a type that no guest sends; as `Relid` one
+    /// that names no channel; as `Gpadl` a piece that the assembler refuses, and a GPADL_TEARDOWN of a
+    /// list that isn't live, for a channel that isn't rescinded; as `State` one for which the table of
+    /// a channel's life has no row; and as `Memory` one for which there is no memory. A refusal
+    /// changes nothing. A message that isn't the next one and means nothing to a channel is kept and
+    /// not answered.
+    pub fn feed(&mut self, m: &Msg, post: &mut MailBox) -> Result<(), ControlFault>
+        requires room { length post.old.queue + 32 ≤ post.old.size }
+        ensures { Comes (host_hears self.old m.now) self.old self.new m.now post.old post.new result }
+    {
+        match m {
+            Msg::InitiateContact { version, .. } => self.hear_contact(m, Version(*version), post),
+            Msg::RequestOffers { .. } => self.hear_request(m, post),
+            Msg::GpadlHeader(h) => self.hear_header(m, h.relid, post),
+            Msg::GpadlBody(_) => self.hear_piece(m, post),
+            Msg::OpenChannel { relid, openid, .. } => self.hear_open(m, *relid, *openid, post),
+            Msg::CloseChannel { relid, .. } => self.hear_close(m, *relid, post),
+            Msg::GpadlTeardown { relid, gpadl, .. } => {
+                self.hear_teardown(m, *relid, *gpadl, post)
+            }
+            Msg::RelidReleased { relid, .. } => self.hear_release(m, *relid, post),
+            Msg::Unload { .. } => self.hear_unload(m, post),
+            _ => Err(ControlFault::Unasked { kind: type_of(m) }),
+        }
+    }
+}

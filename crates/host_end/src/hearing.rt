@@ -1,0 +1,314 @@
+//! What a host does about each message.
+ghost use Rattle.std.specs.Prelude.{◌≡◌, ◌+◌, ◌≤◌, length, map, IfOk, Some, None, Ok};
+ghost use Rattle.control_model.specs.Channels.{by_relid, row_of};
+ghost use Rattle.chan_state.specs.declared.event.Event.TheVariants.{TeardownSeen};
+ghost use Rattle.control_model.specs.Plan.{opening_in};
+ghost use Rattle.control_model.specs.Host.{host_begins, hears_contact, hears_request, hears_open, hears_close, hears_teardown, teardown_by, hears_release, hears_unload, waits_list, waits_close, is_of, opened_then, closed_then, torn_then};
+ghost use Rattle.host_end.specs.Feeding.{Comes};
+ghost use Rattle.chan_state.specs.declared.state.State.TheVariants.{Offered as IsOffered};
+ghost use Rattle.io_edge.specs.declared.side.Side.TheVariants.{Host as HostSide};
+
+use crate::HostControl;
+use crate::answers::{can_unload, is_rescinded, opened_burst, respond, torndown};
+use crate::lists::let_go;
+use chan_state::{Action, ChanState, Event};
+use contact::{Kind, Part, Version, host_accepts};
+use control_model::{Burst, ControlFault, HostWait};
+use gpadl::GpadlFault;
+use io_edge::Side;
+use mail_box::MailBox;
+use std::alloc::{AllocError, Global};
+use vmbus_msg::Msg;
+
+impl HostControl {
+    // What it waits for at the start of a part.
+    pub(crate) fn first_wait(&self, part: Part) -> HostWait
+        ensures { result ≡ (host_begins self.now part).awaits }
+    {
+        match part {
+            Part::Contact => HostWait::Contact,
+            Part::PhaseStart(_) => self.waits_list(Some(part), 0),
+            Part::PhaseEnd(_) => self.waits_close(Some(part), 0),
+            Part::Unload => {
+                if can_unload(self.version) {
+                    HostWait::Unload
+                } else {
+                    HostWait::Nothing
+                }
+            }
+        }
+    }
+
+    // It waits for the page list of the opening at a place, if there is one.
+    fn waits_list(&self, part: Option<Part>, place: usize) -> HostWait
+        ensures { result ≡ waits_list place (opening_in self.now.plan part place) }
+    {
+        match self.plan.opening(part, place) {
+            Some(_) => HostWait::List(place),
+            None => HostWait::Nothing,
+        }
+    }
+
+    // It waits for the channel of the opening at a place to be closed, if there is one.
+    fn waits_close(&self, part: Option<Part>, place: usize) -> HostWait
+        ensures { result ≡ waits_close place (opening_in self.now.plan part place) }
+    {
+        match self.plan.opening(part, place) {
+            Some(_) => HostWait::Close(place),
+            None => HostWait::Nothing,
+        }
+    }
+
+    // Whether the opening at a place of the part under way is of this channel.
+    pub(crate) fn is_of(&self, relid: u32, place: usize) -> bool
+        ensures { result ≡ is_of relid (opening_in self.now.plan self.now.part place) }
+    {
+        match self.plan.opening(self.part(), place) {
+            Some(o) => o.relid == relid,
+            None => false,
+        }
+    }
+
+    // INITIATE_CONTACT is answered by 1 where this side has the version, and by 0 otherwise.
+    pub(crate) fn hear_contact(
+        &mut self,
+        m: &Msg,
+        asked: Version,
+        post: &mut MailBox,
+    ) -> Result<(), ControlFault>
+        requires room { length post.old.queue + 32 ≤ post.old.size }
+        ensures { Comes (Ok (hears_contact self.old self.old.awaits asked.0)) self.old self.new m.now post.old post.new result }
+    {
+        match self.awaits {
+            HostWait::Contact => {
+                if host_accepts(self.plan.host(), asked) {
+                    self.send(m, &Burst::One(respond(1)), post)?;
+                    self.awaits = HostWait::Request;
+                    self.version = Some(asked);
+                    Ok(())
+                } else {
+                    self.send(m, &Burst::One(respond(0)), post)
+                }
+            }
+            _ => self.send(m, &Burst::Empty, post),
+        }
+    }
+
+    // REQUESTOFFERS is answered by an offer for each device.
+    pub(crate) fn hear_request(&mut self, m: &Msg, post: &mut MailBox) -> Result<(), ControlFault>
+        requires room { length post.old.queue + 32 ≤ post.old.size }
+        ensures { Comes (Ok (hears_request self.old self.old.awaits)) self.old self.new m.now post.old post.new result }
+    {
+        match self.awaits {
+            HostWait::Request => {
+                let Ok(channels) = offered(self.alloc, self.plan.kinds()) else {
+                    return Err(ControlFault::Memory);
+                };
+                self.send(m, &Burst::Offers, post)?;
+                self.awaits = HostWait::Nothing;
+                self.channels = channels;
+                Ok(())
+            }
+            _ => self.send(m, &Burst::Empty, post),
+        }
+    }
+
+    // OPENCHANNEL goes by the table of a channel's life, and is answered where the table says so.
+    pub(crate) fn hear_open(
+        &mut self,
+        m: &Msg,
+        relid: u32,
+        openid: u32,
+        post: &mut MailBox,
+    ) -> Result<(), ControlFault>
+        requires room { length post.old.queue + 32 ≤ post.old.size }
+        ensures { Comes (hears_open self.old relid openid (by_relid self.old.channels relid)) self.old self.new m.now post.old post.new result }
+    {
+        let Some(mut life) = self.life(relid) else {
+            return Err(ControlFault::Relid { value: relid });
+        };
+        let action = match life.event(Event::OpenSeen) {
+            Ok(action) => action,
+            Err(fault) => return Err(ControlFault::State(fault)),
+        };
+        let burst = opened_burst(relid, openid, action);
+        let awaits = self.opened_then(relid);
+        self.send(m, &burst, post)?;
+        self.awaits = awaits;
+        self.channels[relid as usize - 1] = life;
+        Ok(())
+    }
+
+    // What it waits for once a channel was opened.
+    fn opened_then(&self, relid: u32) -> HostWait
+        ensures { result ≡ opened_then self.now self.now.awaits relid }
+    {
+        match self.awaits {
+            HostWait::Open(place) => match self.plan.opening(self.part(), place) {
+                Some(o) if o.relid == relid => self.waits_list(self.part(), place + 1),
+                _ => HostWait::Open(place),
+            },
+            other => other,
+        }
+    }
+
+    // CLOSECHANNEL goes by the table, and isn't answered.
+    pub(crate) fn hear_close(
+        &mut self,
+        m: &Msg,
+        relid: u32,
+        post: &mut MailBox,
+    ) -> Result<(), ControlFault>
+        requires room { length post.old.queue + 32 ≤ post.old.size }
+        ensures { Comes (hears_close self.old relid (by_relid self.old.channels relid)) self.old self.new m.now post.old post.new result }
+    {
+        let Some(mut life) = self.life(relid) else {
+            return Err(ControlFault::Relid { value: relid });
+        };
+        match life.event(Event::CloseSeen) {
+            Ok(_) => {}
+            Err(fault) => return Err(ControlFault::State(fault)),
+        }
+        let awaits = self.closed_then(relid);
+        self.send(m, &Burst::Empty, post)?;
+        self.awaits = awaits;
+        self.channels[relid as usize - 1] = life;
+        Ok(())
+    }
+
+    // What it waits for once a channel was closed.
+    fn closed_then(&self, relid: u32) -> HostWait
+        ensures { result ≡ closed_then self.now self.now.awaits relid }
+    {
+        match self.awaits {
+            HostWait::Close(place) => {
+                if self.is_of(relid, place) {
+                    HostWait::Teardown(place)
+                } else {
+                    HostWait::Close(place)
+                }
+            }
+            other => other,
+        }
+    }
+
+    // GPADL_TEARDOWN names a live list, unless its channel is rescinded; it goes by the table, and is
+    // answered where the table says so. The list isn't live any more then.
+    pub(crate) fn hear_teardown(
+        &mut self,
+        m: &Msg,
+        relid: u32,
+        gpadl: u32,
+        post: &mut MailBox,
+    ) -> Result<(), ControlFault>
+        requires room { length post.old.queue + 32 ≤ post.old.size }
+        ensures { Comes (hears_teardown self.old relid gpadl (by_relid self.old.channels relid)) self.old self.new m.now post.old post.new result }
+    {
+        let Some(life) = self.life(relid) else {
+            return Err(ControlFault::Relid { value: relid });
+        };
+        if is_rescinded(life) {
+            return self.tear_down(m, relid, gpadl, life, post);
+        }
+        if self.lists.is_live(gpadl) {
+            return self.tear_down(m, relid, gpadl, life, post);
+        }
+        Err(ControlFault::Gpadl(GpadlFault::Handle { id: gpadl }))
+    }
+
+    // The same, for a channel that stands so, where the list may be torn down.
+    fn tear_down(
+        &mut self,
+        m: &Msg,
+        relid: u32,
+        gpadl: u32,
+        life: ChanState,
+        post: &mut MailBox,
+    ) -> Result<(), ControlFault>
+        requires channel { by_relid self.old.channels relid ≡ Some life }
+        requires room { length post.old.queue + 32 ≤ post.old.size }
+        ensures { Comes (teardown_by self.old relid gpadl life (row_of life TeardownSeen)) self.old self.new m.now post.old post.new result }
+    {
+        let mut now = life;
+        let action = match now.event(Event::TeardownSeen) {
+            Ok(action) => action,
+            Err(fault) => return Err(ControlFault::State(fault)),
+        };
+        let awaits = self.torn_then(relid);
+        match action {
+            Action::SendTorndown => {
+                self.send(m, &Burst::One(torndown(gpadl)), post)?;
+                let_go(&mut self.lists, gpadl);
+                self.awaits = awaits;
+                self.channels[relid as usize - 1] = now;
+                Ok(())
+            }
+            _ => {
+                self.send(m, &Burst::Empty, post)?;
+                self.awaits = awaits;
+                self.channels[relid as usize - 1] = now;
+                Ok(())
+            }
+        }
+    }
+
+    // What it waits for once a page list was torn down.
+    fn torn_then(&self, relid: u32) -> HostWait
+        ensures { result ≡ torn_then self.now self.now.awaits relid }
+    {
+        match self.awaits {
+            HostWait::Teardown(place) => match self.plan.opening(self.part(), place) {
+                Some(o) if o.relid == relid => self.waits_close(self.part(), place + 1),
+                _ => HostWait::Teardown(place),
+            },
+            other => other,
+        }
+    }
+
+    // RELID_RELEASED goes by the table, and isn't answered.
+    pub(crate) fn hear_release(
+        &mut self,
+        m: &Msg,
+        relid: u32,
+        post: &mut MailBox,
+    ) -> Result<(), ControlFault>
+        requires room { length post.old.queue + 32 ≤ post.old.size }
+        ensures { Comes (hears_release self.old relid (by_relid self.old.channels relid)) self.old self.new m.now post.old post.new result }
+    {
+        let Some(mut life) = self.life(relid) else {
+            return Err(ControlFault::Relid { value: relid });
+        };
+        match life.event(Event::ReleaseSeen) {
+            Ok(_) => {}
+            Err(fault) => return Err(ControlFault::State(fault)),
+        }
+        self.send(m, &Burst::Empty, post)?;
+        self.channels[relid as usize - 1] = life;
+        Ok(())
+    }
+
+    // UNLOAD is answered where it is waited for.
+    pub(crate) fn hear_unload(&mut self, m: &Msg, post: &mut MailBox) -> Result<(), ControlFault>
+        requires room { length post.old.queue + 32 ≤ post.old.size }
+        ensures { Comes (Ok (hears_unload self.old self.old.awaits)) self.old self.new m.now post.old post.new result }
+    {
+        match self.awaits {
+            HostWait::Unload => {
+                self.send(m, &Burst::One(Msg::UnloadResponse { padding: 0 }), post)?;
+                self.awaits = HostWait::Nothing;
+                Ok(())
+            }
+            _ => self.send(m, &Burst::Empty, post),
+        }
+    }
+}
+
+// A channel for each device, as it is offered.
+fn offered(alloc: Global, kinds: &[Kind]) -> Result<Vec<ChanState>, AllocError>
+    ensures { IfOk result (λ channels. channels.items ≡ map (λ kind. record { side = HostSide; state = IsOffered }) kinds.now) }
+{
+    kinds
+        .iter()
+        .map(|_| ChanState::make(Side::Host))
+        .collect(alloc)
+}

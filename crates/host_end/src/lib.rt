@@ -1,0 +1,13 @@
+//! The host's side of the control path.
+//!
+//! Source: `channel_message_table` and the messages of `drivers/hv/channel_mgmt.c` of Linux 6.12, as
+//! their other end.
+#![tactic(auto)]
+
+mod answers;
+mod control;
+mod hearing;
+mod lists;
+mod posting;
+
+pub use control::HostControl;
