@@ -1,6 +1,2 @@
-pub mod Turns
-pub mod Across
-pub mod Serving
-pub mod Histories
-pub mod Devices
-pub mod Scripts
+pub mod Parting
+pub mod Refusing

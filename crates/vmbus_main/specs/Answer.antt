@@ -1,5 +1,5 @@
 -- What the output of a command is on an input, and what a wrong input is.
-use Rattle.std.specs.Prelude.{ℕ, ◌≡◌, List, [], Ok, Err}
+use Rattle.std.specs.Prelude.{ℕ, ◌≡◌, List, [], Option, None, Ok, Err}
 use Rattle.bus_script.specs.declared.fault.ScriptFault.{ScriptFault}
 use Rattle.bus_script.specs.declared.line.Line.{Line}
 use Rattle.bus_script.specs.declared.outcome.LineResult.{LineResult}
@@ -10,20 +10,23 @@ use Rattle.bus_model.specs.declared.channel_run.ChannelRun.{ChannelRun}
 use Rattle.bus_model.specs.declared.history.DeviceHistory.{DeviceHistory}
 use Rattle.bus_model.specs.Run.{IsBusRun}
 use Rattle.vmbus_main.specs.declared.command.Command.{Command}
+use Rattle.vmbus_main.specs.declared.outcome.Controls.{Controls}
+use Rattle.vmbus_main.specs.Controls.{HasControls}
 use Rattle.vmbus_main.specs.declared.command.Command.TheVariants.{Run, Decode}
 
--- the input is a script, and the output is the report of a run of it with these packets and histories
-pub record IsRunAnswer (input : List ℕ) (settled : List ChannelRun) (histories : List DeviceHistory) (output : List ℕ) : Type 0 where
+-- the input is a script, and the output is the report of a run of it with these packets and histories; these controls went by the script
+pub record IsRunAnswer (input : List ℕ) (controls : Option Controls) (settled : List ChannelRun) (histories : List DeviceHistory) (output : List ℕ) : Type 0 where
   pub lines : List Line
   pub script : script_of input ≡ Ok lines
+  pub controls_are : HasControls lines controls
   pub results : List LineResult
   pub run : IsBusRun lines settled histories results
   pub report : output ≡ report_of lines results
 
 -- a command's output on an input
-abbrev pub IsAnswer : Command → List ℕ → List ChannelRun → List DeviceHistory → List ℕ → Type 0
-IsAnswer Run input settled histories output = IsRunAnswer input settled histories output
-IsAnswer Decode input settled histories output = (decode_output input ≡ Ok output) × (settled ≡ []) × (histories ≡ [])
+abbrev pub IsAnswer : Command → List ℕ → Option Controls → List ChannelRun → List DeviceHistory → List ℕ → Type 0
+IsAnswer Run input controls settled histories output = IsRunAnswer input controls settled histories output
+IsAnswer Decode input controls settled histories output = (decode_output input ≡ Ok output) × (controls ≡ None) × (settled ≡ []) × (histories ≡ [])
 
 -- the first wrong line of a command's input
 abbrev pub IsFault : Command → List ℕ → ScriptFault → Type 0

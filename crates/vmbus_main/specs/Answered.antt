@@ -8,6 +8,6 @@ use Rattle.vmbus_main.specs.Answer.{IsAnswer, IsFault}
 
 -- the answer, which fits the room of a sink; or the input's fault; or memory was short
 abbrev pub IsAnswered : Command → List ℕ → Result Answer ParseFault → Type 0
-IsAnswered command input (Ok answer) = IsAnswer command input answer.settled.items answer.histories.items answer.text.items × (length answer.text.items ≤ 67108864)
+IsAnswered command input (Ok answer) = IsAnswer command input answer.controls answer.settled.items answer.histories.items answer.text.items × (length answer.text.items ≤ 67108864)
 IsAnswered command input (Err (IsScript fault)) = IsFault command input fault
 IsAnswered command input (Err Memory) = Unit {0}

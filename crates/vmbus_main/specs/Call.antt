@@ -6,6 +6,7 @@ use Rattle.io_edge.specs.Edge.{HoldsWhole, IsLonger, Grows, GrowsByFront}
 use Rattle.bus_model.specs.declared.channel_run.ChannelRun.{ChannelRun}
 use Rattle.bus_model.specs.declared.history.DeviceHistory.{DeviceHistory}
 use Rattle.vmbus_main.specs.declared.command.Command.{Command}
+use Rattle.vmbus_main.specs.declared.outcome.Controls.{Controls}
 use Rattle.vmbus_main.specs.Answer.{IsAnswer, IsFault}
 
 -- the most bytes of an input
@@ -25,14 +26,14 @@ IsRefused (Some command) left fault =
     ⊎ (IsLonger left most_bytes × (fault ≡ record { line = 0; why = Limit }))
 
 -- the whole answer of the command was written
-abbrev pub IsWritten : Option Command → Option (List ℕ) → Option (List ℕ) → Option (List ℕ) → List ChannelRun → List DeviceHistory → Type 0
-IsWritten named left old new settled histories =
-    (command : Command) × (input : List ℕ) × (output : List ℕ) × (named ≡ Some command) × IsInput left input × IsAnswer command input settled histories output × Grows old new output
+abbrev pub IsWritten : Option Command → Option (List ℕ) → Option (List ℕ) → Option (List ℕ) → Option Controls → List ChannelRun → List DeviceHistory → Type 0
+IsWritten named left old new controls settled histories =
+    (command : Command) × (input : List ℕ) × (output : List ℕ) × (named ≡ Some command) × IsInput left input × IsAnswer command input controls settled histories output × Grows old new output
 
 -- a front of the answer was written
-abbrev pub IsWrittenInPart : Option Command → Option (List ℕ) → Option (List ℕ) → Option (List ℕ) → List ChannelRun → List DeviceHistory → Type 0
-IsWrittenInPart named left old new settled histories =
-    (command : Command) × (input : List ℕ) × (output : List ℕ) × (named ≡ Some command) × IsInput left input × IsAnswer command input settled histories output × GrowsByFront old new output
+abbrev pub IsWrittenInPart : Option Command → Option (List ℕ) → Option (List ℕ) → Option (List ℕ) → Option Controls → List ChannelRun → List DeviceHistory → Type 0
+IsWrittenInPart named left old new controls settled histories =
+    (command : Command) × (input : List ℕ) × (output : List ℕ) × (named ≡ Some command) × IsInput left input × IsAnswer command input controls settled histories output × GrowsByFront old new output
 
 -- a source that tells its bytes has an input of the command, in form
 abbrev pub TellsInput : Option Command → Option (List ℕ) → Type 0

@@ -1,7 +1,6 @@
 pub mod Words
+pub mod Controls
+pub mod Between
 pub mod Answer
 pub mod Answered
 pub mod Call
-pub mod Packets
-pub mod Turn
-pub mod Serve

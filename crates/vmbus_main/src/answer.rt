@@ -4,7 +4,8 @@ ghost use Rattle.vmbus_main.specs.Answered.{IsAnswered};
 ghost use Rattle.vmbus_main.specs.declared.command.Command.TheVariants.{Run, Decode};
 
 use crate::command::Command;
-use crate::run::{Ran, run_script};
+use crate::outcome::Controls;
+use crate::run::{BusRan, run_script};
 use bus_model::{ChannelRun, DeviceHistory};
 use bus_script::{ParseFault, parse, report};
 use io_edge::Gate;
@@ -14,6 +15,7 @@ use std::alloc::Global;
 /// The output, and what ran.
 #[derive(Drop)]
 pub struct Answer {
+    pub controls: Option<Controls>,
     pub settled: Vec<ChannelRun>,
     pub histories: Vec<DeviceHistory>,
     pub text: Vec<u8>,
@@ -46,13 +48,15 @@ fn run_input<R, G: Gate>(
     let script = parse(alloc, input)?;
     match run_script(rt, gate, alloc, &script) {
         Ok(
-            Ran {
+            BusRan {
+                controls,
                 settled,
                 histories,
                 results,
             },
         ) => match report(alloc, &script, &results) {
             Ok(text) => Ok(Answer {
+                controls: Some(controls),
                 settled,
                 histories,
                 text,
@@ -68,6 +72,7 @@ fn decode_input(alloc: Global, input: &[u8]) -> Result<Answer, ParseFault>
 {
     let text = decode_text(alloc, input)?;
     Ok(Answer {
+        controls: None,
         settled: Vec::new(alloc),
         histories: Vec::new(alloc),
         text,

@@ -33,12 +33,13 @@ pub fn vmbus<R, S: Source, K: Sink, G: Gate>(
     ensures usage { (result.status ≡ 1) ↔ (command_of words.now ≡ None) }
     // Status 2 comes with the fault of the input: its first wrong line, or a byte too many.
     ensures refused { MatchOption result.fault (result.status ≢ 2) (λ fault. (result.status ≡ 2) × IsRefused (command_of words.now) (S.left source.old) fault) }
-    // With status 0 the whole answer was written: the report of a run of the bus, in which these are the packets and the histories.
-    ensures written { result.status ≡ 0 → IsWritten (command_of words.now) (S.left source.old) (K.written sink.old) (K.written sink.new) result.settled.items result.histories.items }
+    // With status 0 the whole answer was written: the report of a run of the bus, in which these are the packets and the histories. Both controls
+    // went by the script to its end, and each was fed what the other one posted.
+    ensures written { result.status ≡ 0 → IsWritten (command_of words.now) (S.left source.old) (K.written sink.old) (K.written sink.new) result.controls result.settled.items result.histories.items }
     // With status 4 a front of it was.
-    ensures in_part { result.status ≡ 4 → IsWrittenInPart (command_of words.now) (S.left source.old) (K.written sink.old) (K.written sink.new) result.settled.items result.histories.items }
+    ensures in_part { result.status ≡ 4 → IsWrittenInPart (command_of words.now) (S.left source.old) (K.written sink.old) (K.written sink.new) result.controls result.settled.items result.histories.items }
     // With any other status nothing was written, and nothing ran.
-    ensures nothing { result.status ≢ 0 → result.status ≢ 4 → (K.written sink.new ≡ K.written sink.old) × (result.settled.items ≡ []) × (result.histories.items ≡ []) }
+    ensures nothing { result.status ≢ 0 → result.status ≢ 4 → (K.written sink.new ≡ K.written sink.old) × (result.controls ≡ None) × (result.settled.items ≡ []) × (result.histories.items ≡ []) }
     // Statuses 3 and 4 have a cause.
     ensures read_fault { result.status ≡ 3 → Rose (S.faults source.old) (S.faults source.new) }
     ensures write_fault { result.status ≡ 4 → Rose (K.faults sink.old) (K.faults sink.new) }
@@ -64,6 +65,7 @@ pub fn vmbus<R, S: Source, K: Sink, G: Gate>(
         }
     };
     let Answer {
+        controls,
         settled,
         histories,
         text,
@@ -79,6 +81,7 @@ pub fn vmbus<R, S: Source, K: Sink, G: Gate>(
     Outcome {
         status,
         fault: None,
+        controls,
         settled,
         histories,
     }

@@ -4,16 +4,11 @@
 mod answer;
 mod call;
 mod command;
-mod crossing;
-mod guest;
-mod host;
-mod opened;
 mod outcome;
 mod run;
-mod serve;
 
 pub use call::vmbus;
-pub use outcome::Outcome;
+pub use outcome::{Controls, Outcome};
 
 #[cfg(test)]
 mod tests;

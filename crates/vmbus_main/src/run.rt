@@ -1,194 +1,116 @@
-//! The run of a script.
-ghost use Rattle.std.specs.Prelude.{◌≡◌, ◌≤◌, ◌<◌, ◌∷◌, [], List, length, IfOk, OnOk, map, nat_lt};
-ghost use Rattle.bus_model.specs.Channel.{IsChannelRun};
-ghost use Rattle.bus_model.specs.One.{asks_of, OneRuns};
-ghost use Rattle.bus_model.specs.Run.{IsBusRun, Carries};
-ghost use Rattle.bus_model.specs.Served.{done_of};
-ghost use Rattle.bus_model.specs.Wants.{kind_of};
-ghost use Rattle.bus_script.specs.Faults.{asks_in};
-ghost use Rattle.bus_script.specs.WellFormed.{AllAsk, OffersFor};
-ghost use Rattle.bus_model.specs.Parts.{offered_by, dest_in};
-ghost use Rattle.hist_lock.specs.History.{entries_of};
-ghost use Rattle.hist_lock.specs.Legal.{IsLegal};
-ghost use Rattle.util_ic.specs.Asks.{reply_of};
-ghost use Rattle.util_ic.specs.declared.ic.IcAsk.{IcAsk as OneIcAsk};
-ghost use Rattle.vmbus_main.specs.Serve.{ic_served, IsDeviceRun};
+//! The run of a script: its control path around its phases.
+ghost use Rattle.std.specs.Prelude.{◌≡◌, ◌+◌, ◌<◌, true, false, length, count_by, IfOk, OnOk};
+ghost use Rattle.bus_model.specs.Run.{IsBusRun};
+ghost use Rattle.bus_script.specs.Parts.{parts};
+ghost use Rattle.bus_script.specs.Report.{prints};
+ghost use Rattle.bus_run.specs.Whole.{RunsSoFar};
+ghost use Rattle.vmbus_main.specs.Between.{IsBetween};
+ghost use Rattle.vmbus_main.specs.Controls.{AreControls};
 
-use crate::serve::serve_device;
+use crate::outcome::Controls;
 use bus_model::{ChannelRun, DeviceHistory};
-use bus_script::{DeviceSpec, Line, LineResult, Script, What};
-use hist_lock::{HistLock, HistSeat, History, Machine};
+use bus_run::{Ran, Runner};
+use bus_script::{LineResult, Script};
+use contact::Part;
+use control_run::ControlPath;
 use io_edge::Gate;
 use std::alloc::{AllocError, Global};
-use util_ic::{BeatMachine, DownMachine, IcAnswer, IcAsk};
 
-/// What a run of a script gives: what each channel carried, what each device served, and the outcome of each line that prints.
+/// What a run of a script gives: both controls, what each channel carried, what each device served, and the outcome of each line that prints.
 #[derive(Drop)]
-pub struct Ran {
+pub struct BusRan {
+    pub controls: Controls,
     pub settled: Vec<ChannelRun>,
     pub histories: Vec<DeviceHistory>,
     pub results: Vec<LineResult>,
 }
 
-/// What a device gives: what its channel carried, if it was opened, what it served, and the outcomes of the lines that ask it.
-#[derive(Drop)]
-pub struct DeviceRan<M: Machine> {
-    settled: Vec<ChannelRun>,
-    history: History<M>,
-    results: Vec<LineResult>,
-}
-
-/// Carries the requests of the lines over the device's channel, where there are any.
-fn carry<R, G: Gate, M: Machine<Request = IcAsk, Reply = IcAnswer>>(
+/// Runs a script: version and offers, each phase with its channels opened before it and closed behind it, and the farewell.
+pub fn run_script<R, G: Gate>(
     rt: &R,
     gate: &G,
     alloc: Global,
-    device: DeviceSpec,
-    seat: &mut HistSeat<M>,
-    lines: &[Line],
-) -> Result<(Vec<ChannelRun>, Vec<LineResult>), AllocError>
-    requires asks { AllAsk device lines.now }
-    requires few { length lines.now ≤ 20000 }
-    requires left { length lines.now ≤ seat.old.left }
-    requires new { seat.old.calls ≡ [] }
-    requires machine { (s : M) (ask : OneIcAsk) → M.reply_to s ask ≡ reply_of (kind_of device) ask }
-    ensures carries { IfOk result (λ r. Carries (nat_lt 0 (length lines.now)) 0 1 0 device (asks_of lines.now) r.0.items (ic_served seat.new.calls)) }
-    ensures results { IfOk result (λ r. r.1.items ≡ map done_of (ic_served seat.new.calls)) }
-    ensures seat { OnOk result ((seat.new.first ≡ seat.old.first) × (seat.new.number ≡ seat.old.number)) }
+    script: &Script,
+) -> Result<BusRan, AllocError>
+    ensures controls { IfOk result (λ ran. AreControls script.now ran.controls) }
+    ensures run { IfOk result (λ ran. IsBusRun script.now ran.settled.items ran.histories.items ran.results.items) }
+    ensures each { IfOk result (λ ran. length ran.results.items ≡ count_by prints script.now) }
 {
-    if lines.is_empty() {
-        return Ok((Vec::new(alloc), Vec::new(alloc)));
-    }
-    let (settled, results) = serve_device(rt, gate, alloc, device, seat, lines)?;
-    let mut runs = Vec::new(alloc);
-    runs.push(ChannelRun {
-        phase: 0,
-        relid: 1,
-        device: 0,
+    let mut runner = Runner::make(alloc, script)?;
+    let mut path = contacted(alloc, script, &runner)?;
+    run_phases(rt, gate, alloc, script, &mut path, &mut runner)?;
+    path.run(Part::Unload)?;
+    let ran = runner.end(alloc)?;
+    let (guest, host) = path.end();
+    let Ran {
         settled,
-    })?;
-    Ok((runs, results))
-}
-
-/// Runs one device: its history is opened, its lines are served, and the history is closed.
-fn run_device<R, G: Gate, M: Machine<Request = IcAsk, Reply = IcAnswer>>(
-    rt: &R,
-    gate: &G,
-    alloc: Global,
-    device: DeviceSpec,
-    machine: M,
-    lines: &[Line],
-) -> Result<DeviceRan<M>, AllocError>
-    requires asks { AllAsk device lines.now }
-    requires few { length lines.now ≤ 20000 }
-    requires first { M.first machine ≡ machine }
-    requires machine { (s : M) (ask : OneIcAsk) → M.reply_to s ask ≡ reply_of (kind_of device) ask }
-    ensures { IfOk result (λ ran. IsDeviceRun device lines.now M.after M.reply_to machine ran.settled.items (entries_of ran.history) ran.results.items) }
-{
-    let mut seats = HistLock::make(alloc, machine, &[lines.len() as u32])?;
-    let mut seat = match seats.pop() {
-        Some(seat) => seat,
-        None => unreachable!(),
-    };
-    let (settled, results) = carry(rt, gate, alloc, device, &mut seat, lines)?;
-    seats.push_reserved(seat);
-    let (last, history) = HistLock::close(seats);
-    drop(last);
-    Ok(DeviceRan {
-        settled,
-        history,
+        histories,
         results,
-    })
-}
-
-/// The device that a script's first line offers.
-fn offered(what: &What, lines: &[Line]) -> DeviceSpec
-    requires { OffersFor what.now lines.now }
-    ensures asks { AllAsk result lines.now }
-    ensures offers { (offered_by what.now ≡ result ∷ []) × (dest_in what.now ≡ []) }
-{
-    match what {
-        What::Offer { device, .. } => *device,
-        What::Ask { .. } => unreachable!(),
-    }
-}
-
-/// A run with the one history.
-fn with_history(
-    alloc: Global,
-    settled: Vec<ChannelRun>,
-    history: DeviceHistory,
-    results: Vec<LineResult>,
-) -> Result<Ran, AllocError>
-    ensures settled { IfOk result (λ ran. ran.settled.items ≡ settled.items) }
-    ensures histories { IfOk result (λ ran. ran.histories.items ≡ history ∷ []) }
-    ensures results { IfOk result (λ ran. ran.results.items ≡ results.items) }
-{
-    let mut histories = Vec::new(alloc);
-    histories.push(history)?;
-    Ok(Ran {
+    } = ran;
+    Ok(BusRan {
+        controls: Controls { guest, host },
         settled,
         histories,
         results,
     })
 }
 
-/// Runs the one device of a script.
-fn run_one<R, G: Gate>(
-    rt: &R,
-    gate: &G,
-    alloc: Global,
-    device: DeviceSpec,
-    lines: &[Line],
-) -> Result<Ran, AllocError>
-    requires asks { AllAsk device lines.now }
-    requires few { length lines.now ≤ 20000 }
-    ensures { IfOk result (λ ran. OneRuns device lines.now ran.settled.items ran.histories.items ran.results.items) }
+/// The control path of a script whose guest and host agreed on a version, and whose devices were offered.
+fn contacted(alloc: Global, script: &Script, runner: &Runner) -> Result<ControlPath, AllocError>
+    requires so_far { RunsSoFar script.now runner.now }
+    requires none { runner.now.phase ≡ 0 }
+    ensures { IfOk result (λ path. IsBetween script.now runner.now path) }
 {
-    match device {
-        DeviceSpec::Beat => {
-            let ran = run_device(rt, gate, alloc, device, BeatMachine::make(), lines)?;
-            let DeviceRan {
-                settled,
-                history,
-                results,
-            } = ran;
-            let ran = with_history(alloc, settled, DeviceHistory::Beat(history), results)?;
-            Ok(ran)
-        }
-        DeviceSpec::Down => {
-            let ran = run_device(rt, gate, alloc, device, DownMachine::make(), lines)?;
-            let DeviceRan {
-                settled,
-                history,
-                results,
-            } = ran;
-            let ran = with_history(alloc, settled, DeviceHistory::Down(history), results)?;
-            Ok(ran)
-        }
-    }
+    let mut path = ControlPath::make(alloc, script)?;
+    path.run(Part::Contact)?;
+    Ok(path)
 }
 
-/// Runs a script.
-pub fn run_script<R, G: Gate>(
+/// Runs all phases.
+fn run_phases<R, G: Gate>(
     rt: &R,
     gate: &G,
     alloc: Global,
     script: &Script,
-) -> Result<Ran, AllocError>
-    ensures run { IfOk result (λ ran. IsBusRun script.now ran.settled.items ran.histories.items ran.results.items) }
-    ensures each { IfOk result (λ ran. length ran.results.items ≡ asks_in script.now) }
+    path: &mut ControlPath,
+    runner: &mut Runner,
+) -> Result<(), AllocError>
+    requires { IsBetween script.now runner.old path.old }
+    ensures between { OnOk result (IsBetween script.now runner.new path.new) }
+    ensures all { OnOk result (runner.new.phase ≡ length (parts script.now)) }
 {
-    match script.lines() {
-        [] => Ok(Ran {
-            settled: Vec::new(alloc),
-            histories: Vec::new(alloc),
-            results: Vec::new(alloc),
-        }),
-        [first, lines @ ..] => {
-            let device = offered(&first.what, lines);
-            let ran = run_one(rt, gate, alloc, device, lines)?;
-            Ok(ran)
-        }
+    while has_phase(script, runner) {
+        run_next(rt, gate, alloc, script, path, runner)?;
     }
+    Ok(())
+}
+
+/// Whether a phase of the script is left.
+fn has_phase(script: &Script, runner: &Runner) -> bool
+    requires { RunsSoFar script.now runner.now }
+    ensures more { result ≡ true → runner.now.phase < length (parts script.now) }
+    ensures over { result ≡ false → runner.now.phase ≡ length (parts script.now) }
+{
+    runner.has_next()
+}
+
+/// Runs the next phase: its channels are opened, carry their requests, and are closed.
+fn run_next<R, G: Gate>(
+    rt: &R,
+    gate: &G,
+    alloc: Global,
+    script: &Script,
+    path: &mut ControlPath,
+    runner: &mut Runner,
+) -> Result<(), AllocError>
+    requires between { IsBetween script.now runner.old path.old }
+    requires more { runner.old.phase < length (parts script.now) }
+    ensures between { OnOk result (IsBetween script.now runner.new path.new) }
+    ensures one { OnOk result (runner.new.phase ≡ runner.old.phase + 1) }
+{
+    let phase = runner.phase();
+    path.run(Part::PhaseStart(phase))?;
+    runner.run_next(rt, gate, alloc, script)?;
+    path.run(Part::PhaseEnd(phase))?;
+    Ok(())
 }

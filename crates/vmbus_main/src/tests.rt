@@ -69,6 +69,81 @@ fn scripts_run(rt: HostRuntime) -> Result<(), Fail> {
     Ok(())
 }
 
+/// Three devices over three phases: a phase without lines, a close, and versions to agree on.
+const THREE_DEVICES: &[u8] = b"contact 5.2 4.0
+offer hb a
+offer shutdown b
+offer hb c
+ring a 16
+window c 2
+beat a 1
+down b 0
+beat a 18446744073709551615
+close b
+phase
+phase
+down b 4
+beat c 6
+beat a 7
+down b 1
+";
+
+const THREE_DEVICES_REPORT: &[u8] = b"1 version 4.0 tried 5.2 5.1 5.0 4.1 4.0
+7 done @0 seq 2
+8 done @0 status 0x00000000
+9 done @1 seq 0
+13 closed
+14 done @0 seq 7
+15 done @2 seq 8
+16 closed
+end requests 7 done 5 rescinded 0
+";
+
+#[test]
+fn devices_over_phases(rt: HostRuntime) -> Result<(), Fail> {
+    assert_eq!(rt;
+        answers(&rt, b"run", THREE_DEVICES, THREE_DEVICES_REPORT)?,
+        (0, true)
+    );
+    let contact = answers(
+        &rt,
+        b"run",
+        b"contact 5.2 4.0",
+        b"1 version 4.0 tried 5.2 5.1 5.0 4.1 4.0\nend requests 0 done 0 rescinded 0\n",
+    )?;
+    assert_eq!(rt; contact, (0, true));
+    let closed = answers(
+        &rt,
+        b"run",
+        b"offer hb d0\nclose d0\nphase\nbeat d0 1\n",
+        b"4 closed\nend requests 1 done 0 rescinded 0\n",
+    )?;
+    assert_eq!(rt; closed, (0, true));
+    Ok(())
+}
+
+#[test]
+fn channels_of_phases(rt: HostRuntime) -> Result<(), Fail> {
+    let alloc = rt.alloc();
+    let words = one_word(alloc, b"run")?;
+    let mut source = SureSource::make(THREE_DEVICES.to_vec(alloc)?);
+    let mut sink = SureSink::make(alloc, ROOM)?;
+    let outcome = vmbus(&rt, alloc, &words, &mut source, &mut sink, &NoGate);
+    let mut channels = Vec::new(alloc);
+    for run in &outcome.settled {
+        channels.push((
+            run.phase,
+            run.relid,
+            run.device,
+            run.settled.host_sent().len(),
+        ))?;
+    }
+    let wanted = [(0, 1, 0, 3), (0, 2, 1, 2), (2, 1, 0, 2), (2, 3, 2, 2)];
+    assert_eq!(rt; channels.as_slice(), wanted.as_slice());
+    assert_eq!(rt; outcome.histories.len(), 3);
+    Ok(())
+}
+
 #[test]
 fn messages_are_decoded(rt: HostRuntime) -> Result<(), Fail> {
     let three = answers(

@@ -1,18 +1,12 @@
 use Rattle.bus_model.proofs.Counting.{one_each_lem}
-use Rattle.vmbus_main.proofs.Scripts.{empty_run, whole_run}
+use Rattle.vmbus_main.proofs.Parting.{farewell}
 use Rattle.vmbus_main.proofs.run.run_script.Goals as goal
 
-pub returns-in-empty-clause-run : goal.returns-in-empty-clause-run
-returns-in-empty-clause-run g c =
-    empty_run c.new.result.items c.new-in-empty.result.items c.new-in-empty-2.result.items c.lines.result.now c.args.script.now c.lines.ensures.lines c.in-empty.len_below c.new.ensures.items c.new-in-empty.ensures.items c.new-in-empty-2.ensures.items
+pub run-requires-clause-part : goal.run-requires-clause-part
+run-requires-clause-part g c =
+    farewell c.args.script.now c.run_phases.new.runner c.run_phases.new.path c.in_ok-run_phases.ensures.between c.in_ok-run_phases.ensures.all
 
-pub returns-in_ok-ran-in-len1-up-clause-run : goal.returns-in_ok-ran-in-len1-up-clause-run
-returns-in_ok-ran-in-len1-up-clause-run g c =
-    whole_run _ _ _ c.lines.result.now c.args.script.now c.first-item.result c.offered-device.result c.lines.ensures.lines c.in-len1-up.len_at_least c.first-item.is c.offered-device.ensures.asks c.offered-device.ensures.offers.0
-    c.offered-device.ensures.offers.1 c.in_ok-ran-in-len1-up.ensures
-
-pub returns-in_ok-ran-in-len1-up-clause-each : goal.returns-in_ok-ran-in-len1-up-clause-each
-returns-in_ok-ran-in-len1-up-clause-each g c =
-    one_each_lem _ _ _ _
-    (whole_run c.in_ok-ran-in-len1-up.ran.settled.items c.in_ok-ran-in-len1-up.ran.histories.items c.in_ok-ran-in-len1-up.ran.results.items c.lines.result.now c.args.script.now c.first-item.result c.offered-device.result c.lines.ensures.lines
-    c.in-len1-up.len_at_least c.first-item.is c.offered-device.ensures.asks c.offered-device.ensures.offers.0 c.offered-device.ensures.offers.1 c.in_ok-ran-in-len1-up.ensures)
+pub returns-clause-each : goal.returns-clause-each
+returns-clause-each g c =
+    one_each_lem c.args.script.now c.in_ok-ran.ran.settled.items c.in_ok-ran.ran.histories.items c.in_ok-ran.ran.results.items
+    (c.in_ok-ran.ensures.run c.args.script.now c.in_ok-run_phases.ensures.between.ran c.in_ok-run_phases.ensures.all)

@@ -1,0 +1,83 @@
+-- The parts of the control path, around the phases of a script.
+use Rattle.std.proofs.Common.{◌≡◌, ◌∙◌, ◌+◌, ◌<◌, ◌≤◌, ℕ, Bool, true, false, List, [], ◌∷◌, ◌++◌, length, nat_lt, Option, Some, cond, if◌then◌else◌, IsTrue, ◌↔◌, suc, inl, inr, refl, sym, ap, subst, arith}
+use Rattle.std.proofs.lemmas.Bool.Decides.{nat_tests}
+use Rattle.std.proofs.lemmas.Bool.{cases_eq}
+use Rattle.contact.specs.declared.part.Part.{Part}
+use Rattle.contact.specs.declared.part.Part.TheVariants.{Contact, PhaseStart, PhaseEnd, Unload}
+use Rattle.bus_script.specs.declared.line.Line.{Line}
+use Rattle.bus_script.specs.Parts.{parts, offered, ring_pages_of}
+use Rattle.bus_run.specs.declared.runner.Runner.{Runner}
+use Rattle.bus_run.specs.Whole.{RunsSoFar}
+use Rattle.control_model.specs.Plan.{BusPlan, IsPlan, part_after, first_gpadl}
+use Rattle.control_model.specs.Openings.{plan_of, numbered, devices_by_phase, pages_in}
+use Rattle.control_model.specs.Guest.{new_guest}
+use Rattle.control_run.specs.Path.{PathSeen, Rests, Ran}
+use Rattle.vmbus_main.specs.Between.{part_at, IsBetween}
+
+numbered_length : (sizes : ℕ → ℕ) (gpadl page : ℕ) (phases : List (List ℕ)) → length (numbered sizes gpadl page phases) ≡ length phases
+numbered_length sizes gpadl page [] = refl
+numbered_length sizes gpadl page (ds ∷ phases) = ap (λ n. suc n) (numbered_length sizes (gpadl + length ds) (page + pages_in sizes ds) phases)
+
+devices_length : (count : ℕ) (earlier : List Line) (ps : List (List Line)) → length (devices_by_phase count earlier ps) ≡ length ps
+devices_length count earlier [] = refl
+devices_length count earlier (p ∷ ps) = ap (λ n. suc n) (devices_length count (earlier ++ p) ps)
+
+-- a script's plan has its phases
+pub phases_are : (lines : List Line) → length (plan_of lines).phases ≡ length (parts lines)
+phases_are lines =
+    numbered_length (λ d. ring_pages_of d lines) first_gpadl 0 (devices_by_phase (length (offered lines)) [] (parts lines))
+    ∙ devices_length (length (offered lines)) [] (parts lines)
+
+some_of : {A : Type 0} (b : Bool) (x y : A) → (if b then Some x else Some y) ≡ Some (if b then x else y)
+some_of true x y = refl
+some_of false x y = refl
+
+lt_true : (a b : ℕ) → a < b → nat_lt a b ≡ true
+lt_true a b below = grind (arith, nat_tests)
+
+lt_false : (a b : ℕ) → b ≤ a → nat_lt a b ≡ false
+lt_false a b above = grind (arith, nat_tests)
+
+-- before the first phase
+pub first_between : (lines : List Line) (r : Runner) (old new : PathSeen) → RunsSoFar lines r → r.phase ≡ 0 → Rests old → old.guest ≡ new_guest (plan_of lines) → Ran old new Contact → IsBetween lines r new
+first_between lines r old new so_far none rests fresh ran =
+    let plan : old.guest.plan ≡ plan_of lines = ap (λ g. g.plan) fresh in
+    let planned : IsPlan (plan_of lines) = subst IsPlan plan rests.agree.planned in
+    let some : nat_lt 0 (length (plan_of lines).phases) ≡ true = lt_true 0 (length (plan_of lines).phases) (omega (arith, planned.some)) in
+    let at : part_at (plan_of lines) r.phase ≡ PhaseStart 0 = rw (none, some) refl in
+    record { ran = so_far; rests = ran.rests; plan = ran.plan ∙ plan; next = rw (ran.guest_part, at) refl }
+
+-- the next phase starts
+pub starts : (lines : List Line) (r : Runner) (p : PathSeen) → IsBetween lines r p → r.phase < length (parts lines) → part_after p.guest.plan p.guest.part ≡ Some (PhaseStart r.phase)
+starts lines r p between more =
+    let some : nat_lt r.phase (length (plan_of lines).phases) ≡ true = lt_true r.phase (length (plan_of lines).phases) (omega (arith, more, phases_are lines)) in
+    let at : part_at (plan_of lines) r.phase ≡ PhaseStart r.phase = rw some refl in
+    rw between.plan (between.next ∙ ap Some at)
+
+-- it ends
+pub ends : (old new : PathSeen) (phase : ℕ) → Ran old new (PhaseStart phase) → part_after new.guest.plan new.guest.part ≡ Some (PhaseEnd phase)
+ends old new phase ran = rw ran.guest_part refl
+
+-- and then one phase more has run
+pub next_between : (lines : List Line) (r s : Runner) (p q t : PathSeen) → IsBetween lines r p → Ran p q (PhaseStart r.phase) → Ran q t (PhaseEnd r.phase) → RunsSoFar lines s → s.phase ≡ r.phase + 1 → IsBetween lines s t
+next_between lines r s p q t between start end so_far more =
+    let plan : t.guest.plan ≡ plan_of lines = end.plan ∙ start.plan ∙ between.plan in
+    let at : part_after (plan_of lines) (Some (PhaseEnd r.phase)) ≡ Some (part_at (plan_of lines) (r.phase + 1)) = some_of (nat_lt (r.phase + 1) (length (plan_of lines).phases)) (PhaseStart (r.phase + 1)) Unload in
+    record { ran = so_far; rests = end.rests; plan = plan; next = rw (end.guest_part, more) at }
+
+-- behind the last phase it is the farewell
+pub farewell : (lines : List Line) (r : Runner) (p : PathSeen) → IsBetween lines r p → r.phase ≡ length (parts lines) → part_after p.guest.plan p.guest.part ≡ Some Unload
+farewell lines r p between all =
+    let none : nat_lt r.phase (length (plan_of lines).phases) ≡ false = lt_false r.phase (length (plan_of lines).phases) (omega (arith, all, phases_are lines)) in
+    let at : part_at (plan_of lines) r.phase ≡ Unload = rw none refl in
+    rw between.plan (between.next ∙ ap Some at)
+
+-- a runner that has no next phase ran them all
+pub over : (lines : List Line) (r : Runner) (b : Bool) → RunsSoFar lines r → (IsTrue b ↔ (r.phase < length (parts lines))) → b ≡ false → r.phase ≡ length (parts lines)
+over lines r b so_far same not = by_place r.phase (length (parts lines)) so_far.counted (λ less. let it : b ≡ true = same.1 less in let none : true ≡ false = sym it ∙ not in cc (none))
+  where
+    by_place : (m n : ℕ) → m ≤ n → (m < n → ⊥) → m ≡ n
+    by_place m n le more = elim (cases_eq m n) [
+      | inl e ↦ e
+      | inr ne ↦ absurd (more (omega (arith, le, ne)))
+    ]

@@ -1,0 +1,18 @@
+-- What the controls of a guest and its host come to.
+use Rattle.std.specs.Prelude.{◌≡◌, List, Option, Some, None}
+use Rattle.bus_script.specs.declared.line.Line.{Line}
+use Rattle.control_model.specs.Openings.{plan_of}
+use Rattle.control_run.specs.Laws.{IsOver}
+use Rattle.vmbus_main.specs.declared.outcome.Controls.{Controls}
+
+-- Both controls were made from the script, and are done with the farewell. They have one version, the greatest that both know; each was fed what the
+-- other posted; a channel that was opened is closed at both, and each other one is offered
+pub record AreControls (lines : List Line) (controls : Controls) : Type 0 where
+  pub guest_plan : controls.guest.plan ≡ plan_of lines
+  pub host_plan : controls.host.plan ≡ plan_of lines
+  pub over : IsOver (plan_of lines) controls.guest controls.host
+
+-- there are controls, and they are those of the script
+abbrev pub HasControls : List Line → Option Controls → Type 0
+HasControls lines None = ⊥
+HasControls lines (Some controls) = AreControls lines controls
