@@ -74,6 +74,7 @@ impl<M: Machine> HistSeat<M> {
         ensures later { All (λ c. c.serial < result.serial) self.old.calls }
         ensures behind { length self.old.past ≤ result.serial }
         ensures machine { Replies M.first M.reply_to self.old.first request result.reply }
+        ensures fits { M.fits request result.reply }
         ensures left { self.new.left + 1 ≡ self.old.left }
         ensures first { self.new.first ≡ self.old.first }
         ensures past { self.new.past ≡ self.old.past }

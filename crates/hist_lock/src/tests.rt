@@ -10,7 +10,7 @@ struct Adder {
 }
 
 impl Machine for Adder {
-    ghost use Rattle.std.specs.Prelude.{ℕ, ◌+◌, ◌%◌, ◌^◌, refl};
+    ghost use Rattle.std.specs.Prelude.{ℕ, ◌+◌, ◌%◌, ◌^◌, ◌<◌, refl};
 
     type Request = u32;
 
@@ -21,6 +21,8 @@ impl Machine for Adder {
     ghost after = { λ s q. record { base = s.base; sum = (s.sum + q) % 2 ^ 32 } };
 
     ghost reply_to = { λ s q. (s.sum + q) % 2 ^ 32 };
+
+    ghost fits = { λ q r. r < 2 ^ 32 };
 
     ghost keeps_setup = { λ s q. refl };
 

@@ -206,6 +206,8 @@ impl Machine for Station {
 
     ghost reply_to = { station_reply };
 
+    ghost fits = { λ q r. (s : _) × (r ≡ station_reply s q) };
+
     /// Serves one message, or refuses bytes that are none. It takes no memory.
     fn apply(&mut self, request: &Result<Rndis, RndisFault>) -> NetReply
         ensures reply { result ≡ station_reply self.old request.now }

@@ -1,5 +1,5 @@
 -- The disk, as its users see it: a total map from places to blocks, and places that can't be read.
-use Rattle.std.specs.Prelude.{ℕ, ◌+◌, ◌-◌, ◌*◌, Bool, false, not, ◌==◌, ◌||◌, ◌&&◌, nat_eq, nat_lt, nat_le, min, List, [], ◌∷◌, ◌++◌, length, take, replicate, slice_range, Option, Some, None, is_none, if◌then◌else◌}
+use Rattle.std.specs.Prelude.{ℕ, ◌≤◌, ◌<◌, ◌+◌, ◌-◌, ◌*◌, Bool, false, not, ◌==◌, ◌||◌, ◌&&◌, nat_eq, nat_lt, nat_le, min, List, [], ◌∷◌, ◌++◌, length, take, replicate, slice_range, Option, Some, None, is_none, if◌then◌else◌}
 use Rattle.std.specs.List.{flat_map, list_any, range_with_len}
 use Rattle.std.specs.Int.{to_be_bytes, w32}
 use Rattle.scsi_disk.specs.Commands.{command_of}
@@ -104,3 +104,15 @@ disk_reply d q = command_reply d (command_of q.cdb) q.out
 -- the disk after a request
 abbrev pub disk_after : DiskState → DiskRequest → DiskState
 disk_after d q = command_after d (command_of q.cdb) q.out
+
+-- how many bytes come back at most
+abbrev pub most_back : Option Command → ℕ
+most_back (Some (Inquiry standard allocation)) = 36
+most_back (Some ReadCapacity) = 8
+most_back (Some (Read lba count)) = 512 * count
+most_back _ = 0
+
+-- a reply is no longer than its command asks for, and a check's codes are bytes
+abbrev pub IsSized : DiskRequest → DiskReply → Type 0
+IsSized q (Good bytes) = length bytes ≤ most_back (command_of q.cdb)
+IsSized q (Check key asc ascq) = (key < 256) × (asc < 256) × (ascq < 256)

@@ -162,7 +162,7 @@ impl Disk {
 
 impl Machine for Disk {
     ghost use Rattle.std.specs.Prelude.{◌≡◌, refl};
-    ghost use Rattle.scsi_disk.specs.DiskModel.{disk_reply, disk_after};
+    ghost use Rattle.scsi_disk.specs.DiskModel.{disk_reply, disk_after, IsSized};
     ghost use Rattle.scsi_disk.specs.FiniteMap.{stands_for, unwritten, kept_after};
 
     type Request = DiskRequest;
@@ -174,6 +174,8 @@ impl Machine for Disk {
     ghost after = { kept_after };
 
     ghost reply_to = { λ s q. disk_reply (stands_for s) q };
+
+    ghost fits = { IsSized };
 
     /// Serves one request. It takes no memory.
     fn apply(&mut self, request: &DiskRequest) -> DiskReply

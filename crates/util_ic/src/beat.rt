@@ -32,6 +32,8 @@ impl Machine for BeatMachine {
 
     ghost reply_to = { λ s q. beat_reply q };
 
+    ghost fits = { λ q r. r ≡ beat_reply q };
+
     /// A heartbeat's sequence number comes back one greater, wrapping at 2^64. Any other request has status 0x80004005.
     fn apply(&mut self, request: &IcAsk) -> IcAnswer {
         match *request {

@@ -40,6 +40,8 @@ impl Machine for DownMachine {
 
     ghost reply_to = { λ s q. down_reply q };
 
+    ghost fits = { λ q r. r ≡ down_reply q };
+
     /// A request to power off or restart has status 0, and any other 0x80004005.
     fn apply(&mut self, request: &IcAsk) -> IcAnswer {
         match *request {
