@@ -1,6 +1,6 @@
 -- The disk, as its users see it: a total map from places to blocks, and places that can't be read.
 use Rattle.std.specs.Prelude.{ℕ, ◌≤◌, ◌<◌, ◌+◌, ◌-◌, ◌*◌, Bool, false, not, ◌==◌, ◌||◌, ◌&&◌, nat_eq, nat_lt, nat_le, min, List, [], ◌∷◌, ◌++◌, length, take, replicate, slice_range, Option, Some, None, is_none, if◌then◌else◌}
-use Rattle.std.specs.List.{flat_map, list_any, range_with_len}
+use Rattle.std.specs.List.{AllByRecursion, flat_map, list_any, range_with_len}
 use Rattle.std.specs.Int.{to_be_bytes, w32}
 use Rattle.scsi_disk.specs.Commands.{command_of}
 use Rattle.scsi_disk.specs.declared.command.Command.{Command}
@@ -112,7 +112,7 @@ most_back (Some ReadCapacity) = 8
 most_back (Some (Read lba count)) = 512 * count
 most_back _ = 0
 
--- a reply is no longer than its command asks for, and a check's codes are bytes
+-- what comes back are bytes, no more than the command asks for, and a check's codes are bytes
 abbrev pub IsSized : DiskRequest → DiskReply → Type 0
-IsSized q (Good bytes) = length bytes ≤ most_back (command_of q.cdb)
+IsSized q (Good bytes) = (length bytes ≤ most_back (command_of q.cdb)) × AllByRecursion (λ b. b < 256) bytes
 IsSized q (Check key asc ascq) = (key < 256) × (asc < 256) × (ascq < 256)

@@ -1,7 +1,7 @@
 //! The disk as a machine of requests and replies.
 ghost use Rattle.std.specs.Prelude.{◌≡◌, ℕ, ◌+◌, ◌<◌, ◌≤◌, ◌^◌, List, IfOk, All, None, Some, nat_lt, length};
 ghost use Rattle.std.specs.List.{list_any, range_with_len};
-ghost use Rattle.scsi_disk.specs.DiskModel.{new_disk, refusal_of, good_bytes, disk_reply, disk_after};
+ghost use Rattle.scsi_disk.specs.DiskModel.{new_disk, refusal_of, good_bytes, disk_reply, disk_after, most_back, IsSized};
 ghost use Rattle.scsi_disk.specs.FiniteMap.{stands_for, made, is_among, with_written, written_after, kept_after};
 
 use crate::command::Command;
@@ -128,7 +128,8 @@ impl Disk {
     /// The last place, or the greatest number where it is greater, and the size of a block.
     #[tactic(auto, unfolding(crate::specs::DiskModel::good_bytes))]
     fn capacity(&self) -> Chunk
-        ensures { result ≡ good_bytes (stands_for self.now) Command.ReadCapacity }
+        ensures value { result ≡ good_bytes (stands_for self.now) Command.ReadCapacity }
+        ensures len { length result ≡ 8 }
     {
         let last = self.store.blocks().saturating_sub(1).min(0xffff_ffff) as u32;
         let mut chunk = Chunk::of(&last.to_be_bytes());
@@ -141,6 +142,7 @@ impl Disk {
     fn serve(&mut self, command: Command, out: &[u8]) -> Chunk
         requires { refusal_of (stands_for self.old) command out.now ≡ None }
         ensures back { result ≡ good_bytes (stands_for self.old) command }
+        ensures most { length result ≤ most_back (Some command) }
         ensures kept { self.new
             ≡ with_written self.old (written_after self.old (Some command) out.now) }
     {
@@ -180,6 +182,7 @@ impl Machine for Disk {
     /// Serves one request. It takes no memory.
     fn apply(&mut self, request: &DiskRequest) -> DiskReply
         ensures reply { result ≡ disk_reply (stands_for self.old) request.now }
+        ensures fits { IsSized request.now result }
         ensures after { self.new ≡ kept_after self.old request.now }
         ensures model { stands_for self.new ≡ disk_after (stands_for self.old) request.now }
     {
@@ -189,7 +192,7 @@ impl Machine for Disk {
         let out = request.out.bytes();
         match self.refusal(&command, out) {
             Some(refusal) => refusal.check(),
-            None => DiskReply::Good(self.serve(command, out)),
+            None => DiskReply::good(self.serve(command, out)),
         }
     }
 

@@ -1,5 +1,5 @@
 //! Inquiry data.
-ghost use Rattle.std.specs.Prelude.{◌≡◌, take};
+ghost use Rattle.std.specs.Prelude.{◌≡◌, ◌≤◌, length, take};
 ghost use Rattle.scsi_disk.specs.DiskModel.{inquiry_data};
 
 use crate::Chunk;
@@ -9,7 +9,8 @@ const DATA: [u8; 36] = *b"\0\0\x05\x02\x1f\0\0\0RATTLE  VMBUS DISK      1.0 ";
 
 /// The first bytes of the inquiry data, at most so many.
 pub(crate) fn inquiry(allocation: u64) -> Chunk
-    ensures { result ≡ take allocation inquiry_data }
+    ensures value { result ≡ take allocation inquiry_data }
+    ensures most { length result ≤ 36 }
 {
     if allocation < 36 {
         Chunk::of(&DATA[..allocation as usize])

@@ -1,6 +1,7 @@
 //! Why a disk refuses a command.
 ghost use Rattle.std.specs.Prelude.{◌≡◌};
-ghost use Rattle.scsi_disk.specs.DiskModel.{check_of};
+ghost use Rattle.scsi_disk.specs.DiskModel.{check_of, IsSized};
+ghost use Rattle.scsi_disk.specs.declared.request.DiskRequest.{DiskRequest};
 
 use crate::DiskReply;
 
@@ -20,7 +21,8 @@ pub(crate) enum Refusal {
 impl Refusal {
     /// Its check: sense key, additional sense code and qualifier.
     pub(crate) fn check(self) -> DiskReply
-        ensures { result ≡ check_of self }
+        ensures value { result ≡ check_of self }
+        ensures fits { (q : DiskRequest) → IsSized q result }
     {
         let (key, asc) = match self {
             Refusal::InvalidCode => (5, 0x20),

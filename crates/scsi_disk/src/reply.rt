@@ -1,5 +1,7 @@
 //! What a disk answers.
-ghost use Rattle.std.specs.Prelude.{◌≡◌};
+ghost use Rattle.std.specs.Prelude.{◌≡◌, ◌<◌};
+ghost use Rattle.std.specs.List.{AllByRecursion};
+ghost use Rattle.scsi_disk.specs.declared.reply.DiskReply.TheVariants.{Good};
 
 use crate::Chunk;
 
@@ -20,6 +22,16 @@ pub enum DiskReply {
 }
 
 impl DiskReply {
+    /// The answer that gives these bytes.
+    pub(crate) fn good(back: Chunk) -> DiskReply
+        ensures value { result ≡ Good back }
+        ensures fits { AllByRecursion (λ b. b < 256) back }
+    {
+        let bytes = back.bytes();
+        let _len = bytes.len();
+        DiskReply::Good(back)
+    }
+
     /// The same answer. It takes no memory.
     pub fn again(&self) -> DiskReply
         ensures { result ≡ self.now }

@@ -49,7 +49,8 @@ impl Store {
     pub(crate) fn read(&self, lba: u64, count: u64) -> Chunk
         requires few { count ≤ 8 }
         requires fits { lba + count < 2 ^ 64 }
-        ensures { result ≡ flat_map (block_in self.now.written) (range_with_len lba count) }
+        ensures all { result ≡ flat_map (block_in self.now.written) (range_with_len lba count) }
+        ensures len { length result ≡ 512 * count }
     {
         let mut chunk = Chunk::empty();
         for i in 0..count {
