@@ -1,10 +1,15 @@
 -- The station, as a machine of messages and answers.
-use Rattle.std.specs.Prelude.{ℕ, Bool, ◌||◌, ◌&&◌, ◌==◌, nat_eq, nat_le, List, [], ◌++◌, length, drop, replicate, slice_range, Option, Some, None, Result, Ok, Err, if◌then◌else◌}
+use Rattle.std.specs.Prelude.{◌≡◌, ◌≤◌, nat_lt, IfSome, ℕ, Bool, ◌||◌, ◌&&◌, ◌==◌, nat_eq, nat_le, List, [], ◌++◌, length, drop, replicate, slice_range, Option, Some, None, Result, Ok, Err, if◌then◌else◌}
 use Rattle.std.specs.List.{starts_with}
 use Rattle.wire_table.specs.Little.{number_of, bytes_of}
 use Rattle.rndis_msg.specs.declared.rndis.Rndis.{Rndis}
 use Rattle.rndis_msg.specs.declared.rndis.Rndis.TheVariants.{Packet, Initialize, InitializeComplete, Halt, Query, QueryComplete, Set, SetComplete, Reset, ResetComplete, Keepalive, KeepaliveComplete}
 use Rattle.rndis_msg.specs.declared.fault.RndisFault.{RndisFault}
+use Rattle.rndis_msg.specs.Types.{number_of_type}
+use Rattle.rndis_msg.specs.Messages.{type_of, body_of}
+use Rattle.rndis_msg.specs.Grammar.{InForm}
+use Rattle.rndis_msg.specs.declared.message_type.MessageType.{MessageType}
+use Rattle.rndis_msg.specs.declared.message_type.MessageType.TheVariants.{PacketMsg, InitializeCmplt, QueryCmplt, SetCmplt, ResetCmplt, KeepaliveCmplt}
 use Rattle.net_dev.specs.Objects.{answer_for, object_bytes}
 use Rattle.net_dev.specs.declared.objects.Answer.{Answer}
 use Rattle.net_dev.specs.declared.objects.Answer.TheVariants.{Objects, Number, Filter, Address}
@@ -99,3 +104,34 @@ station_after s q = with_filter s (filter_after s.filter q)
 -- a station with the same addresses that nothing was asked yet
 abbrev pub unfiltered : Station → Station
 unfiltered s = with_filter s 0
+
+-- the type of the message that comes back of a message, where one may: a frame, or the completion of a request
+abbrev pub type_back : Rndis → Option MessageType
+type_back (Packet body) = Some PacketMsg
+type_back (Initialize request_id major minor max_transfer) = Some InitializeCmplt
+type_back (Query request_id oid body) = Some QueryCmplt
+type_back (Set request_id oid body) = Some SetCmplt
+type_back Reset = Some ResetCmplt
+type_back (Keepalive request_id) = Some KeepaliveCmplt
+type_back m = None
+
+-- how many bytes its buffer has at most: a frame comes back as long as it was, and the list of ten objects is the longest value
+abbrev pub most_back : Rndis → ℕ
+most_back (Packet body) = length body
+most_back (Query request_id oid body) = 40
+most_back m = 0
+
+-- a message that may come back of another
+pub record IsBack (q m : Rndis) : Type 0 where
+  pub kind : Some (type_of m) ≡ type_back q
+  pub most : length (body_of m) ≤ most_back q
+  pub form : InForm m
+
+-- the status of an answer: a type above 0x80000000 is what a host sends, and isn't served
+abbrev pub status_for : Rndis → ℕ
+status_for m = if nat_lt 0x8000_0000 (number_of_type (type_of m)) then 2 else 1
+
+-- what each answer keeps to, whatever the station's addresses and filter: its status, and the type and the size of what comes back
+abbrev pub Keeps : Result Rndis RndisFault → NetReply → Type 0
+Keeps (Ok m) r = (r.status ≡ status_for m) × IfSome r.back (IsBack m)
+Keeps (Err fault) r = r ≡ not_served

@@ -86,6 +86,8 @@ fn write(m: &Nvsp, out: &mut [u8])
 }
 
 /// Writes a message in 40 bytes; those behind its fields are 0.
+///
+/// Source: struct `nvsp_message` of Linux 6.12, `drivers/net/hyperv/hyperv_net.h`.
 pub fn encode_nvsp(m: &Nvsp, out: &mut [u8; 40])
     ensures written { out.new ≡ nvsp_bytes m.now }
 
@@ -168,6 +170,8 @@ fn parse(bytes: &[u8]) -> Result<Nvsp, NvspFault>
 /// The message with which the bytes begin. What stands behind its fields isn't looked at.
 ///
 /// Errors: `Short` below 40 bytes, else `Unknown` where there is no message of this type.
+///
+/// Source: struct `nvsp_message` of Linux 6.12, `drivers/net/hyperv/hyperv_net.h`.
 pub fn decode_nvsp(bytes: &[u8]) -> Result<Nvsp, NvspFault>
     // The bytes are the message's.
     ensures found { IfOk result (λ m. IsNvsp m bytes.now) }

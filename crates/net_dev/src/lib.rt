@@ -1,8 +1,8 @@
 //! A synthetic network device: NVSP messages, and a station that answers Remote NDIS.
 //!
-//! Source: `drivers/net/hyperv/hyperv_net.h` of Linux 6.12 (struct `nvsp_message`), and the Remote NDIS
-//! specification for the objects of a query. `specs/Nvsp.antt` says which bytes an NVSP message has,
-//! `specs/Station.antt` what the station answers.
+//! Source: `drivers/net/hyperv/hyperv_net.h` of Linux 6.12 (struct `nvsp_message`), and for the objects of a query
+//! the Remote NDIS specification and `include/linux/rndis.h`. `specs/Nvsp.antt` says which bytes an NVSP message
+//! has, `specs/Station.antt` what the station answers. Nothing here takes memory.
 #![tactic(auto)]
 
 mod codec;

@@ -1,5 +1,5 @@
 //! The objects that a query may ask for, as a table.
-ghost use Rattle.std.specs.Prelude.{◌≡◌};
+ghost use Rattle.std.specs.Prelude.{◌≡◌, length};
 ghost use Rattle.net_dev.specs.Objects.{answer_for, object_bytes};
 
 use rndis_msg::Small;
@@ -25,10 +25,10 @@ pub struct Object {
     pub answer: Answer,
 }
 
-/// OID_GEN_CURRENT_PACKET_FILTER: the one object that can be set.
+/// RNDIS_OID_GEN_CURRENT_PACKET_FILTER of Linux 6.12, `include/linux/rndis.h`: the one object that can be set.
 pub const PACKET_FILTER: u32 = 0x0001_010e;
 
-/// The objects, by the Remote NDIS specification: supported list, hardware status (ready), media supported
+/// The objects, by the Remote NDIS specification and the numbers of `include/linux/rndis.h`: supported list, hardware status (ready), media supported
 /// and in use (802.3), maximum frame size in bytes, link speed in units of 100 bits a second, packet
 /// filter, media connect status (connected), permanent and current address.
 pub const OBJECTS: [Object; 10] = [
@@ -88,7 +88,8 @@ pub fn answer_of(oid: u32) -> Option<Answer>
 
 /// The numbers of all objects, 4 bytes each.
 pub fn object_list() -> Small
-    ensures { result ≡ object_bytes }
+    ensures value { result ≡ object_bytes }
+    ensures few { length result ≡ 40 }
 {
     let mut bytes = [0; 40];
     for (i, object) in OBJECTS.iter().enumerate() {

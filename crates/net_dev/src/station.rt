@@ -1,7 +1,10 @@
 //! The station as a machine of messages and answers.
-ghost use Rattle.std.specs.Prelude.{◌≡◌, ◌≤◌, length, None, Ok};
+ghost use Rattle.std.specs.Prelude.{◌≡◌, ◌≤◌, length, None, Ok, IfSome};
+ghost use Rattle.rndis_msg.specs.Messages.{type_of, body_of};
+ghost use Rattle.rndis_msg.specs.Grammar.{InForm};
+ghost use Rattle.rndis_msg.specs.declared.message_type.MessageType.TheVariants.{PacketMsg, QueryCmplt};
 ghost use Rattle.wire_table.specs.Little.{bytes_of};
-ghost use Rattle.net_dev.specs.Station.{is_addressed, frame_back, value_bytes, query_reply, set_status, filter_set, initialize_reply, station_reply, station_after};
+ghost use Rattle.net_dev.specs.Station.{is_addressed, frame_back, value_bytes, query_reply, set_status, filter_set, initialize_reply, station_reply, station_after, Keeps};
 
 use crate::NetReply;
 use crate::objects::{self, Answer, PACKET_FILTER};
@@ -31,7 +34,7 @@ pub struct Station {
 }
 
 impl Station {
-    /// A device with these addresses and packet filter 0.
+    /// A device with the adapter's address and the station's, and packet filter 0.
     pub fn make(mac: [u8; 6], station: [u8; 6]) -> Station
         ensures { result ≡ record { mac = mac; station = station; filter = 0 } }
     {
@@ -54,7 +57,8 @@ impl Station {
     /// type and data.
     fn frame_back(&self, frame: &[u8]) -> Option<Rndis>
         requires { length frame.now ≤ 1514 }
-        ensures { result ≡ frame_back self.now frame.now }
+        ensures value { result ≡ frame_back self.now frame.now }
+        ensures sized { IfSome result (λ m. (type_of m ≡ PacketMsg) × (length (body_of m) ≡ length frame.now)) }
     {
         if !self.is_addressed(frame) {
             return None;
@@ -67,7 +71,8 @@ impl Station {
 
     /// The bytes of an object.
     fn value(&self, answer: Answer) -> Small
-        ensures { result ≡ value_bytes self.now answer }
+        ensures value { result ≡ value_bytes self.now answer }
+        ensures few { length result ≤ 40 }
     {
         match answer {
             Answer::Objects => objects::object_list(),
@@ -79,7 +84,9 @@ impl Station {
 
     /// The answer to a query: the object's bytes, or that there is no such object.
     fn query(&self, request_id: u32, oid: u32) -> Rndis
-        ensures { result ≡ query_reply self.now request_id oid }
+        ensures value { result ≡ query_reply self.now request_id oid }
+        ensures sized { (type_of result ≡ QueryCmplt) × (length (body_of result) ≤ 40) }
+        ensures form { InForm result }
     {
         match objects::answer_of(oid) {
             Some(answer) => Rndis::QueryComplete {
@@ -115,6 +122,7 @@ impl Station {
     /// Serves a message.
     fn serve(&mut self, message: &Rndis) -> NetReply
         ensures reply { result ≡ station_reply self.old (Ok message.now) }
+        ensures fits { Keeps (Ok message.now) result }
         ensures after { self.new ≡ station_after self.old (Ok message.now) }
     {
         let back = match message {
@@ -167,7 +175,8 @@ fn refused() -> NetReply
 
 /// The bytes of a number.
 fn number_bytes(n: u32) -> Small
-    ensures { result ≡ bytes_of 4 n }
+    ensures value { result ≡ bytes_of 4 n }
+    ensures few { length result ≡ 4 }
 {
     let mut bytes = [0; 4];
     put_at(&mut bytes, 0, 4, u64::from(n));
@@ -194,7 +203,7 @@ fn initialize_complete(request_id: u32) -> Rndis
 
 impl Machine for Station {
     ghost use Rattle.std.specs.Prelude.{refl};
-    ghost use Rattle.net_dev.specs.Station.{unfiltered, station_after, station_reply};
+    ghost use Rattle.net_dev.specs.Station.{unfiltered, station_after, station_reply, Keeps};
 
     type Request = Result<Rndis, RndisFault>;
 
@@ -206,11 +215,21 @@ impl Machine for Station {
 
     ghost reply_to = { station_reply };
 
-    ghost fits = { λ q r. (s : _) × (r ≡ station_reply s q) };
+    ghost fits = { Keeps };
 
     /// Serves one message, or refuses bytes that are none. It takes no memory.
+    ///
+    /// A frame to the station or to all stations comes back, any other is passed over. An initialize, a
+    /// keepalive and a reset succeed, and a reset puts 0 in the packet filter. A query gives the object's
+    /// value, or status 0xc00000bb. A set of 4 bytes is kept as packet filter; of another length it has
+    /// status 0xc0010015, and of another object 0xc00000bb. A halt has no answer. What a host sends is
+    /// refused.
+    ///
+    /// Source: the Remote NDIS specification; the guest's part is `drivers/net/hyperv/rndis_filter.c` of Linux
+    /// 6.12.
     fn apply(&mut self, request: &Result<Rndis, RndisFault>) -> NetReply
         ensures reply { result ≡ station_reply self.old request.now }
+        ensures fits { Keeps request.now result }
         ensures after { self.new ≡ station_after self.old request.now }
     {
         match request {
@@ -219,6 +238,7 @@ impl Machine for Station {
         }
     }
 
+    /// The same answer once more. It takes no memory.
     fn copy(reply: &NetReply) -> NetReply {
         reply.again()
     }

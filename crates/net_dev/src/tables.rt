@@ -95,12 +95,14 @@ pub const RNDIS_PACKET_COMPLETE: Layout<2> = Layout {
     fields: [Field { at: 0, width: 4 }, Field { at: 4, width: 4 }],
 };
 
+/// The layout of an init, whose fields lie apart and within its size.
 pub fn init_table() -> Checked<3>
     ensures { result.layout ≡ INIT }
 {
     Checked { layout: INIT }
 }
 
+/// The layout of an init complete, whose fields lie apart and within its size.
 pub fn init_complete_table() -> Checked<4>
     ensures { result.layout ≡ INIT_COMPLETE }
 {
@@ -109,6 +111,7 @@ pub fn init_complete_table() -> Checked<4>
     }
 }
 
+/// The layout of an NDIS version, whose fields lie apart and within its size.
 pub fn ndis_version_table() -> Checked<3>
     ensures { result.layout ≡ NDIS_VERSION }
 {
@@ -117,6 +120,7 @@ pub fn ndis_version_table() -> Checked<3>
     }
 }
 
+/// The layout of a receive buffer, whose fields lie apart and within its size.
 pub fn receive_buffer_table() -> Checked<3>
     ensures { result.layout ≡ RECEIVE_BUFFER }
 {
@@ -125,6 +129,7 @@ pub fn receive_buffer_table() -> Checked<3>
     }
 }
 
+/// The layout of a receive buffer complete, whose fields lie apart and within its size.
 pub fn receive_buffer_complete_table() -> Checked<7>
     ensures { result.layout ≡ RECEIVE_BUFFER_COMPLETE }
 {
@@ -133,6 +138,7 @@ pub fn receive_buffer_complete_table() -> Checked<7>
     }
 }
 
+/// The layout of a send buffer, whose fields lie apart and within its size.
 pub fn send_buffer_table() -> Checked<3>
     ensures { result.layout ≡ SEND_BUFFER }
 {
@@ -141,6 +147,7 @@ pub fn send_buffer_table() -> Checked<3>
     }
 }
 
+/// The layout of a send buffer complete, whose fields lie apart and within its size.
 pub fn send_buffer_complete_table() -> Checked<3>
     ensures { result.layout ≡ SEND_BUFFER_COMPLETE }
 {
@@ -149,6 +156,7 @@ pub fn send_buffer_complete_table() -> Checked<3>
     }
 }
 
+/// The layout of a Remote NDIS packet, whose fields lie apart and within its size.
 pub fn rndis_packet_table() -> Checked<4>
     ensures { result.layout ≡ RNDIS_PACKET }
 {
@@ -157,6 +165,7 @@ pub fn rndis_packet_table() -> Checked<4>
     }
 }
 
+/// The layout of a Remote NDIS packet complete, whose fields lie apart and within its size.
 pub fn rndis_packet_complete_table() -> Checked<2>
     ensures { result.layout ≡ RNDIS_PACKET_COMPLETE }
 {

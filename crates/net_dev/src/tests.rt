@@ -183,7 +183,10 @@ fn other_bytes_are_refused(rt: HostRuntime) -> Result<(), Fail> {
         let len = bytes_of(&rt, digits, &mut bytes);
         assert_eq!(rt; decode_nvsp(&bytes[..len]), Err(want));
     }
+    let text = NvspFault::Unknown { kind: 106 }.to_string(rt.alloc())?;
+    assert!(rt; text.as_str() == "unknown 106");
     let want = NvspFault::Short { have: 39, need: 40 };
+    assert!(rt; want.to_string(rt.alloc())?.as_str() == "short 39 need 40");
     assert_eq!(rt; decode_nvsp(&[0; 39]), Err(want));
     Ok(())
 }
@@ -286,6 +289,11 @@ fn queries_give_the_table(rt: HostRuntime) -> Result<(), Fail> {
     Ok(())
 }
 
+// A copy of what any machine answers.
+fn served<M: Machine>(machine: &mut M, request: &M::Request) -> M::Reply {
+    M::copy(&machine.apply(request))
+}
+
 #[test]
 fn frames_come_back(rt: HostRuntime) -> Result<(), Fail> {
     let mut device = Station::make(MAC, STATION);
@@ -307,7 +315,7 @@ fn frames_come_back(rt: HostRuntime) -> Result<(), Fail> {
         let request = Ok(Rndis::Packet {
             body: Small::of(frame),
         });
-        let reply = Station::copy(&device.apply(&request));
+        let reply = served(&mut device, &request);
         assert_eq!(rt; reply.status, 1);
         match (reply.back, want) {
             (Some(Rndis::Packet { body }), Some(bytes)) => assert!(rt; body.bytes() == bytes),

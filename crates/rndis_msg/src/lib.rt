@@ -1,7 +1,8 @@
 //! Remote NDIS: the messages of a network device, and their bytes.
 //!
-//! Source: the Remote NDIS specification, and `include/linux/rndis.h` of Linux 6.12. `specs/Grammar.antt` says
-//! which bytes a message has, `specs/Faults.antt` which bytes are none and why.
+//! Source: the Remote NDIS specification, section 2.2; of Linux 6.12 the numbers in `include/linux/rndis.h` and
+//! struct `rndis_message` in `drivers/net/hyperv/hyperv_net.h`. `specs/Grammar.antt` says which bytes a message
+//! has, `specs/Faults.antt` which bytes are none and why. Nothing here takes memory.
 #![tactic(auto)]
 
 mod fault;

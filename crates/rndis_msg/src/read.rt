@@ -217,6 +217,9 @@ fn parse(bytes: &[u8]) -> Result<Rndis, RndisFault>
 /// fixed part, or above the bytes; `Long` where there is no buffer and the length is above the fixed part;
 /// `Field` with the offset where a buffer that isn't empty begins in the fixed part; `Field` with the length
 /// where the buffer ends past the message or is longer than 1,514 bytes.
+///
+/// Source: the Remote NDIS specification, section 2.2. Linux 6.12 looks at a packet's offset and length in
+/// `rndis_filter_receive_data`, `drivers/net/hyperv/rndis_filter.c`.
 pub fn decode(bytes: &[u8]) -> Result<Rndis, RndisFault>
     // The bytes begin with those of the message.
     ensures found { IfOk result (λ m. BeginsWith m bytes.now) }

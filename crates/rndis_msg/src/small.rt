@@ -31,7 +31,7 @@ impl Small {
         }
     }
 
-    /// These bytes.
+    /// These bytes, 1,514 at most.
     pub fn of(bytes: &[u8]) -> Small
         requires { length bytes.now ≤ 1514 }
         ensures { result ≡ bytes.now }
@@ -41,7 +41,7 @@ impl Small {
         small
     }
 
-    /// The bytes.
+    /// The bytes, 1,514 at most.
     pub fn bytes(&self) -> &[u8]
         ensures value { result.now ≡ self.now }
         ensures most { length result.now ≤ 1514 }
@@ -59,7 +59,7 @@ impl Small {
         }
     }
 
-    /// Puts more bytes at the end.
+    /// Puts more bytes at the end, 1,514 with those before at most.
     pub fn extend(&mut self, bytes: &[u8])
         requires { length self.old + length bytes.now ≤ 1514 }
         ensures { self.new ≡ self.old ++ bytes.now }

@@ -23,6 +23,7 @@ pub const PACKET: Layout<11> = Layout {
     ],
 };
 
+/// The layout of a packet, whose fields lie apart and within its size.
 pub fn packet_table() -> Checked<11>
     ensures { result.layout ≡ PACKET }
 {
@@ -42,6 +43,7 @@ pub const INITIALIZE: Layout<6> = Layout {
     ],
 };
 
+/// The layout of an initialize, whose fields lie apart and within its size.
 pub fn initialize_table() -> Checked<6>
     ensures { result.layout ≡ INITIALIZE }
 {
@@ -69,6 +71,7 @@ pub const INITIALIZE_COMPLETE: Layout<13> = Layout {
     ],
 };
 
+/// The layout of an initialize complete, whose fields lie apart and within its size.
 pub fn initialize_complete_table() -> Checked<13>
     ensures { result.layout ≡ INITIALIZE_COMPLETE }
 {
@@ -91,6 +94,7 @@ pub const QUERY: Layout<7> = Layout {
     ],
 };
 
+/// The layout of a query or a set, whose fields lie apart and within its size.
 pub fn query_table() -> Checked<7>
     ensures { result.layout ≡ QUERY }
 {
@@ -110,6 +114,7 @@ pub const QUERY_COMPLETE: Layout<6> = Layout {
     ],
 };
 
+/// The layout of a query complete, whose fields lie apart and within its size.
 pub fn query_complete_table() -> Checked<6>
     ensures { result.layout ≡ QUERY_COMPLETE }
 {
@@ -128,6 +133,7 @@ pub const PLAIN: Layout<3> = Layout {
     ],
 };
 
+/// The layout of a halt, a keepalive or a reset, whose fields lie apart and within its size.
 pub fn plain_table() -> Checked<3>
     ensures { result.layout ≡ PLAIN }
 {
@@ -146,6 +152,7 @@ pub const STATUS: Layout<4> = Layout {
     ],
 };
 
+/// The layout of a set complete, a keepalive complete or a reset complete, whose fields lie apart and within its size.
 pub fn status_table() -> Checked<4>
     ensures { result.layout ≡ STATUS }
 {

@@ -169,6 +169,23 @@ fn writes_what_linux_reads(rt: HostRuntime) -> Result<(), Fail> {
     Ok(())
 }
 
+#[test]
+fn a_buffer_grows_to_a_frame(rt: HostRuntime) -> Result<(), Fail> {
+    let mut body = Small::empty();
+    assert!(rt; body.bytes().is_empty());
+    body.extend(&[1, 2]);
+    body.extend(&[3; 1512]);
+    assert_eq!(rt; body.again().bytes().len(), 1514);
+    let mut out = [0xee; 1600];
+    assert_eq!(rt; encode(&Rndis::Packet { body }, &mut out), 1558);
+    assert!(rt; out[44..47] == [1, 2, 3] && out[1557..1559] == [3, 0xee]);
+    let Ok(Rndis::Packet { body }) = decode(&out) else {
+        panic!(rt; "another message")
+    };
+    assert!(rt; body.bytes() == &out[44..1558]);
+    Ok(())
+}
+
 // The faults of packets of 46 bytes with a buffer of 2, at the edges.
 #[test]
 fn refuses_by_the_first_cause(rt: HostRuntime) -> Result<(), Fail> {

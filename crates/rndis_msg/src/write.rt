@@ -131,6 +131,8 @@ fn write(m: &Rndis, out: &mut [u8])
 
 /// Writes a message at the front of a buffer, and answers how many bytes it has, 1,558 at most. The buffer
 /// of a message follows its fixed part; an empty one has offset 0, and 36 in a packet.
+///
+/// Source: the Remote NDIS specification, section 2.2.
 pub fn encode(m: &Rndis, out: &mut [u8]) -> usize
     requires { 1600 ≤ length out.old }
     ensures most { result ≤ 1558 }
