@@ -81,7 +81,13 @@ pub trait Talk: Drop {
         ensures most { result ≤ 384 };
 
     /// Writes the message that goes back before the answer, if there is one.
-    fn write_message(&self, packet: &[u64], reply: &Self::Reply, back: u64, out: &mut [u64]) -> usize
+    fn write_message(
+        &self,
+        packet: &[u64],
+        reply: &Self::Reply,
+        back: u64,
+        out: &mut [u64],
+    ) -> usize
         requires packet { IsPacket packet.now }
         requires fits { (q : Self.Request) × ((speech self.now).read packet.now ≡ Some q) × ((speech self.now).fits q reply.now ≡ true) }
         requires out { length out.old ≡ 384 }

@@ -1,0 +1,62 @@
+//! Two ends in turn over one memory.
+ghost use Rattle.ring_core.specs.States.{IsPacket};
+
+use crate::packet::{room_for, send, take};
+use ring_core::{End, Room, Side, SoloMem};
+use std::alloc::{AllocError, Global};
+use std::io;
+use std::rt::Runtime;
+use std::time::Instant;
+
+// Exchanges the memories of two ends whose rings have one size.
+fn swap(g: &mut End<SoloMem>, h: &mut End<SoloMem>) {
+    if g.cells() == h.cells() {
+        g.swap_memory(h);
+    }
+}
+
+// So many packets across, one at a time: how many arrived.
+fn turns(g: &mut End<SoloMem>, h: &mut End<SoloMem>, p: &[u64], count: u64) -> u64
+    requires { IsPacket p.now }
+{
+    let mut took: u64 = 0;
+    for _ in 0..count {
+        if !send(g, p) {
+            break;
+        }
+        swap(g, h);
+        if take(h) {
+            took = took.wrapping_add(1);
+        }
+        swap(g, h);
+    }
+    took
+}
+
+// An end over a memory of one page, with room for this in each list.
+fn end(alloc: Global, side: Side, room: Room) -> Result<End<SoloMem>, AllocError> {
+    let mut e = bare(alloc, side)?;
+    e.reserve(room, room)?;
+    Ok(e)
+}
+
+fn bare(alloc: Global, side: Side) -> Result<End<SoloMem>, AllocError> {
+    let solo = SoloMem::make(alloc, 4096)?;
+    End::make(alloc, side, 4096, solo)
+}
+
+// The nanoseconds a packet of one round. It is an error where a packet didn't arrive.
+pub(crate) fn round<R: Runtime>(rt: &R, alloc: Global, p: &[u64], count: u64) -> io::Result<u128>
+    requires { IsPacket p.now }
+{
+    let room = room_for(p, count);
+    let mut g = end(alloc, Side::Guest, room)?;
+    let mut h = end(alloc, Side::Host, room)?;
+    let start = Instant::now(rt)?;
+    let took = turns(&mut g, &mut h, p, count);
+    let time = start.elapsed(rt)?.as_nanos();
+    if took != count || count == 0 {
+        return Err(io::Error::other("a packet was lost"));
+    }
+    Ok(time / count as u128)
+}

@@ -1,0 +1,134 @@
+//! Two ends on atomic words: in turn on one thread, and on two threads.
+ghost use Rattle.std.specs.Prelude.{◌≤◌, ℕ, length};
+ghost use Rattle.ring_core.specs.Endings.{IsWant};
+ghost use Rattle.ring_core.specs.States.{IsPacket};
+
+use crate::packet::{room_for, send, take};
+use ring_core::{Armed, End, Room};
+use ring_seat::{ChannelMem, GuestEnd, HostEnd, Sleeper, TableSeat};
+use std::alloc::{AllocError, Global};
+use std::io;
+use std::rt::Runtime;
+use std::sync::Wait;
+use std::thread::{Threads, join};
+use std::time::Instant;
+
+// Both ends of a channel of one page on atomic words, with room for this in each list.
+fn opened(alloc: Global, room: Room) -> Result<(GuestEnd, HostEnd), AllocError> {
+    let (mut guest, mut host) = ChannelMem::make(alloc, 1, 0)?;
+    guest.reserve(room, room)?;
+    host.reserve(room, room)?;
+    Ok((guest, host))
+}
+
+// So many packets across atomic words on one thread, one at a time: how many arrived.
+fn turns(g: &mut GuestEnd, h: &mut HostEnd, p: &[u64], count: u64) -> u64
+    requires { IsPacket p.now }
+{
+    let mut took: u64 = 0;
+    for _ in 0..count {
+        if !send(g, p) {
+            break;
+        }
+        if take(h) {
+            took = took.wrapping_add(1);
+        }
+    }
+    took
+}
+
+// The nanoseconds a packet of one round on atomic words and one thread. It is an error where a packet didn't arrive.
+pub(crate) fn round<R: Runtime>(rt: &R, alloc: Global, p: &[u64], count: u64) -> io::Result<u128>
+    requires { IsPacket p.now }
+{
+    let (mut g, mut h) = opened(alloc, room_for(p, count))?;
+    let start = Instant::now(rt)?;
+    let took = turns(&mut g, &mut h, p, count);
+    let time = start.elapsed(rt)?.as_nanos();
+    if took != count || count == 0 {
+        return Err(io::Error::other("a packet was lost"));
+    }
+    Ok(time / count as u128)
+}
+
+// The room that a sender of packets of so many words waits for.
+fn room_of(words: usize) -> Option<u32>
+    requires { (2 ≤ words) × (words ≤ 384) }
+    ensures { (n : ℕ) → 512 ≤ n → IsWant n result }
+{
+    Some(8 * words as u32 + 8)
+}
+
+// Gives back what was taken, arms the signal, and sleeps where there is nothing to do.
+fn rest<R: Wait>(rt: &R, e: &mut End<TableSeat>, want: Option<u32>)
+    requires { (n : ℕ) → 512 ≤ n → IsWant n want }
+{
+    if !e.is_ready() || e.cells() < 512 {
+        return;
+    }
+    e.commit();
+    let armed = e.arm(want);
+    if matches!(armed, Armed::Asleep) && e.is_asleep() {
+        e.sleep(rt);
+    }
+}
+
+// Sends this packet so many times: how often it was sent.
+fn send_all<R: Wait>(rt: &R, mut e: GuestEnd, p: &[u64], count: u64) -> u64
+    requires packet { IsPacket p.now }
+    requires few { length p.now ≤ 384 }
+{
+    let want = room_of(p.len());
+    let mut sent = 0;
+    for _ in rt.forever() {
+        if sent >= count {
+            return sent;
+        }
+        if send(&mut e, p) {
+            sent += 1;
+        } else {
+            rest(rt, &mut e, want);
+        }
+    }
+    unreachable!()
+}
+
+// Takes so many packets: how many came.
+fn take_all<R: Wait>(rt: &R, mut e: HostEnd, count: u64) -> u64 {
+    let mut took = 0;
+    for _ in rt.forever() {
+        if took >= count {
+            return took;
+        }
+        if take(&mut e) {
+            took += 1;
+        } else {
+            rest(rt, &mut e, None);
+        }
+    }
+    unreachable!()
+}
+
+// The nanoseconds a packet of one round on atomic words and two threads.
+pub(crate) fn threads_round<R: Runtime + Threads + Wait + Sync>(
+    rt: &R,
+    alloc: Global,
+    p: &[u64],
+    count: u64,
+) -> io::Result<u128>
+    requires packet { IsPacket p.now }
+    requires few { length p.now ≤ 384 }
+{
+    let (guest, host) = opened(alloc, room_for(p, count))?;
+    let start = Instant::now(rt)?;
+    let (sent, took) = join(
+        rt,
+        move || send_all(rt, guest, p, count),
+        move || take_all(rt, host, count),
+    );
+    let time = start.elapsed(rt)?.as_nanos();
+    if sent != count || took != count || count == 0 {
+        return Err(io::Error::other("a packet was lost"));
+    }
+    Ok(time / count as u128)
+}
