@@ -3,4 +3,3 @@ pub mod DeskLaws
 pub mod ServeSteps
 pub mod Tables
 pub mod AskSteps
-pub mod EchoLaws

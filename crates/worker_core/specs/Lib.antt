@@ -2,4 +2,3 @@ pub mod Line
 pub mod Owed
 pub mod Serving
 pub mod Asking
-pub mod Echo

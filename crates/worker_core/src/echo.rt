@@ -1,6 +1,6 @@
 //! A talk and a seat for the tests: the device's reply is the value that it was asked.
 ghost use Rattle.std.specs.Prelude.{◌≡◌, ◌≤◌, ◌<◌, ◌+◌, ◌^◌, [], length, take, slice_index_or, IfOk};
-ghost use Rattle.worker_core.specs.Echo.{echo_packet};
+ghost use Rattle.chan_talk.specs.Echo.{echo_packet};
 
 use chan_talk::{Seat, Talk};
 use std::alloc::{AllocError, Global};
@@ -40,8 +40,8 @@ fn word(packet: &[u64], i: usize) -> u64
 
 impl Talk for Echo {
     ghost use Rattle.std.specs.Prelude.{[], refl, slice_index_or};
-    ghost use Rattle.worker_core.specs.Echo.{echo_speech, echo_packet};
-    ghost use Rattle.worker_core.proofs.EchoLaws.{echo_keeps};
+    ghost use Rattle.chan_talk.specs.Echo.{echo_speech, echo_packet};
+    ghost use Rattle.chan_talk.proofs.EchoLaws.{echo_keeps};
 
     type Ask = u64;
 
@@ -127,7 +127,7 @@ impl EchoSeat {
 
 impl Seat<Echo> for EchoSeat {
     ghost use Rattle.std.specs.Prelude.{◌≡◌, refl};
-    ghost use Rattle.worker_core.specs.Echo.{echo_calls};
+    ghost use Rattle.chan_talk.specs.Echo.{echo_calls};
 
     ghost calls = { λ s. echo_calls s.log.items };
 

@@ -1,4 +1,4 @@
--- The talk of the tests: a packet has a head, an id and a value, and the device's reply is the value that it was asked.
+-- An example: a packet has a head, an id and a value, and the device replies the value that it was asked.
 use Rattle.std.specs.Prelude.{ℕ, true, List, [], ◌∷◌, map, slice_index_or, ◌==◌, Option, Some, None}
 use Rattle.hist_lock.specs.Seat.{Call}
 use Rattle.work_model.specs.Speech.{Speech}

@@ -1,7 +1,7 @@
--- The talk of the tests keeps to what packets keep to.
+-- The example keeps to what packets keep to.
 use Rattle.std.proofs.Common.{◌≡◌, ℕ, List, [], refl, Option, Some, None}
 use Rattle.work_model.specs.Speech.{Keeps}
-use Rattle.worker_core.specs.Echo.{echo_speech}
+use Rattle.chan_talk.specs.Echo.{echo_speech}
 
 pub echo_keeps : Keeps echo_speech
 echo_keeps = record {
