@@ -25,9 +25,7 @@ fn write(out: &mut [u64], id: u64, value: u64) -> usize
     ensures most { result ≡ 3 }
     ensures size { length out.new ≡ 384 }
 {
-    out[0] = HEAD;
-    out[1] = id;
-    out[2] = value;
+    out[..3].copy_from_slice(&[HEAD, id, value]);
     3
 }
 
