@@ -93,3 +93,14 @@ pub record Starts (m : Machine) : Type 0 where
   pub opens : is_opening_at m.stage ≡ true
   pub asleep : m.asleep ≡ is_polling_at m.stage
   pub unseen : is_unseen_at m.stage ≡ true → m.saw ≡ false
+
+-- what a send, a take and a commit leave as it was
+pub record KeepsRest (m k : Machine) : Type 0 where
+  pub cells : m.cells ≡ k.cells
+  pub want : m.want ≡ k.want
+  pub side : m.side ≡ k.side
+  pub masked : m.masked ≡ k.masked
+  pub asleep : m.asleep ≡ k.asleep
+  pub marked : m.marked ≡ k.marked
+  pub peer_marked : m.peer_marked ≡ k.peer_marked
+  pub saw : m.saw ≡ k.saw
