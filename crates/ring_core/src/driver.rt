@@ -1,6 +1,6 @@
 //! The drivers of a call: the loops that make its steps.
 ghost use Rattle.std.specs.Prelude.{◌≡◌, ◌≢◌, ℕ, ◌<◌, true, length, Some, None};
-ghost use Rattle.ring_core.specs.Loops.{KeepsRest};
+ghost use Rattle.ring_core.specs.Loops.{SendKeeps, TakeKeeps, CommitKeeps};
 ghost use Rattle.ring_core.specs.States.{after, entered, stored, Continues};
 ghost use Rattle.ring_core.specs.Steps.{is_busy_at, is_copying_at, next_of, fed};
 ghost use Rattle.ring_core.specs.Told.{Memory, memory_after, answer_of};
@@ -49,7 +49,12 @@ fn step<S: Seatlike>(seat: &mut S, core: &mut EndCore, buf: &mut Vec<u64>, packe
 
 // As `step`, for the steps that are rare: it stands apart, so that the drivers stay small.
 #[inline(never)]
-fn step_apart<S: Seatlike>(seat: &mut S, core: &mut EndCore, buf: &mut Vec<u64>, packet: &[u64]) -> u64
+fn step_apart<S: Seatlike>(
+    seat: &mut S,
+    core: &mut EndCore,
+    buf: &mut Vec<u64>,
+    packet: &[u64],
+) -> u64
     requires busy { is_busy_at core.old.machine.stage ≡ true }
     requires wide { length buf.old.items ≡ core.old.machine.cells }
     requires fits { S.cells seat.old ≡ core.old.machine.cells }
@@ -66,16 +71,28 @@ fn step_apart<S: Seatlike>(seat: &mut S, core: &mut EndCore, buf: &mut Vec<u64>,
     step(seat, core, buf, packet)
 }
 
-// Writes back the fields that a send, a take or a commit changes, where the others are the same.
+// Writes back the fields that the frequent steps of a send change, where the others are the same.
 #[inline(always)]
-fn put_back(to: &mut EndCore, from: &EndCore)
-    requires { KeepsRest to.old.machine from.now.machine }
+fn send_back(to: &mut EndCore, from: &EndCore)
+    requires { SendKeeps to.old.machine from.now.machine }
     ensures { to.new.machine ≡ from.now.machine }
 {
     to.machine.write = from.machine.write;
-    to.machine.read = from.machine.read;
-    to.machine.start = from.machine.start;
     to.machine.old = from.machine.old;
+    to.machine.seen = from.machine.seen;
+    to.machine.done = from.machine.done;
+    to.machine.value = from.machine.value;
+    to.machine.stage = from.machine.stage;
+    to.machine.ended = from.machine.ended;
+}
+
+// Writes back the fields that the frequent steps of a take change, where the others are the same.
+#[inline(always)]
+fn take_back(to: &mut EndCore, from: &EndCore)
+    requires { TakeKeeps to.old.machine from.now.machine }
+    ensures { to.new.machine ≡ from.now.machine }
+{
+    to.machine.read = from.machine.read;
     to.machine.seen = from.machine.seen;
     to.machine.len = from.machine.len;
     to.machine.done = from.machine.done;
@@ -83,6 +100,20 @@ fn put_back(to: &mut EndCore, from: &EndCore)
     to.machine.stage = from.machine.stage;
     to.machine.ended = from.machine.ended;
     to.machine.drained = from.machine.drained;
+}
+
+// Writes back the fields that the frequent steps of a commit change, where the others are the same.
+#[inline(always)]
+fn commit_back(to: &mut EndCore, from: &EndCore)
+    requires { CommitKeeps to.old.machine from.now.machine }
+    ensures { to.new.machine ≡ from.now.machine }
+{
+    to.machine.start = from.machine.start;
+    to.machine.old = from.machine.old;
+    to.machine.done = from.machine.done;
+    to.machine.value = from.machine.value;
+    to.machine.stage = from.machine.stage;
+    to.machine.ended = from.machine.ended;
 }
 
 /// A driver: it makes the steps of the call that the machine has begun, and the words that a take loads go into the buffer. Each driver makes any
@@ -132,7 +163,7 @@ impl<S: Seatlike> Driver<S> for SendLoops {
         while core.is_masking() {
             step(&mut parts.seat, &mut core, &mut parts.buf, packet);
         }
-        put_back(&mut parts.core, &core);
+        send_back(&mut parts.core, &core);
         while parts.core.is_busy() {
             step_apart(&mut parts.seat, &mut parts.core, &mut parts.buf, packet);
         }
@@ -155,7 +186,7 @@ impl<S: Seatlike> Driver<S> for TakeLoops {
         while core.is_loading() {
             step(&mut parts.seat, &mut core, &mut parts.buf, packet);
         }
-        put_back(&mut parts.core, &core);
+        take_back(&mut parts.core, &core);
         while parts.core.is_busy() {
             step_apart(&mut parts.seat, &mut parts.core, &mut parts.buf, packet);
         }
@@ -178,7 +209,7 @@ impl<S: Seatlike> Driver<S> for CommitLoops {
         while core.is_pending() {
             step(&mut parts.seat, &mut core, &mut parts.buf, packet);
         }
-        put_back(&mut parts.core, &core);
+        commit_back(&mut parts.core, &core);
         while parts.core.is_busy() {
             step_apart(&mut parts.seat, &mut parts.core, &mut parts.buf, packet);
         }

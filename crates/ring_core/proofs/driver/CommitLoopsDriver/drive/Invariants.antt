@@ -1,7 +1,7 @@
 use Rattle.std.proofs.Common.{◌≡◌, List, ℕ}
 use Rattle.ring_core.specs.States.{shown}
 use Rattle.ring_core.specs.Steps.{steps_left}
-use Rattle.ring_core.specs.Loops.{KeepsRest}
+use Rattle.ring_core.specs.Loops.{CommitKeeps}
 use Rattle.ring_core.specs.declared.parts.Parts.{Parts}
 use Rattle.ring_core.specs.declared.end_core.EndCore.{EndCore}
 use Rattle.ring_core.proofs.Driving.{Going}
@@ -14,7 +14,7 @@ IsOn g from p parts core =
       going : Going (shown from.core.machine p from.buf.items from.sent.list from.got.list from.past.events)
           (g.S.Seatlike.told from.seat) (g.S.Seatlike.told parts.seat) (g.S.Seatlike.memory from.seat) (g.S.Seatlike.memory parts.seat) core.machine p parts.buf.items;
       cells : g.S.Seatlike.cells parts.seat ≡ core.machine.cells;
-      keeps : KeepsRest parts.core.machine core.machine;
+      keeps : CommitKeeps parts.core.machine core.machine;
       core : parts.core ≡ from.core;
       same : g.S.Seatlike.same from.seat parts.seat;
       sent : parts.sent ≡ from.sent;

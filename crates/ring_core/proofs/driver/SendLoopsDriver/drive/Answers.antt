@@ -1,7 +1,7 @@
 use Rattle.std.proofs.Common.{◌∙◌, refl, sym, ap}
 use Rattle.ring_core.specs.declared.machine.Machine.{Machine}
 use Rattle.ring_core.proofs.Driving.{going_first, going_on, going_asks, going_calls, going_leaves, going_took, going_ran, going_honest, asking_busy, storing_busy, writing_busy, masking_busy}
-use Rattle.ring_core.proofs.Kept.{kept, kept_on, asking_keeps, storing_keeps, writing_keeps, masking_keeps}
+use Rattle.ring_core.proofs.Kept.{send_kept, send_kept_on, asking_keeps, storing_keeps, writing_keeps, masking_keeps}
 use Rattle.ring_core.proofs.Sound.{fed_nearer}
 use Rattle.ring_core.proofs.Tables.{fed_cells}
 use Rattle.ring_core.proofs.driver.SendLoopsDriver.drive.Goals as goal
@@ -13,7 +13,7 @@ loop-parts-init g c =
       going = going_first _ _ a.core.machine c.args.packet.now a.buf.items _ _ _ a.wide a.core.sound c.requires.starts c.requires.goes_on;
       cells = c.requires.fits;
       core = refl;
-      keeps = kept _;
+      keeps = send_kept _;
       same = g.met.S.Seatlike.same_refl _;
       sent = refl;
       got = refl;
@@ -25,7 +25,7 @@ loop-parts-preserved g c = record {
   going = rw (c.step.ensures.fed, c.step.ensures.stored) (going_on _ _ _ _ _ _ _ c.loop-parts.core.machine c.args.packet.now c.loop-parts.parts.buf.items c.step.result c.loop-parts.core.sound (asking_busy _ (sym c.is_asking.ensures ∙ c.loop-parts-test.true)) c.loop-parts.invariant.going c.step.ensures.silent c.step.ensures.tells c.step.ensures.runs);
   cells = c.step.ensures.cells ∙ (c.loop-parts.invariant.cells ∙ (sym (fed_cells c.loop-parts.core.machine c.step.result c.loop-parts.core.machine.stage) ∙ sym (ap (λ (k : Machine). k.cells) c.step.ensures.fed)));
   core = c.loop-parts.invariant.core;
-  keeps = kept_on _ _ _ c.loop-parts.invariant.keeps (rw c.step.ensures.fed (asking_keeps c.loop-parts.core.machine c.step.result c.loop-parts.core.machine.stage (sym c.is_asking.ensures ∙ c.loop-parts-test.true)));
+  keeps = send_kept_on _ _ _ c.loop-parts.invariant.keeps (rw c.step.ensures.fed (asking_keeps c.loop-parts.core.machine c.step.result c.loop-parts.core.machine.stage (sym c.is_asking.ensures ∙ c.loop-parts-test.true)));
   same = g.met.S.Seatlike.same_trans _ _ _ c.loop-parts.invariant.same c.step.ensures.same;
   sent = c.loop-parts.invariant.sent;
   got = c.loop-parts.invariant.got;
@@ -46,7 +46,7 @@ loop-parts-2-preserved g c = record {
   going = rw (c.step-in-loop-parts-2.ensures.fed, c.step-in-loop-parts-2.ensures.stored) (going_on _ _ _ _ _ _ _ c.loop-parts-2.core.machine c.args.packet.now c.loop-parts-2.parts.buf.items c.step-in-loop-parts-2.result c.loop-parts-2.core.sound (storing_busy _ (sym c.is_storing.ensures ∙ c.loop-parts-2-test.true)) c.loop-parts-2.invariant.going c.step-in-loop-parts-2.ensures.silent c.step-in-loop-parts-2.ensures.tells c.step-in-loop-parts-2.ensures.runs);
   cells = c.step-in-loop-parts-2.ensures.cells ∙ (c.loop-parts-2.invariant.cells ∙ (sym (fed_cells c.loop-parts-2.core.machine c.step-in-loop-parts-2.result c.loop-parts-2.core.machine.stage) ∙ sym (ap (λ (k : Machine). k.cells) c.step-in-loop-parts-2.ensures.fed)));
   core = c.loop-parts-2.invariant.core;
-  keeps = kept_on _ _ _ c.loop-parts-2.invariant.keeps (rw c.step-in-loop-parts-2.ensures.fed (storing_keeps c.loop-parts-2.core.machine c.step-in-loop-parts-2.result c.loop-parts-2.core.machine.stage (sym c.is_storing.ensures ∙ c.loop-parts-2-test.true)));
+  keeps = send_kept_on _ _ _ c.loop-parts-2.invariant.keeps (rw c.step-in-loop-parts-2.ensures.fed (storing_keeps c.loop-parts-2.core.machine c.step-in-loop-parts-2.result c.loop-parts-2.core.machine.stage (sym c.is_storing.ensures ∙ c.loop-parts-2-test.true)));
   same = g.met.S.Seatlike.same_trans _ _ _ c.loop-parts-2.invariant.same c.step-in-loop-parts-2.ensures.same;
   sent = c.loop-parts-2.invariant.sent;
   got = c.loop-parts-2.invariant.got;
@@ -67,7 +67,7 @@ loop-parts-3-preserved g c = record {
   going = rw (c.step-in-loop-parts-3.ensures.fed, c.step-in-loop-parts-3.ensures.stored) (going_on _ _ _ _ _ _ _ c.loop-parts-3.core.machine c.args.packet.now c.loop-parts-3.parts.buf.items c.step-in-loop-parts-3.result c.loop-parts-3.core.sound (writing_busy _ (sym c.is_writing.ensures ∙ c.loop-parts-3-test.true)) c.loop-parts-3.invariant.going c.step-in-loop-parts-3.ensures.silent c.step-in-loop-parts-3.ensures.tells c.step-in-loop-parts-3.ensures.runs);
   cells = c.step-in-loop-parts-3.ensures.cells ∙ (c.loop-parts-3.invariant.cells ∙ (sym (fed_cells c.loop-parts-3.core.machine c.step-in-loop-parts-3.result c.loop-parts-3.core.machine.stage) ∙ sym (ap (λ (k : Machine). k.cells) c.step-in-loop-parts-3.ensures.fed)));
   core = c.loop-parts-3.invariant.core;
-  keeps = kept_on _ _ _ c.loop-parts-3.invariant.keeps (rw c.step-in-loop-parts-3.ensures.fed (writing_keeps c.loop-parts-3.core.machine c.step-in-loop-parts-3.result c.loop-parts-3.core.machine.stage (sym c.is_writing.ensures ∙ c.loop-parts-3-test.true)));
+  keeps = send_kept_on _ _ _ c.loop-parts-3.invariant.keeps (rw c.step-in-loop-parts-3.ensures.fed (writing_keeps c.loop-parts-3.core.machine c.step-in-loop-parts-3.result c.loop-parts-3.core.machine.stage (sym c.is_writing.ensures ∙ c.loop-parts-3-test.true)));
   same = g.met.S.Seatlike.same_trans _ _ _ c.loop-parts-3.invariant.same c.step-in-loop-parts-3.ensures.same;
   sent = c.loop-parts-3.invariant.sent;
   got = c.loop-parts-3.invariant.got;
@@ -88,7 +88,7 @@ loop-parts-4-preserved g c = record {
   going = rw (c.step-in-loop-parts-4.ensures.fed, c.step-in-loop-parts-4.ensures.stored) (going_on _ _ _ _ _ _ _ c.loop-parts-4.core.machine c.args.packet.now c.loop-parts-4.parts.buf.items c.step-in-loop-parts-4.result c.loop-parts-4.core.sound (masking_busy _ (sym c.is_masking.ensures ∙ c.loop-parts-4-test.true)) c.loop-parts-4.invariant.going c.step-in-loop-parts-4.ensures.silent c.step-in-loop-parts-4.ensures.tells c.step-in-loop-parts-4.ensures.runs);
   cells = c.step-in-loop-parts-4.ensures.cells ∙ (c.loop-parts-4.invariant.cells ∙ (sym (fed_cells c.loop-parts-4.core.machine c.step-in-loop-parts-4.result c.loop-parts-4.core.machine.stage) ∙ sym (ap (λ (k : Machine). k.cells) c.step-in-loop-parts-4.ensures.fed)));
   core = c.loop-parts-4.invariant.core;
-  keeps = kept_on _ _ _ c.loop-parts-4.invariant.keeps (rw c.step-in-loop-parts-4.ensures.fed (masking_keeps c.loop-parts-4.core.machine c.step-in-loop-parts-4.result c.loop-parts-4.core.machine.stage (sym c.is_masking.ensures ∙ c.loop-parts-4-test.true)));
+  keeps = send_kept_on _ _ _ c.loop-parts-4.invariant.keeps (rw c.step-in-loop-parts-4.ensures.fed (masking_keeps c.loop-parts-4.core.machine c.step-in-loop-parts-4.result c.loop-parts-4.core.machine.stage (sym c.is_masking.ensures ∙ c.loop-parts-4-test.true)));
   same = g.met.S.Seatlike.same_trans _ _ _ c.loop-parts-4.invariant.same c.step-in-loop-parts-4.ensures.same;
   sent = c.loop-parts-4.invariant.sent;
   got = c.loop-parts-4.invariant.got;
@@ -104,16 +104,16 @@ step-requires-in-loop-parts-4-clause-goes_on g c = going_asks _ _ _ _ _ _ _ _ c.
 pub step-requires-in-loop-parts-4-clause-busy : goal.step-requires-in-loop-parts-4-clause-busy
 step-requires-in-loop-parts-4-clause-busy g c = masking_busy _ (sym c.is_masking.ensures ∙ c.loop-parts-4-test.true)
 
-pub put_back-requires : goal.put_back-requires
-put_back-requires g c = c.loop-parts-4.invariant.keeps
+pub send_back-requires : goal.send_back-requires
+send_back-requires g c = c.loop-parts-4.invariant.keeps
 
 pub invariant_of-parts-2 : goal.invariant_of-parts-2
-invariant_of-parts-2 g c = record { wide = c.loop-parts-4.invariant.going.wide ∙ sym (ap (λ (k : Machine). k.cells) c.put_back.ensures) }
+invariant_of-parts-2 g c = record { wide = c.loop-parts-4.invariant.going.wide ∙ sym (ap (λ (k : Machine). k.cells) c.send_back.ensures) }
 
 pub loop-parts-5-init : goal.loop-parts-5-init
 loop-parts-5-init g c = record {
-  going = rw c.put_back.ensures c.loop-parts-4.invariant.going;
-  cells = c.loop-parts-4.invariant.cells ∙ sym (ap (λ (k : Machine). k.cells) c.put_back.ensures);
+  going = rw c.send_back.ensures c.loop-parts-4.invariant.going;
+  cells = c.loop-parts-4.invariant.cells ∙ sym (ap (λ (k : Machine). k.cells) c.send_back.ensures);
   same = c.loop-parts-4.invariant.same;
   sent = c.loop-parts-4.invariant.sent;
   got = c.loop-parts-4.invariant.got;

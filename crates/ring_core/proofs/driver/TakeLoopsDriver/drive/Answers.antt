@@ -1,7 +1,7 @@
 use Rattle.std.proofs.Common.{◌∙◌, refl, sym, ap}
 use Rattle.ring_core.specs.declared.machine.Machine.{Machine}
 use Rattle.ring_core.proofs.Driving.{going_first, going_on, going_asks, going_calls, going_leaves, going_took, going_ran, going_honest, seeking_busy, first_busy, loading_busy}
-use Rattle.ring_core.proofs.Kept.{kept, kept_on, seeking_keeps, first_keeps, loading_keeps}
+use Rattle.ring_core.proofs.Kept.{take_kept, take_kept_on, seeking_keeps, first_keeps, loading_keeps}
 use Rattle.ring_core.proofs.Sound.{fed_nearer}
 use Rattle.ring_core.proofs.Tables.{fed_cells}
 use Rattle.ring_core.proofs.driver.TakeLoopsDriver.drive.Goals as goal
@@ -13,7 +13,7 @@ loop-parts-init g c =
       going = going_first _ _ a.core.machine c.args.packet.now a.buf.items _ _ _ a.wide a.core.sound c.requires.starts c.requires.goes_on;
       cells = c.requires.fits;
       core = refl;
-      keeps = kept _;
+      keeps = take_kept _;
       same = g.met.S.Seatlike.same_refl _;
       sent = refl;
       got = refl;
@@ -25,7 +25,7 @@ loop-parts-preserved g c = record {
   going = rw (c.step.ensures.fed, c.step.ensures.stored) (going_on _ _ _ _ _ _ _ c.loop-parts.core.machine c.args.packet.now c.loop-parts.parts.buf.items c.step.result c.loop-parts.core.sound (seeking_busy _ (sym c.is_seeking.ensures ∙ c.loop-parts-test.true)) c.loop-parts.invariant.going c.step.ensures.silent c.step.ensures.tells c.step.ensures.runs);
   cells = c.step.ensures.cells ∙ (c.loop-parts.invariant.cells ∙ (sym (fed_cells c.loop-parts.core.machine c.step.result c.loop-parts.core.machine.stage) ∙ sym (ap (λ (k : Machine). k.cells) c.step.ensures.fed)));
   core = c.loop-parts.invariant.core;
-  keeps = kept_on _ _ _ c.loop-parts.invariant.keeps (rw c.step.ensures.fed (seeking_keeps c.loop-parts.core.machine c.step.result c.loop-parts.core.machine.stage (sym c.is_seeking.ensures ∙ c.loop-parts-test.true)));
+  keeps = take_kept_on _ _ _ c.loop-parts.invariant.keeps (rw c.step.ensures.fed (seeking_keeps c.loop-parts.core.machine c.step.result c.loop-parts.core.machine.stage (sym c.is_seeking.ensures ∙ c.loop-parts-test.true)));
   same = g.met.S.Seatlike.same_trans _ _ _ c.loop-parts.invariant.same c.step.ensures.same;
   sent = c.loop-parts.invariant.sent;
   got = c.loop-parts.invariant.got;
@@ -46,7 +46,7 @@ loop-parts-2-preserved g c = record {
   going = rw (c.step-in-loop-parts-2.ensures.fed, c.step-in-loop-parts-2.ensures.stored) (going_on _ _ _ _ _ _ _ c.loop-parts-2.core.machine c.args.packet.now c.loop-parts-2.parts.buf.items c.step-in-loop-parts-2.result c.loop-parts-2.core.sound (first_busy _ (sym c.is_first.ensures ∙ c.loop-parts-2-test.true)) c.loop-parts-2.invariant.going c.step-in-loop-parts-2.ensures.silent c.step-in-loop-parts-2.ensures.tells c.step-in-loop-parts-2.ensures.runs);
   cells = c.step-in-loop-parts-2.ensures.cells ∙ (c.loop-parts-2.invariant.cells ∙ (sym (fed_cells c.loop-parts-2.core.machine c.step-in-loop-parts-2.result c.loop-parts-2.core.machine.stage) ∙ sym (ap (λ (k : Machine). k.cells) c.step-in-loop-parts-2.ensures.fed)));
   core = c.loop-parts-2.invariant.core;
-  keeps = kept_on _ _ _ c.loop-parts-2.invariant.keeps (rw c.step-in-loop-parts-2.ensures.fed (first_keeps c.loop-parts-2.core.machine c.step-in-loop-parts-2.result c.loop-parts-2.core.machine.stage (sym c.is_first.ensures ∙ c.loop-parts-2-test.true)));
+  keeps = take_kept_on _ _ _ c.loop-parts-2.invariant.keeps (rw c.step-in-loop-parts-2.ensures.fed (first_keeps c.loop-parts-2.core.machine c.step-in-loop-parts-2.result c.loop-parts-2.core.machine.stage (sym c.is_first.ensures ∙ c.loop-parts-2-test.true)));
   same = g.met.S.Seatlike.same_trans _ _ _ c.loop-parts-2.invariant.same c.step-in-loop-parts-2.ensures.same;
   sent = c.loop-parts-2.invariant.sent;
   got = c.loop-parts-2.invariant.got;
@@ -67,7 +67,7 @@ loop-parts-3-preserved g c = record {
   going = rw (c.step-in-loop-parts-3.ensures.fed, c.step-in-loop-parts-3.ensures.stored) (going_on _ _ _ _ _ _ _ c.loop-parts-3.core.machine c.args.packet.now c.loop-parts-3.parts.buf.items c.step-in-loop-parts-3.result c.loop-parts-3.core.sound (loading_busy _ (sym c.is_loading.ensures ∙ c.loop-parts-3-test.true)) c.loop-parts-3.invariant.going c.step-in-loop-parts-3.ensures.silent c.step-in-loop-parts-3.ensures.tells c.step-in-loop-parts-3.ensures.runs);
   cells = c.step-in-loop-parts-3.ensures.cells ∙ (c.loop-parts-3.invariant.cells ∙ (sym (fed_cells c.loop-parts-3.core.machine c.step-in-loop-parts-3.result c.loop-parts-3.core.machine.stage) ∙ sym (ap (λ (k : Machine). k.cells) c.step-in-loop-parts-3.ensures.fed)));
   core = c.loop-parts-3.invariant.core;
-  keeps = kept_on _ _ _ c.loop-parts-3.invariant.keeps (rw c.step-in-loop-parts-3.ensures.fed (loading_keeps c.loop-parts-3.core.machine c.step-in-loop-parts-3.result c.loop-parts-3.core.machine.stage (sym c.is_loading.ensures ∙ c.loop-parts-3-test.true)));
+  keeps = take_kept_on _ _ _ c.loop-parts-3.invariant.keeps (rw c.step-in-loop-parts-3.ensures.fed (loading_keeps c.loop-parts-3.core.machine c.step-in-loop-parts-3.result c.loop-parts-3.core.machine.stage (sym c.is_loading.ensures ∙ c.loop-parts-3-test.true)));
   same = g.met.S.Seatlike.same_trans _ _ _ c.loop-parts-3.invariant.same c.step-in-loop-parts-3.ensures.same;
   sent = c.loop-parts-3.invariant.sent;
   got = c.loop-parts-3.invariant.got;
@@ -83,16 +83,16 @@ step-requires-in-loop-parts-3-clause-goes_on g c = going_asks _ _ _ _ _ _ _ _ c.
 pub step-requires-in-loop-parts-3-clause-busy : goal.step-requires-in-loop-parts-3-clause-busy
 step-requires-in-loop-parts-3-clause-busy g c = loading_busy _ (sym c.is_loading.ensures ∙ c.loop-parts-3-test.true)
 
-pub put_back-requires : goal.put_back-requires
-put_back-requires g c = c.loop-parts-3.invariant.keeps
+pub take_back-requires : goal.take_back-requires
+take_back-requires g c = c.loop-parts-3.invariant.keeps
 
 pub invariant_of-parts-2 : goal.invariant_of-parts-2
-invariant_of-parts-2 g c = record { wide = c.loop-parts-3.invariant.going.wide ∙ sym (ap (λ (k : Machine). k.cells) c.put_back.ensures) }
+invariant_of-parts-2 g c = record { wide = c.loop-parts-3.invariant.going.wide ∙ sym (ap (λ (k : Machine). k.cells) c.take_back.ensures) }
 
 pub loop-parts-4-init : goal.loop-parts-4-init
 loop-parts-4-init g c = record {
-  going = rw c.put_back.ensures c.loop-parts-3.invariant.going;
-  cells = c.loop-parts-3.invariant.cells ∙ sym (ap (λ (k : Machine). k.cells) c.put_back.ensures);
+  going = rw c.take_back.ensures c.loop-parts-3.invariant.going;
+  cells = c.loop-parts-3.invariant.cells ∙ sym (ap (λ (k : Machine). k.cells) c.take_back.ensures);
   same = c.loop-parts-3.invariant.same;
   sent = c.loop-parts-3.invariant.sent;
   got = c.loop-parts-3.invariant.got;
