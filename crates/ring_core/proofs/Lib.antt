@@ -4,3 +4,4 @@ pub mod Tables
 pub mod Driving
 pub mod Bounds
 pub mod Lengths
+pub mod Kept

@@ -93,3 +93,48 @@ pub record Starts (m : Machine) : Type 0 where
   pub opens : is_opening_at m.stage ≡ true
   pub asleep : m.asleep ≡ is_polling_at m.stage
   pub unseen : is_unseen_at m.stage ≡ true → m.saw ≡ false
+
+-- what the frequent steps of a send leave as it was
+pub record SendKeeps (m k : Machine) : Type 0 where
+  pub cells : m.cells ≡ k.cells
+  pub read : m.read ≡ k.read
+  pub start : m.start ≡ k.start
+  pub len : m.len ≡ k.len
+  pub want : m.want ≡ k.want
+  pub side : m.side ≡ k.side
+  pub masked : m.masked ≡ k.masked
+  pub asleep : m.asleep ≡ k.asleep
+  pub marked : m.marked ≡ k.marked
+  pub peer_marked : m.peer_marked ≡ k.peer_marked
+  pub drained : m.drained ≡ k.drained
+  pub saw : m.saw ≡ k.saw
+
+-- what the frequent steps of a take leave as it was
+pub record TakeKeeps (m k : Machine) : Type 0 where
+  pub cells : m.cells ≡ k.cells
+  pub write : m.write ≡ k.write
+  pub start : m.start ≡ k.start
+  pub old : m.old ≡ k.old
+  pub want : m.want ≡ k.want
+  pub side : m.side ≡ k.side
+  pub masked : m.masked ≡ k.masked
+  pub asleep : m.asleep ≡ k.asleep
+  pub marked : m.marked ≡ k.marked
+  pub peer_marked : m.peer_marked ≡ k.peer_marked
+  pub saw : m.saw ≡ k.saw
+
+-- what the frequent steps of a commit leave as it was
+pub record CommitKeeps (m k : Machine) : Type 0 where
+  pub cells : m.cells ≡ k.cells
+  pub write : m.write ≡ k.write
+  pub read : m.read ≡ k.read
+  pub seen : m.seen ≡ k.seen
+  pub len : m.len ≡ k.len
+  pub want : m.want ≡ k.want
+  pub side : m.side ≡ k.side
+  pub masked : m.masked ≡ k.masked
+  pub asleep : m.asleep ≡ k.asleep
+  pub marked : m.marked ≡ k.marked
+  pub peer_marked : m.peer_marked ≡ k.peer_marked
+  pub drained : m.drained ≡ k.drained
+  pub saw : m.saw ≡ k.saw

@@ -11,6 +11,7 @@ ghost use Rattle.ring_core.specs.declared.last.SendRefusal.TheVariants.{Stopped 
 ghost use Rattle.ring_core.specs.declared.machine.Stage.TheVariants.{Idle, Stopped};
 ghost use Rattle.ring_core.specs.declared.state.EndState.{EndState};
 
+use crate::driver::{CommitLoops, PlainLoop, SendLoops, TakeLoops};
 use crate::end_core::EndCore;
 use crate::last::{Armed, SendRefusal, Signalled, TakeRefusal};
 use crate::machine::Stage;
@@ -202,7 +203,7 @@ impl<S: Seatlike> End<S> {
             });
         }
         self.parts.core.begin_send(p.len() as u32);
-        self.parts.make_call(p);
+        self.parts.make_call::<SendLoops>(p);
         self.parts.core.send_answered()
     }
 
@@ -221,7 +222,7 @@ impl<S: Seatlike> End<S> {
         ensures kept { Kept self.old self.new }
     {
         self.parts.core.begin_commit();
-        self.parts.make_call(&[]);
+        self.parts.make_call::<CommitLoops>(&[]);
         self.parts.core.commit_answered()
     }
 
@@ -242,7 +243,7 @@ impl<S: Seatlike> End<S> {
         ensures kept { Kept self.old self.new }
     {
         self.parts.core.begin_arm(want);
-        self.parts.make_call(&[]);
+        self.parts.make_call::<PlainLoop>(&[]);
         self.parts.core.arm_answered()
     }
 
@@ -259,7 +260,7 @@ impl<S: Seatlike> End<S> {
         ensures kept { Kept self.old self.new }
     {
         self.parts.core.begin_poll();
-        self.parts.make_call(&[]);
+        self.parts.make_call::<PlainLoop>(&[]);
         !self.parts.core.machine.asleep
     }
 
@@ -277,7 +278,7 @@ impl<S: Seatlike> End<S> {
         ensures kept { Kept self.old self.new }
     {
         self.parts.core.begin_mark();
-        self.parts.make_call(&[]);
+        self.parts.make_call::<PlainLoop>(&[]);
     }
 
     /// Whether the peer said that it sends nothing more: 1 step.
@@ -294,7 +295,7 @@ impl<S: Seatlike> End<S> {
         ensures kept { Kept self.old self.new }
     {
         self.parts.core.begin_peer_mark();
-        self.parts.make_call(&[]);
+        self.parts.make_call::<PlainLoop>(&[]);
         self.parts.core.peer_mark_answered()
     }
 
@@ -312,7 +313,7 @@ impl<S: Seatlike> End<S> {
             });
         }
         self.parts.core.begin_take();
-        self.parts.make_call(&[]);
+        self.parts.make_call::<TakeLoops>(&[]);
         self.parts.core.take_answered()
     }
 

@@ -8,7 +8,7 @@ ghost use Rattle.ring_core.specs.Endings.{last_of, why_of, mode_of, indices_of, 
 ghost use Rattle.ring_core.specs.declared.machine.Stage.TheVariants.{Idle, Stopped};
 ghost use Rattle.ring_core.specs.Taking.{refused};
 
-use crate::fed::fed_machine;
+use crate::fed::feed_machine;
 use crate::last::{Armed, Bad, Indices, Last, Mode, SendRefusal, Signalled, TakeRefusal, Why};
 use crate::machine::{Ending, Machine, Stage};
 use crate::next::next_machine;
@@ -164,7 +164,7 @@ impl EndCore {
     pub fn next(&self, packet: &[u64]) -> Option<Op>
         ensures { result ≡ next_of self.now.machine packet.now }
     {
-        next_machine(self.machine, packet)
+        next_machine(&self.machine, packet)
     }
 
     /// Takes what the step gave: the value that it loaded or exchanged, or anything for a store.
@@ -173,7 +173,7 @@ impl EndCore {
         requires busy { is_busy_at self.old.machine.stage ≡ true }
         ensures next { self.new.machine ≡ fed self.old.machine v }
     {
-        self.machine = fed_machine(self.machine, v);
+        feed_machine(&mut self.machine, v);
     }
 }
 

@@ -1,6 +1,7 @@
 //! One end of a channel's rings: a pure machine, seats that make its word steps, and a driver that is generic in its seat.
 #![tactic(auto)]
 
+mod driver;
 mod end;
 mod end_core;
 mod fed;

@@ -9,9 +9,9 @@ use crate::ring::{incoming, outgoing, peer, step_ahead};
 
 // A word of the packet, or after all of them the trailer: the write index before the send, in bytes, in its upper half.
 #[inline(always)]
-fn store_cell(m: Machine, packet: &[u64]) -> Op
-    requires { IsSound m }
-    ensures { Some result ≡ next_at SendCell m packet.now }
+fn store_cell(m: &Machine, packet: &[u64]) -> Op
+    requires { IsSound m.now }
+    ensures { Some result ≡ next_at SendCell m.now packet.now }
 {
     let k = step_ahead(m.cells, m.write, m.done);
     let v = if m.done < m.len {
@@ -27,9 +27,9 @@ fn store_cell(m: Machine, packet: &[u64]) -> Op
 
 // The write index past the packet and its trailer.
 #[inline(always)]
-fn store_write(m: Machine, packet: &[u64]) -> Op
-    requires { IsSound m }
-    ensures { Some result ≡ next_at SendWrite m packet.now }
+fn store_write(m: &Machine, packet: &[u64]) -> Op
+    requires { IsSound m.now }
+    ensures { Some result ≡ next_at SendWrite m.now packet.now }
 {
     let k = step_ahead(m.cells, m.write, m.len + 1);
     Op::Store(Place::Write(outgoing(m.side)), 8 * k as u64)
@@ -37,9 +37,9 @@ fn store_write(m: Machine, packet: &[u64]) -> Op
 
 // The next cell of the packet that is taken.
 #[inline(always)]
-fn load_cell(m: Machine, packet: &[u64]) -> Op
-    requires { IsSound m }
-    ensures { Some result ≡ next_at TakeCell m packet.now }
+fn load_cell(m: &Machine, packet: &[u64]) -> Op
+    requires { IsSound m.now }
+    ensures { Some result ≡ next_at TakeCell m.now packet.now }
 {
     let k = step_ahead(m.cells, m.read, m.done);
     Op::Load(Place::Cell(incoming(m.side), 8 * k))
@@ -55,14 +55,14 @@ fn next_rest(m: Machine, packet: &[u64]) -> Option<Op>
         Stage::Idle => None,
         Stage::Stopped => None,
         Stage::SendRead => Some(Op::Load(Place::Read(outgoing(m.side)))),
-        Stage::SendCell => Some(store_cell(m, packet)),
-        Stage::SendWrite => Some(store_write(m, packet)),
+        Stage::SendCell => Some(store_cell(&m, packet)),
+        Stage::SendWrite => Some(store_write(&m, packet)),
         Stage::SendMask => Some(Op::Load(Place::Mask(outgoing(m.side)))),
         Stage::SendLook => Some(Op::Load(Place::Read(outgoing(m.side)))),
         Stage::SendRaise => Some(Op::Raise(peer(m.side))),
         Stage::TakeWrite => Some(Op::Load(Place::Write(incoming(m.side)))),
         Stage::TakeFirst => Some(Op::Load(Place::Cell(incoming(m.side), 8 * m.read))),
-        Stage::TakeCell => Some(load_cell(m, packet)),
+        Stage::TakeCell => Some(load_cell(&m, packet)),
         Stage::CommitRead => Some(Op::Store(Place::Read(incoming(m.side)), 8 * m.read as u64)),
         Stage::CommitFeature => Some(Op::Load(Place::Feature(incoming(m.side)))),
         Stage::CommitPending => Some(Op::Load(Place::Pending(incoming(m.side)))),
@@ -86,9 +86,9 @@ fn next_rest(m: Machine, packet: &[u64]) -> Option<Op>
 
 /// The next step of a machine, or none exactly where no command is under way. The frequent stages come first, inlined into the driver's loops.
 #[inline(always)]
-pub(crate) fn next_machine(m: Machine, packet: &[u64]) -> Option<Op>
-    requires { IsSound m }
-    ensures { result ≡ next_of m packet.now }
+pub(crate) fn next_machine(m: &Machine, packet: &[u64]) -> Option<Op>
+    requires { IsSound m.now }
+    ensures { result ≡ next_of m.now packet.now }
 {
     match m.stage {
         Stage::SendRead => Some(Op::Load(Place::Read(outgoing(m.side)))),
@@ -101,6 +101,6 @@ pub(crate) fn next_machine(m: Machine, packet: &[u64]) -> Option<Op>
         Stage::CommitRead => Some(Op::Store(Place::Read(incoming(m.side)), 8 * m.read as u64)),
         Stage::CommitFeature => Some(Op::Load(Place::Feature(incoming(m.side)))),
         Stage::CommitPending => Some(Op::Load(Place::Pending(incoming(m.side)))),
-        _ => next_rest(m, packet),
+        _ => next_rest(*m, packet),
     }
 }

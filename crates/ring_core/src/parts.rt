@@ -1,4 +1,4 @@
-//! What a call works on, and the loop that makes its steps.
+//! What a call works on, and the call as a whole.
 ghost use Rattle.std.specs.Prelude.{◌≡◌, ◌≢◌, ℕ, ◌+◌, ◌<◌, ◌≤◌, true, false, List, [], ◌∷◌, ◌++◌, length, take, Option, Some, None};
 ghost use Rattle.chan_run.specs.declared.event.Event.{Event};
 ghost use Rattle.ring_core.specs.Endings.{Leaves, LeavesBy};
@@ -12,6 +12,7 @@ ghost use Rattle.ring_core.specs.declared.place.Op.{Op};
 ghost use Rattle.ring_core.specs.declared.state.EndState.{EndState};
 ghost use Rattle.chan_run.specs.declared.event.Event.TheVariants.{Sent as SentEvent, Got as GotEvent};
 
+use crate::driver::Driver;
 use crate::end_core::EndCore;
 use crate::machine::Ending;
 use crate::packets::Packets;
@@ -30,18 +31,6 @@ pub(crate) struct Parts<S> {
     pub(crate) ghost wide: { length buf.items ≡ core.machine.cells },
 }
 
-// Copies a word into the buffer where the step loaded one of a packet.
-#[inline(always)]
-fn store_where(copies: bool, buf: &mut Vec<u64>, i: usize, v: u64)
-    requires { i < length buf.old.items }
-    ensures items { buf.new.items ≡ stored copies buf.old.items i v }
-    ensures len { length buf.new.items ≡ length buf.old.items }
-{
-    if copies {
-        buf[i] = v;
-    }
-}
-
 // The first words of the buffer.
 #[inline(always)]
 fn front(buf: &Vec<u64>, n: usize) -> &[u64]
@@ -51,84 +40,7 @@ fn front(buf: &Vec<u64>, n: usize) -> &[u64]
     &buf[..n]
 }
 
-// Makes the step that the machine names, and feeds the machine what it gave. A word of a packet that was loaded goes into the buffer.
-#[inline(always)]
-fn step<S: Seatlike>(seat: &mut S, core: &mut EndCore, buf: &mut Vec<u64>, packet: &[u64]) -> u64
-    requires busy { is_busy_at core.old.machine.stage ≡ true }
-    requires wide { length buf.old.items ≡ core.old.machine.cells }
-    requires fits { S.cells seat.old ≡ core.old.machine.cells }
-    requires goes_on { (s : EndState) → S.told seat.old ≡ Some s → Continues s core.old.machine packet.now }
-    ensures fed { core.new.machine ≡ fed core.old.machine result }
-    ensures stored { buf.new.items ≡ stored (is_copying_at core.old.machine.stage) buf.old.items core.old.machine.done result }
-    ensures len { length buf.new.items ≡ length buf.old.items }
-    ensures runs { (m : Memory) (op : Op) → S.memory seat.old ≡ Some m → next_of core.old.machine packet.now ≡ Some op → (S.memory seat.new ≡ Some (memory_after core.old.machine.cells op m)) × (result ≡ answer_of core.old.machine.cells op m) }
-    ensures same { S.same seat.old seat.new }
-    ensures cells { S.cells seat.new ≡ S.cells seat.old }
-    ensures silent { S.told seat.old ≡ None → S.told seat.new ≡ None }
-    ensures tells { (s : EndState) → S.told seat.old ≡ Some s → (S.told seat.new ≡ Some (after (entered s core.old.machine packet.now) result)) × ((fed core.old.machine result).stage ≢ Stopped) }
-{
-    let v = seat.perform(core, packet);
-    let copies = core.is_copying();
-    store_where(copies, buf, core.machine.done as usize, v);
-    core.feed(v);
-    v
-}
-
 impl<S: Seatlike> Parts<S> {
-    // Makes the steps of the call that the machine has begun. The words that a take loads go into the buffer.
-    // The frequent stages have loops of their own, in which the stage is known, so that a step is a few instructions.
-    #[inline(always)]
-    fn drive(&mut self, packet: &[u64])
-        requires starts { Starts self.old.core.machine }
-        requires fits { S.cells self.old.seat ≡ self.old.core.machine.cells }
-        requires goes_on { (s : EndState) → S.told self.old.seat ≡ Some s → Continues s self.old.core.machine packet.now × (entered s self.old.core.machine packet.now ≡ shown self.old.core.machine packet.now self.old.buf.items self.old.sent.list self.old.got.list self.old.past.events) }
-        ensures call { call_by self.new.core.machine.ended ≡ call_at self.old.core.machine.stage }
-        ensures leaves { Leaves self.old.core.machine self.new.core.machine }
-        ensures took { is_took self.new.core.machine.ended ≡ true → IsPacket (take self.new.core.machine.len self.new.buf.items) }
-        ensures left { Left (shown self.old.core.machine packet.now self.old.buf.items self.old.sent.list self.old.got.list self.old.past.events) (S.told self.old.seat) (S.told self.new.seat) (S.memory self.old.seat) (S.memory self.new.seat) self.new.core.machine (sent_by self.new.core.machine self.old.sent.list packet.now) (got_by self.new.core.machine self.old.got.list self.new.buf.items) (past_by self.new.core.machine self.old.past.events packet.now self.new.buf.items) }
-        ensures idle { is_busy_at self.new.core.machine.stage ≡ false }
-        ensures lists { (self.new.sent ≡ self.old.sent) × (self.new.got ≡ self.old.got) × (self.new.past ≡ self.old.past) }
-        ensures same { S.same self.old.seat self.new.seat }
-        ensures cells { S.cells self.new.seat ≡ self.new.core.machine.cells }
-        ensures honest { (s : EndState) → S.told self.new.seat ≡ Some s → self.new.core.machine.stage ≢ Stopped }
-    {
-        let mut core = self.core;
-        while core.is_asking() {
-            step(&mut self.seat, &mut core, &mut self.buf, packet);
-        }
-        while core.is_storing() {
-            step(&mut self.seat, &mut core, &mut self.buf, packet);
-        }
-        while core.is_writing() {
-            step(&mut self.seat, &mut core, &mut self.buf, packet);
-        }
-        while core.is_masking() {
-            step(&mut self.seat, &mut core, &mut self.buf, packet);
-        }
-        while core.is_seeking() {
-            step(&mut self.seat, &mut core, &mut self.buf, packet);
-        }
-        while core.is_first() {
-            step(&mut self.seat, &mut core, &mut self.buf, packet);
-        }
-        while core.is_loading() {
-            step(&mut self.seat, &mut core, &mut self.buf, packet);
-        }
-        while core.is_giving() {
-            step(&mut self.seat, &mut core, &mut self.buf, packet);
-        }
-        while core.is_feature() {
-            step(&mut self.seat, &mut core, &mut self.buf, packet);
-        }
-        while core.is_pending() {
-            step(&mut self.seat, &mut core, &mut self.buf, packet);
-        }
-        while core.is_busy() {
-            step(&mut self.seat, &mut core, &mut self.buf, packet);
-        }
-        self.core = core;
-    }
-
     // Keeps a packet that was sent.
     #[inline(always)]
     fn keep_sent(&mut self, packet: &[u64])
@@ -195,9 +107,9 @@ impl<S: Seatlike> Parts<S> {
         }
     }
 
-    /// Makes the call that the machine has begun, and keeps what it did.
+    /// Makes the call that the machine has begun by this driver, and keeps what it did.
     #[inline(always)]
-    pub(crate) fn make_call(&mut self, packet: &[u64])
+    pub(crate) fn make_call<D: Driver<S>>(&mut self, packet: &[u64])
         requires starts { Starts self.old.core.machine }
         requires fits { S.cells self.old.seat ≡ self.old.core.machine.cells }
         requires goes_on { (s : EndState) → S.told self.old.seat ≡ Some s → Continues s self.old.core.machine packet.now × (entered s self.old.core.machine packet.now ≡ shown self.old.core.machine packet.now self.old.buf.items self.old.sent.list self.old.got.list self.old.past.events) }
@@ -219,7 +131,7 @@ impl<S: Seatlike> Parts<S> {
         ensures cells { S.cells self.new.seat ≡ self.new.core.machine.cells }
         ensures honest { (s : EndState) → S.told self.new.seat ≡ Some s → self.new.core.machine.stage ≢ Stopped }
     {
-        self.drive(packet);
+        D::drive(self, packet);
         self.keep(packet);
     }
 }

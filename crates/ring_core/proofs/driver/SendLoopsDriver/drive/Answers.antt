@@ -1,0 +1,163 @@
+use Rattle.std.proofs.Common.{◌∙◌, refl, sym, ap}
+use Rattle.ring_core.specs.declared.machine.Machine.{Machine}
+use Rattle.ring_core.proofs.Driving.{going_first, going_on, going_asks, going_calls, going_leaves, going_took, going_ran, going_honest, asking_busy, storing_busy, writing_busy, masking_busy}
+use Rattle.ring_core.proofs.Kept.{send_kept, send_kept_on, asking_keeps, storing_keeps, writing_keeps, masking_keeps}
+use Rattle.ring_core.proofs.Sound.{fed_nearer}
+use Rattle.ring_core.proofs.Tables.{fed_cells}
+use Rattle.ring_core.proofs.driver.SendLoopsDriver.drive.Goals as goal
+
+pub loop-parts-init : goal.loop-parts-init
+loop-parts-init g c =
+    let a = c.args.parts.now in
+    record {
+      going = going_first _ _ a.core.machine c.args.packet.now a.buf.items _ _ _ a.wide a.core.sound c.requires.starts c.requires.goes_on;
+      cells = c.requires.fits;
+      core = refl;
+      keeps = send_kept _;
+      same = g.met.S.Seatlike.same_refl _;
+      sent = refl;
+      got = refl;
+      past = refl;
+    }
+
+pub loop-parts-preserved : goal.loop-parts-preserved
+loop-parts-preserved g c = record {
+  going = rw (c.step.ensures.fed, c.step.ensures.stored) (going_on _ _ _ _ _ _ _ c.loop-parts.core.machine c.args.packet.now c.loop-parts.parts.buf.items c.step.result c.loop-parts.core.sound (asking_busy _ (sym c.is_asking.ensures ∙ c.loop-parts-test.true)) c.loop-parts.invariant.going c.step.ensures.silent c.step.ensures.tells c.step.ensures.runs);
+  cells = c.step.ensures.cells ∙ (c.loop-parts.invariant.cells ∙ (sym (fed_cells c.loop-parts.core.machine c.step.result c.loop-parts.core.machine.stage) ∙ sym (ap (λ (k : Machine). k.cells) c.step.ensures.fed)));
+  core = c.loop-parts.invariant.core;
+  keeps = send_kept_on _ _ _ c.loop-parts.invariant.keeps (rw c.step.ensures.fed (asking_keeps c.loop-parts.core.machine c.step.result c.loop-parts.core.machine.stage (sym c.is_asking.ensures ∙ c.loop-parts-test.true)));
+  same = g.met.S.Seatlike.same_trans _ _ _ c.loop-parts.invariant.same c.step.ensures.same;
+  sent = c.loop-parts.invariant.sent;
+  got = c.loop-parts.invariant.got;
+  past = c.loop-parts.invariant.past;
+}
+
+pub loop-parts-smaller : goal.loop-parts-smaller
+loop-parts-smaller g c = rw c.step.ensures.fed (fed_nearer c.loop-parts.core.machine c.step.result c.loop-parts.core.sound (asking_busy _ (sym c.is_asking.ensures ∙ c.loop-parts-test.true)))
+
+pub step-requires-clause-goes_on : goal.step-requires-clause-goes_on
+step-requires-clause-goes_on g c = going_asks _ _ _ _ _ _ _ _ c.loop-parts.invariant.going (asking_busy _ (sym c.is_asking.ensures ∙ c.loop-parts-test.true))
+
+pub step-requires-clause-busy : goal.step-requires-clause-busy
+step-requires-clause-busy g c = asking_busy _ (sym c.is_asking.ensures ∙ c.loop-parts-test.true)
+
+pub loop-parts-2-preserved : goal.loop-parts-2-preserved
+loop-parts-2-preserved g c = record {
+  going = rw (c.step-in-loop-parts-2.ensures.fed, c.step-in-loop-parts-2.ensures.stored) (going_on _ _ _ _ _ _ _ c.loop-parts-2.core.machine c.args.packet.now c.loop-parts-2.parts.buf.items c.step-in-loop-parts-2.result c.loop-parts-2.core.sound (storing_busy _ (sym c.is_storing.ensures ∙ c.loop-parts-2-test.true)) c.loop-parts-2.invariant.going c.step-in-loop-parts-2.ensures.silent c.step-in-loop-parts-2.ensures.tells c.step-in-loop-parts-2.ensures.runs);
+  cells = c.step-in-loop-parts-2.ensures.cells ∙ (c.loop-parts-2.invariant.cells ∙ (sym (fed_cells c.loop-parts-2.core.machine c.step-in-loop-parts-2.result c.loop-parts-2.core.machine.stage) ∙ sym (ap (λ (k : Machine). k.cells) c.step-in-loop-parts-2.ensures.fed)));
+  core = c.loop-parts-2.invariant.core;
+  keeps = send_kept_on _ _ _ c.loop-parts-2.invariant.keeps (rw c.step-in-loop-parts-2.ensures.fed (storing_keeps c.loop-parts-2.core.machine c.step-in-loop-parts-2.result c.loop-parts-2.core.machine.stage (sym c.is_storing.ensures ∙ c.loop-parts-2-test.true)));
+  same = g.met.S.Seatlike.same_trans _ _ _ c.loop-parts-2.invariant.same c.step-in-loop-parts-2.ensures.same;
+  sent = c.loop-parts-2.invariant.sent;
+  got = c.loop-parts-2.invariant.got;
+  past = c.loop-parts-2.invariant.past;
+}
+
+pub loop-parts-2-smaller : goal.loop-parts-2-smaller
+loop-parts-2-smaller g c = rw c.step-in-loop-parts-2.ensures.fed (fed_nearer c.loop-parts-2.core.machine c.step-in-loop-parts-2.result c.loop-parts-2.core.sound (storing_busy _ (sym c.is_storing.ensures ∙ c.loop-parts-2-test.true)))
+
+pub step-requires-in-loop-parts-2-clause-goes_on : goal.step-requires-in-loop-parts-2-clause-goes_on
+step-requires-in-loop-parts-2-clause-goes_on g c = going_asks _ _ _ _ _ _ _ _ c.loop-parts-2.invariant.going (storing_busy _ (sym c.is_storing.ensures ∙ c.loop-parts-2-test.true))
+
+pub step-requires-in-loop-parts-2-clause-busy : goal.step-requires-in-loop-parts-2-clause-busy
+step-requires-in-loop-parts-2-clause-busy g c = storing_busy _ (sym c.is_storing.ensures ∙ c.loop-parts-2-test.true)
+
+pub loop-parts-3-preserved : goal.loop-parts-3-preserved
+loop-parts-3-preserved g c = record {
+  going = rw (c.step-in-loop-parts-3.ensures.fed, c.step-in-loop-parts-3.ensures.stored) (going_on _ _ _ _ _ _ _ c.loop-parts-3.core.machine c.args.packet.now c.loop-parts-3.parts.buf.items c.step-in-loop-parts-3.result c.loop-parts-3.core.sound (writing_busy _ (sym c.is_writing.ensures ∙ c.loop-parts-3-test.true)) c.loop-parts-3.invariant.going c.step-in-loop-parts-3.ensures.silent c.step-in-loop-parts-3.ensures.tells c.step-in-loop-parts-3.ensures.runs);
+  cells = c.step-in-loop-parts-3.ensures.cells ∙ (c.loop-parts-3.invariant.cells ∙ (sym (fed_cells c.loop-parts-3.core.machine c.step-in-loop-parts-3.result c.loop-parts-3.core.machine.stage) ∙ sym (ap (λ (k : Machine). k.cells) c.step-in-loop-parts-3.ensures.fed)));
+  core = c.loop-parts-3.invariant.core;
+  keeps = send_kept_on _ _ _ c.loop-parts-3.invariant.keeps (rw c.step-in-loop-parts-3.ensures.fed (writing_keeps c.loop-parts-3.core.machine c.step-in-loop-parts-3.result c.loop-parts-3.core.machine.stage (sym c.is_writing.ensures ∙ c.loop-parts-3-test.true)));
+  same = g.met.S.Seatlike.same_trans _ _ _ c.loop-parts-3.invariant.same c.step-in-loop-parts-3.ensures.same;
+  sent = c.loop-parts-3.invariant.sent;
+  got = c.loop-parts-3.invariant.got;
+  past = c.loop-parts-3.invariant.past;
+}
+
+pub loop-parts-3-smaller : goal.loop-parts-3-smaller
+loop-parts-3-smaller g c = rw c.step-in-loop-parts-3.ensures.fed (fed_nearer c.loop-parts-3.core.machine c.step-in-loop-parts-3.result c.loop-parts-3.core.sound (writing_busy _ (sym c.is_writing.ensures ∙ c.loop-parts-3-test.true)))
+
+pub step-requires-in-loop-parts-3-clause-goes_on : goal.step-requires-in-loop-parts-3-clause-goes_on
+step-requires-in-loop-parts-3-clause-goes_on g c = going_asks _ _ _ _ _ _ _ _ c.loop-parts-3.invariant.going (writing_busy _ (sym c.is_writing.ensures ∙ c.loop-parts-3-test.true))
+
+pub step-requires-in-loop-parts-3-clause-busy : goal.step-requires-in-loop-parts-3-clause-busy
+step-requires-in-loop-parts-3-clause-busy g c = writing_busy _ (sym c.is_writing.ensures ∙ c.loop-parts-3-test.true)
+
+pub loop-parts-4-preserved : goal.loop-parts-4-preserved
+loop-parts-4-preserved g c = record {
+  going = rw (c.step-in-loop-parts-4.ensures.fed, c.step-in-loop-parts-4.ensures.stored) (going_on _ _ _ _ _ _ _ c.loop-parts-4.core.machine c.args.packet.now c.loop-parts-4.parts.buf.items c.step-in-loop-parts-4.result c.loop-parts-4.core.sound (masking_busy _ (sym c.is_masking.ensures ∙ c.loop-parts-4-test.true)) c.loop-parts-4.invariant.going c.step-in-loop-parts-4.ensures.silent c.step-in-loop-parts-4.ensures.tells c.step-in-loop-parts-4.ensures.runs);
+  cells = c.step-in-loop-parts-4.ensures.cells ∙ (c.loop-parts-4.invariant.cells ∙ (sym (fed_cells c.loop-parts-4.core.machine c.step-in-loop-parts-4.result c.loop-parts-4.core.machine.stage) ∙ sym (ap (λ (k : Machine). k.cells) c.step-in-loop-parts-4.ensures.fed)));
+  core = c.loop-parts-4.invariant.core;
+  keeps = send_kept_on _ _ _ c.loop-parts-4.invariant.keeps (rw c.step-in-loop-parts-4.ensures.fed (masking_keeps c.loop-parts-4.core.machine c.step-in-loop-parts-4.result c.loop-parts-4.core.machine.stage (sym c.is_masking.ensures ∙ c.loop-parts-4-test.true)));
+  same = g.met.S.Seatlike.same_trans _ _ _ c.loop-parts-4.invariant.same c.step-in-loop-parts-4.ensures.same;
+  sent = c.loop-parts-4.invariant.sent;
+  got = c.loop-parts-4.invariant.got;
+  past = c.loop-parts-4.invariant.past;
+}
+
+pub loop-parts-4-smaller : goal.loop-parts-4-smaller
+loop-parts-4-smaller g c = rw c.step-in-loop-parts-4.ensures.fed (fed_nearer c.loop-parts-4.core.machine c.step-in-loop-parts-4.result c.loop-parts-4.core.sound (masking_busy _ (sym c.is_masking.ensures ∙ c.loop-parts-4-test.true)))
+
+pub step-requires-in-loop-parts-4-clause-goes_on : goal.step-requires-in-loop-parts-4-clause-goes_on
+step-requires-in-loop-parts-4-clause-goes_on g c = going_asks _ _ _ _ _ _ _ _ c.loop-parts-4.invariant.going (masking_busy _ (sym c.is_masking.ensures ∙ c.loop-parts-4-test.true))
+
+pub step-requires-in-loop-parts-4-clause-busy : goal.step-requires-in-loop-parts-4-clause-busy
+step-requires-in-loop-parts-4-clause-busy g c = masking_busy _ (sym c.is_masking.ensures ∙ c.loop-parts-4-test.true)
+
+pub send_back-requires : goal.send_back-requires
+send_back-requires g c = c.loop-parts-4.invariant.keeps
+
+pub invariant_of-parts-2 : goal.invariant_of-parts-2
+invariant_of-parts-2 g c = record { wide = c.loop-parts-4.invariant.going.wide ∙ sym (ap (λ (k : Machine). k.cells) c.send_back.ensures) }
+
+pub loop-parts-5-init : goal.loop-parts-5-init
+loop-parts-5-init g c = record {
+  going = rw c.send_back.ensures c.loop-parts-4.invariant.going;
+  cells = c.loop-parts-4.invariant.cells ∙ sym (ap (λ (k : Machine). k.cells) c.send_back.ensures);
+  same = c.loop-parts-4.invariant.same;
+  sent = c.loop-parts-4.invariant.sent;
+  got = c.loop-parts-4.invariant.got;
+  past = c.loop-parts-4.invariant.past;
+}
+
+pub loop-parts-5-preserved : goal.loop-parts-5-preserved
+loop-parts-5-preserved g c = record {
+  going = rw (c.step_apart.ensures.fed, c.step_apart.ensures.stored) (going_on _ _ _ _ _ _ _ c.loop-parts-5.parts.core.machine c.args.packet.now c.loop-parts-5.parts.buf.items c.step_apart.result c.loop-parts-5.parts.core.sound (sym c.is_busy.ensures ∙ c.loop-parts-5-test.true) c.loop-parts-5.invariant.going c.step_apart.ensures.silent c.step_apart.ensures.tells c.step_apart.ensures.runs);
+  cells = c.step_apart.ensures.cells ∙ (c.loop-parts-5.invariant.cells ∙ (sym (fed_cells c.loop-parts-5.parts.core.machine c.step_apart.result c.loop-parts-5.parts.core.machine.stage) ∙ sym (ap (λ (k : Machine). k.cells) c.step_apart.ensures.fed)));
+  same = g.met.S.Seatlike.same_trans _ _ _ c.loop-parts-5.invariant.same c.step_apart.ensures.same;
+  sent = c.loop-parts-5.invariant.sent;
+  got = c.loop-parts-5.invariant.got;
+  past = c.loop-parts-5.invariant.past;
+}
+
+pub loop-parts-5-smaller : goal.loop-parts-5-smaller
+loop-parts-5-smaller g c = rw c.step_apart.ensures.fed (fed_nearer c.loop-parts-5.parts.core.machine c.step_apart.result c.loop-parts-5.parts.core.sound (sym c.is_busy.ensures ∙ c.loop-parts-5-test.true))
+
+pub step_apart-requires-clause-goes_on : goal.step_apart-requires-clause-goes_on
+step_apart-requires-clause-goes_on g c = going_asks _ _ _ _ _ _ _ _ c.loop-parts-5.invariant.going (sym c.is_busy.ensures ∙ c.loop-parts-5-test.true)
+
+pub step_apart-requires-clause-busy : goal.step_apart-requires-clause-busy
+step_apart-requires-clause-busy g c = sym c.is_busy.ensures ∙ c.loop-parts-5-test.true
+
+pub step_apart-requires-clause-fits : goal.step_apart-requires-clause-fits
+step_apart-requires-clause-fits g c = c.loop-parts-5.invariant.cells
+
+pub invariant_of-parts-in-loop-parts-5 : goal.invariant_of-parts-in-loop-parts-5
+invariant_of-parts-in-loop-parts-5 g c = record {
+  wide = c.step_apart.ensures.len ∙ (c.loop-parts-5.invariant.going.wide ∙ (sym (fed_cells c.loop-parts-5.parts.core.machine c.step_apart.result c.loop-parts-5.parts.core.machine.stage) ∙ sym (ap (λ (k : Machine). k.cells) c.step_apart.ensures.fed)));
+}
+
+pub returns-clause-call : goal.returns-clause-call
+returns-clause-call g c = going_calls _ _ _ _ _ _ _ _ c.loop-parts-5.invariant.going c.loop-parts-5.parts.core.sound (sym c.is_busy.ensures ∙ c.loop-parts-5-test.false)
+
+pub returns-clause-leaves : goal.returns-clause-leaves
+returns-clause-leaves g c = going_leaves _ _ _ _ _ _ _ _ c.loop-parts-5.invariant.going c.loop-parts-5.parts.core.sound (sym c.is_busy.ensures ∙ c.loop-parts-5-test.false)
+
+pub returns-clause-took : goal.returns-clause-took
+returns-clause-took g c = going_took _ _ _ _ _ _ _ _ c.loop-parts-5.invariant.going c.loop-parts-5.parts.core.sound (sym c.is_busy.ensures ∙ c.loop-parts-5-test.false)
+
+pub returns-clause-left : goal.returns-clause-left
+returns-clause-left g c = going_ran _ _ _ _ _ _ _ _ c.loop-parts-5.invariant.going c.loop-parts-5.parts.core.sound (sym c.is_busy.ensures ∙ c.loop-parts-5-test.false)
+
+pub returns-clause-honest : goal.returns-clause-honest
+returns-clause-honest g c = going_honest _ _ _ _ _ _ _ _ c.loop-parts-5.invariant.going (sym c.is_busy.ensures ∙ c.loop-parts-5-test.false)

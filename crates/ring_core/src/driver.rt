@@ -1,0 +1,228 @@
+//! The drivers of a call: the loops that make its steps.
+ghost use Rattle.std.specs.Prelude.{◌≡◌, ◌≢◌, ℕ, ◌<◌, true, length, Some, None};
+ghost use Rattle.ring_core.specs.Loops.{SendKeeps, TakeKeeps, CommitKeeps};
+ghost use Rattle.ring_core.specs.States.{after, entered, stored, Continues};
+ghost use Rattle.ring_core.specs.Steps.{is_busy_at, is_copying_at, next_of, fed};
+ghost use Rattle.ring_core.specs.Told.{Memory, memory_after, answer_of};
+ghost use Rattle.ring_core.specs.declared.machine.Stage.TheVariants.{Stopped};
+ghost use Rattle.ring_core.specs.declared.place.Op.{Op};
+ghost use Rattle.ring_core.specs.declared.state.EndState.{EndState};
+
+use crate::end_core::EndCore;
+use crate::parts::Parts;
+use crate::seat::Seatlike;
+
+// Copies a word into the buffer where the step loaded one of a packet.
+#[inline(always)]
+fn store_where(copies: bool, buf: &mut Vec<u64>, i: usize, v: u64)
+    requires { i < length buf.old.items }
+    ensures items { buf.new.items ≡ stored copies buf.old.items i v }
+    ensures len { length buf.new.items ≡ length buf.old.items }
+{
+    if copies {
+        buf[i] = v;
+    }
+}
+
+// Makes the step that the machine names, and feeds the machine what it gave. A word of a packet that was loaded goes into the buffer.
+#[inline(always)]
+fn step<S: Seatlike>(seat: &mut S, core: &mut EndCore, buf: &mut Vec<u64>, packet: &[u64]) -> u64
+    requires busy { is_busy_at core.old.machine.stage ≡ true }
+    requires wide { length buf.old.items ≡ core.old.machine.cells }
+    requires fits { S.cells seat.old ≡ core.old.machine.cells }
+    requires goes_on { (s : EndState) → S.told seat.old ≡ Some s → Continues s core.old.machine packet.now }
+    ensures fed { core.new.machine ≡ fed core.old.machine result }
+    ensures stored { buf.new.items ≡ stored (is_copying_at core.old.machine.stage) buf.old.items core.old.machine.done result }
+    ensures len { length buf.new.items ≡ length buf.old.items }
+    ensures runs { (m : Memory) (op : Op) → S.memory seat.old ≡ Some m → next_of core.old.machine packet.now ≡ Some op → (S.memory seat.new ≡ Some (memory_after core.old.machine.cells op m)) × (result ≡ answer_of core.old.machine.cells op m) }
+    ensures same { S.same seat.old seat.new }
+    ensures cells { S.cells seat.new ≡ S.cells seat.old }
+    ensures silent { S.told seat.old ≡ None → S.told seat.new ≡ None }
+    ensures tells { (s : EndState) → S.told seat.old ≡ Some s → (S.told seat.new ≡ Some (after (entered s core.old.machine packet.now) result)) × ((fed core.old.machine result).stage ≢ Stopped) }
+{
+    let v = seat.perform(core, packet);
+    let copies = core.is_copying();
+    store_where(copies, buf, core.machine.done as usize, v);
+    core.feed(v);
+    v
+}
+
+// As `step`, for the steps that are rare: it stands apart, so that the drivers stay small.
+#[inline(never)]
+fn step_apart<S: Seatlike>(
+    seat: &mut S,
+    core: &mut EndCore,
+    buf: &mut Vec<u64>,
+    packet: &[u64],
+) -> u64
+    requires busy { is_busy_at core.old.machine.stage ≡ true }
+    requires wide { length buf.old.items ≡ core.old.machine.cells }
+    requires fits { S.cells seat.old ≡ core.old.machine.cells }
+    requires goes_on { (s : EndState) → S.told seat.old ≡ Some s → Continues s core.old.machine packet.now }
+    ensures fed { core.new.machine ≡ fed core.old.machine result }
+    ensures stored { buf.new.items ≡ stored (is_copying_at core.old.machine.stage) buf.old.items core.old.machine.done result }
+    ensures len { length buf.new.items ≡ length buf.old.items }
+    ensures runs { (m : Memory) (op : Op) → S.memory seat.old ≡ Some m → next_of core.old.machine packet.now ≡ Some op → (S.memory seat.new ≡ Some (memory_after core.old.machine.cells op m)) × (result ≡ answer_of core.old.machine.cells op m) }
+    ensures same { S.same seat.old seat.new }
+    ensures cells { S.cells seat.new ≡ S.cells seat.old }
+    ensures silent { S.told seat.old ≡ None → S.told seat.new ≡ None }
+    ensures tells { (s : EndState) → S.told seat.old ≡ Some s → (S.told seat.new ≡ Some (after (entered s core.old.machine packet.now) result)) × ((fed core.old.machine result).stage ≢ Stopped) }
+{
+    step(seat, core, buf, packet)
+}
+
+// Writes back the fields that the frequent steps of a send change, where the others are the same.
+#[inline(always)]
+fn send_back(to: &mut EndCore, from: &EndCore)
+    requires { SendKeeps to.old.machine from.now.machine }
+    ensures { to.new.machine ≡ from.now.machine }
+{
+    to.machine.write = from.machine.write;
+    to.machine.old = from.machine.old;
+    to.machine.seen = from.machine.seen;
+    to.machine.done = from.machine.done;
+    to.machine.value = from.machine.value;
+    to.machine.stage = from.machine.stage;
+    to.machine.ended = from.machine.ended;
+}
+
+// Writes back the fields that the frequent steps of a take change, where the others are the same.
+#[inline(always)]
+fn take_back(to: &mut EndCore, from: &EndCore)
+    requires { TakeKeeps to.old.machine from.now.machine }
+    ensures { to.new.machine ≡ from.now.machine }
+{
+    to.machine.read = from.machine.read;
+    to.machine.seen = from.machine.seen;
+    to.machine.len = from.machine.len;
+    to.machine.done = from.machine.done;
+    to.machine.value = from.machine.value;
+    to.machine.stage = from.machine.stage;
+    to.machine.ended = from.machine.ended;
+    to.machine.drained = from.machine.drained;
+}
+
+// Writes back the fields that the frequent steps of a commit change, where the others are the same.
+#[inline(always)]
+fn commit_back(to: &mut EndCore, from: &EndCore)
+    requires { CommitKeeps to.old.machine from.now.machine }
+    ensures { to.new.machine ≡ from.now.machine }
+{
+    to.machine.start = from.machine.start;
+    to.machine.old = from.machine.old;
+    to.machine.done = from.machine.done;
+    to.machine.value = from.machine.value;
+    to.machine.stage = from.machine.stage;
+    to.machine.ended = from.machine.ended;
+}
+
+/// A driver: it makes the steps of the call that the machine has begun, and the words that a take loads go into the buffer. Each driver makes any
+/// call. They differ only in which stages are frequent: those have loops of their own, over a copy of the machine that stays in registers, and in
+/// such a loop the stage is known, so that a step is a few instructions.
+pub(crate) trait Driver<S: Seatlike> {
+    ghost use Rattle.std.specs.Prelude.{◌≡◌, ◌≢◌, true, false, take, Some};
+    ghost use Rattle.ring_core.specs.Endings.{Leaves};
+    ghost use Rattle.ring_core.specs.Loops.{Starts};
+    ghost use Rattle.ring_core.specs.States.{IsPacket, entered, shown, sent_by, got_by, past_by, Continues};
+    ghost use Rattle.ring_core.specs.Steps.{is_busy_at, is_took, call_at, call_by};
+    ghost use Rattle.ring_core.specs.Told.{Left};
+    ghost use Rattle.ring_core.specs.declared.machine.Stage.TheVariants.{Stopped};
+    ghost use Rattle.ring_core.specs.declared.state.EndState.{EndState};
+
+    fn drive(parts: &mut Parts<S>, packet: &[u64])
+        requires starts { Starts parts.old.core.machine }
+        requires fits { S.cells parts.old.seat ≡ parts.old.core.machine.cells }
+        requires goes_on { (s : EndState) → S.told parts.old.seat ≡ Some s → Continues s parts.old.core.machine packet.now × (entered s parts.old.core.machine packet.now ≡ shown parts.old.core.machine packet.now parts.old.buf.items parts.old.sent.list parts.old.got.list parts.old.past.events) }
+        ensures call { call_by parts.new.core.machine.ended ≡ call_at parts.old.core.machine.stage }
+        ensures leaves { Leaves parts.old.core.machine parts.new.core.machine }
+        ensures took { is_took parts.new.core.machine.ended ≡ true → IsPacket (take parts.new.core.machine.len parts.new.buf.items) }
+        ensures left { Left (shown parts.old.core.machine packet.now parts.old.buf.items parts.old.sent.list parts.old.got.list parts.old.past.events) (S.told parts.old.seat) (S.told parts.new.seat) (S.memory parts.old.seat) (S.memory parts.new.seat) parts.new.core.machine (sent_by parts.new.core.machine parts.old.sent.list packet.now) (got_by parts.new.core.machine parts.old.got.list parts.new.buf.items) (past_by parts.new.core.machine parts.old.past.events packet.now parts.new.buf.items) }
+        ensures idle { is_busy_at parts.new.core.machine.stage ≡ false }
+        ensures lists { (parts.new.sent ≡ parts.old.sent) × (parts.new.got ≡ parts.old.got) × (parts.new.past ≡ parts.old.past) }
+        ensures same { S.same parts.old.seat parts.new.seat }
+        ensures cells { S.cells parts.new.seat ≡ parts.new.core.machine.cells }
+        ensures honest { (s : EndState) → S.told parts.new.seat ≡ Some s → parts.new.core.machine.stage ≢ Stopped };
+}
+
+/// For a send.
+pub(crate) struct SendLoops;
+
+impl<S: Seatlike> Driver<S> for SendLoops {
+    #[inline(always)]
+    fn drive(parts: &mut Parts<S>, packet: &[u64]) {
+        let mut core = parts.core;
+        while core.is_asking() {
+            step(&mut parts.seat, &mut core, &mut parts.buf, packet);
+        }
+        while core.is_storing() {
+            step(&mut parts.seat, &mut core, &mut parts.buf, packet);
+        }
+        while core.is_writing() {
+            step(&mut parts.seat, &mut core, &mut parts.buf, packet);
+        }
+        while core.is_masking() {
+            step(&mut parts.seat, &mut core, &mut parts.buf, packet);
+        }
+        send_back(&mut parts.core, &core);
+        while parts.core.is_busy() {
+            step_apart(&mut parts.seat, &mut parts.core, &mut parts.buf, packet);
+        }
+    }
+}
+
+/// For a take.
+pub(crate) struct TakeLoops;
+
+impl<S: Seatlike> Driver<S> for TakeLoops {
+    #[inline(always)]
+    fn drive(parts: &mut Parts<S>, packet: &[u64]) {
+        let mut core = parts.core;
+        while core.is_seeking() {
+            step(&mut parts.seat, &mut core, &mut parts.buf, packet);
+        }
+        while core.is_first() {
+            step(&mut parts.seat, &mut core, &mut parts.buf, packet);
+        }
+        while core.is_loading() {
+            step(&mut parts.seat, &mut core, &mut parts.buf, packet);
+        }
+        take_back(&mut parts.core, &core);
+        while parts.core.is_busy() {
+            step_apart(&mut parts.seat, &mut parts.core, &mut parts.buf, packet);
+        }
+    }
+}
+
+/// For a commit.
+pub(crate) struct CommitLoops;
+
+impl<S: Seatlike> Driver<S> for CommitLoops {
+    #[inline(always)]
+    fn drive(parts: &mut Parts<S>, packet: &[u64]) {
+        let mut core = parts.core;
+        while core.is_giving() {
+            step(&mut parts.seat, &mut core, &mut parts.buf, packet);
+        }
+        while core.is_feature() {
+            step(&mut parts.seat, &mut core, &mut parts.buf, packet);
+        }
+        while core.is_pending() {
+            step(&mut parts.seat, &mut core, &mut parts.buf, packet);
+        }
+        commit_back(&mut parts.core, &core);
+        while parts.core.is_busy() {
+            step_apart(&mut parts.seat, &mut parts.core, &mut parts.buf, packet);
+        }
+    }
+}
+
+/// For the other calls.
+pub(crate) struct PlainLoop;
+
+impl<S: Seatlike> Driver<S> for PlainLoop {
+    fn drive(parts: &mut Parts<S>, packet: &[u64]) {
+        while parts.core.is_busy() {
+            step_apart(&mut parts.seat, &mut parts.core, &mut parts.buf, packet);
+        }
+    }
+}
