@@ -1,5 +1,0 @@
-pub mod PortLaws
-pub mod DeskLaws
-pub mod ServeSteps
-pub mod Tables
-pub mod AskSteps

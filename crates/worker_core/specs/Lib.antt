@@ -1,4 +1,0 @@
-pub mod Line
-pub mod Owed
-pub mod Serving
-pub mod Asking
