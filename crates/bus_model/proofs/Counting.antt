@@ -6,7 +6,7 @@ use Rattle.std.proofs.lemmas.List.{length-map}
 use Rattle.std.proofs.lemmas.List.Sums.{length-filter}
 use Rattle.bus_script.specs.declared.line.Line.{Line}
 use Rattle.bus_script.specs.declared.line.What.{What}
-use Rattle.bus_script.specs.declared.line.What.TheVariants.{Contact as IsContact, Offer as IsOffer, RingSize as IsRingSize, Window as IsWindow, Ask as IsAsk, Shut as IsShut, Phase as IsPhase}
+use Rattle.bus_script.specs.declared.line.What.TheVariants.{Contact as IsContact, Offer as IsOffer, RingSize as IsRingSize, Window as IsWindow, Bad as IsBad, Ask as IsAsk, Shut as IsShut, Phase as IsPhase}
 use Rattle.bus_script.specs.declared.line.DeviceSpec.{DeviceSpec}
 use Rattle.bus_script.specs.declared.outcome.LineResult.{LineResult}
 use Rattle.bus_script.specs.Parts.{is_phase, ends_part, parts}
@@ -31,6 +31,7 @@ line_dest earlier (IsContact guest host) l ds ls is = omega (arith, is)
 line_dest earlier (IsOffer name spec) l ds ls is = is
 line_dest earlier (IsRingSize device pages) l ds ls is = is
 line_dest earlier (IsWindow device size) l ds ls is = is
+line_dest earlier (IsBad device lba) l ds ls is = is
 line_dest earlier (IsAsk device ask) l ds ls is = omega (arith, is)
 line_dest earlier (IsShut device) l ds ls is = is
 line_dest earlier IsPhase l ds ls is = is
@@ -72,6 +73,7 @@ split_line l (IsContact guest host) is ps = onto l ps
 split_line l (IsOffer name spec) is ps = onto l ps
 split_line l (IsRingSize device pages) is ps = onto l ps
 split_line l (IsWindow device size) is ps = onto l ps
+split_line l (IsBad device lba) is ps = onto l ps
 split_line l (IsAsk device ask) is ps = onto l ps
 split_line l (IsShut device) is ps = onto l ps
 split_line l IsPhase is ps = let none : one l ≡ 0 = ap (λ w. length (cond (tells w) (l ∷ []) [])) is in omega (arith, none)

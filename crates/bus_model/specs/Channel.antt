@@ -1,41 +1,42 @@
 -- The run of one channel in one phase.
-use Rattle.std.specs.Prelude.{ℕ, ◌≡◌, List, [], ◌∷◌, map}
+use Rattle.std.specs.Prelude.{ℕ, ◌≡◌, List, map, None}
 use Rattle.bus_script.specs.declared.line.Ask.{Ask}
-use Rattle.bus_script.specs.declared.line.DeviceSpec.{DeviceSpec}
-use Rattle.bus_script.specs.declared.line.DeviceSpec.TheVariants.{Beat, Down}
+use Rattle.bus_speech.specs.Wants.{startup}
+use Rattle.bus_speech.specs.declared.want.Want.{Want}
+use Rattle.bus_speech.specs.declared.want.Want.TheVariants.{Script}
+use Rattle.bus_speech.specs.Speeches.{speech_of}
+use Rattle.contact.specs.declared.kind.Kind.{Kind}
+use Rattle.io_edge.specs.declared.side.Side.{Side}
+use Rattle.io_edge.specs.declared.side.Side.TheVariants.{Guest, Host}
 use Rattle.ring_model.specs.Lists.{Lists}
+use Rattle.work_model.specs.Channel.{Plan, IsChannelRun as Runs}
+use Rattle.work_model.specs.Roles.{side_that_asks}
 use Rattle.bus_model.specs.Served.{Served}
-use Rattle.bus_model.specs.Wants.{Want, Back, Encodes, Answers, wants_of, backs_of}
 
--- the k-th packet asks the k-th request
-abbrev pub AllEncode : DeviceSpec → List Want → List (List ℕ) → Type 0
-AllEncode kind [] [] = Unit {0}
-AllEncode kind [] (p ∷ ps) = ⊥
-AllEncode kind (w ∷ wants) [] = ⊥
-AllEncode kind (w ∷ wants) (p ∷ ps) = Encodes kind w p × AllEncode kind wants ps
+-- what the end that asks has to ask in a phase: the requests of the start-up, and those of the script
+abbrev pub plan_of : Kind → List Ask → Plan Want
+plan_of kind asks = record { start = startup kind; script = map Script asks; stop = None }
 
--- the k-th answer answers the k-th request, with what was served
-abbrev pub AllAnswer : DeviceSpec → List (List ℕ) → List Back → List (List ℕ) → Type 0
-AllAnswer kind [] [] [] = Unit {0}
-AllAnswer kind [] [] (q ∷ qs) = ⊥
-AllAnswer kind [] (b ∷ backs) qs = ⊥
-AllAnswer kind (p ∷ ps) [] qs = ⊥
-AllAnswer kind (p ∷ ps) (b ∷ backs) [] = ⊥
-AllAnswer kind (p ∷ ps) (b ∷ backs) (q ∷ qs) = Answers kind p b q × AllAnswer kind ps backs qs
+-- what the end of this side sent and got
+abbrev pub sent_by : Side → Lists → List (List ℕ)
+sent_by Guest lists = lists.guest_sent
+sent_by Host lists = lists.host_sent
 
--- what the end that requests sent, and what the end that serves sent: the host asks the utility services
-abbrev pub requests_in : DeviceSpec → Lists → List (List ℕ)
-requests_in Beat lists = lists.host_sent
-requests_in Down lists = lists.host_sent
+abbrev pub got_by : Side → Lists → List (List ℕ)
+got_by Guest lists = lists.guest_got
+got_by Host lists = lists.host_got
 
-abbrev pub answers_in : DeviceSpec → Lists → List (List ℕ)
-answers_in Beat lists = lists.guest_sent
-answers_in Down lists = lists.guest_sent
+abbrev pub other : Side → Side
+other Guest = Host
+other Host = Guest
 
--- All that was sent was got, as it was sent; the packets are the requests, in order, and their answers
-pub record IsChannelRun (kind : DeviceSpec) (asks : List Ask) (lists : Lists) (served : List Served) : Type 0 where
-  pub host_got : lists.host_got ≡ lists.guest_sent
-  pub guest_got : lists.guest_got ≡ lists.host_sent
-  pub requests : AllEncode kind (wants_of kind asks) (requests_in kind lists)
-  pub serves : map (λ s. s.ask) served ≡ asks
-  pub answers : AllAnswer kind (requests_in kind lists) (backs_of kind served) (answers_in kind lists)
+-- What the end that asks and the end that serves sent and got is the run of one plan: all that was sent was got, as it was sent; the packets of the
+-- one end ask the start-up's and the script's requests, in order; the packets of the other end answer them, in order, with what was served
+abbrev pub Carries : Side → Kind → List Ask → Lists → List Served → Type 0
+Carries asks_at kind asks lists served =
+    Runs (speech_of kind) (plan_of kind asks) (sent_by asks_at lists) (got_by asks_at lists) (sent_by (other asks_at) lists) (got_by (other asks_at) lists) served (map (λ s. s.reply) served)
+
+-- and what was served is what was asked, in order
+pub record IsChannelRun (kind : Kind) (asks : List Ask) (lists : Lists) (served : List Served) : Type 0 where
+  pub carried : Carries (side_that_asks kind) kind asks lists served
+  pub serves : map (λ s. s.request) served ≡ asks

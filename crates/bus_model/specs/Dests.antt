@@ -4,7 +4,7 @@ use Rattle.std.specs.List.{flat_map, list_any}
 use Rattle.contact.specs.Versions.{versions_tried}
 use Rattle.bus_script.specs.declared.line.Line.{Line}
 use Rattle.bus_script.specs.declared.line.What.{What}
-use Rattle.bus_script.specs.declared.line.What.TheVariants.{Contact as IsContact, Offer as IsOffer, RingSize as IsRingSize, Window as IsWindow, Ask as IsAsk, Shut as IsShut, Phase as IsPhase}
+use Rattle.bus_script.specs.declared.line.What.TheVariants.{Contact as IsContact, Offer as IsOffer, RingSize as IsRingSize, Window as IsWindow, Bad as IsBad, Ask as IsAsk, Shut as IsShut, Phase as IsPhase}
 use Rattle.bus_script.specs.declared.line.Ask.{Ask}
 use Rattle.bus_script.specs.declared.outcome.LineResult.{LineResult}
 use Rattle.bus_script.specs.declared.outcome.LineResult.TheVariants.{Version as Agreed, Closed}
@@ -29,6 +29,7 @@ dest_in earlier (IsContact guest host) = Known (Agreed (length (versions_tried g
 dest_in earlier (IsOffer name spec) = []
 dest_in earlier (IsRingSize device pages) = []
 dest_in earlier (IsWindow device size) = []
+dest_in earlier (IsBad device lba) = []
 dest_in earlier (IsAsk device ask) = dest_of (ended_by device earlier) device ask ∷ []
 dest_in earlier (IsShut device) = []
 dest_in earlier IsPhase = []
@@ -51,6 +52,7 @@ wants_open device (IsContact guest host) = false
 wants_open device (IsOffer name spec) = false
 wants_open device (IsRingSize d pages) = false
 wants_open device (IsWindow d size) = false
+wants_open device (IsBad d lba) = false
 wants_open device (IsAsk d ask) = d == device
 wants_open device (IsShut d) = d == device
 wants_open device IsPhase = false

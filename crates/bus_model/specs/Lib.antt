@@ -1,5 +1,4 @@
 pub mod Served
-pub mod Wants
 pub mod Channel
 pub mod Dests
 pub mod Logs

@@ -1,20 +1,25 @@
 -- Histories of all kinds of devices, as lists of one type.
 use Rattle.std.specs.Prelude.{ℕ, ◌≡◌, ◌+◌, ◌==◌, List, [], ◌∷◌, ◌++◌, length, map, if◌then◌else◌}
 use Rattle.bus_script.specs.declared.line.Ask.{Ask}
-use Rattle.bus_script.specs.declared.line.Ask.TheVariants.{Ic as AskIc}
+use Rattle.bus_script.specs.declared.line.Ask.TheVariants.{Ic as AskIc, Disk as AskDisk}
+use Rattle.bus_script.specs.declared.line.Line.{Line}
 use Rattle.bus_script.specs.declared.outcome.Reply.{Reply}
-use Rattle.bus_script.specs.declared.outcome.Reply.TheVariants.{Ic as ReplyIc}
+use Rattle.bus_script.specs.declared.outcome.Reply.TheVariants.{Ic as ReplyIc, Disk as ReplyDisk}
 use Rattle.bus_script.specs.declared.line.DeviceSpec.{DeviceSpec}
-use Rattle.bus_script.specs.declared.line.DeviceSpec.TheVariants.{Beat, Down}
+use Rattle.bus_script.specs.declared.line.DeviceSpec.TheVariants.{Beat, Down, Disk}
+use Rattle.bus_script.specs.Parts.{bads_of}
 use Rattle.hist_lock.specs.declared.history.Entry.{Entry}
 use Rattle.hist_lock.specs.Legal.{IsLegal}
 use Rattle.hist_lock.specs.History.{entries_of}
+use Rattle.scsi_disk.specs.DiskModel.{DiskState, new_disk, disk_reply, disk_after}
+use Rattle.scsi_disk.specs.declared.request.DiskRequest.{DiskRequest}
+use Rattle.scsi_disk.specs.declared.reply.DiskReply.{DiskReply}
 use Rattle.util_ic.specs.declared.ic.IcAsk.{IcAsk}
 use Rattle.util_ic.specs.declared.ic.IcAnswer.{IcAnswer}
 use Rattle.util_ic.specs.Machines.{beat_start, beat_reply, down_start, down_reply}
 use Rattle.bus_model.specs.Served.{Served}
 use Rattle.bus_model.specs.declared.history.DeviceHistory.{DeviceHistory}
-use Rattle.bus_model.specs.declared.history.DeviceHistory.TheVariants.{Beat as BeatHistory, Down as DownHistory}
+use Rattle.bus_model.specs.declared.history.DeviceHistory.TheVariants.{Beat as BeatHistory, Down as DownHistory, Disk as DiskHistory}
 
 -- an entry of any device's history
 pub record Recorded : Type 0 where
@@ -25,14 +30,18 @@ pub record Recorded : Type 0 where
 abbrev pub ic_log : {S : Type 0} → List (Entry S IcAsk IcAnswer) → List Recorded
 ic_log entries = map (λ e. record { seat = e.seat; ask = AskIc e.request; reply = ReplyIc e.reply }) entries
 
+abbrev pub disk_log : {S : Type 0} → List (Entry S DiskRequest DiskReply) → List Recorded
+disk_log entries = map (λ e. record { seat = e.seat; ask = AskDisk e.request; reply = ReplyDisk e.reply }) entries
+
 abbrev pub log_of : DeviceHistory → List Recorded
 log_of (BeatHistory h) = ic_log (entries_of h)
 log_of (DownHistory h) = ic_log (entries_of h)
+log_of (DiskHistory h) = disk_log (entries_of h)
 
 -- what a seat served, where the first entry has this place
 abbrev pub served_from : ℕ → ℕ → List Recorded → List Served
 served_from seat n [] = []
-served_from seat n (e ∷ es) = if e.seat == seat then record { serial = n; ask = e.ask; reply = e.reply } ∷ served_from seat (n + 1) es else served_from seat (n + 1) es
+served_from seat n (e ∷ es) = if e.seat == seat then record { serial = n; request = e.ask; reply = e.reply } ∷ served_from seat (n + 1) es else served_from seat (n + 1) es
 
 -- the seats from one on served these, where the first entry has this place
 abbrev pub EachSeat : ℕ → ℕ → List Recorded → List (List Served) → Type 0
@@ -51,16 +60,26 @@ pub record Grows (before after : List Recorded) (served : List (List Served)) : 
   pub seats : EachSeat 0 (length before) more served
   pub all : length more ≡ total served
 
--- the history is of the device's machine, from its first state
-abbrev pub IsHistory : DeviceSpec → DeviceHistory → Type 0
-IsHistory Beat (BeatHistory h) = IsLegal (λ s q. s) (λ s q. beat_reply q) beat_start (entries_of h)
-IsHistory Beat (DownHistory h) = ⊥
-IsHistory Down (BeatHistory h) = ⊥
-IsHistory Down (DownHistory h) = IsLegal (λ s q. s) (λ s q. down_reply q) down_start (entries_of h)
+-- each reply is the disk's on the state that the entries before it leave
+abbrev pub IsDiskLog : {S : Type 0} → DiskState → List (Entry S DiskRequest DiskReply) → Type 0
+IsDiskLog d [] = Unit {0}
+IsDiskLog d (e ∷ es) = (e.reply ≡ disk_reply d e.request) × IsDiskLog (disk_after d e.request) es
 
--- one for each device, in order of offer
-abbrev pub EachHistory : List DeviceSpec → List DeviceHistory → Type 0
-EachHistory [] [] = Unit {0}
-EachHistory [] (h ∷ histories) = ⊥
-EachHistory (k ∷ kinds) [] = ⊥
-EachHistory (k ∷ kinds) (h ∷ histories) = IsHistory k h × EachHistory kinds histories
+-- the history is of the device's machine, from its first state: a disk's blocks are zero, and these places are bad
+abbrev pub IsHistory : DeviceSpec → List ℕ → DeviceHistory → Type 0
+IsHistory Beat bad (BeatHistory h) = IsLegal (λ s q. s) (λ s q. beat_reply q) beat_start (entries_of h)
+IsHistory Beat bad (DownHistory h) = ⊥
+IsHistory Beat bad (DiskHistory h) = ⊥
+IsHistory Down bad (BeatHistory h) = ⊥
+IsHistory Down bad (DownHistory h) = IsLegal (λ s q. s) (λ s q. down_reply q) down_start (entries_of h)
+IsHistory Down bad (DiskHistory h) = ⊥
+IsHistory (Disk blocks subs) bad (BeatHistory h) = ⊥
+IsHistory (Disk blocks subs) bad (DownHistory h) = ⊥
+IsHistory (Disk blocks subs) bad (DiskHistory h) = IsDiskLog (new_disk blocks bad) (entries_of h)
+
+-- one for each device from one on, in order of offer
+abbrev pub EachHistory : List Line → ℕ → List DeviceSpec → List DeviceHistory → Type 0
+EachHistory lines device [] [] = Unit {0}
+EachHistory lines device [] (h ∷ histories) = ⊥
+EachHistory lines device (k ∷ kinds) [] = ⊥
+EachHistory lines device (k ∷ kinds) (h ∷ histories) = IsHistory k (bads_of device lines) h × EachHistory lines (device + 1) kinds histories

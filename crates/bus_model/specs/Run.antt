@@ -7,7 +7,7 @@ use Rattle.bus_script.specs.declared.line.DeviceSpec.{DeviceSpec}
 use Rattle.bus_script.specs.declared.outcome.LineResult.{LineResult}
 use Rattle.bus_model.specs.Served.{Served, done_of}
 use Rattle.bus_model.specs.Channel.{IsChannelRun}
-use Rattle.bus_script.specs.Parts.{parts, offered}
+use Rattle.bus_script.specs.Parts.{parts, offered, kind_of}
 use Rattle.bus_model.specs.Dests.{Address, At, Fixed, dests, asks_to, addresses, is_opened}
 use Rattle.bus_model.specs.Logs.{Recorded, Grows, EachHistory, log_of}
 use Rattle.bus_model.specs.declared.channel_run.ChannelRun.{ChannelRun}
@@ -26,7 +26,7 @@ abbrev pub Carries : Bool → ℕ → ℕ → ℕ → DeviceSpec → List Ask �
 Carries false phase relid device kind asks runs served = (runs ≡ []) × (served ≡ [])
 Carries true phase relid device kind asks [] served = ⊥
 Carries true phase relid device kind asks (r ∷ []) served =
-    (r.phase ≡ phase) × (r.relid ≡ relid) × (r.device ≡ device) × IsChannelRun kind asks r.settled served
+    (r.phase ≡ phase) × (r.relid ≡ relid) × (r.device ≡ device) × IsChannelRun (kind_of kind) asks r.settled served
 Carries true phase relid device kind asks (r ∷ s ∷ runs) served = ⊥
 
 -- the channel with this place among the phase's channels; relids count from 1
@@ -87,4 +87,4 @@ RunFrom kinds phase earlier (part ∷ rest) before settled after results =
 -- The run of a script: each history begins with nothing, is legal, and goes on phase by phase
 pub record IsBusRun (lines : List Line) (settled : List ChannelRun) (histories : List DeviceHistory) (results : List LineResult) : Type 0 where
   pub phases : RunFrom (offered lines) 0 [] (parts lines) (map (λ k. []) (offered lines)) settled (map log_of histories) results
-  pub legal : EachHistory (offered lines) histories
+  pub legal : EachHistory lines 0 (offered lines) histories

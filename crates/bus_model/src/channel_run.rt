@@ -1,5 +1,5 @@
 //! What one channel carried in one phase.
-use ring_model::Settled;
+use ring_seat::Settled;
 
 /// The packets of a channel that was opened in a phase. Phases and devices count from 0.
 #[derive(Drop)]

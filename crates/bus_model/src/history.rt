@@ -1,5 +1,6 @@
 //! What one device served over the whole run.
 use hist_lock::History;
+use scsi_disk::Disk;
 use util_ic::{BeatMachine, DownMachine};
 
 /// A device's history, by the kind of the device.
@@ -7,4 +8,5 @@ use util_ic::{BeatMachine, DownMachine};
 pub enum DeviceHistory {
     Beat(History<BeatMachine>),
     Down(History<DownMachine>),
+    Disk(History<Disk>),
 }

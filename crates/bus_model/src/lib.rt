@@ -7,4 +7,4 @@ mod laws;
 
 pub use channel_run::ChannelRun;
 pub use history::DeviceHistory;
-pub use laws::{one_each, one_more};
+pub use laws::{arrives, few_runs_back, one_each, serves_each};

@@ -8,9 +8,10 @@ use Rattle.std.proofs.lemmas.Bool.Decides.{nat_tests}
 use Rattle.bus_script.specs.declared.line.Line.{Line}
 use Rattle.bus_script.specs.declared.line.Ask.{Ask}
 use Rattle.bus_script.specs.declared.outcome.LineResult.{LineResult}
+use Rattle.bus_script.specs.declared.outcome.LineResult.TheVariants.{Version, Closed}
 use Rattle.bus_model.specs.Dests.{Dest, ToChannel, Known, Address, At, Fixed, address_of, dest_in, dests, asked_in, asks_to, addresses_from, addresses}
 use Rattle.bus_plan.specs.declared.address.Address.{Address as Slot}
-use Rattle.bus_plan.specs.declared.address.Address.TheVariants.{At as SlotAt, Fixed as SlotFixed}
+use Rattle.bus_plan.specs.declared.address.Address.TheVariants.{At as SlotAt, Tried as SlotTried, Closed as SlotClosed}
 use Rattle.bus_plan.specs.Plans.{IsDealt, IsPlanned, place_of, places_of}
 
 -- a line of the phase, and those before and behind
@@ -82,12 +83,22 @@ plan_ask channels all done left piles piles' slots slots' c place ask planned wi
       rest = ap (λ (l : List Slot). places_of l ++ addresses_from (done ++ ToChannel c ask ∷ []) left) told ∙ place_more all done left slots (SlotAt c place) (ToChannel c ask) planned.rest (ap (At c) is);
     }
 
-pub plan_known : (channels : ℕ) (all : List Address) (done left : List Dest) (piles : List (List Ask)) (slots slots' : List Slot) (result result' : LineResult) → IsPlanned channels all done (Known result ∷ left) piles slots
-    → slots' ≡ slots ++ SlotFixed result' ∷ [] → result' ≡ result → IsPlanned channels all (done ++ Known result ∷ []) left piles slots'
-plan_known channels all done left piles slots slots' result result' planned told is = record {
+plan_known : (channels : ℕ) (all : List Address) (done left : List Dest) (piles : List (List Ask)) (slots slots' : List Slot) (slot : Slot) (result : LineResult) → IsPlanned channels all done (Known result ∷ left) piles slots
+    → slots' ≡ slots ++ slot ∷ [] → place_of slot ≡ Fixed result → IsPlanned channels all (done ++ Known result ∷ []) left piles slots'
+plan_known channels all done left piles slots slots' slot result planned told is = record {
   dealt = known_more channels done piles result planned.dealt;
-  rest = ap (λ (l : List Slot). places_of l ++ addresses_from (done ++ Known result ∷ []) left) told ∙ place_more all done left slots (SlotFixed result') (Known result) planned.rest (ap Fixed is);
+  rest = ap (λ (l : List Slot). places_of l ++ addresses_from (done ++ Known result ∷ []) left) told ∙ place_more all done left slots slot (Known result) planned.rest is;
 }
+
+-- the device of a line is closed
+pub plan_closed : (channels : ℕ) (all : List Address) (done left : List Dest) (piles : List (List Ask)) (slots slots' : List Slot) → IsPlanned channels all done (Known Closed ∷ left) piles slots
+    → slots' ≡ slots ++ SlotClosed ∷ [] → IsPlanned channels all (done ++ Known Closed ∷ []) left piles slots'
+plan_closed channels all done left piles slots slots' planned told = plan_known channels all done left piles slots slots' SlotClosed Closed planned told refl
+
+-- the versions that the guest tries
+pub plan_tried : (channels : ℕ) (all : List Address) (done left : List Dest) (piles : List (List Ask)) (slots slots' : List Slot) (tried n : ℕ) → IsPlanned channels all done (Known (Version n) ∷ left) piles slots
+    → slots' ≡ slots ++ SlotTried tried ∷ [] → tried ≡ n → IsPlanned channels all (done ++ Known (Version n) ∷ []) left piles slots'
+plan_tried channels all done left piles slots slots' tried n planned told is = plan_known channels all done left piles slots slots' (SlotTried tried) (Version n) planned told (ap (λ k. Fixed (Version k)) is)
 
 -- the plan at the end of a phase
 pub plan_end : (channels : ℕ) (earlier part : List Line) (i : ℕ) (piles : List (List Ask)) (slots : List Slot) → IsPlanned channels (addresses earlier part) (dests earlier (take i part)) (dests earlier (drop i part)) piles slots → length part ≤ i

@@ -3,7 +3,7 @@ use Rattle.std.specs.Prelude.{ℕ, ◌≡◌, ◌<◌, ◌||◌, Bool, false, Li
 use Rattle.std.specs.List.{list_any}
 use Rattle.bus_script.specs.declared.line.Line.{Line}
 use Rattle.bus_script.specs.declared.line.What.{What}
-use Rattle.bus_script.specs.declared.line.What.TheVariants.{Contact as IsContact, Offer as IsOffer, RingSize as IsRingSize, Window as IsWindow, Ask as IsAsk, Shut as IsShut, Phase as IsPhase}
+use Rattle.bus_script.specs.declared.line.What.TheVariants.{Contact as IsContact, Offer as IsOffer, RingSize as IsRingSize, Window as IsWindow, Bad as IsBad, Ask as IsAsk, Shut as IsShut, Phase as IsPhase}
 use Rattle.bus_script.specs.Parts.{shuts}
 
 -- the device that a line asks or closes is one of so many
@@ -12,6 +12,7 @@ IsBelow count (IsContact guest host) = Unit {0}
 IsBelow count (IsOffer name spec) = Unit {0}
 IsBelow count (IsRingSize device pages) = Unit {0}
 IsBelow count (IsWindow device size) = Unit {0}
+IsBelow count (IsBad device lba) = Unit {0}
 IsBelow count (IsAsk device ask) = device < count
 IsBelow count (IsShut device) = device < count
 IsBelow count IsPhase = Unit {0}

@@ -4,11 +4,12 @@ use Rattle.std.specs.List.{list_any}
 use Rattle.bus_script.specs.declared.line.Line.{Line}
 use Rattle.bus_script.specs.declared.line.Ask.{Ask}
 use Rattle.bus_script.specs.declared.outcome.LineResult.{LineResult}
+use Rattle.bus_script.specs.declared.outcome.LineResult.TheVariants.{Version, Closed}
 use Rattle.bus_model.specs.Dests.{Dest, ToChannel, Known, Address, At, Fixed, dests, asks_to, addresses_from, addresses, wants_open}
 use Rattle.bus_model.specs.Run.{outcome_at}
 use Rattle.bus_plan.specs.Flags.{AreMarked}
 use Rattle.bus_plan.specs.declared.address.Address.{Address as Slot}
-use Rattle.bus_plan.specs.declared.address.Address.TheVariants.{At as SlotAt, Fixed as SlotFixed}
+use Rattle.bus_plan.specs.declared.address.Address.TheVariants.{At as SlotAt, Tried as SlotTried, Closed as SlotClosed}
 use Rattle.bus_plan.specs.declared.plan.PartPlan.{PartPlan}
 
 -- each request goes to one of so many channels
@@ -27,7 +28,8 @@ pub record IsDealt (channels : ℕ) (ds : List Dest) (piles : List (List Ask)) :
 
 abbrev pub place_of : Slot → Address
 place_of (SlotAt channel place) = At channel place
-place_of (SlotFixed result) = Fixed result
+place_of (SlotTried tried) = Fixed (Version tried)
+place_of SlotClosed = Fixed Closed
 
 abbrev pub places_of : List Slot → List Address
 places_of slots = map place_of slots

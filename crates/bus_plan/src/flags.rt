@@ -19,6 +19,7 @@ fn want(wanted: &mut [bool], what: &What)
         What::Offer { .. } => {}
         What::RingSize { .. } => {}
         What::Window { .. } => {}
+        What::Bad { .. } => {}
         What::Phase => {}
     }
 }
@@ -45,6 +46,7 @@ fn close(closed: &mut [bool], what: &What)
         What::Offer { .. } => {}
         What::RingSize { .. } => {}
         What::Window { .. } => {}
+        What::Bad { .. } => {}
         What::Phase => {}
     }
 }

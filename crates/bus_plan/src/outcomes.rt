@@ -12,8 +12,9 @@ fn told(outcomes: &Piles<LineResult>, address: Address) -> LineResult
     ensures { outcome_at outcomes.now (place_of address) ≡ Some result }
 {
     match address {
-        Address::At { channel, place } => outcomes.get(channel)[place],
-        Address::Fixed(result) => result,
+        Address::At { channel, place } => outcomes.get(channel)[place].again(),
+        Address::Tried(tried) => LineResult::Version { tried },
+        Address::Closed => LineResult::Closed,
     }
 }
 

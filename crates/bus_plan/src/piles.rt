@@ -21,7 +21,7 @@ impl<T> Model for Piles<T> {
     ghost view = { λ p. map (λ v. v.items) p.list.items };
 }
 
-impl<T: Copy + Drop> Piles<T> {
+impl<T: Drop> Piles<T> {
     /// No lists.
     pub fn none(alloc: Global) -> Piles<T>
         ensures { result ≡ [] }

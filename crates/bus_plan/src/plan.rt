@@ -6,7 +6,7 @@ ghost use Rattle.bus_plan.specs.Flags.{IsBelow, AllBelow, AreMarked, closed_by};
 ghost use Rattle.bus_plan.specs.Plans.{IsPlanned, IsPlan};
 
 use crate::{Address, Piles, mark_wanted};
-use bus_script::{Ask, Line, LineResult, What};
+use bus_script::{Ask, Line, What};
 use contact::tried;
 use std::alloc::{AllocError, Global};
 
@@ -24,24 +24,24 @@ fn deal_ask(
     addresses: &mut Vec<Address>,
     closed: &[bool],
     device: usize,
-    ask: Ask,
+    ask: &Ask,
 ) -> Result<(), AllocError>
     requires closed { device < length closed.now }
     requires piles { device < length asks.old }
     ensures count { OnOk result (length asks.new ≡ length asks.old) }
     ensures plan { OnOk result ((channels : ℕ) (all : List Place) (done left : List Dest) (earlier : List OneLine) → AreMarked (closed_by earlier) closed.now
-        → IsPlanned channels all done (dest_of (ended_by device earlier) device ask ∷ left) asks.old addresses.old.items
-        → IsPlanned channels all (done ++ dest_of (ended_by device earlier) device ask ∷ []) left asks.new addresses.new.items) }
+        → IsPlanned channels all done (dest_of (ended_by device earlier) device ask.now ∷ left) asks.old addresses.old.items
+        → IsPlanned channels all (done ++ dest_of (ended_by device earlier) device ask.now ∷ []) left asks.new addresses.new.items) }
 {
     if closed[device] {
-        addresses.push(Address::Fixed(LineResult::Closed))?;
+        addresses.push(Address::Closed)?;
         return Ok(());
     }
     addresses.push(Address::At {
         channel: device,
         place: asks.get(device).len(),
     })?;
-    asks.push(device, ask)?;
+    asks.push(device, ask.again())?;
     Ok(())
 }
 
@@ -61,17 +61,18 @@ fn deal(
 {
     match what {
         What::Ask { device, ask } => {
-            deal_ask(asks, addresses, closed, *device as usize, *ask)?;
+            deal_ask(asks, addresses, closed, *device as usize, ask)?;
             Ok(())
         }
         What::Contact { guest, host } => {
             let tried = tried(*guest, *host);
-            addresses.push(Address::Fixed(LineResult::Version { tried }))?;
+            addresses.push(Address::Tried(tried))?;
             Ok(())
         }
         What::Offer { .. } => Ok(()),
         What::RingSize { .. } => Ok(()),
         What::Window { .. } => Ok(()),
+        What::Bad { .. } => Ok(()),
         What::Shut { .. } => Ok(()),
         What::Phase => Ok(()),
     }

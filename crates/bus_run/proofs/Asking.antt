@@ -10,18 +10,18 @@ use Rattle.std.proofs.lemmas.Bool.Decides.{nat_tests}
 use Rattle.contact.specs.declared.kind.Kind.{Kind}
 use Rattle.bus_script.specs.declared.line.Line.{Line}
 use Rattle.bus_script.specs.declared.line.What.{What}
-use Rattle.bus_script.specs.declared.line.What.TheVariants.{Contact as IsContact, Offer as IsOffer, RingSize as IsRingSize, Window as IsWindow, Ask as IsAsk, Shut as IsShut, Phase as IsPhase}
+use Rattle.bus_script.specs.declared.line.What.TheVariants.{Contact as IsContact, Offer as IsOffer, Bad as IsBad, RingSize as IsRingSize, Window as IsWindow, Ask as IsAsk, Shut as IsShut, Phase as IsPhase}
 use Rattle.bus_script.specs.declared.line.Ask.{Ask}
 use Rattle.bus_script.specs.declared.line.DeviceSpec.{DeviceSpec}
 use Rattle.bus_script.specs.declared.line.DeviceSpec.TheVariants.{Beat}
 use Rattle.bus_script.specs.declared.outcome.LineResult.{LineResult}
 use Rattle.bus_script.specs.declared.outcome.LineResult.TheVariants.{Closed}
 use Rattle.bus_script.specs.Parts.{is_ask, asks_in, kind_of, kind_asked}
-use Rattle.bus_script.specs.WellFormed.{IsRight, AllRight}
+use Rattle.bus_script.specs.WellFormed.{IsRight, AllRight, CanGo, AskGoes, AllGo}
 use Rattle.bus_model.specs.Dests.{Dest, ToChannel, Known, ended_by, dest_of, dest_in, dests, asked_in, asks_to, wants_open, is_opened, address_of, addresses_from}
 use Rattle.bus_plan.specs.Flags.{IsBelow, AllBelow, AreMarked, closed_by}
 use Rattle.bus_plan.specs.Plans.{LeadsBelow, AllLeadBelow, IsThere, AllThere}
-use Rattle.bus_run.specs.Serve.{AllAsk}
+use Rattle.phase_run.specs.Pairs.{AllCarried}
 use Rattle.bus_run.specs.Desk.{opened_by}
 
 -- right lines speak of devices that are offered
@@ -34,6 +34,7 @@ below_line kinds (IsContact guest host) right = tt
 below_line kinds (IsOffer name spec) right = tt
 below_line kinds (IsRingSize device pages) right = tt
 below_line kinds (IsWindow device size) right = tt
+below_line kinds (IsBad device lba) right = tt
 below_line kinds (IsAsk device ask) right = asked_within kinds device (kind_asked ask) right
 below_line kinds (IsShut device) right = right
 below_line kinds IsPhase right = tt
@@ -51,6 +52,7 @@ lead_line kinds earlier (IsContact guest host) ds right rest = (tt, rest)
 lead_line kinds earlier (IsOffer name spec) ds right rest = rest
 lead_line kinds earlier (IsRingSize device pages) ds right rest = rest
 lead_line kinds earlier (IsWindow device size) ds right rest = rest
+lead_line kinds earlier (IsBad device lba) ds right rest = rest
 lead_line kinds earlier (IsAsk device ask) ds right rest = (lead_of (length kinds) (ended_by device earlier) device ask (asked_within kinds device (kind_asked ask) right), rest)
 lead_line kinds earlier (IsShut device) ds right rest = rest
 lead_line kinds earlier IsPhase ds right rest = rest
@@ -61,31 +63,32 @@ lead_all kinds earlier (l ∷ part) right = lead_line kinds earlier l.what (dest
 
 -- a channel is asked what its device serves
 
-ask_if : (b : Bool) (spec : DeviceSpec) (ask : Ask) (asks : List Ask) → (b ≡ true → kind_asked ask ≡ kind_of spec) → AllAsk spec asks → AllAsk spec (cond b (ask ∷ []) [] ++ asks)
-ask_if true spec ask asks here rest = (here refl, rest)
-ask_if false spec ask asks here rest = rest
+ask_if : (b : Bool) (kind : Kind) (ask : Ask) (asks : List Ask) → (b ≡ true → kind_asked ask ≡ kind) → CanGo ask → AllCarried kind asks → AllCarried kind (cond b (ask ∷ []) [] ++ asks)
+ask_if true kind ask asks here goes rest = (here refl, goes, rest)
+ask_if false kind ask asks here goes rest = rest
 
-ask_of : (spec : DeviceSpec) (k : ℕ) (o : Option LineResult) (device : ℕ) (ask : Ask) (ds : List Dest) → ((device == k) ≡ true → kind_asked ask ≡ kind_of spec) → AllAsk spec (asks_to k ds) → AllAsk spec (asks_to k (dest_of o device ask ∷ ds))
-ask_of spec k None device ask ds here rest = ask_if (device == k) spec ask (asks_to k ds) here rest
-ask_of spec k (Some result) device ask ds here rest = rest
+ask_of : (kind : Kind) (k : ℕ) (o : Option LineResult) (device : ℕ) (ask : Ask) (ds : List Dest) → ((device == k) ≡ true → kind_asked ask ≡ kind) → CanGo ask → AllCarried kind (asks_to k ds) → AllCarried kind (asks_to k (dest_of o device ask ∷ ds))
+ask_of kind k None device ask ds here goes rest = ask_if (device == k) kind ask (asks_to k ds) here goes rest
+ask_of kind k (Some result) device ask ds here goes rest = rest
 
 kind_here : (kinds : List DeviceSpec) (device k : ℕ) (kind : Kind) → slice_get (map kind_of kinds) device ≡ Some kind → (device == k) ≡ true → kind ≡ kind_of (slice_index_or kinds k Beat)
 kind_here kinds device k kind fits same =
     let e : device ≡ k = grind (arith, nat_tests) in
     sym (ap (λ (n : ℕ). kind_of (slice_index_or kinds n Beat)) (sym e) ∙ sym (get_or-map kind_of kinds device Beat (kind_of Beat) (asked_within kinds device kind fits)) ∙ get_or_from_slice_get (map kind_of kinds) device kind (kind_of Beat) fits)
 
-asks_line : (kinds : List DeviceSpec) (earlier : List Line) (k : ℕ) (w : What) (ds : List Dest) → IsRight kinds w → AllAsk (slice_index_or kinds k Beat) (asks_to k ds) → AllAsk (slice_index_or kinds k Beat) (asks_to k (dest_in earlier w ++ ds))
-asks_line kinds earlier k (IsContact guest host) ds right rest = rest
-asks_line kinds earlier k (IsOffer name spec) ds right rest = rest
-asks_line kinds earlier k (IsRingSize device pages) ds right rest = rest
-asks_line kinds earlier k (IsWindow device size) ds right rest = rest
-asks_line kinds earlier k (IsAsk device ask) ds right rest = ask_of (slice_index_or kinds k Beat) k (ended_by device earlier) device ask ds (kind_here kinds device k (kind_asked ask) right) rest
-asks_line kinds earlier k (IsShut device) ds right rest = rest
-asks_line kinds earlier k IsPhase ds right rest = rest
+asks_line : (kinds : List DeviceSpec) (earlier : List Line) (k : ℕ) (w : What) (ds : List Dest) → IsRight kinds w → AskGoes w → AllCarried (kind_of (slice_index_or kinds k Beat)) (asks_to k ds) → AllCarried (kind_of (slice_index_or kinds k Beat)) (asks_to k (dest_in earlier w ++ ds))
+asks_line kinds earlier k (IsContact guest host) ds right goes rest = rest
+asks_line kinds earlier k (IsOffer name spec) ds right goes rest = rest
+asks_line kinds earlier k (IsBad device lba) ds right goes rest = rest
+asks_line kinds earlier k (IsRingSize device pages) ds right goes rest = rest
+asks_line kinds earlier k (IsWindow device size) ds right goes rest = rest
+asks_line kinds earlier k (IsAsk device ask) ds right goes rest = ask_of (kind_of (slice_index_or kinds k Beat)) k (ended_by device earlier) device ask ds (kind_here kinds device k (kind_asked ask) right) goes rest
+asks_line kinds earlier k (IsShut device) ds right goes rest = rest
+asks_line kinds earlier k IsPhase ds right goes rest = rest
 
-pub asks_all : (kinds : List DeviceSpec) (earlier : List Line) (k : ℕ) (part : List Line) → AllRight kinds part → AllAsk (slice_index_or kinds k Beat) (asks_to k (dests earlier part))
-asks_all kinds earlier k [] right = tt
-asks_all kinds earlier k (l ∷ part) right = asks_line kinds earlier k l.what (dests earlier part) right.0 (asks_all kinds earlier k part right.1)
+pub asks_all : (kinds : List DeviceSpec) (earlier : List Line) (k : ℕ) (part : List Line) → AllRight kinds part → AllGo part → AllCarried (kind_of (slice_index_or kinds k Beat)) (asks_to k (dests earlier part))
+asks_all kinds earlier k [] right go = tt
+asks_all kinds earlier k (l ∷ part) right go = asks_line kinds earlier k l.what (dests earlier part) right.0 go.0 (asks_all kinds earlier k part right.1 go.1)
 
 -- a channel is asked no more than the phase asks
 
@@ -102,6 +105,7 @@ few_line earlier k (IsContact guest host) l ds ls le = le
 few_line earlier k (IsOffer name spec) l ds ls le = le
 few_line earlier k (IsRingSize device pages) l ds ls le = le
 few_line earlier k (IsWindow device size) l ds ls le = le
+few_line earlier k (IsBad device lba) l ds ls le = le
 few_line earlier k (IsAsk device ask) l ds ls le = few_of k (ended_by device earlier) device ask ds (length ls) le
 few_line earlier k (IsShut device) l ds ls le = le
 few_line earlier k IsPhase l ds ls le = le
@@ -138,6 +142,7 @@ none_line k earlier (IsContact guest host) ds not rest = rest
 none_line k earlier (IsOffer name spec) ds not rest = rest
 none_line k earlier (IsRingSize device pages) ds not rest = rest
 none_line k earlier (IsWindow device size) ds not rest = rest
+none_line k earlier (IsBad device lba) ds not rest = rest
 none_line k earlier (IsAsk device ask) ds not rest = ap (λ (l : List Ask). l ++ asks_to k ds) (none_asked (device == k) k earlier device ask refl not) ∙ rest
 none_line k earlier (IsShut device) ds not rest = rest
 none_line k earlier IsPhase ds not rest = rest

@@ -1,10 +1,10 @@
-pub mod Turns
-pub mod Across
-pub mod Serving
 pub mod Histories
 pub mod Growing
-pub mod DevicesRun
+pub mod SeatEnds
+pub mod Opened
+pub mod DevicesBack
 pub mod Asking
 pub mod RingSizes
+pub mod BadPlaces
 pub mod PhaseRun
 pub mod Phases

@@ -10,8 +10,9 @@ use Rattle.bus_script.specs.declared.line.Ask.{Ask}
 use Rattle.bus_script.specs.declared.line.DeviceSpec.{DeviceSpec}
 use Rattle.bus_script.specs.declared.line.DeviceSpec.TheVariants.{Beat}
 use Rattle.bus_script.specs.declared.outcome.LineResult.{LineResult}
-use Rattle.bus_script.specs.Parts.{asks_in, shuts}
-use Rattle.bus_script.specs.WellFormed.{AllRight}
+use Rattle.bus_script.specs.Parts.{asks_in, shuts, kind_of}
+use Rattle.bus_script.specs.WellFormed.{AllRight, AllGo}
+use Rattle.phase_run.specs.Pairs.{AllCarried}
 use Rattle.bus_model.specs.Served.{Served, done_of}
 use Rattle.bus_model.specs.Dests.{Address, dests, asks_to, addresses, is_opened}
 use Rattle.bus_model.specs.Logs.{Grows}
@@ -21,17 +22,16 @@ use Rattle.bus_plan.specs.declared.plan.PartPlan.{PartPlan}
 use Rattle.bus_plan.specs.Flags.{Marks, AreMarked, closed_by}
 use Rattle.bus_plan.specs.Plans.{IsDealt, IsPlan, AllLeadBelow, AllThere, Tells}
 use Rattle.bus_run.specs.declared.desk.Desk.{Desk}
-use Rattle.bus_run.specs.Serve.{AllAsk}
-use Rattle.bus_run.specs.Desk.{spec_of, Suits, EachRan, DevicesRan, opened_by}
+use Rattle.bus_run.specs.Desk.{spec_of, asks_of, Suits, EachRan, DevicesRan, opened_by}
 use Rattle.bus_run.specs.Whole.{PhaseRan}
-use Rattle.bus_run.proofs.DevicesRun.{served_all}
+use Rattle.bus_run.proofs.DevicesBack.{served_all}
 use Rattle.bus_run.proofs.Asking.{lead_all, asks_all, few_all, none_all, opened_is, there_all}
 
 -- the plan suits the devices
-pub suits_all : (desks : List Desk) (earlier part : List Line) (piles : List (List Ask)) (channels : ℕ) → channels ≡ length desks → AllRight (map spec_of desks) part → asks_in part ≤ 4096 → IsDealt channels (dests earlier part) piles → Suits 4096 desks piles
-suits_all desks earlier part piles channels is right few dealt = record {
+pub suits_all : (desks : List Desk) (earlier part : List Line) (piles : List (List Ask)) (channels : ℕ) → channels ≡ length desks → AllRight (map spec_of desks) part → AllGo part → asks_in part ≤ 4096 → IsDealt channels (dests earlier part) piles → Suits 4096 desks piles
+suits_all desks earlier part piles channels is right go few dealt = record {
   count = dealt.count ∙ is;
-  kinds = λ k less. subst (AllAsk (slice_index_or (map spec_of desks) k Beat)) (sym (dealt.each k (omega (arith, less, is)))) (asks_all (map spec_of desks) earlier k part right);
+  kinds = λ k less. subst (AllCarried (kind_of (slice_index_or (map spec_of desks) k Beat))) (sym (dealt.each k (omega (arith, less, is)))) (asks_all (map spec_of desks) earlier k part right go);
   few = λ k less. omega (arith, ap length (dealt.each k (omega (arith, less, is))), few_all earlier k part, few);
 }
 
@@ -150,7 +150,7 @@ module _ (phase : ℕ) (earlier part : List Line) (closed : List Bool) (plan : P
   opened = opened_by closed plan.wanted.items
 
   abbrev asks : ℕ → List Ask
-  asks k = slice_index_or plan.asks k []
+  asks k = asks_of plan.asks k
 
   kinds_long : length ran.channels ≡ length old
   kinds_long =
@@ -195,6 +195,7 @@ module _ (phase : ℕ) (earlier part : List Line) (closed : List Bool) (plan : P
       outcomes = tells.each ∙ ap (map (outcome_at outcomes)) are ∙ ap (λ o. map (outcome_at o) (addresses earlier part)) ran.outcomes_are;
     };
     kinds = ran.same_kinds;
+    setups = ran.same_setups;
     settled_are = ran.settled_are;
     results_are = tells.more;
   }

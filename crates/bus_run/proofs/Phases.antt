@@ -5,38 +5,42 @@ use Rattle.std.proofs.lemmas.Bool.{cases_eq}
 use Rattle.std.proofs.lemmas.Bool.Decides.{nat_tests}
 use Rattle.std.specs.List.{slice_split, onto_first}
 use Rattle.std.proofs.Math.ListN.{length-set}
-use Rattle.std.proofs.lemmas.List.{take_more, drop_more, append-nil, map-append, length-map, drop-set-lt, drop-drop, drop_all, length-drop, length-replicate, get_or-replicate}
-use Rattle.std.proofs.lemmas.List.Elements.{All-append}
+use Rattle.std.proofs.lemmas.List.{take_more, drop_more, take_all, append-nil, map-append, length-map, drop-set-lt, drop-drop, drop_all, length-drop, length-replicate, get_or-replicate}
+use Rattle.std.proofs.lemmas.List.Elements.{All-push}
 use Rattle.std.proofs.lemmas.Grind.{flat_map-append}
 use Rattle.bus_script.specs.declared.line.Line.{Line}
 use Rattle.bus_script.specs.declared.line.DeviceSpec.{DeviceSpec}
 use Rattle.bus_script.specs.declared.outcome.LineResult.{LineResult}
-use Rattle.bus_script.specs.Parts.{parts, ends_part, offered, offered_by}
-use Rattle.bus_script.specs.WellFormed.{AllRight}
+use Rattle.bus_script.specs.Parts.{parts, ends_part, offered, offered_by, bads_of}
+use Rattle.bus_script.specs.WellFormed.{AllRight, AllGo}
 use Rattle.bus_model.specs.Logs.{EachHistory, IsHistory, log_of}
 use Rattle.bus_model.specs.Run.{PhaseRuns, RunFrom, IsBusRun}
 use Rattle.bus_model.specs.declared.channel_run.ChannelRun.{ChannelRun}
 use Rattle.bus_model.specs.declared.history.DeviceHistory.{DeviceHistory}
 use Rattle.bus_plan.specs.Flags.{AreMarked, closed_by}
 use Rattle.bus_run.specs.declared.desk.Desk.{Desk}
-use Rattle.bus_run.specs.declared.desk.Desk.TheVariants.{Out}
 use Rattle.bus_run.specs.declared.runner.Runner.{Runner}
-use Rattle.bus_run.specs.Desk.{spec_of, desk_log, IsFresh, IsReady}
-use Rattle.bus_run.specs.Whole.{PhaseRan, AreFresh, RingsOf, parts_left, NextWithin, behind, RunsOn, RunsSoFar}
-use Rattle.bus_run.proofs.DevicesRun.{desk_here, rest_on}
+use Rattle.scsi_disk.specs.DiskModel.{DiskState}
+use Rattle.bus_run.specs.Desk.{spec_of, setup_of, setup_for, desk_log, IsFresh, IsReady}
+use Rattle.bus_run.specs.Whole.{PhaseRan, AreFresh, setups_from, RingsOf, parts_left, NextWithin, behind, RunsOn, RunsSoFar}
+use Rattle.bus_run.proofs.Opened.{desk_there}
 
 -- new devices
 
-pub fresh_more : (kinds : List DeviceSpec) (desks new : List Desk) (spec : DeviceSpec) (desk : Desk) → AreFresh kinds desks → IsFresh spec desk → new ≡ desks ++ desk ∷ [] → AreFresh (kinds ++ spec ∷ []) new
-fresh_more kinds desks new spec desk old fresh is = subst (AreFresh (kinds ++ spec ∷ [])) (sym is) (record {
-  kinds_are = map-append spec_of desks (desk ∷ []) ∙ ap (λ l. l ++ spec_of desk ∷ []) old.kinds_are ∙ ap (λ k. kinds ++ k ∷ []) fresh.spec;
-  logs = map-append desk_log desks (desk ∷ []) ∙ ap (λ l. l ++ desk_log desk ∷ []) old.logs ∙ ap (λ k. map (λ k. []) kinds ++ k ∷ []) fresh.log ∙ sym (map-append (λ k. []) kinds (spec ∷ []));
-  ready = All-append (IsReady 0) desks (desk ∷ []) old.ready one;
-})
-  where
-    one : All (IsReady 0) (desk ∷ [])
-    one zero d less = record { kept = fresh.kept; few = omega (arith, ap length fresh.log) }
-    one (suc k) d less = absurd (omega (arith, less))
+setups_push : (lines : List Line) (device at : ℕ) (kinds : List DeviceSpec) (k : DeviceSpec) → at ≡ device + length kinds → setups_from lines device (kinds ++ k ∷ []) ≡ setups_from lines device kinds ++ setup_for k (bads_of at lines) ∷ []
+setups_push lines device at [] k is = let here : device ≡ at = omega (arith, is) in ap (λ n. setup_for k (bads_of n lines) ∷ []) here
+setups_push lines device at (j ∷ kinds) k is = ap (λ l. setup_for j (bads_of device lines) ∷ l) (setups_push lines (device + 1) at kinds k (omega (arith, is)))
+
+pub fresh_more : (lines : List Line) (kinds : List DeviceSpec) (desks new : List Desk) (spec : DeviceSpec) (bad : List ℕ) (desk : Desk) → AreFresh lines kinds desks → bad ≡ bads_of (length desks) lines → IsFresh spec bad desk → new ≡ desks ++ desk ∷ []
+    → AreFresh lines (kinds ++ spec ∷ []) new
+fresh_more lines kinds desks new spec bad desk old places fresh is =
+    let long : length desks ≡ 0 + length kinds = omega (arith, length-map desks spec_of, ap length old.kinds_are) in
+    subst (AreFresh lines (kinds ++ spec ∷ [])) (sym is) (record {
+      kinds_are = map-append spec_of desks (desk ∷ []) ∙ ap (λ l. l ++ spec_of desk ∷ []) old.kinds_are ∙ ap (λ k. kinds ++ k ∷ []) fresh.spec;
+      setups_are = map-append setup_of desks (desk ∷ []) ∙ ap (λ l. l ++ setup_of desk ∷ []) old.setups_are ∙ ap (λ s. setups_from lines 0 kinds ++ s ∷ []) (fresh.setup ∙ ap (setup_for spec) places) ∙ sym (setups_push lines 0 (length desks) kinds spec long);
+      logs = map-append desk_log desks (desk ∷ []) ∙ ap (λ l. l ++ desk_log desk ∷ []) old.logs ∙ ap (λ k. map (λ k. []) kinds ++ k ∷ []) fresh.log ∙ sym (map-append (λ k. []) kinds (spec ∷ []));
+      ready = All-push (IsReady 0) desks desk old.ready (record { kept = fresh.kept; few = omega (arith, ap length fresh.log) });
+    })
 
 pub offered_taken : (lines : List Line) (i : ℕ) (line : Line) → i < length lines → line ≡ get_or lines i line → offered (take (i + 1) lines) ≡ offered (take i lines) ++ offered_by line.what
 offered_taken lines i line less is =
@@ -46,30 +50,52 @@ offered_taken lines i line less is =
 
 -- histories at the end
 
-each_history : (kinds : List DeviceSpec) (histories : List DeviceHistory) (k : DeviceSpec) (h : DeviceHistory) → EachHistory kinds histories → IsHistory k h → EachHistory (kinds ++ k ∷ []) (histories ++ h ∷ [])
-each_history [] [] k h each one = (one, tt)
-each_history [] (g ∷ histories) k h each one = absurd each
-each_history (j ∷ kinds) [] k h each one = absurd each
-each_history (j ∷ kinds) (g ∷ histories) k h each one = (each.0, each_history kinds histories k h each.1 one)
+-- each history is its device's
+abbrev pub EachTells : List Desk → List DeviceHistory → Type 0
+EachTells [] [] = Unit {0}
+EachTells [] (h ∷ histories) = ⊥
+EachTells (d ∷ desks) [] = ⊥
+EachTells (d ∷ desks) (h ∷ histories) = ((bad : List ℕ) → setup_of d ≡ setup_for (spec_of d) bad → IsHistory (spec_of d) bad h) × EachTells desks histories
+
+tells_push : (desks : List Desk) (histories : List DeviceHistory) (d : Desk) (h : DeviceHistory) → EachTells desks histories → ((bad : List ℕ) → setup_of d ≡ setup_for (spec_of d) bad → IsHistory (spec_of d) bad h) → EachTells (desks ++ d ∷ []) (histories ++ h ∷ [])
+tells_push [] [] d h each one = (one, tt)
+tells_push [] (g ∷ histories) d h each one = absurd each
+tells_push (e ∷ desks) [] d h each one = absurd each
+tells_push (e ∷ desks) (g ∷ histories) d h each one = (each.0, tells_push desks histories d h each.1 one)
+
+each_history : (lines : List Line) (device : ℕ) (desks : List Desk) (histories : List DeviceHistory) → EachTells desks histories → map setup_of desks ≡ setups_from lines device (map spec_of desks) → EachHistory lines device (map spec_of desks) histories
+each_history lines device [] [] each are = tt
+each_history lines device [] (h ∷ histories) each are = absurd each
+each_history lines device (d ∷ desks) [] each are = absurd each
+each_history lines device (d ∷ desks) (h ∷ histories) each are =
+    (each.0 (bads_of device lines) (ap (λ (l : List (Option DiskState)). get_or l 0 None) are), each_history lines (device + 1) desks histories each.1 (ap (λ (l : List (Option DiskState)). drop 1 l) are))
 
 pub record HistoriesSoFar (i : ℕ) (old desks : List Desk) (histories : List DeviceHistory) : Type 0 where
   pub logs : map log_of histories ≡ map desk_log (take i old)
-  pub legal : EachHistory (map spec_of (take i old)) histories
+  pub legal : EachTells (take i old) histories
   pub rest : drop i desks ≡ drop i old
   pub count : length desks ≡ length old
 
-pub history_more : (i : ℕ) (old desks : List Desk) (histories : List DeviceHistory) (desk : Desk) (h : DeviceHistory) → HistoriesSoFar i old desks histories → i < length desks → desk ≡ get_or desks i desk → log_of h ≡ desk_log desk → IsHistory (spec_of desk) h
-    → HistoriesSoFar (i + 1) old (slice_set desks i Out) (histories ++ h ∷ [])
-history_more i old desks histories desk h so_far less is log legal =
+pub history_more : (i : ℕ) (old desks : List Desk) (histories : List DeviceHistory) (desk gone : Desk) (h : DeviceHistory) → HistoriesSoFar i old desks histories → i < length desks → desk ≡ get_or desks i desk → log_of h ≡ desk_log desk
+    → ((bad : List ℕ) → setup_of desk ≡ setup_for (spec_of desk) bad → IsHistory (spec_of desk) bad h) → HistoriesSoFar (i + 1) old (slice_set desks i gone) (histories ++ h ∷ [])
+history_more i old desks histories desk gone h so_far less is log legal =
     let within : i < length old = omega (arith, less, so_far.count) in
-    let here : get_or old i desk ≡ desk = desk_here old desks i desk so_far.rest less within is in
-    let taken : take (i + 1) old ≡ take i old ++ desk ∷ [] = take_more old i desk within ∙ ap (λ (d : Desk). take i old ++ d ∷ []) here in
+    let here : desk ≡ get_or old i desk = desk_there old desks i desk so_far.rest less within is in
+    let taken : take (i + 1) old ≡ take i old ++ desk ∷ [] = take_more old i desk within ∙ ap (λ (d : Desk). take i old ++ d ∷ []) (sym here) in
     record {
       logs = map-append log_of histories (h ∷ []) ∙ ap (λ l. l ++ log_of h ∷ []) so_far.logs ∙ ap (λ x. map desk_log (take i old) ++ x ∷ []) log ∙ sym (ap (map desk_log) taken ∙ map-append desk_log (take i old) (desk ∷ []));
-      legal = subst (λ k. EachHistory k (histories ++ h ∷ [])) (sym (ap (map spec_of) taken ∙ map-append spec_of (take i old) (desk ∷ []))) (each_history (map spec_of (take i old)) histories (spec_of desk) h so_far.legal legal);
-      rest = drop-set-lt (i + 1) desks i Out (omega arith) ∙ rest_on old desks i desk so_far.rest less within;
-      count = length-set desks i Out ∙ so_far.count;
+      legal = subst (λ l. EachTells l (histories ++ h ∷ [])) (sym taken) (tells_push (take i old) histories desk h so_far.legal legal);
+      rest = drop-set-lt (i + 1) desks i gone (omega arith) ∙ ap (drop 1) (sym (drop_more desks i desk less) ∙ so_far.rest ∙ drop_more old i desk within);
+      count = length-set desks i gone ∙ so_far.count;
     }
+
+pub histories_end : (i : ℕ) (old desks : List Desk) (histories : List DeviceHistory) → HistoriesSoFar i old desks histories → length old ≤ i
+    → (map log_of histories ≡ map desk_log old) × ((lines : List Line) → map setup_of old ≡ setups_from lines 0 (map spec_of old) → EachHistory lines 0 (map spec_of old) histories)
+histories_end i old desks histories so_far over =
+    let whole : take i old ≡ old = take_all i old over in (
+      so_far.logs ∙ ap (map desk_log) whole,
+      λ lines are. each_history lines 0 old histories (subst (λ l. EachTells l histories) whole so_far.legal) are,
+    )
 
 -- lines of a phase
 
@@ -82,6 +108,16 @@ pub right_take : (kinds : List DeviceSpec) (n : ℕ) (lines : List Line) → All
 right_take kinds zero lines right = tt
 right_take kinds (suc n) [] right = tt
 right_take kinds (suc n) (l ∷ lines) right = (right.0, right_take kinds n lines right.1)
+
+pub go_drop : (n : ℕ) (lines : List Line) → AllGo lines → AllGo (drop n lines)
+go_drop zero lines go = go
+go_drop (suc n) [] go = tt
+go_drop (suc n) (l ∷ lines) go = go_drop n lines go.1
+
+pub go_take : (n : ℕ) (lines : List Line) → AllGo lines → AllGo (take n lines)
+go_take zero lines go = tt
+go_take (suc n) [] go = tt
+go_take (suc n) (l ∷ lines) go = (go.0, go_take n lines go.1)
 
 -- phases
 
@@ -148,7 +184,7 @@ runs_on kinds all phase earlier part left desks desks' settled settled' results 
     subst (λ l. RunFrom kinds 0 [] all (map (λ k. []) kinds) l after (results' ++ r)) settled_are (subst (λ l. RunFrom kinds 0 [] all (map (λ k. []) kinds) (settled ++ (ran.runs ++ s)) after l) results_are whole)
 
 -- no phase ran
-pub start : (lines : List Line) (r : Runner) → AreFresh (offered lines) r.desks.items → RingsOf lines (length r.desks.items) r.pages.items → r.closed.items ≡ replicate (length r.desks.items) false → r.phase ≡ 0 → r.next ≡ Some 0 → r.settled.items ≡ [] → r.results.items ≡ []
+pub start : (lines : List Line) (r : Runner) → AreFresh lines (offered lines) r.desks.items → RingsOf lines (length r.desks.items) r.pages.items → r.closed.items ≡ replicate (length r.desks.items) false → r.phase ≡ 0 → r.next ≡ Some 0 → r.settled.items ≡ [] → r.results.items ≡ []
     → RunsSoFar lines r
 start lines r fresh rings none phase next settled results = record {
   earlier = [];
@@ -162,6 +198,7 @@ start lines r fresh rings none phase next settled results = record {
   within = subst (NextWithin lines) (sym next) (omega arith);
   counted = omega (arith, phase);
   kinds = fresh.kinds_are;
+  setups = fresh.setups_are;
   ready = λ k d less. record { kept = (fresh.ready k d less).kept; few = omega (arith, (fresh.ready k d less).few) };
   rings = rings;
   closed = λ k less. let within : k < length r.desks.items = omega (arith, less, ap length none, length-replicate (length r.desks.items) false) in ap (λ l. slice_index_or l k false) none ∙ get_or-replicate (length r.desks.items) k false false within;
@@ -192,6 +229,7 @@ go_on lines part old new at next so_far here few split within ran closed count r
       within = subst (NextWithin lines) (sym moved) (within_next lines at next started within);
       counted = omega (arith, phase, this.0);
       kinds = one.kinds ∙ so_far.kinds;
+      setups = one.setups ∙ so_far.setups;
       ready = subst (λ p. All (IsReady (4096 * p)) new.desks.items) (sym phase) ready;
       rings = subst (λ n. RingsOf lines n new.pages.items) (sym desks) (subst (RingsOf lines (length old.desks.items)) (sym pages) so_far.rings);
       closed = closed so_far.earlier so_far.closed;
@@ -199,7 +237,7 @@ go_on lines part old new at next so_far here few split within ran closed count r
     }
 
 -- all phases ran
-pub finish : (lines : List Line) (r : Runner) (histories : List DeviceHistory) → RunsSoFar lines r → r.phase ≡ length (parts lines) → map log_of histories ≡ map desk_log r.desks.items → EachHistory (map spec_of r.desks.items) histories
+pub finish : (lines : List Line) (r : Runner) (histories : List DeviceHistory) → RunsSoFar lines r → r.phase ≡ length (parts lines) → map log_of histories ≡ map desk_log r.desks.items → ((ls : List Line) → map setup_of r.desks.items ≡ setups_from ls 0 (map spec_of r.desks.items) → EachHistory ls 0 (map spec_of r.desks.items) histories)
     → IsBusRun lines r.settled.items histories r.results.items
 finish lines r histories so_far over logs legal =
     let kinds = offered lines in
@@ -211,5 +249,5 @@ finish lines r histories so_far over logs legal =
     let b = subst (λ l. RunFrom kinds 0 [] (parts lines) (map (λ k. []) kinds) r.settled.items (map desk_log r.desks.items) l) (append-nil r.results.items) a in
     record {
       phases = subst (λ l. RunFrom kinds 0 [] (parts lines) (map (λ k. []) kinds) r.settled.items l r.results.items) (sym logs) b;
-      legal = subst (λ k. EachHistory k histories) so_far.kinds legal;
+      legal = subst (λ k. EachHistory lines 0 k histories) so_far.kinds (legal lines (so_far.setups ∙ ap (setups_from lines 0) (sym so_far.kinds)));
     }

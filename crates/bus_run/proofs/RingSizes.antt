@@ -7,7 +7,7 @@ use Rattle.std.proofs.lemmas.Grind.{flat_map-append}
 use Rattle.std.proofs.lemmas.Bool.{cases_eq}
 use Rattle.bus_script.specs.declared.line.Line.{Line}
 use Rattle.bus_script.specs.declared.line.What.{What}
-use Rattle.bus_script.specs.declared.line.What.TheVariants.{Contact as IsContact, Offer as IsOffer, RingSize as IsRingSize, Window as IsWindow, Ask as IsAsk, Shut as IsShut, Phase as IsPhase}
+use Rattle.bus_script.specs.declared.line.What.TheVariants.{Contact as IsContact, Offer as IsOffer, Bad as IsBad, RingSize as IsRingSize, Window as IsWindow, Ask as IsAsk, Shut as IsShut, Phase as IsPhase}
 use Rattle.bus_script.specs.declared.line.DeviceSpec.{DeviceSpec}
 use Rattle.bus_script.specs.Parts.{pages_by, ring_pages_of}
 use Rattle.bus_script.specs.WellFormed.{IsRight, AllRight}
@@ -60,6 +60,7 @@ within_line kinds device (IsRingSize d pages) rest right fits = by_test (d == de
         → (1 ≤ slice_index_or (cond b (pages ∷ []) [] ++ rest) 0 1) × (slice_index_or (cond b (pages ∷ []) [] ++ rest) 0 1 ≤ 16)
     by_test true pages rest some most fits = (some, most)
     by_test false pages rest some most fits = fits
+within_line kinds device (IsBad d lba) rest right fits = fits
 within_line kinds device (IsWindow d size) rest right fits = fits
 within_line kinds device (IsAsk d ask) rest right fits = fits
 within_line kinds device (IsShut d) rest right fits = fits

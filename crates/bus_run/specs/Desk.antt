@@ -1,59 +1,91 @@
 -- A device between phases, and its channel in one.
-use Rattle.std.specs.Prelude.{ℕ, ◌≡◌, ◌+◌, ◌≤◌, ◌<◌, Bool, ◌&&◌, not, false, List, [], ◌∷◌, ◌++◌, length, map, slice_index_or}
+use Rattle.std.specs.Prelude.{ℕ, ◌≡◌, ◌+◌, ◌≤◌, ◌<◌, Bool, ◌&&◌, not, false, List, [], ◌∷◌, ◌++◌, length, map, Option, Some, None, slice_index_or}
 use Rattle.std.specs.List.{flat_map}
+use Rattle.bus_model.specs.Served.{Served, done_of}
+use Rattle.bus_model.specs.Channel.{IsChannelRun}
+use Rattle.bus_model.specs.Logs.{Recorded, Grows, ic_log, disk_log}
+use Rattle.bus_model.specs.Run.{ChannelPhase, DevicePhase, Carries, outcomes_of}
+use Rattle.bus_model.specs.declared.channel_run.ChannelRun.{ChannelRun}
+use Rattle.bus_script.specs.Parts.{kind_of}
 use Rattle.bus_script.specs.declared.line.Ask.{Ask}
 use Rattle.bus_script.specs.declared.line.DeviceSpec.{DeviceSpec}
-use Rattle.bus_script.specs.declared.line.DeviceSpec.TheVariants.{Beat, Down}
+use Rattle.bus_script.specs.declared.line.DeviceSpec.TheVariants.{Beat, Down, Disk}
 use Rattle.bus_script.specs.declared.outcome.LineResult.{LineResult}
 use Rattle.hist_lock.specs.History.{entries_of}
 use Rattle.hist_lock.specs.Legal.{Leaves}
+use Rattle.phase_run.specs.Pairs.{AllCarried}
 use Rattle.ring_model.specs.Lists.{Lists}
+use Rattle.scsi_disk.specs.DiskModel.{DiskState, new_disk, disk_reply}
+use Rattle.scsi_disk.specs.FiniteMap.{unwritten, kept_after, stands_for}
 use Rattle.util_ic.specs.Machines.{beat_start, beat_reply, down_start, down_reply}
-use Rattle.bus_model.specs.Served.{Served, done_of}
-use Rattle.bus_model.specs.Channel.{IsChannelRun}
-use Rattle.bus_model.specs.Logs.{Recorded, Grows, ic_log}
-use Rattle.bus_model.specs.Run.{ChannelPhase, DevicePhase, Carries, outcomes_of}
-use Rattle.bus_model.specs.declared.channel_run.ChannelRun.{ChannelRun}
-use Rattle.bus_run.specs.Serve.{AllAsk}
 use Rattle.bus_run.specs.declared.desk.Desk.{Desk}
-use Rattle.bus_run.specs.declared.desk.Desk.TheVariants.{Out, Beat as BeatDesk, Down as DownDesk}
+use Rattle.bus_run.specs.declared.desk.Desk.TheVariants.{Out, Beat as BeatDesk, Down as DownDesk, Disk as DiskDesk}
 
 -- the kind of the device
 abbrev pub spec_of : Desk → DeviceSpec
-spec_of Out = Beat
+spec_of (Out subs) = Beat
 spec_of (BeatDesk state history) = Beat
 spec_of (DownDesk state history) = Down
+spec_of (DiskDesk subs state history) = Disk state.blocks subs
+
+-- how many channels it has beside the first one
+abbrev pub subs_of : Desk → ℕ
+subs_of (Out subs) = subs
+subs_of (BeatDesk state history) = 0
+subs_of (DownDesk state history) = 0
+subs_of (DiskDesk subs state history) = subs
 
 -- what it served
 abbrev pub desk_log : Desk → List Recorded
-desk_log Out = []
+desk_log (Out subs) = []
 desk_log (BeatDesk state history) = ic_log (entries_of history)
 desk_log (DownDesk state history) = ic_log (entries_of history)
+desk_log (DiskDesk subs state history) = disk_log (entries_of history)
+
+-- the disk that it was at first, if it is one
+abbrev pub setup_of : Desk → Option DiskState
+setup_of (Out subs) = None
+setup_of (BeatDesk state history) = None
+setup_of (DownDesk state history) = None
+setup_of (DiskDesk subs state history) = Some (stands_for (unwritten state))
+
+-- the disk that a device is at first: all zero, with these bad places
+abbrev pub setup_for : DeviceSpec → List ℕ → Option DiskState
+setup_for Beat bad = None
+setup_for Down bad = None
+setup_for (Disk blocks subs) bad = Some (new_disk blocks bad)
 
 -- the history is legal, and leaves the state
 abbrev pub IsKept : Desk → Type 0
-IsKept Out = ⊥
+IsKept (Out subs) = ⊥
 IsKept (BeatDesk state history) = Leaves (λ s. beat_start) (λ s q. s) (λ s q. beat_reply q) (entries_of history) state
 IsKept (DownDesk state history) = Leaves (λ s. down_start) (λ s q. s) (λ s q. down_reply q) (entries_of history) state
+IsKept (DiskDesk subs state history) = Leaves unwritten kept_after (λ s q. disk_reply (stands_for s) q) (entries_of history) state
 
 -- and the history has so many entries at most
 pub record IsReady (most : ℕ) (desk : Desk) : Type 0 where
   pub kept : IsKept desk
   pub few : length (desk_log desk) ≤ most
 
--- a device of this kind that has served nothing
-pub record IsFresh (kind : DeviceSpec) (desk : Desk) : Type 0 where
+-- a device of this kind, with these bad places, that has served nothing
+pub record IsFresh (kind : DeviceSpec) (bad : List ℕ) (desk : Desk) : Type 0 where
   pub spec : spec_of desk ≡ kind
+  pub setup : setup_of desk ≡ setup_for kind bad
   pub log : desk_log desk ≡ []
   pub kept : IsKept desk
+
+-- the same device later: its history went on with what was served
+pub record GoesOn (old new : Desk) (served : List Served) : Type 0 where
+  pub grows : Grows (desk_log old) (desk_log new) (served ∷ [])
+  pub spec : spec_of new ≡ spec_of old
+  pub setup : setup_of new ≡ setup_of old
+  pub kept : IsKept new
 
 -- what the open channel of a device did in a phase
 pub record OpenRan (asks : List Ask) (old new : Desk) (lists : Lists) (results : List LineResult) : Type 0 where
   pub served : List Served
-  pub channel : IsChannelRun (spec_of old) asks lists served
-  pub grows : Grows (desk_log old) (desk_log new) (served ∷ [])
-  pub spec : spec_of new ≡ spec_of old
-  pub kept : IsKept new
+  pub channel : IsChannelRun (kind_of (spec_of old)) asks lists served
+  pub goes_on : GoesOn old new served
   pub outcomes : results ≡ map done_of served
 
 -- What a device's channel did in a phase, if it was opened
@@ -61,16 +93,14 @@ pub record DeviceRan (opened : Bool) (phase device : ℕ) (asks : List Ask) (old
   pub runs : List ChannelRun
   pub served : List Served
   pub carries : Carries opened phase (device + 1) device (spec_of old) asks runs served
-  pub grows : Grows (desk_log old) (desk_log new) (served ∷ [])
-  pub spec : spec_of new ≡ spec_of old
-  pub kept : IsKept new
+  pub goes_on : GoesOn old new served
   pub settled_are : settled' ≡ settled ++ runs
   pub outcomes : results ≡ map done_of served
 
--- each device is asked what its kind serves, and not much
+-- each device is asked what its kind serves and its channel carries, and not much
 pub record Suits (most : ℕ) (desks : List Desk) (piles : List (List Ask)) : Type 0 where
   pub count : length piles ≡ length desks
-  pub kinds : (k : ℕ) → k < length desks → AllAsk (slice_index_or (map spec_of desks) k Beat) (slice_index_or piles k [])
+  pub kinds : (k : ℕ) → k < length desks → AllCarried (kind_of (slice_index_or (map spec_of desks) k Beat)) (slice_index_or piles k [])
   pub few : (k : ℕ) → k < length desks → length (slice_index_or piles k []) ≤ most
 
 -- each ring has 1 to 16 pages of data
@@ -81,6 +111,10 @@ pub record AreRings (pages : List ℕ) : Type 0 where
 -- a device is opened where a line of the phase wants it and no earlier phase closed it
 abbrev pub opened_by : List Bool → List Bool → ℕ → Bool
 opened_by closed wanted k = not (slice_index_or closed k false) && slice_index_or wanted k false
+
+-- what the device at this place is asked
+abbrev pub asks_of : List (List Ask) → ℕ → List Ask
+asks_of piles k = slice_index_or piles k []
 
 -- the channels from one on, each with its device's history, in order of their relids
 abbrev pub EachRan : (ℕ → Bool) → (ℕ → List Ask) → ℕ → ℕ → List ChannelPhase → List DevicePhase → Type 0
@@ -99,6 +133,7 @@ pub record DevicesRan (opened : ℕ → Bool) (phase : ℕ) (piles : List (List 
   pub before_is : map (λ d. d.before) devices ≡ map desk_log old
   pub after_is : map (λ d. d.after) devices ≡ map desk_log new
   pub same_kinds : map spec_of new ≡ map spec_of old
-  pub each : EachRan opened (λ k. slice_index_or piles k []) phase 0 channels devices
+  pub same_setups : map setup_of new ≡ map setup_of old
+  pub each : EachRan opened (asks_of piles) phase 0 channels devices
   pub settled_are : settled' ≡ settled ++ flat_map (λ c. c.runs) channels
   pub outcomes_are : outcomes ≡ map outcomes_of channels

@@ -1,5 +1,3 @@
-pub mod Packets
-pub mod Turn
-pub mod Serve
 pub mod Desk
+pub mod Opening
 pub mod Whole

@@ -1,16 +1,20 @@
 -- A phase, and the phases that are left.
-use Rattle.std.specs.Prelude.{ℕ, ◌≡◌, ◌+◌, ◌*◌, ◌<◌, ◌≤◌, List, [], ◌++◌, length, map, drop, All, Option, Some, None, slice_index_or}
+use Rattle.std.specs.Prelude.{ℕ, ◌≡◌, ◌+◌, ◌*◌, ◌<◌, ◌≤◌, List, [], ◌∷◌, ◌++◌, length, map, drop, All, Option, Some, None, slice_index_or}
 use Rattle.bus_script.specs.declared.line.Line.{Line}
+use Rattle.bus_script.specs.declared.line.What.{What}
+use Rattle.bus_script.specs.declared.line.What.TheVariants.{Contact as IsContact, Offer as IsOffer, Bad as IsBad, RingSize as IsRingSize, Window as IsWindow, Ask as IsAsk, Shut as IsShut, Phase as IsPhase}
 use Rattle.bus_script.specs.declared.line.DeviceSpec.{DeviceSpec}
 use Rattle.bus_script.specs.declared.outcome.LineResult.{LineResult}
-use Rattle.bus_script.specs.Parts.{parts, offered, ring_pages_of}
+use Rattle.bus_script.specs.Parts.{parts, offered, ring_pages_of, blocks_of, bads_of}
+use Rattle.bus_script.specs.WellFormed.{IsDevice}
 use Rattle.bus_model.specs.Logs.{Recorded}
 use Rattle.bus_model.specs.Run.{PhaseRuns, RunFrom}
 use Rattle.bus_model.specs.declared.channel_run.ChannelRun.{ChannelRun}
 use Rattle.bus_plan.specs.Flags.{AreMarked, closed_by}
+use Rattle.scsi_disk.specs.DiskModel.{DiskState}
 use Rattle.bus_run.specs.declared.desk.Desk.{Desk}
 use Rattle.bus_run.specs.declared.runner.Runner.{Runner}
-use Rattle.bus_run.specs.Desk.{spec_of, desk_log, IsReady}
+use Rattle.bus_run.specs.Desk.{spec_of, setup_of, setup_for, desk_log, IsReady}
 
 -- a phase went by, behind these earlier lines
 pub record PhaseRan (phase : ℕ) (earlier part : List Line) (old new : List Desk) (settled settled' : List ChannelRun) (results results' : List LineResult) : Type 0 where
@@ -18,12 +22,30 @@ pub record PhaseRan (phase : ℕ) (earlier part : List Line) (old new : List Des
   pub told : List LineResult
   pub phase_runs : PhaseRuns (map spec_of old) phase earlier part (map desk_log old) (map desk_log new) runs told
   pub kinds : map spec_of new ≡ map spec_of old
+  pub setups : map setup_of new ≡ map setup_of old
   pub settled_are : settled' ≡ settled ++ runs
   pub results_are : results' ≡ results ++ told
 
--- new devices of these kinds
-pub record AreFresh (kinds : List DeviceSpec) (desks : List Desk) : Type 0 where
+-- a device that a line offers can be made: it is right, and so are the places of it that lines make bad
+abbrev pub CanMake : List Line → ℕ → What → Type 0
+CanMake lines device (IsContact guest host) = Unit {0}
+CanMake lines device (IsOffer name spec) = IsDevice spec × All (λ place. place < blocks_of spec) (bads_of device lines)
+CanMake lines device (IsBad d lba) = Unit {0}
+CanMake lines device (IsRingSize d pages) = Unit {0}
+CanMake lines device (IsWindow d size) = Unit {0}
+CanMake lines device (IsAsk d ask) = Unit {0}
+CanMake lines device (IsShut d) = Unit {0}
+CanMake lines device IsPhase = Unit {0}
+
+-- the disks that devices of these kinds are at first, where the first of them has this number: the lines say which places are bad
+abbrev pub setups_from : List Line → ℕ → List DeviceSpec → List (Option DiskState)
+setups_from lines device [] = []
+setups_from lines device (k ∷ kinds) = setup_for k (bads_of device lines) ∷ setups_from lines (device + 1) kinds
+
+-- new devices of these kinds, with the bad places of these lines
+pub record AreFresh (lines : List Line) (kinds : List DeviceSpec) (desks : List Desk) : Type 0 where
   pub kinds_are : map spec_of desks ≡ kinds
+  pub setups_are : map setup_of desks ≡ setups_from lines 0 kinds
   pub logs : map desk_log desks ≡ map (λ k. []) kinds
   pub ready : All (IsReady 0) desks
 
@@ -61,6 +83,7 @@ pub record RunsSoFar (lines : List Line) (r : Runner) : Type 0 where
   pub within : NextWithin lines r.next
   pub counted : r.phase ≤ length (parts lines)
   pub kinds : map spec_of r.desks.items ≡ offered lines
+  pub setups : map setup_of r.desks.items ≡ setups_from lines 0 (offered lines)
   pub ready : All (IsReady (4096 * r.phase)) r.desks.items
   pub rings : RingsOf lines (length r.desks.items) r.pages.items
   pub closed : AreMarked (closed_by earlier) r.closed.items

@@ -1,12 +1,17 @@
 //! A device between phases.
-ghost use Rattle.std.specs.Prelude.{◌≡◌, [], ◌∷◌, IfOk};
+ghost use Rattle.std.specs.Prelude.{◌≡◌, ◌<◌, ◌≤◌, [], ◌∷◌, ℕ, List, All, IfOk};
 ghost use Rattle.bus_model.specs.Logs.{log_of, IsHistory};
+ghost use Rattle.bus_script.specs.Parts.{blocks_of, kind_of};
+ghost use Rattle.bus_script.specs.WellFormed.{IsDevice};
+ghost use Rattle.bus_script.specs.declared.line.DeviceSpec.{DeviceSpec as OneSpec};
 ghost use Rattle.hist_lock.specs.History.{entries_of};
-ghost use Rattle.bus_run.specs.Desk.{IsFresh, IsKept, spec_of, desk_log};
+ghost use Rattle.bus_run.specs.Desk.{IsFresh, IsKept, spec_of, subs_of, setup_of, setup_for, desk_log};
 
 use bus_model::DeviceHistory;
 use bus_script::DeviceSpec;
+use contact::Kind;
 use hist_lock::{HistLock, History, Machine};
+use scsi_disk::Disk;
 use std::alloc::{AllocError, Global};
 use util_ic::{BeatMachine, DownMachine};
 
@@ -14,9 +19,50 @@ use util_ic::{BeatMachine, DownMachine};
 #[derive(Drop)]
 pub enum Desk {
     /// Its channel has it.
-    Out,
+    Out {
+        /// How many channels the device has beside the first one.
+        subs: u32,
+    },
+    /// A heartbeat service.
     Beat(BeatMachine, History<BeatMachine>),
+    /// A shutdown service.
     Down(DownMachine, History<DownMachine>),
+    /// A disk.
+    Disk {
+        /// How many channels it has beside the first one.
+        subs: u32,
+        /// Its blocks.
+        state: Disk,
+        /// What it served.
+        history: History<Disk>,
+    },
+}
+
+impl Desk {
+    /// The kind of the device.
+    pub fn kind(&self) -> Kind
+        requires { IsKept self.now }
+        ensures { result ≡ kind_of (spec_of self.now) }
+    {
+        match self {
+            Desk::Beat(_, _) => Kind::Beat,
+            Desk::Down(_, _) => Kind::Down,
+            Desk::Disk { .. } => Kind::Disk,
+            Desk::Out { .. } => unreachable!(),
+        }
+    }
+
+    /// How many channels the device has beside the first one.
+    pub fn subs(&self) -> u32
+        ensures { result ≡ subs_of self.now }
+    {
+        match self {
+            Desk::Out { subs } => *subs,
+            Desk::Beat(_, _) => 0,
+            Desk::Down(_, _) => 0,
+            Desk::Disk { subs, .. } => *subs,
+        }
+    }
 }
 
 /// A machine that has served nothing, with its empty history.
@@ -29,9 +75,26 @@ fn fresh<M: Machine>(alloc: Global, machine: M) -> Result<(M, History<M>), Alloc
     Ok(HistLock::close(seats))
 }
 
-/// A new device.
-pub fn new_desk(alloc: Global, spec: DeviceSpec) -> Result<Desk, AllocError>
-    ensures { IfOk result (λ desk. IsFresh spec desk) }
+/// A new disk.
+fn new_disk_desk(alloc: Global, blocks: u64, subs: u32, bad: &[u64]) -> Result<Desk, AllocError>
+    requires some { 1 ≤ blocks }
+    requires few { blocks ≤ 65536 }
+    requires bad { All (λ place. place < blocks) bad.now }
+    ensures { IfOk result (λ desk. IsFresh (OneSpec.Disk blocks subs) bad.now desk) }
+{
+    let (state, history) = fresh(alloc, Disk::make(alloc, blocks, bad)?)?;
+    Ok(Desk::Disk {
+        subs,
+        state,
+        history,
+    })
+}
+
+/// A new device. A disk is all zero, and can't read these places.
+pub fn new_desk(alloc: Global, spec: DeviceSpec, bad: &[u64]) -> Result<Desk, AllocError>
+    requires device { IsDevice spec }
+    requires bad { All (λ place. place < blocks_of spec) bad.now }
+    ensures { IfOk result (λ desk. IsFresh spec bad.now desk) }
 {
     match spec {
         DeviceSpec::Beat => {
@@ -42,6 +105,7 @@ pub fn new_desk(alloc: Global, spec: DeviceSpec) -> Result<Desk, AllocError>
             let (machine, history) = fresh(alloc, DownMachine::make())?;
             Ok(Desk::Down(machine, history))
         }
+        DeviceSpec::Disk { blocks, subs } => new_disk_desk(alloc, blocks, subs, bad),
     }
 }
 
@@ -49,11 +113,16 @@ pub fn new_desk(alloc: Global, spec: DeviceSpec) -> Result<Desk, AllocError>
 pub fn history_of(desk: Desk) -> DeviceHistory
     requires { IsKept desk }
     ensures log { log_of result ≡ desk_log desk }
-    ensures legal { IsHistory (spec_of desk) result }
+    ensures legal { (bad : List ℕ) → setup_of desk ≡ setup_for (spec_of desk) bad → IsHistory (spec_of desk) bad result }
 {
     match desk {
         Desk::Beat(_, history) => DeviceHistory::Beat(history),
         Desk::Down(_, history) => DeviceHistory::Down(history),
-        Desk::Out => unreachable!(),
+        Desk::Disk {
+            subs: _,
+            state: _,
+            history,
+        } => DeviceHistory::Disk(history),
+        Desk::Out { .. } => unreachable!(),
     }
 }

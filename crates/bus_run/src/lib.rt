@@ -1,20 +1,15 @@
-//! The run of a script, phase by phase: its channels are opened, serve their requests, and are closed.
+//! The run of a script, phase by phase: its channels are opened, run all at once, and are closed.
 #![tactic(auto)]
 
-mod channel;
-mod crossing;
+mod bads;
+mod closing;
 mod desk;
 mod devices;
-mod guest;
-mod host;
-mod opened;
+mod lock;
+mod opening;
 mod phase;
 mod rings;
 mod runner;
-mod serve;
 
 pub use desk::Desk;
 pub use runner::{Ran, Runner, run_script};
-
-#[cfg(test)]
-mod tests;

@@ -2,7 +2,7 @@
 ghost use Rattle.std.specs.Prelude.{◌≡◌, ◌+◌, ◌*◌, ◌≤◌, ◌++◌, List, length, map, All, OnOk};
 ghost use Rattle.bus_script.specs.declared.line.Line.{Line as OneLine};
 ghost use Rattle.bus_script.specs.Parts.{asks_in};
-ghost use Rattle.bus_script.specs.WellFormed.{AllRight};
+ghost use Rattle.bus_script.specs.WellFormed.{AllRight, AllGo};
 ghost use Rattle.bus_plan.specs.Flags.{AreMarked, closed_by};
 ghost use Rattle.bus_run.specs.Desk.{spec_of, IsReady, AreRings};
 ghost use Rattle.bus_run.specs.Whole.{PhaseRan};
@@ -14,9 +14,11 @@ use bus_plan::{mark_closed, plan_part, tell};
 use bus_script::{Line, LineResult};
 use io_edge::Gate;
 use std::alloc::{AllocError, Global};
+use std::sync::Wait;
+use std::thread::Threads;
 
 /// Plans a phase, runs its channels, tells the outcomes of its lines in their order, and notes which devices it closed.
-pub fn run_phase<R, G: Gate>(
+pub fn run_phase<R: Threads + Wait + Sync, G: Gate>(
     rt: &R,
     gate: &G,
     alloc: Global,
@@ -30,6 +32,7 @@ pub fn run_phase<R, G: Gate>(
 ) -> Result<(), AllocError>
     requires ready { All (IsReady (4096 * phase)) desks.old.items }
     requires right { AllRight (map spec_of desks.old.items) part.now }
+    requires go { AllGo part.now }
     requires asks { asks_in part.now ≤ 4096 }
     requires earlier { (earlier : List OneLine) × AreMarked (closed_by earlier) closed.old }
     requires closed { length closed.old ≡ length desks.old.items }

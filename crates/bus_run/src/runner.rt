@@ -6,9 +6,11 @@ ghost use Rattle.bus_script.specs.Parts.{parts, offered, offered_by};
 ghost use Rattle.bus_script.specs.declared.line.Line.{Line as OneLine};
 ghost use Rattle.bus_script.specs.declared.line.DeviceSpec.{DeviceSpec as OneSpec};
 ghost use Rattle.bus_script.specs.Report.{prints};
-ghost use Rattle.bus_run.specs.Desk.{IsKept, spec_of, desk_log};
-ghost use Rattle.bus_run.specs.Whole.{AreFresh, RunsSoFar, behind};
+ghost use Rattle.bus_script.specs.WellFormed.{AllRight};
+ghost use Rattle.bus_run.specs.Desk.{IsKept, spec_of, setup_of, desk_log};
+ghost use Rattle.bus_run.specs.Whole.{AreFresh, CanMake, RunsSoFar, behind, setups_from};
 
+use crate::bads::bad_places;
 use crate::desk::{Desk, history_of, new_desk};
 use crate::phase::run_phase;
 use crate::rings::all_ring_pages;
@@ -18,6 +20,8 @@ use bus_script::{Line, LineResult, Script, What};
 use io_edge::Gate;
 use std::alloc::{AllocError, Global};
 use std::mem;
+use std::sync::Wait;
+use std::thread::Threads;
 
 /// What a run of a script gives: what each channel carried, in order of phase and then of relid; what each device served, in order of offer; and the
 /// outcome of each line that prints.
@@ -41,16 +45,24 @@ pub struct Runner {
     results: Vec<LineResult>,
 }
 
-/// The device that a line offers.
-fn offer(alloc: Global, desks: &mut Vec<Desk>, what: &What) -> Result<(), AllocError>
-    ensures { OnOk result ((kinds : List OneSpec) → AreFresh kinds desks.old.items → AreFresh (kinds ++ offered_by what.now) desks.new.items) }
+/// The device that a line offers, with the bad places of all lines.
+fn offer(
+    alloc: Global,
+    desks: &mut Vec<Desk>,
+    lines: &[Line],
+    what: &What,
+) -> Result<(), AllocError>
+    requires { CanMake lines.now (length desks.old.items) what.now }
+    ensures { OnOk result ((kinds : List OneSpec) → AreFresh lines.now kinds desks.old.items → AreFresh lines.now (kinds ++ offered_by what.now) desks.new.items) }
 {
     match what {
         What::Offer { name: _, device } => {
-            desks.push(new_desk(alloc, *device)?)?;
+            let bad = bad_places(alloc, desks.len(), lines)?;
+            desks.push(new_desk(alloc, *device, &bad)?)?;
             Ok(())
         }
         What::Contact { .. } => Ok(()),
+        What::Bad { .. } => Ok(()),
         What::RingSize { .. } => Ok(()),
         What::Window { .. } => Ok(()),
         What::Ask { .. } => Ok(()),
@@ -61,11 +73,12 @@ fn offer(alloc: Global, desks: &mut Vec<Desk>, what: &What) -> Result<(), AllocE
 
 /// The devices that a script offers.
 fn new_desks(alloc: Global, lines: &[Line]) -> Result<Vec<Desk>, AllocError>
-    ensures { IfOk result (λ desks. AreFresh (offered lines.now) desks.items) }
+    requires { AllRight (offered lines.now) lines.now }
+    ensures { IfOk result (λ desks. AreFresh lines.now (offered lines.now) desks.items) }
 {
     let mut desks = Vec::new(alloc);
     for line in lines {
-        offer(alloc, &mut desks, &line.what)?;
+        offer(alloc, &mut desks, lines, &line.what)?;
     }
     Ok(desks)
 }
@@ -74,11 +87,11 @@ fn new_desks(alloc: Global, lines: &[Line]) -> Result<Vec<Desk>, AllocError>
 fn histories_of(alloc: Global, mut desks: Vec<Desk>) -> Result<Vec<DeviceHistory>, AllocError>
     requires { All IsKept desks.items }
     ensures logs { IfOk result (λ histories. map log_of histories.items ≡ map desk_log desks.items) }
-    ensures legal { IfOk result (λ histories. EachHistory (map spec_of desks.items) histories.items) }
+    ensures legal { IfOk result (λ histories. (lines : List OneLine) → map setup_of desks.items ≡ setups_from lines 0 (map spec_of desks.items) → EachHistory lines 0 (map spec_of desks.items) histories.items) }
 {
     let mut histories = Vec::new(alloc);
     for i in 0..desks.len() {
-        let desk = mem::replace(&mut desks[i], Desk::Out);
+        let desk = mem::replace(&mut desks[i], Desk::Out { subs: 0 });
         histories.push(history_of(desk))?;
     }
     Ok(histories)
@@ -130,8 +143,8 @@ impl Runner {
         self.next.is_some()
     }
 
-    /// Runs the next phase: its channels are opened in order of their relids, serve their requests, and are ended.
-    pub fn run_next<R, G: Gate>(
+    /// Runs the next phase: its channels are opened in order of their relids, run all at once, and are closed.
+    pub fn run_next<R: Threads + Wait + Sync, G: Gate>(
         &mut self,
         rt: &R,
         gate: &G,
@@ -186,7 +199,7 @@ impl Runner {
 }
 
 /// Runs a script, phase by phase.
-pub fn run_script<R, G: Gate>(
+pub fn run_script<R: Threads + Wait + Sync, G: Gate>(
     rt: &R,
     gate: &G,
     alloc: Global,

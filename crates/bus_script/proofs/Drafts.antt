@@ -11,14 +11,16 @@ use Rattle.std.proofs.lemmas.List.Sums.{sum_by-cons}
 use Rattle.contact.specs.declared.version.Version.{Version}
 use Rattle.bus_script.specs.declared.line.Ask.{Ask}
 use Rattle.std.proofs.lemmas.List.Folds.{list_any-append, list_all-append}
+use Rattle.std.proofs.lemmas.Grind.{flat_map-append}
 use Rattle.bus_script.specs.declared.line.Line.{Line}
 use Rattle.bus_script.specs.declared.line.What.{What}
-use Rattle.bus_script.specs.declared.line.What.TheVariants.{Contact as IsContact, Offer as IsOffer, RingSize as IsRingSize, Window as IsWindow, Ask as IsAsk, Shut as IsShut, Phase as IsPhase}
+use Rattle.bus_script.specs.declared.line.What.TheVariants.{Contact as IsContact, Offer as IsOffer, Bad as IsBad, RingSize as IsRingSize, Window as IsWindow, Ask as IsAsk, Shut as IsShut, Phase as IsPhase}
 use Rattle.bus_script.specs.declared.line.DeviceSpec.{DeviceSpec}
+use Rattle.bus_script.specs.declared.bad_place.BadPlace.{BadPlace}
 use Rattle.bus_script.specs.declared.draft.Seen.{Seen}
-use Rattle.bus_script.specs.Parts.{is_settings, is_ask, asks_in, this_part, offered, offered_by, names, named_by, channels, channels_of, ends_part, sets_ring, sets_window, shuts, has_ring, has_window, phases_over, phase_behind, closed_from, closed_in}
+use Rattle.bus_script.specs.Parts.{is_settings, is_ask, asks_in, this_part, offered, offered_by, names, named_by, channels, channels_of, ends_part, sets_ring, sets_window, sets_bad, shuts, has_bad, has_ring, has_window, phases_over, phase_behind, closed_from, closed_in}
 use Rattle.bus_script.specs.WellFormed.{IsRight, AllRight, Fits}
-use Rattle.bus_script.specs.Draft.{IsSeen, Keeps}
+use Rattle.bus_script.specs.Draft.{IsSeen, places_by, places, Keeps}
 use Rattle.bus_script.proofs.Phases.{by_test, closed_on, closed_more, close_at, this_phase, this_other, count_yes, count_no}
 use Rattle.bus_script.proofs.Scripts.{offered_more, names_more, channels_more, slice_get_front, script_push}
 
@@ -128,6 +130,7 @@ seen_set ls l device new seen all here quiet d s is = ⊎_elim
 unsaid : (kinds : List DeviceSpec) (what : What) (device : ℕ) → IsRight kinds what → length kinds ≤ device → Quiet device what
 unsaid kinds (IsContact guest host) device right more = record { ring = refl; window = refl; shut = refl }
 unsaid kinds (IsOffer name spec) device right more = record { ring = refl; window = refl; shut = refl }
+unsaid kinds (IsBad d lba) device right more = record { ring = refl; window = refl; shut = refl }
 unsaid kinds (IsRingSize d pages) device right more = ring_else d device pages (λ same. absurd (omega (arith, same, right.0)))
 unsaid kinds (IsWindow d size) device right more = window_else d device size (λ same. absurd (omega (arith, same, right.0)))
 unsaid kinds (IsAsk d ask) device right more = record { ring = refl; window = refl; shut = refl }
@@ -206,21 +209,47 @@ offers_none ls l is = offered_more ls l ∙ ap (λ ds. offered ls ++ ds) is ∙ 
 names_none : (ls : List Line) (l : Line) → named_by l.what ≡ [] → names (ls ++ l ∷ []) ≡ names ls
 names_none ls l is = names_more ls l ∙ ap (λ ds. names ls ++ ds) is ∙ append-nil (names ls)
 
-module _ (ls : List Line) (keys : List (List ℕ)) (seen : List Seen) (count asks phase : ℕ) (settings : Bool) (kept : Keeps ls keys seen count asks phase settings) (number : ℕ) where
+places_more : (ls : List Line) (l : Line) → places (ls ++ l ∷ []) ≡ places ls ++ places_by l.what
+places_more ls l = flat_map-append (λ (k : Line). places_by k.what) ls (l ∷ []) ∙ ap (λ ps. places ls ++ ps) (append-nil (places_by l.what))
+
+places_none : (ls : List Line) (l : Line) → places_by l.what ≡ [] → places (ls ++ l ∷ []) ≡ places ls
+places_none ls l is = places_more ls l ∙ ap (λ ps. places ls ++ ps) is ∙ append-nil (places ls)
+
+-- this place
+abbrev pub is_place : ℕ → ℕ → BadPlace → Bool
+is_place device lba p = (device == p.device) && (lba == p.lba)
+
+any_placed : (device lba : ℕ) (what : What) (rest : List BadPlace) → list_any (is_place device lba) (places_by what ++ rest) ≡ (sets_bad device lba what || list_any (is_place device lba) rest)
+any_placed device lba (IsContact guest host) rest = refl
+any_placed device lba (IsOffer name spec) rest = refl
+any_placed device lba (IsBad d l) rest = refl
+any_placed device lba (IsRingSize d pages) rest = refl
+any_placed device lba (IsWindow d size) rest = refl
+any_placed device lba (IsAsk d ask) rest = refl
+any_placed device lba (IsShut d) rest = refl
+any_placed device lba IsPhase rest = refl
+
+-- a block is among the bad places where a line makes it bad
+pub any_places : (device lba : ℕ) (ls : List Line) → list_any (is_place device lba) (places ls) ≡ has_bad device lba ls
+any_places device lba [] = refl
+any_places device lba (l ∷ ls) = any_placed device lba l.what (places ls) ∙ ap (λ b. sets_bad device lba l.what || b) (any_places device lba ls)
+
+module _ (ls : List Line) (keys : List (List ℕ)) (seen : List Seen) (count asks phase : ℕ) (settings : Bool) (bad : List BadPlace) (kept : Keeps ls keys seen count asks phase settings bad) (number : ℕ) where
   -- a line that speaks of a device, or asks it, where what is kept of the devices fits
   placed : (device : ℕ) (s : Seen) → device < length (offered ls ++ []) → s ≡ slice_index_or seen device s → slice_get seen device ≡ Some s
   placed device s less is =
       let within : device < length seen = omega (arith, less, kept.many, ap length (append-nil (offered ls))) in
       slice_get-get_or seen device s within ∙ ap Some (sym is)
 
-  settles : (what : What) (new : List Seen) → Fits ls what → offered_by what ≡ [] → named_by what ≡ [] → length new ≡ length seen
+  settles : (what : What) (new : List Seen) → Fits ls what → offered_by what ≡ [] → named_by what ≡ [] → places_by what ≡ [] → length new ≡ length seen
       → ((d : ℕ) (s : Seen) → slice_get new d ≡ Some s → IsSeen (ls ++ record { number = number; what = what } ∷ []) d s)
       → (more next : ℕ) (all : Bool) → more ≡ asks_in (this_part (ls ++ record { number = number; what = what } ∷ [])) → next ≡ phases_over (ls ++ record { number = number; what = what } ∷ [])
       → all ≡ list_all (λ k. is_settings k.what) (ls ++ record { number = number; what = what } ∷ [])
-      → Keeps (ls ++ record { number = number; what = what } ∷ []) keys new count more next all
-  settles what new fits none_offered none_named long each more next all asked over set = let l : Line = record { number = number; what = what } in record {
+      → Keeps (ls ++ record { number = number; what = what } ∷ []) keys new count more next all bad
+  settles what new fits none_offered none_named none_bad long each more next all asked over set = let l : Line = record { number = number; what = what } in record {
     script = script_push ls l kept.script fits;
     names = kept.names ∙ sym (names_none ls l none_named);
+    bad_places = kept.bad_places ∙ sym (places_none ls l none_bad);
     many = long ∙ kept.many ∙ sym (ap length (offers_none ls l none_offered));
     each = each;
     channels = kept.channels ∙ sym (ap (sum_by channels_of) (offers_none ls l none_offered));
@@ -232,49 +261,63 @@ module _ (ls : List Line) (keys : List (List ℕ)) (seen : List Seen) (count ask
   quietly : (what : What) → ((d : ℕ) → Quiet d what) → (d : ℕ) (s : Seen) → slice_get seen d ≡ Some s → IsSeen (ls ++ record { number = number; what = what } ∷ []) d s
   quietly what quiet d s is = seen_kept ls (record { number = number; what = what }) d s (quiet d) (kept.each d s is)
 
-  pub keeps_ask : (device : ℕ) (ask : Ask) → Fits ls (IsAsk device ask) → Keeps (ls ++ record { number = number; what = IsAsk device ask } ∷ []) keys seen count (asks + 1) phase false
+  pub keeps_ask : (device : ℕ) (ask : Ask) → Fits ls (IsAsk device ask) → Keeps (ls ++ record { number = number; what = IsAsk device ask } ∷ []) keys seen count (asks + 1) phase false bad
   keeps_ask device ask fits = let l : Line = record { number = number; what = IsAsk device ask } in
-      settles (IsAsk device ask) seen fits refl refl refl (quietly (IsAsk device ask) (λ d. record { ring = refl; window = refl; shut = refl })) (asks + 1) phase false
+      settles (IsAsk device ask) seen fits refl refl refl refl (quietly (IsAsk device ask) (λ d. record { ring = refl; window = refl; shut = refl })) (asks + 1) phase false
       (ap (λ n. n + 1) kept.asked ∙ sym (ap asks_in (this_other ls l refl) ∙ count_yes (λ k. is_ask k.what) (this_part ls) l refl))
       (kept.over ∙ sym (count_no ends_part ls l refl))
       (sym (settings_no ls l refl))
 
-  pub keeps_phase : Fits ls IsPhase → Keeps (ls ++ record { number = number; what = IsPhase } ∷ []) keys seen count 0 (phase + 1) false
+  pub keeps_phase : Fits ls IsPhase → Keeps (ls ++ record { number = number; what = IsPhase } ∷ []) keys seen count 0 (phase + 1) false bad
   keeps_phase fits = let l : Line = record { number = number; what = IsPhase } in
-      settles IsPhase seen fits refl refl refl (quietly IsPhase (λ d. record { ring = refl; window = refl; shut = refl })) 0 (phase + 1) false
+      settles IsPhase seen fits refl refl refl refl (quietly IsPhase (λ d. record { ring = refl; window = refl; shut = refl })) 0 (phase + 1) false
       (sym (ap asks_in (this_phase ls l refl)))
       (ap (λ n. n + 1) kept.over ∙ sym (count_yes ends_part ls l refl))
       (sym (settings_no ls l refl))
 
-  pub keeps_contact : (guest host : Version) → Fits ls (IsContact guest host) → Keeps (ls ++ record { number = number; what = IsContact guest host } ∷ []) keys seen count asks phase settings
+  pub keeps_contact : (guest host : Version) → Fits ls (IsContact guest host) → Keeps (ls ++ record { number = number; what = IsContact guest host } ∷ []) keys seen count asks phase settings bad
   keeps_contact guest host fits = let l : Line = record { number = number; what = IsContact guest host } in
-      settles (IsContact guest host) seen fits refl refl refl (quietly (IsContact guest host) (λ d. record { ring = refl; window = refl; shut = refl })) asks phase settings
+      settles (IsContact guest host) seen fits refl refl refl refl (quietly (IsContact guest host) (λ d. record { ring = refl; window = refl; shut = refl })) asks phase settings
       (kept.asked ∙ sym (ap asks_in (this_other ls l refl) ∙ count_no (λ k. is_ask k.what) (this_part ls) l refl))
       (kept.over ∙ sym (count_no ends_part ls l refl))
       (kept.all_settings ∙ sym (settings_yes ls l refl))
 
+  pub keeps_bad : (device lba : ℕ) (p : BadPlace) → Fits ls (IsBad device lba) → p ≡ record { device = device; lba = lba }
+      → Keeps (ls ++ record { number = number; what = IsBad device lba } ∷ []) keys seen count asks phase settings (bad ++ p ∷ [])
+  keeps_bad device lba p fits made = let l : Line = record { number = number; what = IsBad device lba } in record {
+    script = script_push ls l kept.script fits;
+    names = kept.names ∙ sym (names_none ls l refl);
+    bad_places = ap (λ ps. ps ++ p ∷ []) kept.bad_places ∙ ap (λ q. places ls ++ q ∷ []) made ∙ sym (places_more ls l);
+    many = kept.many ∙ sym (ap length (offers_none ls l refl));
+    each = quietly (IsBad device lba) (λ d. record { ring = refl; window = refl; shut = refl });
+    channels = kept.channels ∙ sym (ap (sum_by channels_of) (offers_none ls l refl));
+    asked = kept.asked ∙ sym (ap asks_in (this_other ls l refl) ∙ count_no (λ k. is_ask k.what) (this_part ls) l refl);
+    over = kept.over ∙ sym (count_no ends_part ls l refl);
+    all_settings = kept.all_settings ∙ sym (settings_yes ls l refl);
+  }
+
   pub keeps_ring : (device pages : ℕ) (s : Seen) → Fits ls (IsRingSize device pages) → s ≡ slice_index_or seen device s
-      → Keeps (ls ++ record { number = number; what = IsRingSize device pages } ∷ []) keys (slice_set seen device (record s { ring = true })) count asks phase settings
+      → Keeps (ls ++ record { number = number; what = IsRingSize device pages } ∷ []) keys (slice_set seen device (record s { ring = true })) count asks phase settings bad
   keeps_ring device pages s fits at = let l : Line = record { number = number; what = IsRingSize device pages } in
-      settles (IsRingSize device pages) (slice_set seen device (record s { ring = true })) fits refl refl (length-set seen device (record s { ring = true }))
+      settles (IsRingSize device pages) (slice_set seen device (record s { ring = true })) fits refl refl refl (length-set seen device (record s { ring = true }))
       (seen_set ls l device (record s { ring = true }) seen kept.each (ring_here ls number device pages s (kept.each device s (placed device s fits.right.0 at))) (λ d other. ring_else device d pages other)) asks phase settings
       (kept.asked ∙ sym (ap asks_in (this_other ls l refl) ∙ count_no (λ k. is_ask k.what) (this_part ls) l refl))
       (kept.over ∙ sym (count_no ends_part ls l refl))
       (kept.all_settings ∙ sym (settings_yes ls l refl))
 
   pub keeps_window : (device size : ℕ) (s : Seen) → Fits ls (IsWindow device size) → s ≡ slice_index_or seen device s
-      → Keeps (ls ++ record { number = number; what = IsWindow device size } ∷ []) keys (slice_set seen device (record s { window = true })) count asks phase settings
+      → Keeps (ls ++ record { number = number; what = IsWindow device size } ∷ []) keys (slice_set seen device (record s { window = true })) count asks phase settings bad
   keeps_window device size s fits at = let l : Line = record { number = number; what = IsWindow device size } in
-      settles (IsWindow device size) (slice_set seen device (record s { window = true })) fits refl refl (length-set seen device (record s { window = true }))
+      settles (IsWindow device size) (slice_set seen device (record s { window = true })) fits refl refl refl (length-set seen device (record s { window = true }))
       (seen_set ls l device (record s { window = true }) seen kept.each (window_here ls number device size s (kept.each device s (placed device s fits.right.0 at))) (λ d other. window_else device d size other)) asks phase settings
       (kept.asked ∙ sym (ap asks_in (this_other ls l refl) ∙ count_no (λ k. is_ask k.what) (this_part ls) l refl))
       (kept.over ∙ sym (count_no ends_part ls l refl))
       (kept.all_settings ∙ sym (settings_yes ls l refl))
 
   pub keeps_shut : (device : ℕ) (s : Seen) → Fits ls (IsShut device) → s ≡ slice_index_or seen device s
-      → Keeps (ls ++ record { number = number; what = IsShut device } ∷ []) keys (slice_set seen device (record s { closed = Some phase })) count asks phase false
+      → Keeps (ls ++ record { number = number; what = IsShut device } ∷ []) keys (slice_set seen device (record s { closed = Some phase })) count asks phase false bad
   keeps_shut device s fits at = let l : Line = record { number = number; what = IsShut device } in
-      settles (IsShut device) (slice_set seen device (record s { closed = Some phase })) fits refl refl (length-set seen device (record s { closed = Some phase }))
+      settles (IsShut device) (slice_set seen device (record s { closed = Some phase })) fits refl refl refl (length-set seen device (record s { closed = Some phase }))
       (seen_set ls l device (record s { closed = Some phase }) seen kept.each
       (shut_here ls number device phase s (fits.closed device (eq_self device)) kept.over (kept.each device s (placed device s fits.right at))) (λ d other. shut_else device d other)) asks phase false
       (kept.asked ∙ sym (ap asks_in (this_other ls l refl) ∙ count_no (λ k. is_ask k.what) (this_part ls) l refl))
@@ -282,10 +325,11 @@ module _ (ls : List Line) (keys : List (List ℕ)) (seen : List Seen) (count ask
       (sym (settings_no ls l refl))
 
   pub keeps_offer : (name : List ℕ) (spec : DeviceSpec) (new : Seen) (more : ℕ) → Fits ls (IsOffer name spec) → new ≡ record { spec = spec; ring = false; window = false; closed = None } → more ≡ channels_of spec
-      → Keeps (ls ++ record { number = number; what = IsOffer name spec } ∷ []) (keys ++ name ∷ []) (seen ++ new ∷ []) (count + more) asks phase settings
+      → Keeps (ls ++ record { number = number; what = IsOffer name spec } ∷ []) (keys ++ name ∷ []) (seen ++ new ∷ []) (count + more) asks phase settings bad
   keeps_offer name spec new more fits made is = let l : Line = record { number = number; what = IsOffer name spec } in record {
     script = script_push ls l kept.script fits;
     names = ap (λ ks. ks ++ name ∷ []) kept.names ∙ sym (names_more ls l);
+    bad_places = kept.bad_places ∙ sym (places_none ls l refl);
     many = length-push seen new ∙ ap (λ n. n + 1) kept.many ∙ sym (ap length (offered_more ls l) ∙ length-push (offered ls) spec);
     each = seen_new ls number name spec new seen kept.script.right kept.many made kept.each;
     channels = one_more ∙ sym (channels_more ls l);
@@ -303,6 +347,7 @@ module _ (ls : List Line) (keys : List (List ℕ)) (seen : List Seen) (count ask
 one_each : (what : What) → length (named_by what) ≡ length (offered_by what)
 one_each (IsContact guest host) = refl
 one_each (IsOffer name spec) = refl
+one_each (IsBad device lba) = refl
 one_each (IsRingSize device pages) = refl
 one_each (IsWindow device size) = refl
 one_each (IsAsk device ask) = refl

@@ -1,5 +1,5 @@
 -- A line against which nothing stands fits behind the lines before it.
-use Rattle.std.proofs.Common.{◌≡◌, ℕ, ◌+◌, ◌<◌, ◌≤◌, Bool, true, false, List, [], ◌∷◌, ◌++◌, length, map, refl, sym, ap, ◌∙◌, subst, arith, zero, suc, is_some, IfSome}
+use Rattle.std.proofs.Common.{◌≡◌, ℕ, ◌+◌, ◌<◌, ◌≤◌, Bool, true, false, List, [], ◌∷◌, ◌++◌, length, map, refl, sym, ap, ◌∙◌, subst, arith, zero, suc, is_some, IfSome, cond}
 use Rattle.std.specs.Prelude.{◌||◌, ◌&&◌, ◌==◌, not, nat_lt, nat_le, Option, Some, None, slice_get, unwrap_or, option_map}
 use Rattle.std.specs.List.{list_all}
 use Rattle.std.specs.Option.{option_or, option_map_or}
@@ -11,18 +11,25 @@ use Rattle.util_ic.specs.declared.ic.IcAsk.TheVariants.{Beat as AskBeat, Down as
 use Rattle.bus_script.specs.declared.fault.Why6.{Why6}
 use Rattle.bus_script.specs.declared.fault.Why6.TheVariants.{Limit, Order}
 use Rattle.bus_script.specs.declared.line.Line.{Line}
-use Rattle.bus_script.specs.declared.line.What.TheVariants.{Contact as IsContact, Offer as IsOffer, RingSize as IsRingSize, Window as IsWindow, Ask as IsAsk, Shut as IsShut, Phase as IsPhase}
+use Rattle.bus_script.specs.declared.line.What.TheVariants.{Contact as IsContact, Offer as IsOffer, Bad as IsBad, RingSize as IsRingSize, Window as IsWindow, Ask as IsAsk, Shut as IsShut, Phase as IsPhase}
 use Rattle.bus_script.specs.declared.line.Ask.{Ask}
-use Rattle.bus_script.specs.declared.line.Ask.TheVariants.{Ic}
+use Rattle.bus_script.specs.declared.line.Ask.TheVariants.{Ic, Disk as AskDisk}
 use Rattle.bus_script.specs.declared.line.DeviceSpec.{DeviceSpec}
-use Rattle.bus_script.specs.declared.line.DeviceSpec.TheVariants.{Beat as IsBeat, Down as IsDown}
+use Rattle.bus_script.specs.declared.line.DeviceSpec.TheVariants.{Beat as IsBeat, Down as IsDown, Disk as IsDisk}
+use Rattle.bus_script.specs.declared.disk_ask.DiskAsk.{DiskAsk}
+use Rattle.bus_script.specs.declared.offering.Offering.{Offering}
+use Rattle.bus_script.specs.declared.offering.Offering.TheVariants.{Beat as OfBeat, Down as OfDown, Disk as OfDisk}
+use Rattle.contact.specs.declared.kind.Kind.TheVariants.{Disk as KindDisk}
 use Rattle.bus_script.specs.declared.said.Said.{Said}
-use Rattle.bus_script.specs.declared.said.Said.TheVariants.{Contact, Offer, Ring, Window, Beat, Down, Close, Phase}
-use Rattle.bus_script.specs.Parts.{is_settings, offered, kind_of, kind_asked, phases_over, closed_in, channels, channels_of, device_of}
-use Rattle.bus_script.specs.Faults.{unless, device_said, says_settings, line_limit, ask_limit, count_limit, is_first, is_closed_before, own_order, order_fault, is_beat, is_down, is_offered, name_fault, is_closed_here, repeat_fault, range_fault, row_fault}
-use Rattle.bus_script.specs.Grammar.{or_zero}
-use Rattle.bus_script.specs.WellFormed.{InRange, Fits}
-use Rattle.bus_script.proofs.Phases.{closed_by}
+use Rattle.bus_script.specs.declared.said.Said.TheVariants.{Contact, Offer, Bad, Ring, Window, Beat, Down, Command, Close, Phase}
+use Rattle.bus_script.specs.Parts.{is_settings, offered, kind_of, kind_asked, phases_over, closed_in, channels, channels_of, device_of, blocks_at, has_bad}
+use Rattle.bus_script.specs.Faults.{unless, device_said, says_settings, line_limit, ask_limit, has_room, count_limit, is_first, is_closed_before, own_order, order_fault, is_beat, is_down, is_disk, is_offered, name_fault, is_closed_here, is_bad, repeat_fault, offers_in_range, is_block, range_fault, row_fault}
+use Rattle.bus_script.specs.Grammar.{or_zero, spec_of}
+use Rattle.bus_script.specs.WellFormed.{IsDevice, CanGo, OfferInRange, InRange, Fits}
+use Rattle.bus_script.specs.Forms.{within}
+use Rattle.bus_script.specs.Requests.{request_of}
+use Rattle.bus_script.proofs.Carrying.{asks_carried}
+use Rattle.bus_script.proofs.Phases.{by_test, closed_by}
 
 or_none : (a b : Option Why6) → option_or a b ≡ None → (a ≡ None) × (b ≡ None)
 or_none None b is = (refl, is)
@@ -39,11 +46,11 @@ record Stands (number : ℕ) (before : List Line) (device : Option ℕ) (said : 
   order : order_fault before device said ≡ None
   name : name_fault before device said ≡ None
   repeat : repeat_fault before device said ≡ None
-  range : range_fault said ≡ None
+  range : range_fault before device said ≡ None
 
 stands : (number : ℕ) (before : List Line) (device : Option ℕ) (said : Said) → row_fault number before device said ≡ None → Stands number before device said
 stands number before device said free =
-    let five = or_none _ (range_fault said) free in
+    let five = or_none _ (range_fault before device said) free in
     let four = or_none _ (repeat_fault before device said) five.0 in
     let three = or_none _ (name_fault before device said) four.0 in
     let two = or_none _ (order_fault before device said) three.0 in
@@ -90,10 +97,50 @@ kind_at (s ∷ specs) (suc d) spec is = kind_at specs d spec is
 beat_is : (spec : DeviceSpec) → is_beat spec ≡ true → spec ≡ IsBeat
 beat_is IsBeat is = refl
 beat_is IsDown is = absurd (cc)
+beat_is (IsDisk blocks subs) is = absurd (cc)
 
 down_is : (spec : DeviceSpec) → is_down spec ≡ true → spec ≡ IsDown
 down_is IsBeat is = absurd (cc)
 down_is IsDown is = refl
+down_is (IsDisk blocks subs) is = absurd (cc)
+
+disk_kind : (spec : DeviceSpec) → is_disk spec ≡ true → kind_of spec ≡ KindDisk
+disk_kind IsBeat is = absurd (cc)
+disk_kind IsDown is = absurd (cc)
+disk_kind (IsDisk blocks subs) is = refl
+
+-- no number but 0 is from 0 to 0
+zero_within : (o : Option ℕ) → unwrap_or (within 0 0 o) 0 ≡ 0
+zero_within None = refl
+zero_within (Some n) = by_test (nat_le 0 n && nat_le n 0)
+    (λ e. ap (λ (b : Bool). unwrap_or (cond b (Some n) None) 0) e ∙ (let both = both_true (nat_le 0 n) (nat_le n 0) e in grind (arith, nat_tests, both.1)))
+    (λ e. ap (λ (b : Bool). unwrap_or (cond b (Some n) None) 0) e)
+
+-- a device that is offered in its ranges
+device_right : (offering : Offering) → offers_in_range offering ≡ true → OfferInRange offering → IsDevice (spec_of offering)
+device_right OfBeat holds range = tt
+device_right OfDown holds range = tt
+device_right (OfDisk None subs) holds range = absurd (cc)
+device_right (OfDisk (Some blocks) subs) holds range = (range.0, range.1, zero_within subs)
+
+-- and its channels
+room_is : (before : List Line) (offering : Offering) → has_room before offering ≡ true → channels before + channels_of (spec_of offering) ≤ 16
+room_is before OfBeat room = grind (arith, nat_tests, room)
+room_is before OfDown room = grind (arith, nat_tests, room)
+room_is before (OfDisk blocks None) room = absurd (cc)
+room_is before (OfDisk blocks (Some subs)) room =
+    let most : channels before + (1 + subs) ≤ 16 = grind (arith, nat_tests, room) in omega (arith, most, zero_within (Some subs))
+
+-- a block of a device that was offered
+block_is : (before : List Line) (device lba : Option ℕ) → is_block before device lba ≡ true → unwrap_or lba 0 < blocks_at (unwrap_or device 0) (offered before)
+block_is before None lba is = absurd (cc)
+block_is before (Some d) None is = absurd (cc)
+block_is before (Some d) (Some l) is = grind (arith, nat_tests, is)
+
+fresh_is : (before : List Line) (device lba : Option ℕ) → is_block before device lba ≡ true → is_bad before device lba ≡ false → has_bad (unwrap_or device 0) (unwrap_or lba 0) before ≡ false
+fresh_is before None lba is fresh = absurd (cc)
+fresh_is before (Some d) None is fresh = absurd (cc)
+fresh_is before (Some d) (Some l) is fresh = fresh
 
 -- the device of such a kind that was offered
 offered_is : (kind : DeviceSpec → Bool) (before : List Line) (device : Option ℕ) → is_offered kind before device ≡ true
@@ -132,6 +179,8 @@ module _ (number : ℕ) (before : List Line) (behind : length before < number) w
       let there = both_true _ _ (unless_none _ _ s.range) in
       record {
         right = (version_is guest there.0 range.0, version_is host there.1 range.1);
+        goes = tt;
+        fresh = refl;
         contact = λ is. first_is before (unless_none _ _ (own_free before device (Contact guest host) s.order));
         settings = λ is. settings_stand before _ _ _ s.order;
         few = λ one is. absurd (cc);
@@ -145,15 +194,18 @@ module _ (number : ℕ) (before : List Line) (behind : length before < number) w
       version_is None there in_range = absurd (cc)
       version_is (Some v) there in_range = in_range
 
-  pub fits_offer : (name : List ℕ) (spec : DeviceSpec) (device : Option ℕ) → device ≡ device_said before (Offer name spec) → row_fault number before device (Offer name spec) ≡ None → Fits before (IsOffer name spec)
-  fits_offer name spec device said free =
-      let s = stands number before device (Offer name spec) free in
-      let room = unless_none _ _ s.count in
+  pub fits_offer : (name : List ℕ) (offering : Offering) (device : Option ℕ) → device ≡ device_said before (Offer name offering) → row_fault number before device (Offer name offering) ≡ None
+      → InRange (Offer name offering) → Fits before (IsOffer name (spec_of offering))
+  fits_offer name offering device said free range =
+      let s = stands number before device (Offer name offering) free in
+      let room = room_is before offering (unless_none _ _ s.count) in
       record {
-        right = tt;
+        right = device_right offering (unless_none _ _ s.range) range;
+        goes = tt;
+        fresh = refl;
         contact = λ is. absurd (cc);
         settings = λ is. settings_stand before _ _ _ s.order;
-        few = λ one is. let same : spec ≡ one = cc (is) in subst (λ d. channels before + channels_of d ≤ 16) same (grind (arith, nat_tests, room));
+        few = λ one is. let same : spec_of offering ≡ one = cc (is) in subst (λ d. channels before + channels_of d ≤ 16) same room;
         new = λ other is. let same : name ≡ other = cc (is) in ap (λ n. device_of n before) (sym same) ∙ sym said ∙ none_is device (not_true _ (unless_none _ _ s.repeat));
         asks = λ is. absurd (cc);
         closed = λ d is. absurd (cc);
@@ -164,12 +216,31 @@ module _ (number : ℕ) (before : List Line) (behind : length before < number) w
       none_is None is = refl
       none_is (Some d) is = absurd (cc)
 
+  pub fits_bad : (name : List ℕ) (lba device : Option ℕ) → row_fault number before device (Bad name lba) ≡ None → Fits before (IsBad (unwrap_or device 0) (unwrap_or lba 0))
+  fits_bad name lba device free =
+      let s = stands number before device (Bad name lba) free in
+      let block = unless_none _ _ s.range in
+      record {
+        right = subst (λ (specs : List DeviceSpec). unwrap_or lba 0 < blocks_at (unwrap_or device 0) specs) (sym (append-nil (offered before))) (block_is before device lba block);
+        goes = tt;
+        fresh = fresh_is before device lba block (not_true _ (unless_none _ _ s.repeat));
+        contact = λ is. absurd (cc);
+        settings = λ is. settings_stand before _ _ _ s.order;
+        few = λ one is. absurd (cc);
+        new = λ other is. absurd (cc);
+        asks = λ is. absurd (cc);
+        closed = λ d is. absurd (cc);
+        short = omega (arith, s.line, behind);
+      }
+
   pub fits_ring : (name : List ℕ) (pages device : Option ℕ) → row_fault number before device (Ring name pages) ≡ None → InRange (Ring name pages) → IfSome device (λ d. d < length (offered before))
       → Fits before (IsRingSize (unwrap_or device 0) (unwrap_or pages 0))
   fits_ring name pages device free range within =
       let s = stands number before device (Ring name pages) free in
       record {
         right = (within_offered before device (unless_none _ _ s.name) within, (in_range pages (unless_none _ _ s.range) range).0, (in_range pages (unless_none _ _ s.range) range).1);
+        goes = tt;
+        fresh = refl;
         contact = λ is. absurd (cc);
         settings = λ is. settings_stand before _ _ _ s.order;
         few = λ one is. absurd (cc);
@@ -189,6 +260,8 @@ module _ (number : ℕ) (before : List Line) (behind : length before < number) w
       let s = stands number before device (Window name size) free in
       record {
         right = (within_offered before device (unless_none _ _ s.name) within, (in_range size (unless_none _ _ s.range) range).0, (in_range size (unless_none _ _ s.range) range).1);
+        goes = tt;
+        fresh = refl;
         contact = λ is. absurd (cc);
         settings = λ is. settings_stand before _ _ _ s.order;
         few = λ one is. absurd (cc);
@@ -202,12 +275,14 @@ module _ (number : ℕ) (before : List Line) (behind : length before < number) w
       in_range None there is = absurd (cc)
       in_range (Some n) there is = is
 
-  fits_ask : (ask : Ask) (device : Option ℕ) (spec : DeviceSpec) → slice_get (offered before) (unwrap_or device 0) ≡ Some spec → kind_of spec ≡ kind_asked ask → ask_limit before ≡ None → number ≤ 20000
+  fits_ask : (ask : Ask) (device : Option ℕ) (spec : DeviceSpec) → slice_get (offered before) (unwrap_or device 0) ≡ Some spec → kind_of spec ≡ kind_asked ask → CanGo ask → ask_limit before ≡ None → number ≤ 20000
       → Fits before (IsAsk (unwrap_or device 0) ask)
-  fits_ask ask device spec at kind room line =
+  fits_ask ask device spec at kind goes room line =
       let less = unless_none _ _ room in
       record {
         right = right_ask before device spec ask at kind;
+        goes = goes;
+        fresh = refl;
         contact = λ is. absurd (cc);
         settings = λ is. absurd (cc);
         few = λ one is. absurd (cc);
@@ -221,13 +296,20 @@ module _ (number : ℕ) (before : List Line) (behind : length before < number) w
   fits_beat name seq device free =
       let s = stands number before device (Beat name seq) free in
       let found = offered_is is_beat before device (unless_none _ _ s.name) in
-      fits_ask (Ic (AskBeat (unwrap_or seq 0))) device found.0 found.1 (ap kind_of (beat_is found.0 found.2)) s.count s.line
+      fits_ask (Ic (AskBeat (unwrap_or seq 0))) device found.0 found.1 (ap kind_of (beat_is found.0 found.2)) tt s.count s.line
 
   pub fits_down : (name : List ℕ) (flags device : Option ℕ) → row_fault number before device (Down name flags) ≡ None → Fits before (IsAsk (unwrap_or device 0) (Ic (AskDown 0 0 (unwrap_or flags 0))))
   fits_down name flags device free =
       let s = stands number before device (Down name flags) free in
       let found = offered_is is_down before device (unless_none _ _ s.name) in
-      fits_ask (Ic (AskDown 0 0 (unwrap_or flags 0))) device found.0 found.1 (ap kind_of (down_is found.0 found.2)) s.count s.line
+      fits_ask (Ic (AskDown 0 0 (unwrap_or flags 0))) device found.0 found.1 (ap kind_of (down_is found.0 found.2)) tt s.count s.line
+
+  pub fits_command : (name : List ℕ) (ask : DiskAsk) (device : Option ℕ) → row_fault number before device (Command name ask) ≡ None → InRange (Command name ask)
+      → Fits before (IsAsk (unwrap_or device 0) (AskDisk (request_of ask)))
+  fits_command name ask device free range =
+      let s = stands number before device (Command name ask) free in
+      let found = offered_is is_disk before device (unless_none _ _ s.name) in
+      fits_ask (AskDisk (request_of ask)) device found.0 found.1 (disk_kind found.0 found.2) (asks_carried ask (unless_none _ _ s.range) range) s.count s.line
 
   pub fits_close : (name : List ℕ) (device : Option ℕ) → row_fault number before device (Close name) ≡ None → IfSome device (λ d. d < length (offered before)) → Fits before (IsShut (unwrap_or device 0))
   fits_close name device free within =
@@ -237,6 +319,8 @@ module _ (number : ℕ) (before : List Line) (behind : length before < number) w
       let here = not_true _ (unless_none _ _ s.repeat) in
       record {
         right = within_offered before device named within;
+        goes = tt;
+        fresh = refl;
         contact = λ is. absurd (cc);
         settings = λ is. absurd (cc);
         few = λ one is. absurd (cc);
@@ -255,6 +339,8 @@ module _ (number : ℕ) (before : List Line) (behind : length before < number) w
       let s = stands number before device Phase free in
       record {
         right = tt;
+        goes = tt;
+        fresh = refl;
         contact = λ is. absurd (cc);
         settings = λ is. absurd (cc);
         few = λ one is. absurd (cc);

@@ -1,7 +1,8 @@
 -- A script stays right as its lines come.
 use Rattle.std.proofs.Common.{◌≡◌, ℕ, zero, suc, ◌+◌, ◌<◌, ◌≤◌, Bool, true, false, List, [], ◌∷◌, ◌++◌, length, map, refl, sym, ap, ◌∙◌, subst, arith, All, length-append}
-use Rattle.std.specs.Prelude.{not, ◌&&◌, Some, None, count_by, sum_by, slice_get, if◌then◌else◌}
+use Rattle.std.specs.Prelude.{not, ◌&&◌, Option, Some, None, count_by, sum_by, slice_get, if◌then◌else◌}
 use Rattle.std.specs.List.{list_all}
+use Rattle.std.specs.Option.{option_map_or}
 use Rattle.std.proofs.lemmas.List.{append-nil, map-append}
 use Rattle.std.proofs.lemmas.Grind.{flat_map-append}
 use Rattle.std.proofs.lemmas.List.Folds.{list_all-append}
@@ -9,11 +10,11 @@ use Rattle.std.proofs.lemmas.List.Sums.{sum_by-append, sum_by-cons}
 use Rattle.contact.specs.declared.kind.Kind.{Kind}
 use Rattle.bus_script.specs.declared.line.Line.{Line}
 use Rattle.bus_script.specs.declared.line.What.{What}
-use Rattle.bus_script.specs.declared.line.What.TheVariants.{Contact as IsContact, Offer as IsOffer, RingSize as IsRingSize, Window as IsWindow, Ask as IsAsk, Shut as IsShut, Phase as IsPhase}
+use Rattle.bus_script.specs.declared.line.What.TheVariants.{Contact as IsContact, Offer as IsOffer, Bad as IsBad, RingSize as IsRingSize, Window as IsWindow, Ask as IsAsk, Shut as IsShut, Phase as IsPhase}
 use Rattle.bus_script.specs.declared.line.DeviceSpec.{DeviceSpec}
-use Rattle.bus_script.specs.declared.line.DeviceSpec.TheVariants.{Beat, Down}
-use Rattle.bus_script.specs.Parts.{ends_part, parts, is_settings, is_ask, asks_in, offered_by, offered, named_by, names, kind_of, kind_asked, shuts, this_part, closed_in, channels_of, channels}
-use Rattle.bus_script.specs.WellFormed.{IsRight, AllRight, is_contact, contact_first, settings_first, IsScript, Fits}
+use Rattle.bus_script.specs.declared.line.DeviceSpec.TheVariants.{Beat, Down, Disk}
+use Rattle.bus_script.specs.Parts.{ends_part, parts, is_settings, is_ask, asks_in, offered_by, offered, named_by, names, kind_of, kind_asked, shuts, this_part, closed_in, channels_of, channels, blocks_of, blocks_at}
+use Rattle.bus_script.specs.WellFormed.{IsRight, AllRight, AskGoes, AllGo, is_contact, contact_first, settings_first, IsScript, Fits}
 use Rattle.bus_script.proofs.Phases.{by_test, FewAsks, asks_phase, asks_other, asks_this, count_yes, count_no, none_shut}
 
 pub offered_more : (ls : List Line) (l : Line) → offered (ls ++ l ∷ []) ≡ offered ls ++ offered_by l.what
@@ -27,9 +28,18 @@ slice_get_front [] ys i x is = absurd (cc)
 slice_get_front (y ∷ xs) ys zero x is = is
 slice_get_front (y ∷ xs) ys (suc i) x is = slice_get_front xs ys i x is
 
+-- a block stays one with more devices behind
+block_more : (kinds more : List DeviceSpec) (device lba : ℕ) → lba < blocks_at device kinds → lba < blocks_at device (kinds ++ more)
+block_more kinds more device lba less = at (slice_get kinds device) refl less
+  where
+    at : (o : Option DeviceSpec) → slice_get kinds device ≡ o → lba < option_map_or blocks_of o 0 → lba < blocks_at device (kinds ++ more)
+    at None same below = absurd (omega (arith, below))
+    at (Some spec) same below = subst (λ (o : Option DeviceSpec). lba < option_map_or blocks_of o 0) (sym (slice_get_front kinds more device spec same)) below
+
 right_more : (kinds more : List DeviceSpec) (what : What) → IsRight kinds what → IsRight (kinds ++ more) what
 right_more kinds more (IsContact guest host) right = right
-right_more kinds more (IsOffer name device) right = tt
+right_more kinds more (IsOffer name device) right = right
+right_more kinds more (IsBad device lba) right = block_more kinds more device lba right
 right_more kinds more (IsRingSize device pages) right = (omega (arith, right.0, length-append kinds more), right.1, right.2)
 right_more kinds more (IsWindow device size) right = (omega (arith, right.0, length-append kinds more), right.1, right.2)
 right_more kinds more (IsAsk device ask) right =
@@ -44,6 +54,10 @@ all_more kinds more (l ∷ ls) right = (right_more kinds more l.what right.0, al
 all_push : (kinds : List DeviceSpec) (ls : List Line) (l : Line) → AllRight kinds ls → IsRight kinds l.what → AllRight kinds (ls ++ l ∷ [])
 all_push kinds [] l all right = (right, tt)
 all_push kinds (k ∷ ks) l all right = (all.0, all_push kinds ks l all.1 right)
+
+go_push : (ls : List Line) (l : Line) → AllGo ls → AskGoes l.what → AllGo (ls ++ l ∷ [])
+go_push [] l all goes = (goes, tt)
+go_push (k ∷ ks) l all goes = (all.0, go_push ks l all.1 goes)
 
 both_true : (a b : Bool) → (a && b) ≡ true → (a ≡ true) × (b ≡ true)
 both_true true true is = (refl, refl)
@@ -77,6 +91,7 @@ settings_push (k ∷ ks) l first all = by_test (is_settings k.what)
 one_channel : (d : DeviceSpec) → 1 ≤ channels_of d
 one_channel Beat = omega arith
 one_channel Down = omega arith
+one_channel (Disk blocks subs) = omega arith
 
 -- a device has a channel at least
 pub length_channels : (ds : List DeviceSpec) → length ds ≤ sum_by channels_of ds
@@ -102,6 +117,7 @@ asks_push ls l few less = by_test (ends_part l)
 few_push : (before : List Line) (what : What) → channels before ≤ 16 → ((spec : DeviceSpec) → offered_by what ≡ spec ∷ [] → channels before + channels_of spec ≤ 16) → channels before + sum_by channels_of (offered_by what) ≤ 16
 few_push before (IsContact guest host) most few = omega (arith, most)
 few_push before (IsOffer name spec) most few = omega (arith, few spec refl, sum_by-cons channels_of spec [])
+few_push before (IsBad device lba) most few = omega (arith, most)
 few_push before (IsRingSize device pages) most few = omega (arith, most)
 few_push before (IsWindow device size) most few = omega (arith, most)
 few_push before (IsAsk device ask) most few = omega (arith, most)
@@ -113,6 +129,7 @@ pub script_push : (before : List Line) (l : Line) → IsScript before → Fits b
 script_push before l script fits = record {
   right = subst (λ kinds. AllRight kinds (before ++ l ∷ [])) (sym (offered_more before l))
       (all_push (offered before ++ offered_by l.what) before l (all_more (offered before) (offered_by l.what) before script.right) fits.right);
+  go = go_push before l script.go fits.goes;
   contact = contact_push before l script.contact fits.contact;
   settings = settings_push before l script.settings fits.settings;
   few = omega (arith, length_channels (offered (before ++ l ∷ [])), channels_more before l, few_push before l.what script.channels fits.few);

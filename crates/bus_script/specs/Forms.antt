@@ -49,6 +49,24 @@ abbrev pub within : ℕ → ℕ → Option ℕ → Option ℕ
 within low high None = None
 within low high (Some n) = if nat_le low n && nat_le n high then Some n else None
 
+-- 0 to 9, a to f and A to F
+abbrev pub is_hex : ℕ → Bool
+is_hex c = is_digit c || (nat_le 97 c && nat_le c 102) || (nat_le 65 c && nat_le c 70)
+
+-- two of these digits
+abbrev pub is_byte : List ℕ → Bool
+is_byte (a ∷ b ∷ []) = is_hex a && is_hex b
+is_byte others = false
+
+-- the value of a digit
+abbrev pub hex_value : ℕ → ℕ
+hex_value c = if nat_le c 57 then c - 48 else (if nat_le c 70 then c - 55 else c - 87)
+
+-- the byte that two digits write
+abbrev pub byte_of : List ℕ → ℕ
+byte_of (a ∷ b ∷ []) = 16 * hex_value a + hex_value b
+byte_of others = 0
+
 -- the one part before a dot and the one behind it
 abbrev pub pair_of : List (List ℕ) → Option (List ℕ × List ℕ)
 pair_of (a ∷ b ∷ []) = Some (a, b)

@@ -7,10 +7,16 @@ use Rattle.bus_script.specs.declared.fault.Why6.{Why6}
 use Rattle.bus_script.specs.declared.fault.ScriptFault.{ScriptFault}
 use Rattle.bus_script.specs.declared.line.Line.{Line}
 use Rattle.bus_script.specs.declared.line.What.{What}
-use Rattle.bus_script.specs.declared.line.What.TheVariants.{Contact as IsContact, Offer as IsOffer, RingSize as IsRingSize, Window as IsWindow, Ask as IsAsk, Shut as IsShut, Phase as IsPhase}
-use Rattle.bus_script.specs.declared.line.Ask.TheVariants.{Ic}
+use Rattle.bus_script.specs.declared.line.What.TheVariants.{Contact as IsContact, Offer as IsOffer, Bad as IsBad, RingSize as IsRingSize, Window as IsWindow, Ask as IsAsk, Shut as IsShut, Phase as IsPhase}
+use Rattle.bus_script.specs.declared.line.Ask.TheVariants.{Ic, Disk as AskDisk}
+use Rattle.bus_script.specs.declared.line.DeviceSpec.{DeviceSpec}
+use Rattle.bus_script.specs.declared.line.DeviceSpec.TheVariants.{Beat as IsBeat, Down as IsDown, Disk as IsDisk}
+use Rattle.bus_script.specs.declared.offering.Offering.{Offering}
+use Rattle.bus_script.specs.declared.offering.Offering.TheVariants.{Beat as OfBeat, Down as OfDown, Disk as OfDisk}
 use Rattle.bus_script.specs.declared.said.Said.{Said}
-use Rattle.bus_script.specs.declared.said.Said.TheVariants.{Nothing, Contact, Offer, Ring, Window, Beat, Down, Close, Phase}
+use Rattle.bus_script.specs.declared.said.Said.TheVariants.{Nothing, Contact, Offer, Bad, Ring, Window, Beat, Down, Command, Close, Phase}
+use Rattle.bus_script.specs.Forms.{within}
+use Rattle.bus_script.specs.Requests.{request_of}
 use Rattle.bus_script.specs.Rows.{said_in}
 use Rattle.bus_script.specs.Faults.{device_said, fault_at}
 
@@ -18,15 +24,23 @@ use Rattle.bus_script.specs.Faults.{device_said, fault_at}
 abbrev pub or_zero : Option Version → Version
 or_zero version = unwrap_or version (record { 0 = 0 })
 
+-- the device that is offered, or 0 where a number is out of range
+abbrev pub spec_of : Offering → DeviceSpec
+spec_of OfBeat = IsBeat
+spec_of OfDown = IsDown
+spec_of (OfDisk blocks subs) = IsDisk (unwrap_or blocks 0) (unwrap_or (within 0 0 subs) 0)
+
 -- what a line that speaks of this device becomes; one that is passed over becomes none
 abbrev pub what_of : Option ℕ → Said → Option What
 what_of device Nothing = None
 what_of device (Contact guest host) = Some (IsContact (or_zero guest) (or_zero host))
-what_of device (Offer name spec) = Some (IsOffer name spec)
+what_of device (Offer name offering) = Some (IsOffer name (spec_of offering))
+what_of device (Bad name lba) = Some (IsBad (unwrap_or device 0) (unwrap_or lba 0))
 what_of device (Ring name pages) = Some (IsRingSize (unwrap_or device 0) (unwrap_or pages 0))
 what_of device (Window name size) = Some (IsWindow (unwrap_or device 0) (unwrap_or size 0))
 what_of device (Beat name seq) = Some (IsAsk (unwrap_or device 0) (Ic (AskBeat (unwrap_or seq 0))))
 what_of device (Down name flags) = Some (IsAsk (unwrap_or device 0) (Ic (AskDown 0 0 (unwrap_or flags 0))))
+what_of device (Command name ask) = Some (IsAsk (unwrap_or device 0) (AskDisk (request_of ask)))
 what_of device (Close name) = Some (IsShut (unwrap_or device 0))
 what_of device Phase = Some IsPhase
 

@@ -1,6 +1,7 @@
 pub mod Words
 pub mod Forms
 pub mod Parts
+pub mod Requests
 pub mod Rows
 pub mod Faults
 pub mod Grammar
@@ -9,4 +10,5 @@ pub mod Parse
 pub mod WellFormed
 pub mod Draft
 pub mod Hex
+pub mod Runs
 pub mod Report

@@ -1,20 +1,25 @@
 -- The text of a run's outcomes.
-use Rattle.std.specs.Prelude.{ℕ, ◌≡◌, ◌+◌, ◌*◌, ◌/◌, ◌%◌, Bool, true, false, List, [], ◌∷◌, ◌++◌, codes, count_by, length, filter, take, nat_le}
+use Rattle.std.specs.Prelude.{ℕ, ◌≡◌, ◌+◌, ◌*◌, ◌/◌, ◌%◌, Bool, true, false, List, [], ◌∷◌, ◌++◌, codes, count_by, sum_by, length, filter, take, nat_le}
 use Rattle.std.specs.List.{flat_map, zip}
 use Rattle.std.specs.Fmt.{decimal}
 use Rattle.contact.specs.Versions.{versions, IsVersion}
 use Rattle.contact.specs.declared.version.Version.{Version}
+use Rattle.scsi_disk.specs.declared.reply.DiskReply.{DiskReply}
+use Rattle.scsi_disk.specs.declared.reply.DiskReply.TheVariants.{Good, Check}
+use Rattle.util_ic.specs.declared.ic.IcAnswer.{IcAnswer}
+use Rattle.util_ic.specs.declared.ic.IcAsk.{IcAsk}
 use Rattle.util_ic.specs.declared.ic.IcAsk.TheVariants.{Beat as AskBeat, Down as AskDown}
 use Rattle.bus_script.specs.declared.line.Line.{Line}
 use Rattle.bus_script.specs.declared.line.What.{What}
-use Rattle.bus_script.specs.declared.line.What.TheVariants.{Contact as IsContact, Offer as IsOffer, RingSize as IsRingSize, Window as IsWindow, Ask as IsAsk, Shut as IsShut, Phase as IsPhase}
+use Rattle.bus_script.specs.declared.line.What.TheVariants.{Contact as IsContact, Offer as IsOffer, Bad as IsBad, RingSize as IsRingSize, Window as IsWindow, Ask as IsAsk, Shut as IsShut, Phase as IsPhase}
 use Rattle.bus_script.specs.declared.line.Ask.{Ask}
-use Rattle.bus_script.specs.declared.line.Ask.TheVariants.{Ic}
+use Rattle.bus_script.specs.declared.line.Ask.TheVariants.{Ic, Disk as AskDisk}
 use Rattle.bus_script.specs.declared.outcome.Reply.{Reply}
-use Rattle.bus_script.specs.declared.outcome.Reply.TheVariants.{Ic as IcReply}
+use Rattle.bus_script.specs.declared.outcome.Reply.TheVariants.{Ic as IcReply, Disk as ReplyDisk}
 use Rattle.bus_script.specs.declared.outcome.LineResult.{LineResult}
 use Rattle.bus_script.specs.declared.outcome.LineResult.TheVariants.{Version as Agreed, Done, RescindedServed, Unserved, Gone, Closed}
-use Rattle.bus_script.specs.Hex.{hex_8}
+use Rattle.bus_script.specs.Hex.{hex_8, hex_2, hex_short}
+use Rattle.bus_script.specs.Runs.{runs_of, runs_text}
 use Rattle.bus_script.specs.Parts.{asks_in}
 
 -- the versions that a guest with this highest one may try, in order
@@ -42,10 +47,49 @@ versions_text vs = flat_map (λ v. codes " " ++ version_text v) vs
 abbrev pub contact_text : ℕ → ℕ → List ℕ
 contact_text guest count = codes "version " ++ (version_text (last_or 0 (tried guest count)) ++ (codes " tried" ++ versions_text (tried guest count)))
 
+-- good, and behind it the runs of the bytes that came back, if any did
+abbrev pub good_text : List ℕ → List ℕ
+good_text [] = codes "good"
+good_text (b ∷ bs) = codes "good" ++ (codes " " ++ runs_text (b ∷ bs))
+
+-- good, or check KEY/CODE/QUALIFIER
+abbrev pub disk_text : DiskReply → List ℕ
+disk_text (Good back) = good_text back
+disk_text (Check key asc ascq) = codes "check " ++ (hex_short key ++ (codes "/" ++ (hex_2 asc ++ (codes "/" ++ hex_2 ascq))))
+
 -- seq SEQ, or status 0xSTATUS
+abbrev pub answer_text : IcAsk → IcAnswer → List ℕ
+answer_text (AskBeat seq) answer = codes "seq " ++ decimal answer.seq
+answer_text (AskDown reason timeout flags) answer = codes "status 0x" ++ hex_8 answer.status
+
+-- a reply to a request; one of another kind of device has no text
 abbrev pub reply_text : Ask → Reply → List ℕ
-reply_text (Ic (AskBeat seq)) (IcReply answer) = codes "seq " ++ decimal answer.seq
-reply_text (Ic (AskDown reason timeout flags)) (IcReply answer) = codes "status 0x" ++ hex_8 answer.status
+reply_text (Ic ask) (IcReply answer) = answer_text ask answer
+reply_text (Ic ask) (ReplyDisk reply) = []
+reply_text (AskDisk request) (IcReply answer) = []
+reply_text (AskDisk request) (ReplyDisk reply) = disk_text reply
+
+-- how many runs the bytes of a disk's reply have
+abbrev pub disk_runs : DiskReply → ℕ
+disk_runs (Good back) = length (runs_of back)
+disk_runs (Check key asc ascq) = 0
+
+abbrev pub reply_runs : Reply → ℕ
+reply_runs (IcReply answer) = 0
+reply_runs (ReplyDisk reply) = disk_runs reply
+
+-- how many runs an outcome has
+abbrev pub result_runs : LineResult → ℕ
+result_runs (Agreed count) = 0
+result_runs (Done serial reply) = reply_runs reply
+result_runs (RescindedServed serial) = 0
+result_runs Unserved = 0
+result_runs Gone = 0
+result_runs Closed = 0
+
+-- how many runs these outcomes have
+abbrev pub runs_back : List LineResult → ℕ
+runs_back results = sum_by result_runs results
 
 -- done @SERIAL REPLY, and so on
 abbrev pub ask_text : Ask → LineResult → List ℕ
@@ -69,6 +113,7 @@ agreed_text guest Closed = []
 abbrev pub outcome_text : What → LineResult → List ℕ
 outcome_text (IsContact guest host) result = agreed_text guest result
 outcome_text (IsOffer name device) result = []
+outcome_text (IsBad device lba) result = []
 outcome_text (IsRingSize device pages) result = []
 outcome_text (IsWindow device size) result = []
 outcome_text (IsAsk device ask) result = ask_text ask result
@@ -83,6 +128,7 @@ line_text line result = decimal line.number ++ (codes " " ++ (outcome_text line.
 abbrev pub tells : What → Bool
 tells (IsContact guest host) = true
 tells (IsOffer name device) = false
+tells (IsBad device lba) = false
 tells (IsRingSize device pages) = false
 tells (IsWindow device size) = false
 tells (IsAsk device ask) = true
@@ -130,16 +176,18 @@ report_of lines results = lines_text lines results ++ end_text (asks_in lines) (
 abbrev pub HasVersion : What → Type 0
 HasVersion (IsContact guest host) = IsVersion guest.0
 HasVersion (IsOffer name device) = Unit {0}
+HasVersion (IsBad device lba) = Unit {0}
 HasVersion (IsRingSize device pages) = Unit {0}
 HasVersion (IsWindow device size) = Unit {0}
 HasVersion (IsAsk device ask) = Unit {0}
 HasVersion (IsShut device) = Unit {0}
 HasVersion IsPhase = Unit {0}
 
--- no outcome of a line has more bytes
+-- no outcome of a line has more bytes beside the runs that come back
 abbrev pub most_text : What → ℕ
 most_text (IsContact guest host) = 55 + 42 * length (versions_from guest.0)
 most_text (IsOffer name device) = 0
+most_text (IsBad device lba) = 0
 most_text (IsRingSize device pages) = 0
 most_text (IsWindow device size) = 0
 most_text (IsAsk device ask) = 51

@@ -2,10 +2,11 @@
 ghost use Rattle.std.specs.Prelude.{◌≡◌, ◌<◌, ◌≤◌, ◌++◌, ◌∷◌, [], List, length, Some, IfSome, OnOk, IfErr, slice_get};
 ghost use Rattle.std.specs.List.{list_all};
 ghost use Rattle.bus_script.specs.declared.fault.ParseFault.TheVariants.{Memory};
-ghost use Rattle.bus_script.specs.Parts.{is_settings, asks_in, this_part, offered, channels, channels_of, has_ring, has_window, device_of};
+ghost use Rattle.bus_script.specs.Parts.{is_settings, asks_in, this_part, offered, channels, channels_of, has_bad, has_ring, has_window, device_of};
 ghost use Rattle.bus_script.specs.Faults.{is_first, is_closed_before, is_closed_here};
 ghost use Rattle.bus_script.specs.WellFormed.{IsScript, Fits};
 
+use crate::bad_place::BadPlace;
 use crate::{Ask, DeviceSpec, Line, Name, ParseFault, What};
 use contact::Version;
 use indexmap::IndexSet;
@@ -30,6 +31,7 @@ pub struct Seen {
 pub struct Draft {
     lines: Vec<Line>,
     names: IndexSet<Name>,
+    bad: IndexSet<BadPlace>,
     seen: Vec<Seen>,
     channels: u32,
     asks: u32,
@@ -46,7 +48,7 @@ impl Model for Draft {
 
     ghost view = { λ d. d.lines.items };
 
-    ghost invariant = { λ d. Keeps d.lines.items d.names.keys d.seen.items d.channels d.asks d.phase d.settings };
+    ghost invariant = { λ d. Keeps d.lines.items d.names.keys d.seen.items d.channels d.asks d.phase d.settings d.bad.keys };
 }
 
 impl Draft {
@@ -57,6 +59,7 @@ impl Draft {
         Draft {
             lines: Vec::new(alloc),
             names: IndexSet::new(alloc),
+            bad: IndexSet::new(alloc),
             seen: Vec::new(alloc),
             channels: 0,
             asks: 0,
@@ -90,6 +93,13 @@ impl Draft {
         ensures { slice_get (offered self.now) device ≡ Some result }
     {
         self.seen[device as usize].spec
+    }
+
+    /// Whether a line makes a block of a device bad.
+    pub fn has_bad(&self, device: u32, lba: u64) -> bool
+        ensures { result ≡ has_bad device lba self.now }
+    {
+        self.bad.contains(&BadPlace { device, lba })
     }
 
     /// Whether a device has a line on its data pages.
@@ -205,6 +215,21 @@ impl Draft {
         Ok(())
     }
 
+    /// A block of a device that can't be read.
+    pub fn push_bad(&mut self, number: u32, device: u32, lba: u64) -> Result<(), ParseFault>
+        requires { Fits self.old (What.Bad device lba) }
+        ensures ok { OnOk result (self.new ≡ self.old ++ record { number = number; what = What.Bad device lba } ∷ []) }
+        ensures err { IfErr result (λ e. e ≡ Memory) }
+    {
+        self.lines.reserve(1)?;
+        self.bad.insert(BadPlace { device, lba })?;
+        self.lines.push_reserved(Line {
+            number,
+            what: What::Bad { device, lba },
+        });
+        Ok(())
+    }
+
     /// The data pages of a device.
     pub fn push_ring(&mut self, number: u32, device: u32, pages: u32) -> Result<(), ParseFault>
         requires { Fits self.old (What.RingSize device pages) }
@@ -282,11 +307,13 @@ impl Draft {
 
 /// How many channels a device has.
 pub fn channels_of(spec: DeviceSpec) -> u32
+    requires { channels_of spec ≤ 16 }
     ensures count { result ≡ channels_of spec }
     ensures some { 1 ≤ result }
     ensures most { result ≤ 16 }
 {
     match spec {
         DeviceSpec::Beat | DeviceSpec::Down => 1,
+        DeviceSpec::Disk { blocks: _, subs } => 1 + subs,
     }
 }

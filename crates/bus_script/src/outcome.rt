@@ -1,17 +1,33 @@
 //! How the lines of a script ended.
+ghost use Rattle.std.specs.Prelude.{◌≡◌};
 
+use scsi_disk::DiskReply;
 use util_ic::IcAnswer;
 
 /// What a device answered.
-#[derive(Clone, Copy, Debug, PartialEq, Eq)]
+#[derive(Drop)]
 pub enum Reply {
     /// The answer of a utility service.
     Ic(IcAnswer),
+    /// The reply of a disk.
+    Disk(DiskReply),
+}
+
+impl Reply {
+    /// The same reply. It takes no memory.
+    pub fn again(&self) -> Reply
+        ensures { result ≡ self.now }
+    {
+        match self {
+            Reply::Ic(answer) => Reply::Ic(*answer),
+            Reply::Disk(reply) => Reply::Disk(reply.again()),
+        }
+    }
 }
 
 /// How a line that prints ended. A serial is the place of a request in its device's history,
 /// from 0 over the whole run.
-#[derive(Clone, Copy, Debug, PartialEq, Eq)]
+#[derive(Drop)]
 pub enum LineResult {
     /// The guest and its host agreed on a version; the guest tried this many of them.
     Version { tried: u32 },
@@ -25,4 +41,25 @@ pub enum LineResult {
     Gone,
     /// Its device was closed in an earlier phase.
     Closed,
+}
+
+impl LineResult {
+    /// The same outcome. It takes no memory.
+    pub fn again(&self) -> LineResult
+        ensures { result ≡ self.now }
+    {
+        match self {
+            LineResult::Version { tried } => LineResult::Version { tried: *tried },
+            LineResult::Done { serial, reply } => LineResult::Done {
+                serial: *serial,
+                reply: reply.again(),
+            },
+            LineResult::RescindedServed { serial } => {
+                LineResult::RescindedServed { serial: *serial }
+            }
+            LineResult::Unserved => LineResult::Unserved,
+            LineResult::Gone => LineResult::Gone,
+            LineResult::Closed => LineResult::Closed,
+        }
+    }
 }

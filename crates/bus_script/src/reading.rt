@@ -3,16 +3,19 @@ ghost use Rattle.std.specs.Prelude.{◌≡◌, ◌+◌, ◌<◌, ◌≤◌, ◌^
 ghost use Rattle.bus_script.specs.declared.fault.ParseFault.TheVariants.{Memory};
 ghost use Rattle.bus_script.specs.Parts.{offered};
 ghost use Rattle.bus_script.specs.Faults.{device_said, row_fault, fault_at};
-ghost use Rattle.bus_script.specs.Grammar.{or_zero, numbered, what_of, lines_at, script_of};
+ghost use Rattle.bus_script.specs.Grammar.{or_zero, spec_of, numbered, what_of, lines_at, script_of};
 ghost use Rattle.bus_script.specs.WellFormed.{InRange};
 ghost use Rattle.bus_script.specs.Parse.{Parses, WrongAt};
 
 use crate::cut::first_line;
 use crate::draft::Draft;
+use crate::number::within;
+use crate::offering::Offering;
 use crate::refusal::{device_said, row_fault};
+use crate::request::request_of;
 use crate::row::said_in;
 use crate::said::Said;
-use crate::{Ask, ParseFault, Script, ScriptFault, Why6};
+use crate::{Ask, DeviceSpec, ParseFault, Script, ScriptFault, Why6};
 use contact::Version;
 use std::alloc::Global;
 use util_ic::IcAsk;
@@ -80,11 +83,13 @@ fn push(draft: &mut Draft, number: u32, device: Option<u32>, said: Said) -> Resu
     match said {
         Said::Nothing => Ok(()),
         Said::Contact(guest, host) => { draft.push_contact(number, or_zero(guest), or_zero(host)) }
-        Said::Offer(name, spec) => draft.push_offer(number, name, spec),
+        Said::Offer(name, offering) => draft.push_offer(number, name, spec_of(offering)),
+        Said::Bad(_, lba) => draft.push_bad(number, device, lba.unwrap_or(0)),
         Said::Ring(_, pages) => draft.push_ring(number, device, pages.unwrap_or(0)),
         Said::Window(_, size) => draft.push_window(number, device, size.unwrap_or(0)),
         Said::Beat(_, seq) => draft.push_ask(number, device, beat(seq)),
         Said::Down(_, flags) => draft.push_ask(number, device, down(flags)),
+        Said::Command(_, ask) => draft.push_ask(number, device, Ask::Disk(request_of(ask))),
         Said::Close(_) => draft.push_shut(number, device),
         Said::Phase => draft.push_phase(number),
     }
@@ -94,6 +99,20 @@ fn or_zero(version: Option<Version>) -> Version
     ensures { result ≡ or_zero version }
 {
     version.unwrap_or(Version(0))
+}
+
+/// The device that is offered.
+fn spec_of(offering: Offering) -> DeviceSpec
+    ensures { result ≡ spec_of offering }
+{
+    match offering {
+        Offering::Beat => DeviceSpec::Beat,
+        Offering::Down => DeviceSpec::Down,
+        Offering::Disk { blocks, subs } => DeviceSpec::Disk {
+            blocks: u64::from(blocks.unwrap_or(0)),
+            subs: within(0, 0, subs).unwrap_or(0),
+        },
+    }
 }
 
 fn beat(seq: Option<u64>) -> Ask

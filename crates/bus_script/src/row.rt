@@ -1,17 +1,21 @@
 //! The rows of the table of lines.
-ghost use Rattle.std.specs.Prelude.{◌≡◌, ◌<◌, ◌≤◌, List, length, Option, Some, None, IfSome};
+ghost use Rattle.std.specs.Prelude.{◌≡◌, ◌<◌, ◌≤◌, [], List, length, Option, Some, None, IfSome};
 ghost use Rattle.std.specs.List.{list_all};
 ghost use Rattle.std.specs.Option.{option_map};
 ghost use Rattle.bus_script.specs.Words.{words};
 ghost use Rattle.bus_script.specs.WellFormed.{InRange};
-ghost use Rattle.bus_script.specs.Rows.{is_printable, said_in, said_by, begins_comment, row_of, name_alone, name_and_number, contact_row, offer_row, ring_row, window_row, beat_row, down_row, close_row, phase_row};
+ghost use Rattle.bus_script.specs.Requests.{AskInRange};
+ghost use Rattle.bus_script.specs.Rows.{is_printable, said_in, said_by, begins_comment, row_of, disk_row, name_alone, name_and_number, name_and_two, contact_row, offer_row, disk_offer, bad_row, plain_command, read_row, write_row, ring_row, window_row, beat_row, down_row, close_row, phase_row};
 
+use crate::Name;
 use crate::cut::first_word;
+use crate::disk_ask::DiskAsk;
+use crate::hex::{byte_of, is_byte};
 use crate::name::is_name;
 use crate::number::{is_decimal, number_of, within};
+use crate::offering::Offering;
 use crate::said::Said;
 use crate::version::{is_version, version_of};
-use crate::{DeviceSpec, Name};
 
 /// What a line says, where it has printable bytes alone and its words are a row of the table.
 pub fn said_in(line: &[u8]) -> Option<Said>
@@ -78,6 +82,29 @@ fn row_of(key: &[u8], rest: &[u8]) -> Option<Said>
     } else if key == b"phase".as_slice() {
         phase_row(rest)
     } else {
+        disk_row(key, rest)
+    }
+}
+
+fn disk_row(key: &[u8], rest: &[u8]) -> Option<Said>
+    ensures said { result ≡ disk_row key.now (words rest.now) }
+    ensures range { IfSome result InRange }
+{
+    if key == b"bad".as_slice() {
+        bad_row(rest)
+    } else if key == b"ready".as_slice() {
+        plain_command(DiskAsk::Ready, rest)
+    } else if key == b"inquiry".as_slice() {
+        plain_command(DiskAsk::Inquiry, rest)
+    } else if key == b"capacity".as_slice() {
+        plain_command(DiskAsk::Capacity, rest)
+    } else if key == b"flush".as_slice() {
+        plain_command(DiskAsk::Flush, rest)
+    } else if key == b"read".as_slice() {
+        read_row(rest)
+    } else if key == b"write".as_slice() {
+        write_row(rest)
+    } else {
         None
     }
 }
@@ -103,6 +130,20 @@ fn name_and_number(rest: &[u8]) -> Option<(Name, Option<u64>)>
     }
 }
 
+fn name_and_two(rest: &[u8]) -> Option<(Name, Option<u64>, Option<u64>)>
+    ensures { result ≡ name_and_two (words rest.now) }
+{
+    let (name, rest) = first_word(rest)?;
+    let (first, rest) = first_word(rest)?;
+    let (second, rest) = first_word(rest)?;
+    match first_word(rest) {
+        None if is_name(name) && is_decimal(first) && is_decimal(second) => {
+            Some((Name::of(name), number_of(first), number_of(second)))
+        }
+        _ => None,
+    }
+}
+
 fn contact_row(rest: &[u8]) -> Option<Said>
     ensures said { result ≡ contact_row (words rest.now) }
     ensures range { IfSome result InRange }
@@ -123,20 +164,45 @@ fn offer_row(rest: &[u8]) -> Option<Said>
 {
     let (kind, rest) = first_word(rest)?;
     if kind == b"hb".as_slice() {
-        plain_offer(DeviceSpec::Beat, rest)
+        plain_offer(Offering::Beat, rest)
     } else if kind == b"shutdown".as_slice() {
-        plain_offer(DeviceSpec::Down, rest)
+        plain_offer(Offering::Down, rest)
+    } else if kind == b"disk".as_slice() {
+        disk_offer(rest)
     } else {
         None
     }
 }
 
-fn plain_offer(spec: DeviceSpec, rest: &[u8]) -> Option<Said>
-    ensures said { result ≡ option_map (λ name. Said.Offer name spec) (name_alone (words rest.now)) }
+fn plain_offer(offering: Offering, rest: &[u8]) -> Option<Said>
+    requires { InRange (Said.Offer [] offering) }
+    ensures said { result ≡ option_map (λ name. Said.Offer name offering) (name_alone (words rest.now)) }
     ensures range { IfSome result InRange }
 {
     let name = name_alone(rest)?;
-    Some(Said::Offer(name, spec))
+    Some(Said::Offer(name, offering))
+}
+
+fn disk_offer(rest: &[u8]) -> Option<Said>
+    ensures said { result ≡ disk_offer (words rest.now) }
+    ensures range { IfSome result InRange }
+{
+    let (name, blocks, subs) = name_and_two(rest)?;
+    Some(Said::Offer(
+        name,
+        Offering::Disk {
+            blocks: within(1, 65_536, blocks),
+            subs,
+        },
+    ))
+}
+
+fn bad_row(rest: &[u8]) -> Option<Said>
+    ensures said { result ≡ bad_row (words rest.now) }
+    ensures range { IfSome result InRange }
+{
+    let (name, lba) = name_and_number(rest)?;
+    Some(Said::Bad(name, lba))
 }
 
 fn ring_row(rest: &[u8]) -> Option<Said>
@@ -169,6 +235,48 @@ fn down_row(rest: &[u8]) -> Option<Said>
 {
     let (name, flags) = name_and_number(rest)?;
     Some(Said::Down(name, within(0, u32::MAX, flags)))
+}
+
+fn plain_command(ask: DiskAsk, rest: &[u8]) -> Option<Said>
+    requires { AskInRange ask }
+    ensures said { result ≡ plain_command ask (words rest.now) }
+    ensures range { IfSome result InRange }
+{
+    let name = name_alone(rest)?;
+    Some(Said::Command(name, ask))
+}
+
+fn read_row(rest: &[u8]) -> Option<Said>
+    ensures said { result ≡ read_row (words rest.now) }
+    ensures range { IfSome result InRange }
+{
+    let (name, lba, count) = name_and_two(rest)?;
+    let ask = DiskAsk::Read {
+        lba: within(0, u32::MAX, lba),
+        count: within(0, 4, count),
+    };
+    Some(Said::Command(name, ask))
+}
+
+fn write_row(rest: &[u8]) -> Option<Said>
+    ensures said { result ≡ write_row (words rest.now) }
+    ensures range { IfSome result InRange }
+{
+    let (name, rest) = first_word(rest)?;
+    let (lba, rest) = first_word(rest)?;
+    let (count, rest) = first_word(rest)?;
+    let (byte, rest) = first_word(rest)?;
+    match first_word(rest) {
+        None if is_name(name) && is_decimal(lba) && is_decimal(count) && is_byte(byte) => {
+            let ask = DiskAsk::Write {
+                lba: within(0, u32::MAX, number_of(lba)),
+                count: within(0, 4, number_of(count)),
+                byte: byte_of(byte),
+            };
+            Some(Said::Command(Name::of(name), ask))
+        }
+        _ => None,
+    }
 }
 
 fn close_row(rest: &[u8]) -> Option<Said>

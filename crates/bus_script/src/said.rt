@@ -1,6 +1,8 @@
 //! What one line says by itself.
 
-use crate::{DeviceSpec, Name};
+use crate::Name;
+use crate::disk_ask::DiskAsk;
+use crate::offering::Offering;
 use contact::Version;
 
 /// What a line says, before it is held against the lines before it. A value out of range is none.
@@ -11,7 +13,9 @@ pub enum Said {
     /// It says the highest versions of the guest and of its host.
     Contact(Option<Version>, Option<Version>),
     /// It offers a device.
-    Offer(Name, DeviceSpec),
+    Offer(Name, Offering),
+    /// It says which block of a disk can't be read.
+    Bad(Name, Option<u64>),
     /// It says how many data pages each ring of a device has.
     Ring(Name, Option<u32>),
     /// It says how many requests a channel of a device has open at most.
@@ -20,6 +24,8 @@ pub enum Said {
     Beat(Name, Option<u64>),
     /// It asks a shutdown device, with flags.
     Down(Name, Option<u32>),
+    /// It gives a disk a command.
+    Command(Name, DiskAsk),
     /// It closes a device.
     Close(Name),
     /// It begins the next phase.

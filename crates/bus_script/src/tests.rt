@@ -24,11 +24,11 @@ fn fault(alloc: Global, bytes: &[u8]) -> Option<ScriptFault> {
     }
 }
 
-fn refused(rt: &(impl Abort + AllocGlobal), bytes: &[u8], line: u32, why: Why6) {
+pub fn refused(rt: &(impl Abort + AllocGlobal), bytes: &[u8], line: u32, why: Why6) {
     assert_eq!(*rt; fault(rt.alloc(), bytes), Some(ScriptFault { line, why }));
 }
 
-fn accepted(rt: &(impl Abort + AllocGlobal), bytes: &[u8], lines: usize) {
+pub fn accepted(rt: &(impl Abort + AllocGlobal), bytes: &[u8], lines: usize) {
     match parse(rt.alloc(), bytes) {
         Ok(script) => assert_eq!(*rt; script.lines().len(), lines),
         Err(_) => assert!(*rt; false),
@@ -105,7 +105,15 @@ fn reads_lines(rt: HostRuntime) -> Result<(), Fail> {
     Ok(())
 }
 
-fn same(a: &What, b: &What) -> bool {
+fn same_ask(a: &Ask, b: &Ask) -> bool {
+    match (a, b) {
+        (Ask::Ic(a), Ask::Ic(b)) => a == b,
+        (Ask::Disk(a), Ask::Disk(b)) => a.cdb == b.cdb && a.out.bytes() == b.out.bytes(),
+        _ => false,
+    }
+}
+
+pub fn same(a: &What, b: &What) -> bool {
     match (a, b) {
         (What::Contact { guest, host }, What::Contact { guest: g, host: h }) => {
             guest == g && host == h
@@ -120,7 +128,10 @@ fn same(a: &What, b: &What) -> bool {
         (What::Window { device, size }, What::Window { device: d, size: s }) => {
             device == d && size == s
         }
-        (What::Ask { device, ask }, What::Ask { device: d, ask: a }) => device == d && ask == a,
+        (What::Bad { device, lba }, What::Bad { device: d, lba: l }) => device == d && lba == l,
+        (What::Ask { device, ask }, What::Ask { device: d, ask: a }) => {
+            device == d && same_ask(ask, a)
+        }
         (What::Shut { device }, What::Shut { device: d }) => device == d,
         (What::Phase, What::Phase) => true,
         _ => false,
@@ -334,7 +345,7 @@ fn tells(what: &What) -> bool
 }
 
 // The report of these bytes with these outcomes is this text.
-fn reported(
+pub fn reported(
     rt: &(impl Abort + AllocGlobal),
     bytes: &[u8],
     results: &[LineResult],

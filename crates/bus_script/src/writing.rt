@@ -3,13 +3,17 @@ ghost use Rattle.std.specs.Prelude.{◌≡◌, ◌<◌, ◌≤◌, ◌++◌, ◌
 ghost use Rattle.std.specs.Fmt.{decimal};
 ghost use Rattle.contact.specs.Versions.{IsVersion};
 ghost use Rattle.bus_script.specs.Parts.{is_ask, asks_in};
-ghost use Rattle.bus_script.specs.Report.{Answers, versions_from, last_or, tried, version_text, versions_text, contact_text, reply_text, ask_text, agreed_text, outcome_text, line_text, end_text, report_of, tells, HasVersion, most_text, is_done, is_rescinded};
+ghost use Rattle.bus_script.specs.Hex.{hex_short};
+ghost use Rattle.bus_script.specs.Runs.{runs_of, runs_text};
+ghost use Rattle.bus_script.specs.Report.{Answers, versions_from, last_or, tried, version_text, versions_text, contact_text, good_text, disk_text, disk_runs, answer_text, reply_text, reply_runs, result_runs, runs_back, ask_text, agreed_text, outcome_text, line_text, end_text, report_of, tells, HasVersion, most_text, is_done, is_rescinded};
 
-use crate::hex::hex_8;
+use crate::hex::{hex_2, hex_8};
+use crate::text::{push_decimal, push_runs};
 use crate::{Ask, Line, LineResult, Reply, Script, What};
 use contact::{Version, next_version};
+use scsi_disk::DiskReply;
 use std::alloc::{AllocError, Global};
-use util_ic::IcAsk;
+use util_ic::{IcAnswer, IcAsk};
 
 /// The text of a run's outcomes: for each contact and each request its line's number and its
 /// outcome, in order of the lines, and then how many requests there were, how many are done and
@@ -17,19 +21,19 @@ use util_ic::IcAsk;
 pub fn report(alloc: Global, script: &Script, results: &[LineResult]) -> Result<Vec<u8>, AllocError>
     requires { Answers script.now results.now }
     ensures text { IfOk result (λ bytes. bytes.items ≡ report_of script.now results.now) }
-    ensures short { IfOk result (λ bytes. length bytes.items ≤ 12000000) }
+    ensures short { IfOk result (λ bytes. length bytes.items ≤ 12000000 + 24 * runs_back results.now) }
 {
     let mut text = Vec::new(alloc);
     let mut at = 0;
     let mut asks = 0;
     for line in script.lines() {
         if tells(&line.what) {
-            push_line(alloc, &mut text, line, &results[at])?;
+            push_line(&mut text, line, &results[at])?;
             at += 1;
         }
         asks += count_ask(&line.what);
     }
-    push_end(alloc, &mut text, asks, results)?;
+    push_end(&mut text, asks, results)?;
     Ok(text)
 }
 
@@ -50,26 +54,67 @@ fn count_ask(what: &What) -> u64
     }
 }
 
-fn push_decimal(alloc: Global, text: &mut Vec<u8>, number: u64) -> Result<(), AllocError>
-    ensures text { OnOk result (text.new.items ≡ text.old.items ++ decimal number) }
-    ensures short { OnOk result (vec_len text.new ≤ vec_len text.old + 20) }
+/// A good reply, with the bytes that came back if any did.
+fn push_good(text: &mut Vec<u8>, back: &[u8]) -> Result<(), AllocError>
+    ensures text { OnOk result (text.new.items ≡ text.old.items ++ good_text back.now) }
+    ensures short { OnOk result (vec_len text.new ≤ vec_len text.old + 5 + 24 * length (runs_of back.now)) }
 {
-    let digits = format!(in alloc; "{number}")?;
-    text.extend_from_slice(digits.as_bytes())?;
+    text.extend_from_slice(b"good")?;
+    if !back.is_empty() {
+        text.extend_from_slice(b" ")?;
+        push_runs(text, back)?;
+    }
     Ok(())
 }
 
-fn push_reply(alloc: Global, text: &mut Vec<u8>, ask: &Ask, reply: &Reply) -> Result<(), AllocError>
-    ensures text { OnOk result (text.new.items ≡ text.old.items ++ reply_text ask.now reply.now) }
+fn push_short(text: &mut Vec<u8>, byte: u8) -> Result<(), AllocError>
+    ensures text { OnOk result (text.new.items ≡ text.old.items ++ hex_short byte) }
+    ensures short { OnOk result (vec_len text.new ≤ vec_len text.old + 2) }
+{
+    let [high, low] = hex_2(byte);
+    if byte >= 16 {
+        text.push(high)?;
+    }
+    text.push(low)?;
+    Ok(())
+}
+
+/// A check's sense key, code and qualifier.
+fn push_check(text: &mut Vec<u8>, key: u8, asc: u8, ascq: u8) -> Result<(), AllocError>
+    ensures text { OnOk result (text.new.items ≡ text.old.items ++ disk_text (DiskReply.Check key asc ascq)) }
+    ensures short { OnOk result (vec_len text.new ≤ vec_len text.old + 14) }
+{
+    text.extend_from_slice(b"check ")?;
+    push_short(text, key)?;
+    text.extend_from_slice(b"/")?;
+    text.extend_from_slice(&hex_2(asc))?;
+    text.extend_from_slice(b"/")?;
+    text.extend_from_slice(&hex_2(ascq))?;
+    Ok(())
+}
+
+/// A disk's reply.
+fn push_disk(text: &mut Vec<u8>, reply: &DiskReply) -> Result<(), AllocError>
+    ensures text { OnOk result (text.new.items ≡ text.old.items ++ disk_text reply.now) }
+    ensures short { OnOk result (vec_len text.new ≤ vec_len text.old + 14 + 24 * disk_runs reply.now) }
+{
+    match reply {
+        DiskReply::Good(back) => push_good(text, back.bytes()),
+        DiskReply::Check { key, asc, ascq } => push_check(text, *key, *asc, *ascq),
+    }
+}
+
+/// A utility service's answer.
+fn push_answer(text: &mut Vec<u8>, ask: &IcAsk, answer: &IcAnswer) -> Result<(), AllocError>
+    ensures text { OnOk result (text.new.items ≡ text.old.items ++ answer_text ask.now answer.now) }
     ensures short { OnOk result (vec_len text.new ≤ vec_len text.old + 24) }
 {
-    let Reply::Ic(answer) = reply;
     match ask {
-        Ask::Ic(IcAsk::Beat { .. }) => {
+        IcAsk::Beat { .. } => {
             text.extend_from_slice(b"seq ")?;
-            push_decimal(alloc, text, answer.seq)?;
+            push_decimal(text, answer.seq)?;
         }
-        Ask::Ic(IcAsk::Down { .. }) => {
+        IcAsk::Down { .. } => {
             text.extend_from_slice(b"status 0x")?;
             text.extend_from_slice(&hex_8(answer.status))?;
         }
@@ -77,29 +122,35 @@ fn push_reply(alloc: Global, text: &mut Vec<u8>, ask: &Ask, reply: &Reply) -> Re
     Ok(())
 }
 
-fn push_done(
-    alloc: Global,
-    text: &mut Vec<u8>,
-    serial: u32,
-    ask: &Ask,
-    reply: &Reply,
-) -> Result<(), AllocError>
+/// A reply to a request. One of another kind of device has no text.
+fn push_reply(text: &mut Vec<u8>, ask: &Ask, reply: &Reply) -> Result<(), AllocError>
+    ensures text { OnOk result (text.new.items ≡ text.old.items ++ reply_text ask.now reply.now) }
+    ensures short { OnOk result (vec_len text.new ≤ vec_len text.old + 24 + 24 * reply_runs reply.now) }
+{
+    match (ask, reply) {
+        (Ask::Ic(ask), Reply::Ic(answer)) => push_answer(text, ask, answer),
+        (Ask::Disk(_), Reply::Disk(reply)) => push_disk(text, reply),
+        (Ask::Ic(_), Reply::Disk(_)) | (Ask::Disk(_), Reply::Ic(_)) => Ok(()),
+    }
+}
+
+fn push_done(text: &mut Vec<u8>, serial: u32, ask: &Ask, reply: &Reply) -> Result<(), AllocError>
     ensures text { OnOk result (text.new.items ≡ text.old.items ++ ask_text ask.now (LineResult.Done serial reply.now)) }
-    ensures short { OnOk result (vec_len text.new ≤ vec_len text.old + 51) }
+    ensures short { OnOk result (vec_len text.new ≤ vec_len text.old + 51 + 24 * reply_runs reply.now) }
 {
     text.extend_from_slice(b"done @")?;
-    push_decimal(alloc, text, serial as u64)?;
+    push_decimal(text, serial as u64)?;
     text.extend_from_slice(b" ")?;
-    push_reply(alloc, text, ask, reply)?;
+    push_reply(text, ask, reply)?;
     Ok(())
 }
 
-fn push_rescinded(alloc: Global, text: &mut Vec<u8>, serial: u32) -> Result<(), AllocError>
+fn push_rescinded(text: &mut Vec<u8>, serial: u32) -> Result<(), AllocError>
     ensures text { OnOk result (text.new.items ≡ text.old.items ++ (codes "rescinded @" ++ decimal serial)) }
     ensures short { OnOk result (vec_len text.new ≤ vec_len text.old + 51) }
 {
     text.extend_from_slice(b"rescinded @")?;
-    push_decimal(alloc, text, serial as u64)?;
+    push_decimal(text, serial as u64)?;
     Ok(())
 }
 
@@ -122,22 +173,17 @@ fn last_tried(guest: Version, count: u32) -> Version
     last
 }
 
-fn push_version(alloc: Global, text: &mut Vec<u8>, version: Version) -> Result<(), AllocError>
+fn push_version(text: &mut Vec<u8>, version: Version) -> Result<(), AllocError>
     ensures text { OnOk result (text.new.items ≡ text.old.items ++ version_text version.0) }
     ensures short { OnOk result (vec_len text.new ≤ vec_len text.old + 41) }
 {
-    push_decimal(alloc, text, (version.0 / 0x1_0000) as u64)?;
+    push_decimal(text, (version.0 / 0x1_0000) as u64)?;
     text.extend_from_slice(b".")?;
-    push_decimal(alloc, text, (version.0 % 0x1_0000) as u64)?;
+    push_decimal(text, (version.0 % 0x1_0000) as u64)?;
     Ok(())
 }
 
-fn push_tried(
-    alloc: Global,
-    text: &mut Vec<u8>,
-    guest: Version,
-    count: u32,
-) -> Result<(), AllocError>
+fn push_tried(text: &mut Vec<u8>, guest: Version, count: u32) -> Result<(), AllocError>
     requires { IsVersion guest.0 }
     ensures text { OnOk result (text.new.items ≡ text.old.items ++ versions_text (tried guest.0 count)) }
     ensures short { OnOk result (vec_len text.new ≤ vec_len text.old + 42 * length (versions_from guest.0)) }
@@ -147,7 +193,7 @@ fn push_tried(
         match next {
             Some(version) => {
                 text.extend_from_slice(b" ")?;
-                push_version(alloc, text, version)?;
+                push_version(text, version)?;
                 next = next_version(version);
             }
             None => return Ok(()),
@@ -156,36 +202,26 @@ fn push_tried(
     Ok(())
 }
 
-fn push_contact(
-    alloc: Global,
-    text: &mut Vec<u8>,
-    guest: Version,
-    count: u32,
-) -> Result<(), AllocError>
+fn push_contact(text: &mut Vec<u8>, guest: Version, count: u32) -> Result<(), AllocError>
     requires { IsVersion guest.0 }
     ensures text { OnOk result (text.new.items ≡ text.old.items ++ contact_text guest.0 count) }
     ensures short { OnOk result (vec_len text.new ≤ vec_len text.old + 55 + 42 * length (versions_from guest.0)) }
 {
     text.extend_from_slice(b"version ")?;
-    push_version(alloc, text, last_tried(guest, count))?;
+    push_version(text, last_tried(guest, count))?;
     text.extend_from_slice(b" tried")?;
-    push_tried(alloc, text, guest, count)?;
+    push_tried(text, guest, count)?;
     Ok(())
 }
 
-fn push_asked(
-    alloc: Global,
-    text: &mut Vec<u8>,
-    ask: &Ask,
-    outcome: &LineResult,
-) -> Result<(), AllocError>
+fn push_asked(text: &mut Vec<u8>, ask: &Ask, outcome: &LineResult) -> Result<(), AllocError>
     ensures text { OnOk result (text.new.items ≡ text.old.items ++ ask_text ask.now outcome.now) }
-    ensures short { OnOk result (vec_len text.new ≤ vec_len text.old + 51) }
+    ensures short { OnOk result (vec_len text.new ≤ vec_len text.old + 51 + 24 * result_runs outcome.now) }
 {
     match outcome {
         LineResult::Version { .. } => {}
-        LineResult::Done { serial, reply } => push_done(alloc, text, *serial, ask, reply)?,
-        LineResult::RescindedServed { serial } => push_rescinded(alloc, text, *serial)?,
+        LineResult::Done { serial, reply } => push_done(text, *serial, ask, reply)?,
+        LineResult::RescindedServed { serial } => push_rescinded(text, *serial)?,
         LineResult::Unserved => text.extend_from_slice(b"rescinded unserved")?,
         LineResult::Gone => text.extend_from_slice(b"gone")?,
         LineResult::Closed => text.extend_from_slice(b"closed")?,
@@ -193,54 +229,39 @@ fn push_asked(
     Ok(())
 }
 
-fn push_agreed(
-    alloc: Global,
-    text: &mut Vec<u8>,
-    guest: Version,
-    outcome: &LineResult,
-) -> Result<(), AllocError>
+fn push_agreed(text: &mut Vec<u8>, guest: Version, outcome: &LineResult) -> Result<(), AllocError>
     requires { IsVersion guest.0 }
     ensures text { OnOk result (text.new.items ≡ text.old.items ++ agreed_text guest outcome.now) }
     ensures short { OnOk result (vec_len text.new ≤ vec_len text.old + 55 + 42 * length (versions_from guest.0)) }
 {
     match outcome {
-        LineResult::Version { tried } => push_contact(alloc, text, guest, *tried)?,
+        LineResult::Version { tried } => push_contact(text, guest, *tried)?,
         _ => {}
     }
     Ok(())
 }
 
-fn push_outcome(
-    alloc: Global,
-    text: &mut Vec<u8>,
-    what: &What,
-    outcome: &LineResult,
-) -> Result<(), AllocError>
+fn push_outcome(text: &mut Vec<u8>, what: &What, outcome: &LineResult) -> Result<(), AllocError>
     requires { HasVersion what.now }
     ensures text { OnOk result (text.new.items ≡ text.old.items ++ outcome_text what.now outcome.now) }
-    ensures short { OnOk result (vec_len text.new ≤ vec_len text.old + most_text what.now) }
+    ensures short { OnOk result (vec_len text.new ≤ vec_len text.old + most_text what.now + 24 * result_runs outcome.now) }
 {
     match what {
-        What::Contact { guest, .. } => push_agreed(alloc, text, *guest, outcome)?,
-        What::Ask { ask, .. } => push_asked(alloc, text, ask, outcome)?,
+        What::Contact { guest, .. } => push_agreed(text, *guest, outcome)?,
+        What::Ask { ask, .. } => push_asked(text, ask, outcome)?,
         _ => {}
     }
     Ok(())
 }
 
-fn push_line(
-    alloc: Global,
-    text: &mut Vec<u8>,
-    line: &Line,
-    outcome: &LineResult,
-) -> Result<(), AllocError>
+fn push_line(text: &mut Vec<u8>, line: &Line, outcome: &LineResult) -> Result<(), AllocError>
     requires { HasVersion line.now.what }
     ensures text { OnOk result (text.new.items ≡ text.old.items ++ line_text line.now outcome.now) }
-    ensures short { OnOk result (vec_len text.new ≤ vec_len text.old + 22 + most_text line.now.what) }
+    ensures short { OnOk result (vec_len text.new ≤ vec_len text.old + 22 + most_text line.now.what + 24 * result_runs outcome.now) }
 {
-    push_decimal(alloc, text, line.number as u64)?;
+    push_decimal(text, line.number as u64)?;
     text.extend_from_slice(b" ")?;
-    push_outcome(alloc, text, &line.what, outcome)?;
+    push_outcome(text, &line.what, outcome)?;
     text.extend_from_slice(b"\n")?;
     Ok(())
 }
@@ -272,23 +293,18 @@ fn count_rescinded(results: &[LineResult]) -> usize
     results.iter().filter(|r| is_rescinded(r)).count()
 }
 
-fn push_end(
-    alloc: Global,
-    text: &mut Vec<u8>,
-    asks: u64,
-    results: &[LineResult],
-) -> Result<(), AllocError>
+fn push_end(text: &mut Vec<u8>, asks: u64, results: &[LineResult]) -> Result<(), AllocError>
     ensures text { OnOk result (text.new.items ≡ text.old.items ++ end_text asks (count_by is_done results.now) (count_by is_rescinded results.now)) }
     ensures short { OnOk result (vec_len text.new ≤ vec_len text.old + 91) }
 {
     let done = count_done(results);
     let rescinded = count_rescinded(results);
     text.extend_from_slice(b"end requests ")?;
-    push_decimal(alloc, text, asks)?;
+    push_decimal(text, asks)?;
     text.extend_from_slice(b" done ")?;
-    push_decimal(alloc, text, done as u64)?;
+    push_decimal(text, done as u64)?;
     text.extend_from_slice(b" rescinded ")?;
-    push_decimal(alloc, text, rescinded as u64)?;
+    push_decimal(text, rescinded as u64)?;
     text.extend_from_slice(b"\n")?;
     Ok(())
 }

@@ -6,7 +6,7 @@ use Rattle.std.proofs.lemmas.Bool.Decides.{nat_tests}
 use Rattle.std.specs.List.{onto_first, list_any}
 use Rattle.bus_script.specs.declared.line.Line.{Line}
 use Rattle.bus_script.specs.declared.line.What.{What}
-use Rattle.bus_script.specs.declared.line.What.TheVariants.{Contact as IsContact, Offer as IsOffer, RingSize as IsRingSize, Window as IsWindow, Ask as IsAsk, Shut as IsShut, Phase as IsPhase}
+use Rattle.bus_script.specs.declared.line.What.TheVariants.{Contact as IsContact, Offer as IsOffer, Bad as IsBad, RingSize as IsRingSize, Window as IsWindow, Ask as IsAsk, Shut as IsShut, Phase as IsPhase}
 use Rattle.bus_script.specs.Parts.{parts, ends_part, is_phase, shuts}
 use Rattle.control_model.specs.Dealing.{rest_of}
 
@@ -83,6 +83,7 @@ cut_last lines start i from last so_far =
 phase_shuts : (device : ℕ) (what : What) → is_phase what ≡ true → shuts device what ≡ false
 phase_shuts device (IsContact guest host) e = refl
 phase_shuts device (IsOffer name spec) e = refl
+phase_shuts device (IsBad d lba) e = refl
 phase_shuts device (IsRingSize d pages) e = refl
 phase_shuts device (IsWindow d size) e = refl
 phase_shuts device (IsAsk d ask) e = refl

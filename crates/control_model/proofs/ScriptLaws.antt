@@ -8,7 +8,7 @@ use Rattle.contact.specs.declared.version.Version.{Version}
 use Rattle.contact.specs.Versions.{IsVersion}
 use Rattle.bus_script.specs.declared.line.Line.{Line}
 use Rattle.bus_script.specs.declared.line.What.{What}
-use Rattle.bus_script.specs.declared.line.What.TheVariants.{Contact as IsContact, Offer as IsOffer, RingSize as IsRingSize, Window as IsWindow, Ask as IsAsk, Shut as IsShut, Phase as IsPhase}
+use Rattle.bus_script.specs.declared.line.What.TheVariants.{Contact as IsContact, Offer as IsOffer, Bad as IsBad, RingSize as IsRingSize, Window as IsWindow, Ask as IsAsk, Shut as IsShut, Phase as IsPhase}
 use Rattle.bus_script.specs.declared.line.DeviceSpec.{DeviceSpec}
 use Rattle.bus_script.specs.Parts.{parts, ends_part, offered, kind_of, ring_pages_of, pages_by}
 use Rattle.bus_script.specs.WellFormed.{IsRight, AllRight, IsScript}
@@ -22,6 +22,7 @@ use Rattle.control_model.specs.Openings.{plan_of, guest_in, host_in, guest_by, h
 guest_right : (kinds : List DeviceSpec) (what : What) → IsRight kinds what → IsVersion (guest_by what).0
 guest_right kinds (IsContact guest host) right = right.0
 guest_right kinds (IsOffer name spec) right = refl
+guest_right kinds (IsBad d lba) right = refl
 guest_right kinds (IsRingSize d pages) right = refl
 guest_right kinds (IsWindow d size) right = refl
 guest_right kinds (IsAsk d ask) right = refl
@@ -31,6 +32,7 @@ guest_right kinds IsPhase right = refl
 host_right : (kinds : List DeviceSpec) (what : What) → IsRight kinds what → IsVersion (host_by what).0
 host_right kinds (IsContact guest host) right = right.1
 host_right kinds (IsOffer name spec) right = refl
+host_right kinds (IsBad d lba) right = refl
 host_right kinds (IsRingSize d pages) right = refl
 host_right kinds (IsWindow d size) right = refl
 host_right kinds (IsAsk d ask) right = refl
@@ -56,6 +58,7 @@ size_then pages more false here rest = rest
 size_by : (kinds : List DeviceSpec) (device : ℕ) (what : What) (more : List ℕ) → IsRight kinds what → IsSize (slice_index_or more 0 1) → IsSize (slice_index_or (pages_by device what ++ more) 0 1)
 size_by kinds device (IsContact guest host) more right rest = rest
 size_by kinds device (IsOffer name spec) more right rest = rest
+size_by kinds device (IsBad d lba) more right rest = rest
 size_by kinds device (IsRingSize d pages) more right rest = size_then pages more (d == device) (right.1, right.2) rest
 size_by kinds device (IsWindow d size) more right rest = rest
 size_by kinds device (IsAsk d ask) more right rest = rest

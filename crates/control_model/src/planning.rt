@@ -61,6 +61,7 @@ fn kind_of(device: DeviceSpec) -> Kind
     match device {
         DeviceSpec::Beat => Kind::Beat,
         DeviceSpec::Down => Kind::Down,
+        DeviceSpec::Disk { .. } => Kind::Disk,
     }
 }
 

@@ -1,4 +1,4 @@
-pub mod Runs
+pub mod Digits
 pub mod Pieces
 pub mod Names
 pub mod Text

@@ -3,8 +3,9 @@ ghost use Rattle.std.specs.Prelude.{◌≡◌, ◌<◌, ◌≤◌, ◌++◌, ◌
 ghost use Rattle.msg_text.specs.Pieces.{joined};
 ghost use Rattle.msg_text.specs.Shown.{shown_text, shown_pieces, most_of, most_in};
 
-use crate::push::{push_decimal, push_digits, push_numbers, push_runs};
+use crate::push::{push_digits, push_numbers};
 use crate::shown::Shown;
+use bus_script::{push_decimal, push_runs};
 use std::alloc::AllocError;
 
 // A field's name between spaces.

@@ -6,7 +6,6 @@ mod input;
 mod line;
 mod message;
 mod push;
-mod run;
 mod shown;
 #[cfg(test)]
 mod tests;

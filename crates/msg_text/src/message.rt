@@ -3,8 +3,8 @@ ghost use Rattle.std.specs.Prelude.{◌≡◌, ◌<◌, ◌≤◌, ◌++◌, ◌
 ghost use Rattle.msg_text.specs.Text.{msg_text, fault_text, bytes_text, checked_name};
 
 use crate::field::push_fields;
-use crate::push::push_decimal;
 use crate::shown::Shown;
+use bus_script::push_decimal;
 use std::alloc::AllocError;
 use vmbus_msg::{FieldName, GpadlBody, GpadlHeader, Msg, MsgFault, decode};
 

@@ -2,6 +2,7 @@ pub mod BigEndianLaws
 pub mod BlockLaws
 pub mod DiskLaws
 pub mod ModelLaws
+pub mod OneByteLaws
 pub mod RangeLaws
 pub mod RefusalLaws
 pub mod RoomLaws

@@ -1,8 +1,8 @@
 -- The host reads what the guest asked, and the guest what the host answered.
-use Rattle.std.proofs.Common.{◌≡◌, ℕ, ◌+◌, ◌^◌, ◌<◌, ◌≤◌, inl, inr, false, cond, not, ◌&&◌, eqb, List, length, take, slice_range, min, Option, Some, None, Result, Ok, Err, refl, sym, ap, ◌∙◌, lit<, lit≤, arith}
+use Rattle.std.proofs.Common.{◌≡◌, ℕ, ◌+◌, ◌^◌, ◌<◌, ◌≤◌, inl, inr, false, cond, not, ◌&&◌, eqb, List, [], ◌++◌, length, take, slice_range, min, Option, Some, None, Result, Ok, Err, refl, sym, ap, ◌∙◌, lit<, lit≤, arith}
 use Rattle.std.specs.Prelude.{replicate, nat_lt, slice_index}
 use Rattle.std.proofs.lemmas.Bool.Decides.{nat_tests}
-use Rattle.std.proofs.lemmas.List.{take_all}
+use Rattle.std.proofs.lemmas.List.{take_all, take_at, append-nil}
 use Rattle.wire_table.specs.Little.{number_of}
 use Rattle.scsi_disk.specs.Commands.{command_of}
 use Rattle.scsi_disk.specs.declared.command.Command.{Command}
@@ -11,7 +11,7 @@ use Rattle.scsi_disk.specs.declared.request.DiskRequest.{DiskRequest}
 use Rattle.scsi_disk.specs.declared.reply.DiskReply.{DiskReply}
 use Rattle.scsi_disk.specs.declared.reply.DiskReply.TheVariants.{Good, Check}
 use Rattle.stor_proto.specs.Fields.{number_at, with_bytes, with_number}
-use Rattle.stor_proto.specs.Srbs.{cdb_in, data_for, request_of, moved_by, sense_of, reply_of, bytes_moved, cdb_length, data_in, ask_rest, ask_of, IsReadBack, HasItsData}
+use Rattle.stor_proto.specs.Srbs.{cdb_in, data_for, request_of, moved_by, sense_of, good_srb, completed, reply_of, done_of, bytes_moved, cdb_length, data_in, ask_rest, ask_of, IsReadBack, HasItsData}
 use Rattle.stor_proto.specs.declared.vstor.Vstor.{Vstor}
 use Rattle.stor_proto.specs.declared.stop.SrbStop.{SrbStop}
 use Rattle.stor_proto.proofs.FieldLaws.{length-with_number, number_at-same, number_at-other, part_again, byte_again, number_at-before}
@@ -26,23 +26,39 @@ moved_fits (Some (Write l k)) n le = omega arith
 moved_fits (Some SynchronizeCache) n le = omega arith
 
 module _ (p : Vstor) (len : length p.rest ≡ 52) where
+  -- the srb of a completion with bytes: its status, and how many bytes moved
+  good_read : (n : ℕ) → n ≤ 4096 → (number_at 2 1 (good_srb p n) ≡ 1) × (number_at 12 4 (good_srb p n) ≡ moved_by (command_of (cdb_in p)) n)
+  good_read n few =
+      let m = moved_by (command_of (cdb_in p)) n in
+      let r1 = with_number 2 1 1 p.rest in
+      let r2 = with_number 3 1 0 r1 in
+      let l1 : length r1 ≡ 52 = length-with_number 2 1 1 p.rest (omega arith) ∙ len in
+      let l2 : length r2 ≡ 52 = length-with_number 3 1 0 r1 (omega arith) ∙ l1 in (
+        number_at-other 12 4 m r2 (omega arith) 2 1 (inl (omega arith))
+            ∙ number_at-other 3 1 0 r1 (omega arith) 2 1 (inl (omega arith))
+            ∙ number_at-same 2 1 1 p.rest (omega arith) (omega arith),
+        number_at-same 12 4 m r2 (omega arith) (moved_fits (command_of (cdb_in p)) n few),
+      )
+
+  -- the bytes that are read in it
+  good_bytes_read : (n : ℕ) (back bytes : List ℕ) → n ≤ 4096 → take (min (moved_by (command_of (cdb_in p)) n) 4096) back ≡ bytes → done_of (completed p (good_srb p n)) back ≡ Some (Good bytes)
+  good_bytes_read n back bytes few is =
+      let r3 = good_srb p n in
+      let read = good_read n few in
+      ap (λ s. cond (eqb s 1) (Some (Good (take (min (number_at 12 4 r3) 4096) back))) (cond (eqb s 0x84) (Some (Check (slice_index r3 18) (slice_index r3 28) (slice_index r3 29))) None)) read.0
+      ∙ ap {B = Option DiskReply} (λ m. Some (Good (take (min m 4096) back))) read.1 ∙ ap {B = Option DiskReply} (λ bs. Some (Good bs)) is
+
   -- a completion with bytes
   pub good_read_back : (bytes : List ℕ) → length bytes ≤ 4096 → IsReadBack p (Good bytes) (reply_of p (Good bytes))
   good_read_back bytes few = λ enough.
       let m = moved_by (command_of (cdb_in p)) (length bytes) in
-      let r1 = with_number 2 1 1 p.rest in
-      let r2 = with_number 3 1 0 r1 in
-      let r3 = with_number 12 4 m r2 in
-      let l1 : length r1 ≡ 52 = length-with_number 2 1 1 p.rest (omega arith) ∙ len in
-      let l2 : length r2 ≡ 52 = length-with_number 3 1 0 r1 (omega arith) ∙ l1 in
-      let status : number_at 2 1 r3 ≡ 1 =
-      number_at-other 12 4 m r2 (omega arith) 2 1 (inl (omega arith))
-      ∙ number_at-other 3 1 0 r1 (omega arith) 2 1 (inl (omega arith))
-      ∙ number_at-same 2 1 1 p.rest (omega arith) (omega arith) in
-      let moved : number_at 12 4 r3 ≡ m = number_at-same 12 4 m r2 (omega arith) (moved_fits (command_of (cdb_in p)) (length bytes) few) in
-      let all : take (min (number_at 12 4 r3) 4096) bytes ≡ bytes = take_all (min (number_at 12 4 r3) 4096) bytes (omega (arith, moved, enough, few)) in
-      ap (λ s. cond (eqb s 1) (Some (Good (take (min (number_at 12 4 r3) 4096) bytes))) (cond (eqb s 0x84) (Some (Check (slice_index r3 18) (slice_index r3 28) (slice_index r3 29))) None)) status
-      ∙ ap {B = Option DiskReply} (λ bs. Some (Good bs)) all
+      good_bytes_read (length bytes) bytes bytes few (take_all (min m 4096) bytes (omega (arith, enough, few)))
+
+  -- and so it is where more follows, if as many bytes moved
+  pub good_read_more : (bytes more : List ℕ) → length bytes ≤ 4096 → moved_by (command_of (cdb_in p)) (length bytes) ≡ length bytes → done_of (reply_of p (Good bytes)) (bytes ++ more) ≡ Some (Good bytes)
+  good_read_more bytes more few is =
+      let m = moved_by (command_of (cdb_in p)) (length bytes) in
+      good_bytes_read (length bytes) (bytes ++ more) bytes few (take_at bytes more (min m 4096) (omega (arith, is, few)))
 
   -- a completion with sense
   pub check_read_back : (key asc ascq : ℕ) → IsReadBack p (Check key asc ascq) (reply_of p (Check key asc ascq))
@@ -160,10 +176,19 @@ module _ (k : Option Command) (cdb : List ℕ) (out : ℕ) (len : length cdb ≡
   unfolding a1 a2 a3 a4 a5
   rest_is = refl
 
--- the host reads the request that was asked
-pub ask_read_back : (r : DiskRequest) → length r.cdb ≡ 16 → bytes_moved (command_of r.cdb) (length r.out) ≤ 4096 → HasItsData r → request_of (ask_of r) r.out ≡ Ok r
+own_data : (k : Option Command) (out more : List ℕ) → data_for k (length out) out ≡ out → data_for k (length out) (out ++ more) ≡ out
+own_data None out more own = own
+own_data (Some TestUnitReady) out more own = own
+own_data (Some (Inquiry s a)) out more own = own
+own_data (Some ReadCapacity) out more own = own
+own_data (Some (Read l k)) out more own = own
+own_data (Some (Write l k)) out more own = take_at out more (length out) refl
+own_data (Some SynchronizeCache) out more own = own
+
+-- the host reads the request that was asked, whatever follows its data
+pub ask_read_more : (r : DiskRequest) (more : List ℕ) → length r.cdb ≡ 16 → bytes_moved (command_of r.cdb) (length r.out) ≤ 4096 → HasItsData r → request_of (ask_of r) (r.out ++ more) ≡ Ok r
 unfolding number_of
-ask_read_back r len few own =
+ask_read_more r more len few own =
     let k = command_of r.cdb in
     let n = length r.out in
     let rest = with_bytes 16 r.cdb (a5 k r.cdb n len few) in
@@ -175,11 +200,15 @@ ask_read_back r len few own =
     let short : nat_lt 16 (number_at 8 1 rest) ≡ false = grind (arith, nat_tests, command_at k r.cdb n len few, short_command k) in
     let cdb = cdb_at k r.cdb n len few in
     let transfer = transfer_at k r.cdb n len few in
-    let F : List ℕ → ℕ → Result DiskRequest SrbStop = λ xs m. Ok (record { cdb = xs; out = data_for (command_of xs) m r.out }) in
-    ap (λ (v : Vstor). request_of v r.out) is
+    let F : List ℕ → ℕ → Result DiskRequest SrbStop = λ xs m. Ok (record { cdb = xs; out = data_for (command_of xs) m (r.out ++ more) }) in
+    ap (λ (v : Vstor). request_of v (r.out ++ more)) is
     ∙ ap (λ b. cond (not (eqb b 0 && eqb (number_at 6 1 rest) 0 && eqb (number_at 7 1 rest) 0)) (Err (record { status = 0x20 })) (cond (nat_lt 16 (number_at 8 1 rest)) (Err (record { status = 4 })) (F (slice_range rest 16 32) (number_at 12 4 rest)))) path
     ∙ ap (λ b. cond (not (eqb b 0 && eqb (number_at 7 1 rest) 0)) (Err (record { status = 0x20 })) (cond (nat_lt 16 (number_at 8 1 rest)) (Err (record { status = 4 })) (F (slice_range rest 16 32) (number_at 12 4 rest)))) target
     ∙ ap (λ b. cond (not (eqb b 0)) (Err (record { status = 0x20 })) (cond (nat_lt 16 (number_at 8 1 rest)) (Err (record { status = 4 })) (F (slice_range rest 16 32) (number_at 12 4 rest)))) lun
     ∙ ap (λ b. cond b (Err (record { status = 4 })) (F (slice_range rest 16 32) (number_at 12 4 rest))) short
     ∙ ap (λ xs. F xs (number_at 12 4 rest)) cdb ∙ ap (F r.cdb) transfer
-    ∙ ap (λ xs. Ok (record { cdb = r.cdb; out = xs })) (same_data k n r.out ∙ own)
+    ∙ ap (λ xs. Ok (record { cdb = r.cdb; out = xs })) (same_data k n (r.out ++ more) ∙ own_data k r.out more own)
+
+-- so it does where nothing follows
+pub ask_read_back : (r : DiskRequest) → length r.cdb ≡ 16 → bytes_moved (command_of r.cdb) (length r.out) ≤ 4096 → HasItsData r → request_of (ask_of r) r.out ≡ Ok r
+ask_read_back r len few own = ap (request_of (ask_of r)) (sym (append-nil r.out)) ∙ ask_read_more r [] len few own

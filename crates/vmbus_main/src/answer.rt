@@ -1,5 +1,4 @@
 //! The output of a command on an input.
-ghost use Rattle.std.specs.Prelude.{◌≡◌, [], List};
 ghost use Rattle.vmbus_main.specs.Answered.{IsAnswered};
 ghost use Rattle.vmbus_main.specs.declared.command.Command.TheVariants.{Run, Decode};
 
@@ -11,6 +10,8 @@ use bus_script::{ParseFault, parse, report};
 use io_edge::Gate;
 use msg_text::decode_text;
 use std::alloc::Global;
+use std::sync::Wait;
+use std::thread::Threads;
 
 /// The output, and what ran.
 #[derive(Drop)]
@@ -22,7 +23,7 @@ pub struct Answer {
 }
 
 /// Answers an input.
-pub fn answer_input<R, G: Gate>(
+pub fn answer_input<R: Threads + Wait + Sync, G: Gate>(
     rt: &R,
     gate: &G,
     alloc: Global,
@@ -37,7 +38,7 @@ pub fn answer_input<R, G: Gate>(
     }
 }
 
-fn run_input<R, G: Gate>(
+fn run_input<R: Threads + Wait + Sync, G: Gate>(
     rt: &R,
     gate: &G,
     alloc: Global,

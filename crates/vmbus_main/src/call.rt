@@ -1,5 +1,5 @@
 //! The top call.
-ghost use Rattle.std.specs.Prelude.{◌≡◌, ◌≢◌, ◌↔◌, ◌⊎◌, ◌≤◌, ◌<◌, [], List, length, Some, None, MatchOption};
+ghost use Rattle.std.specs.Prelude.{◌≡◌, ◌≢◌, ◌↔◌, ◌⊎◌, ◌≤◌, ◌<◌, [], Some, None, MatchOption};
 ghost use Rattle.io_edge.specs.Edge.{Rose, HasRoom, IsAtEnd};
 ghost use Rattle.vmbus_main.specs.Words.{command_of};
 ghost use Rattle.vmbus_main.specs.Call.{IsRefused, IsWritten, IsWrittenInPart, TellsInput, TellsRefused};
@@ -10,6 +10,8 @@ use crate::outcome::{Outcome, stopped};
 use bus_script::{ParseFault, ScriptFault, Why6};
 use io_edge::{Gate, ReadFault, Sink, Source, read_all, write_all};
 use std::alloc::Global;
+use std::sync::Wait;
+use std::thread::Threads;
 
 const MOST_BYTES: usize = 1_048_576;
 
@@ -18,7 +20,7 @@ const MOST_BYTES: usize = 1_048_576;
 /// `words` are the program's words without its own name. Reading, answering and writing come in
 /// this order, and the answer is made whole before the first write. `gate` is passed before each
 /// request of a script that a worker sends or serves.
-pub fn vmbus<R, S: Source, K: Sink, G: Gate>(
+pub fn vmbus<R: Threads + Wait + Sync, S: Source, K: Sink, G: Gate>(
     rt: &R,
     alloc: Global,
     words: &[Vec<u8>],

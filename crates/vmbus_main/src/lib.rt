@@ -12,3 +12,5 @@ pub use outcome::{Controls, Outcome};
 
 #[cfg(test)]
 mod tests;
+#[cfg(test)]
+mod thread_tests;

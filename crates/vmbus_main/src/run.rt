@@ -15,6 +15,8 @@ use contact::Part;
 use control_run::ControlPath;
 use io_edge::Gate;
 use std::alloc::{AllocError, Global};
+use std::sync::Wait;
+use std::thread::Threads;
 
 /// What a run of a script gives: both controls, what each channel carried, what each device served, and the outcome of each line that prints.
 #[derive(Drop)]
@@ -26,7 +28,7 @@ pub struct BusRan {
 }
 
 /// Runs a script: version and offers, each phase with its channels opened before it and closed behind it, and the farewell.
-pub fn run_script<R, G: Gate>(
+pub fn run_script<R: Threads + Wait + Sync, G: Gate>(
     rt: &R,
     gate: &G,
     alloc: Global,
@@ -67,7 +69,7 @@ fn contacted(alloc: Global, script: &Script, runner: &Runner) -> Result<ControlP
 }
 
 /// Runs all phases.
-fn run_phases<R, G: Gate>(
+fn run_phases<R: Threads + Wait + Sync, G: Gate>(
     rt: &R,
     gate: &G,
     alloc: Global,
@@ -95,7 +97,7 @@ fn has_phase(script: &Script, runner: &Runner) -> bool
 }
 
 /// Runs the next phase: its channels are opened, carry their requests, and are closed.
-fn run_next<R, G: Gate>(
+fn run_next<R: Threads + Wait + Sync, G: Gate>(
     rt: &R,
     gate: &G,
     alloc: Global,

@@ -1,24 +1,26 @@
 //! The top call on worked inputs.
 use super::*;
 use io_edge::{MemSink, MemSource, NoGate, SureSink, SureSource};
-use std::alloc::{AllocError, Global};
+use std::alloc::{AllocError, AllocGlobal, Global};
+use std::sync::Wait;
 use std::test::*;
+use std::thread::Threads;
 
-const ROOM: usize = 67_108_864;
+pub(crate) const ROOM: usize = 67_108_864;
 
 const ONE_BEAT: &[u8] = b"offer hb hb\nbeat hb 41\n";
 
 const ONE_BEAT_REPORT: &[u8] = b"2 done @0 seq 42\nend requests 1 done 1 rescinded 0\n";
 
-fn one_word(alloc: Global, word: &[u8]) -> Result<Vec<Vec<u8>>, AllocError> {
+pub(crate) fn one_word(alloc: Global, word: &[u8]) -> Result<Vec<Vec<u8>>, AllocError> {
     let mut words = Vec::new(alloc);
     words.push(word.to_vec(alloc)?)?;
     Ok(words)
 }
 
 /// The status of a command on an input, and whether it writes this.
-fn answers(
-    rt: &HostRuntime,
+pub(crate) fn answers(
+    rt: &(impl Threads + Wait + Sync + AllocGlobal),
     word: &[u8],
     input: &[u8],
     output: &[u8],
@@ -32,7 +34,11 @@ fn answers(
 }
 
 /// The line at which an input is refused, and 1 for Form, 4 for Range, 5 for Limit.
-fn refusal(rt: &HostRuntime, word: &[u8], input: &[u8]) -> Result<(u32, u32), AllocError> {
+fn refusal(
+    rt: &(impl Threads + Wait + Sync + AllocGlobal),
+    word: &[u8],
+    input: &[u8],
+) -> Result<(u32, u32), AllocError> {
     let alloc = rt.alloc();
     let words = one_word(alloc, word)?;
     let mut source = SureSource::make(input.to_vec(alloc)?);
@@ -233,5 +239,66 @@ fn a_byte_too_many(rt: HostRuntime) -> Result<(), Fail> {
         assert_eq!(rt; fault.line, 0);
         assert_eq!(rt; fault.why as u32, 5);
     }
+    Ok(())
+}
+
+#[test]
+fn disks_are_read_and_written(rt: HostRuntime) -> Result<(), Fail> {
+    let capacity = answers(
+        &rt,
+        b"run",
+        b"offer disk d0 64 0\ncapacity d0\nread d0 63 1\nread d0 63 2\nread d0 0 0\n",
+        b"2 done @0 good 3x00+1x3f+2x00+1x02+1x00\n3 done @1 good 512x00\n4 done @2 check 5/21/00\n5 done @3 good\nend requests 4 done 4 rescinded 0\n",
+    )?;
+    assert_eq!(rt; capacity, (0, true));
+    let bad = answers(
+        &rt,
+        b"run",
+        b"offer disk d0 64 0\nbad d0 9\nwrite d0 3 1 5a\nread d0 3 1\nread d0 9 1\n",
+        b"3 done @0 good\n4 done @1 good 512x5a\n5 done @2 check 3/11/00\nend requests 3 done 3 rescinded 0\n",
+    )?;
+    assert_eq!(rt; bad, (0, true));
+    let closed = answers(
+        &rt,
+        b"run",
+        b"offer disk d0 64 0\nclose d0\nphase\nready d0\n",
+        b"4 closed\nend requests 1 done 0 rescinded 0\n",
+    )?;
+    assert_eq!(rt; closed, (0, true));
+    let full = answers(
+        &rt,
+        b"run",
+        b"offer disk d0 64 0\nwindow d0 64\nwrite d0 0 4 01\nwrite d0 4 4 02\nwrite d0 8 4 03\nread d0 3 2\n",
+        b"3 done @0 good\n4 done @1 good\n5 done @2 good\n6 done @3 good 512x01+512x02\nend requests 4 done 4 rescinded 0\n",
+    )?;
+    assert_eq!(rt; full, (0, true));
+    Ok(())
+}
+
+#[test]
+fn wrong_disk_lines_are_refused(rt: HostRuntime) -> Result<(), Fail> {
+    assert_eq!(rt;
+        refusal(&rt, b"run", b"offer disk d 64 0\nwindow d 65\n")?,
+        (2, 4)
+    );
+    assert_eq!(rt; refusal(&rt, b"run", b"offer disk a 64 3\n")?, (1, 4));
+    assert_eq!(rt; refusal(&rt, b"run", b"offer disk a 64 16\n")?, (1, 5));
+    assert_eq!(rt; refusal(&rt, b"run", b"offer disk d0 65537 0\n")?, (1, 4));
+    assert_eq!(rt;
+        refusal(&rt, b"run", b"offer disk d0 64 0\nwrite d0 0 8 11\n")?,
+        (2, 4)
+    );
+    assert_eq!(rt;
+        refusal(&rt, b"run", b"offer disk d 64 0\nrescind d after 0 held\n")?,
+        (2, 1)
+    );
+    assert_eq!(rt;
+        refusal(&rt, b"run", b"offer disk d 64 0\nbad d 64\n")?,
+        (2, 4)
+    );
+    assert_eq!(rt;
+        refusal(&rt, b"run", b"offer disk d 64 0\nbad d 6\nbad d 6\n")?,
+        (3, 3)
+    );
     Ok(())
 }

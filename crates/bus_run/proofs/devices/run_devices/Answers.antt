@@ -1,35 +1,83 @@
-use Rattle.std.proofs.Common.{◌≡◌, ◌+◌, ◌*◌, ◌<◌, [], ap, sym, ◌∙◌, subst, arith, length, length-set, slice_index_or, refl}
-use Rattle.std.proofs.Math.ListN.{set}
-use Rattle.bus_run.specs.Desk.{IsReady, DeviceRan, opened_by}
-use Rattle.bus_run.proofs.DevicesRun.{DevicesSoFar, devices_start, devices_more, device_ready, desk_here}
+use Rattle.std.proofs.Common.{◌≡◌, ◌+◌, ◌*◌, ◌<◌, ◌≤◌, ◌∙◌, ap, sym, subst, arith, length, slice_set, get_or}
+use Rattle.std.specs.Vec.Iter.{into_iter_items}
+use Rattle.bus_run.specs.Desk.{asks_of, IsReady, DeviceRan, opened_by}
+use Rattle.bus_run.specs.Opening.{DeskRan, OpensDesk, OneEach, ComesBack}
+use Rattle.bus_run.proofs.Opened.{each_few, each_ran, held_long}
+use Rattle.bus_run.proofs.DevicesBack.{DevicesSoFar, device_ready, next_comes, devices_start, devices_more, devices_end}
 use Rattle.bus_run.proofs.devices.run_devices.Goals as goal
 
+pub run_phase-requires-clause-few : goal.run_phase-requires-clause-few
+run_phase-requires-clause-few g c κs within =
+    let opened = opened_by c.args.closed.now c.args.plan.now.wanted.items in
+    omega (arith, each_few OpensDesk opened (asks_of c.args.plan.now.asks) 0 c.args.desks.now.items c.in_ok-pairs.pairs.items c.in_ok-pairs.ensures.opens, c.requires.few)
+
 pub loop-i-init : goal.loop-i-init
-loop-i-init g c = record {
-  so_far = subst (λ o. DevicesSoFar (opened_by c.args.closed.now c.args.plan.now.wanted.items) c.args.phase c.args.plan.now.asks (4096 * (c.args.phase + 1)) 0 c.args.desks.now.items c.args.desks.now.items c.args.settled.now.items c.args.settled.now.items o) (sym c.none-outcomes.ensures)
-      (devices_start (opened_by c.args.closed.now c.args.plan.now.wanted.items) c.args.phase c.args.plan.now.asks (4096 * c.args.phase) (4096 * (c.args.phase + 1)) c.args.desks.now.items c.args.settled.now.items c.requires.ready (omega arith));
-  count = refl;
-}
+loop-i-init g c =
+    let opened = opened_by c.args.closed.now c.args.plan.now.wanted.items in
+    let piles = c.args.plan.now.asks in
+    let old = c.args.desks.now.items in
+    let settled = c.args.settled.now.items in
+    let dones = into_iter_items c.into_iter-dones.result in
+    let most = 4096 * (c.args.phase + 1) in
+    let ran = each_ran opened (asks_of piles) 0 old c.in_ok-pairs.pairs.items c.run_phase.new.done.items c.in_ok-pairs.ensures.opens c.run_phase.ensures in
+    subst (λ o. DevicesSoFar opened c.args.phase piles most 0 old c.open_all.new.desks.items dones settled settled o) (sym c.none-outcomes.ensures)
+    (devices_start opened c.args.phase piles most old c.open_all.new.desks.items dones settled c.in_ok-pairs.ensures.held (subst (OneEach DeskRan opened (asks_of piles) 0 old) (sym c.into_iter-dones.ensures.rest) ran))
+
+pub close_device-requires-clause-comes : goal.close_device-requires-clause-comes
+close_device-requires-clause-comes g c =
+    let i = c.loop-i.i in
+    let d = c.index_mut.result.now in
+    let old = c.args.desks.now.items in
+    let piles = c.args.plan.now.asks in
+    let opened = opened_by c.args.closed.now c.args.plan.now.wanted.items in
+    let so_far = c.loop-i.invariant in
+    let less : i < length old = omega (arith, c.loop-i-test.true, c.len-i-end.ensures, ap length c.in_ok-pairs.ensures.held, held_long opened 0 old) in
+    let within : i < length c.loop-i.desks.items = omega (arith, less, so_far.count) in
+    let next = next_comes opened c.args.phase piles _ i old c.loop-i.desks.items (into_iter_items c.loop-i.dones) c.args.settled.now.items c.loop-i.settled.items c.loop-i.outcomes d so_far within c.index_mut.ensures.value (c.requires.ready i d less).kept in
+    let flag : c.is_opened.result ≡ opened i = c.is_opened.ensures ∙ ap (λ w. opened_by c.args.closed.now w i) c.deref.ensures.value in
+    (asks_of piles i, get_or old i d, next.0, next.1, subst (λ b. ComesBack b (asks_of piles i) (get_or old i d) d (into_iter_items c.loop-i.dones) next.0 next.1) (sym flag) next.2)
 
 pub loop-i-preserved : goal.loop-i-preserved
 loop-i-preserved g c =
     let i = c.loop-i.i in
     let d = c.index_mut.result.now in
     let old = c.args.desks.now.items in
+    let phase = c.args.phase in
+    let piles = c.args.plan.now.asks in
     let opened = opened_by c.args.closed.now c.args.plan.now.wanted.items in
-    let so_far = c.loop-i.invariant.so_far in
-    let less : i < length old = omega (arith, c.loop-i-test.true, c.len-i-end.ensures) in
-    let within : i < length c.loop-i.desks.items = omega (arith, less, c.loop-i.invariant.count) in
-    let here = desk_here old c.loop-i.desks.items i d so_far.rest within less c.index_mut.ensures.value in
-    let ready : IsReady (4096 * c.args.phase) d = subst (IsReady (4096 * c.args.phase)) here (c.requires.ready i d less) in
-    let pile = slice_index_or c.args.plan.now.asks i [] in
-    let run = subst (λ b. DeviceRan b c.args.phase i pile d c.run_device.new.desk c.loop-i.settled.items c.run_device.new.settled.items c.in_ok-results.results.items) (c.is_opened.ensures ∙ ap (λ w. opened_by c.args.closed.now w i) c.deref.ensures.value)
-    (subst (λ a. DeviceRan c.is_opened.result c.args.phase i a d c.run_device.new.desk c.loop-i.settled.items c.run_device.new.settled.items c.in_ok-results.results.items) c.get.ensures c.in_ok-results.ensures) in
-    let more : 4096 * c.args.phase + 4096 ≡ 4096 * (c.args.phase + 1) = omega arith in
-    let next = subst (λ n. IsReady n c.run_device.new.desk) more (device_ready (opened i) c.args.phase i (4096 * c.args.phase) 4096 pile d c.run_device.new.desk c.loop-i.settled.items c.run_device.new.settled.items c.in_ok-results.results.items run ready.few (c.requires.suits.few i less)) in
-    record {
-      so_far = subst (λ o. DevicesSoFar opened c.args.phase c.args.plan.now.asks (4096 * (c.args.phase + 1)) (i + 1) old (set c.loop-i.desks.items i c.run_device.new.desk) c.args.settled.now.items c.run_device.new.settled.items o) (sym c.in_ok-add.ensures)
-          (devices_more opened c.args.phase c.args.plan.now.asks (4096 * (c.args.phase + 1)) i old c.loop-i.desks.items c.args.settled.now.items c.loop-i.settled.items c.run_device.new.settled.items c.loop-i.outcomes d c.run_device.new.desk c.in_ok-results.results.items
-          so_far within c.index_mut.ensures.value run next);
-      count = length-set c.loop-i.desks.items i c.run_device.new.desk ∙ c.loop-i.invariant.count;
-    }
+    let so_far = c.loop-i.invariant in
+    let most = 4096 * (phase + 1) in
+    let less : i < length old = omega (arith, c.loop-i-test.true, c.len-i-end.ensures, ap length c.in_ok-pairs.ensures.held, held_long opened 0 old) in
+    let within : i < length c.loop-i.desks.items = omega (arith, less, so_far.count) in
+    let ready = c.requires.ready i d less in
+    let o = get_or old i d in
+    let dones = into_iter_items c.loop-i.dones in
+    let left = into_iter_items c.close_device.new.dones in
+    let next = next_comes opened phase piles most i old c.loop-i.desks.items dones c.args.settled.now.items c.loop-i.settled.items c.loop-i.outcomes d so_far within c.index_mut.ensures.value ready.kept in
+    let flag : c.is_opened.result ≡ opened i = c.is_opened.ensures ∙ ap (λ w. opened_by c.args.closed.now w i) c.deref.ensures.value in
+    let comes = subst (λ b. ComesBack b (asks_of piles i) o d dones next.0 next.1) (sym flag) next.2 in
+    let new = c.close_device.new.desk in
+    let settled = c.loop-i.settled.items in
+    let settled' = c.close_device.new.settled.items in
+    let results = c.in_ok-results.results.items in
+    let ran = subst (λ b. DeviceRan b phase i (asks_of piles i) o new settled settled' results) flag (c.in_ok-results.ensures.ran (asks_of piles i) o next.0 next.1 comes) in
+    let rest : left ≡ next.1 = c.in_ok-results.ensures.rest (asks_of piles i) o next.0 next.1 comes in
+    let more : 4096 * phase + 4096 ≡ most = omega arith in
+    let kept = subst (λ n. IsReady n new) more (device_ready (opened i) phase i (4096 * phase) 4096 (asks_of piles i) o new settled settled' results ran ready.few (c.requires.suits.few i less)) in
+    let comes_next = subst (OneEach DeskRan opened (asks_of piles) (i + 1) _) (sym rest) next.3 in
+    subst (λ l. DevicesSoFar opened phase piles most (i + 1) old (slice_set c.loop-i.desks.items i new) left c.args.settled.now.items settled' l) (sym c.in_ok-add.ensures)
+    (devices_more opened phase piles most i old c.loop-i.desks.items dones left c.args.settled.now.items settled settled' c.loop-i.outcomes d new results so_far within ran kept comes_next)
+
+pub returns-clause-ran : goal.returns-clause-ran
+returns-clause-ran g c =
+    let opened = opened_by c.args.closed.now c.args.plan.now.wanted.items in
+    let old = c.args.desks.now.items in
+    let over : length c.loop-i.desks.items ≤ c.loop-i.i = omega (arith, c.loop-i-test.false, c.len-i-end.ensures, ap length c.in_ok-pairs.ensures.held, held_long opened 0 old, c.loop-i.invariant.count) in
+    (devices_end opened c.args.phase c.args.plan.now.asks _ c.loop-i.i old c.loop-i.desks.items (into_iter_items c.loop-i.dones) c.args.settled.now.items c.loop-i.settled.items c.loop-i.outcomes c.loop-i.invariant over).0
+
+pub returns-clause-ready : goal.returns-clause-ready
+returns-clause-ready g c =
+    let opened = opened_by c.args.closed.now c.args.plan.now.wanted.items in
+    let old = c.args.desks.now.items in
+    let over : length c.loop-i.desks.items ≤ c.loop-i.i = omega (arith, c.loop-i-test.false, c.len-i-end.ensures, ap length c.in_ok-pairs.ensures.held, held_long opened 0 old, c.loop-i.invariant.count) in
+    (devices_end opened c.args.phase c.args.plan.now.asks _ c.loop-i.i old c.loop-i.desks.items (into_iter_items c.loop-i.dones) c.args.settled.now.items c.loop-i.settled.items c.loop-i.outcomes c.loop-i.invariant over).1

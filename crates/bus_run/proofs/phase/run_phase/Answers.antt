@@ -15,7 +15,7 @@ plan_part-requires g c =
 pub run_devices-requires-clause-suits : goal.run_devices-requires-clause-suits
 run_devices-requires-clause-suits g c κs asked =
     let planned = c.in_ok-plan.ensures c.requires.earlier.0 c.requires.earlier.1 in
-    suits_all c.args.desks.now.items c.requires.earlier.0 c.args.part.now c.in_ok-plan.plan.asks (length c.args.closed.now) c.requires.closed c.requires.right c.requires.asks planned.asks
+    suits_all c.args.desks.now.items c.requires.earlier.0 c.args.part.now c.in_ok-plan.plan.asks (length c.args.closed.now) c.requires.closed c.requires.right c.requires.go c.requires.asks planned.asks
 
 pub run_devices-requires-clause-wanted : goal.run_devices-requires-clause-wanted
 run_devices-requires-clause-wanted g c κs asked = (c.in_ok-plan.ensures c.requires.earlier.0 c.requires.earlier.1).count ∙ c.requires.closed

@@ -8,7 +8,7 @@ pub returns-clause-so_far : goal.returns-clause-so_far
 returns-clause-so_far c =
     let lines = c.args.script.now in
     let desks = c.in_ok-desks.desks in
-    let fresh = subst (λ l. AreFresh (offered l) desks.items) c.lines-lines.ensures.lines c.in_ok-desks.ensures in
+    let fresh = subst (λ l. AreFresh l (offered l) desks.items) c.lines-lines.ensures.lines c.in_ok-desks.ensures in
     let long : c.len.result ≡ length desks.items = omega (arith, c.len.ensures, desks.ok.0) in
     let long_2 : c.len-2.result ≡ length desks.items = omega (arith, c.len-2.ensures, desks.ok.0) in
     let rings = subst (λ n. RingsOf lines n c.in_ok-pages.pages.items) long (subst (λ l. RingsOf l c.len.result c.in_ok-pages.pages.items) c.lines-lines.ensures.lines c.in_ok-pages.ensures) in

@@ -2,12 +2,12 @@ use Rattle.std.proofs.Common.{◌≡◌, ◌≤◌, ◌++◌, ◌∷◌, [], ap,
 use Rattle.std.specs.Prelude.{map, MatchOption, ⊤}
 use Rattle.std.proofs.lemmas.List.{with_items_is, places}
 use Rattle.bus_script.specs.Parts.{parts, offered, asks_in}
-use Rattle.bus_script.specs.WellFormed.{AllRight}
+use Rattle.bus_script.specs.WellFormed.{AllRight, AllGo}
 use Rattle.bus_plan.specs.Flags.{AreMarked, closed_by}
 use Rattle.bus_run.specs.Desk.{spec_of, AreRings}
 use Rattle.bus_run.specs.Whole.{parts_left, behind}
 use Rattle.bus_run.proofs.RingSizes.{are_rings}
-use Rattle.bus_run.proofs.Phases.{right_drop, right_take, this_phase, part_next, count_parts, go_on, no_next}
+use Rattle.bus_run.proofs.Phases.{right_drop, right_take, go_drop, go_take, this_phase, part_next, count_parts, go_on, no_next}
 use Rattle.bus_run.proofs.runner.Runner.run_next.Goals as goal
 
 pub unreachable-requires : goal.unreachable-requires
@@ -21,6 +21,13 @@ run_phase-requires-clause-right g c κs asked =
     subst (AllRight (map spec_of c.args.self.now.desks.items)) (sym (front.1 ∙ ap (take front.0) rest))
     (right_take (map spec_of c.args.self.now.desks.items) front.0 (drop c.in-Some.at lines) (right_drop (map spec_of c.args.self.now.desks.items) c.in-Some.at lines
     (subst (λ k. AllRight k lines) (sym c.requires.so_far.kinds) c.lines.ensures.script.right)))
+
+pub run_phase-requires-clause-go : goal.run_phase-requires-clause-go
+run_phase-requires-clause-go g c κs asked =
+    let lines = c.args.script.now in
+    let front = c.first_part-next.ensures.front in
+    let rest = c.split_at.ensures.back ∙ ap (drop c.in-Some.at) c.lines.ensures.lines in
+    subst AllGo (sym (front.1 ∙ ap (take front.0) rest)) (go_take front.0 (drop c.in-Some.at lines) (go_drop c.in-Some.at lines c.lines.ensures.script.go))
 
 pub run_phase-requires-clause-asks : goal.run_phase-requires-clause-asks
 run_phase-requires-clause-asks g c κs asked =

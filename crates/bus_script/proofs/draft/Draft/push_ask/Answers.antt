@@ -8,4 +8,4 @@ pub invariant_of-self-2 : goal.invariant_of-self-2
 invariant_of-self-2 c =
     let s = c.self.inside in
     let fits = subst (λ ls. Fits ls (Ask c.args.device c.args.ask)) (sym c.self.view_is) c.requires in
-    rw (c.in_ok-push.ensures.items) (keeps_ask s.lines.items s.names.keys s.seen.items s.channels s.asks s.phase s.settings c.self.invariant c.args.number c.args.device c.args.ask fits)
+    rw (c.in_ok-push.ensures.items) (keeps_ask s.lines.items s.names.keys s.seen.items s.channels s.asks s.phase s.settings s.bad.keys c.self.invariant c.args.number c.args.device c.args.ask fits)

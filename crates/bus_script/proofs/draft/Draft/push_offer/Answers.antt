@@ -18,4 +18,4 @@ invariant_of-self-2 c =
     let keys : c.insert.new.self.keys ≡ s.names.keys ++ c.args.name ∷ [] =
     c.in_ok-insert.ensures.keys ∙ ap (insert_key bytes_eq s.names.keys) c.again.ensures ∙ ap (λ b. if b then s.names.keys else s.names.keys ++ c.args.name ∷ []) none in
     rw (c.push_reserved-2.ensures.items, c.reserve.ensures.items, keys, c.push_reserved.ensures.items, c.reserve-2.ensures.items)
-    (keeps_offer s.lines.items s.names.keys s.seen.items s.channels s.asks s.phase s.settings c.self.invariant c.args.number c.args.name c.args.spec _ c.channels_of.result fits refl c.channels_of.ensures.count)
+    (keeps_offer s.lines.items s.names.keys s.seen.items s.channels s.asks s.phase s.settings s.bad.keys c.self.invariant c.args.number c.args.name c.args.spec _ c.channels_of.result fits refl c.channels_of.ensures.count)

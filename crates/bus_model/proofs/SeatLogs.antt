@@ -1,0 +1,98 @@
+-- A history grows by what its seats served, and by nothing else.
+use Rattle.std.proofs.Common.{◌≡◌, ℕ, zero, suc, ◌+◌, ◌≤◌, ◌<◌, Bool, true, false, cond, List, [], ◌∷◌, length, nat_eq, refl, sym, ap, ◌∙◌, subst, arith}
+use Rattle.std.specs.List.{AllByRecursion}
+use Rattle.std.proofs.lemmas.Bool.Decides.{nat_tests}
+use Rattle.scsi_disk.proofs.RoomLaws.{by_test}
+use Rattle.bus_script.specs.declared.line.Ask.{Ask}
+use Rattle.bus_script.specs.declared.outcome.Reply.{Reply}
+use Rattle.bus_model.specs.Served.{Served}
+use Rattle.bus_model.specs.Logs.{Recorded, served_from, EachSeat, total, Grows}
+use Rattle.bus_model.proofs.Lists.{each_append, each_left, each_right, each_if, each_unless}
+
+length_if : (c : Bool) (x : Served) (xs : List Served) → length (cond c (x ∷ xs) xs) ≡ cond c 1 0 + length xs
+length_if true x xs = omega arith
+length_if false x xs = omega arith
+
+-- how many entries so many seats have from one on
+abbrev sums : ℕ → ℕ → List Recorded → ℕ → ℕ
+sums seat n more zero = 0
+sums seat n more (suc len) = length (served_from seat n more) + sums (seat + 1) n more len
+
+module _ (P : Ask → Type 0) where
+  -- those entries have requests with P
+  abbrev AsksIn : ℕ → ℕ → List Recorded → ℕ → Type 0
+  AsksIn seat n more zero = Unit {0}
+  AsksIn seat n more (suc len) = AllByRecursion (λ s. P s.request) (served_from seat n more) × AsksIn (seat + 1) n more len
+
+  asks_in : (seat n : ℕ) (more : List Recorded) (served : List (List Served)) → EachSeat seat n more served → AllByRecursion (AllByRecursion (λ s. P s.request)) served → AsksIn seat n more (length served)
+  asks_in seat n more [] each all = tt
+  asks_in seat n more (s ∷ served) each all = (subst (AllByRecursion (λ s. P s.request)) (sym each.0) all.0, asks_in (seat + 1) n more served each.1 all.1)
+
+  -- the first entry is of one of these seats, and then of no other one, or of none of them
+  record Front (seat n : ℕ) (e : Recorded) (es : List Recorded) (len : ℕ) : Type 0 where
+    pub hit : ℕ
+    pub sum : sums seat n (e ∷ es) len ≡ hit + sums seat (n + 1) es len
+    pub few : hit ≤ 1
+    pub below : e.seat < seat → hit ≡ 0
+    pub has : 1 ≤ hit → P e.ask
+    pub rest : AsksIn seat (n + 1) es len
+
+  front : (len seat n : ℕ) (e : Recorded) (es : List Recorded) → AsksIn seat n (e ∷ es) len → Front seat n e es len
+  front zero seat n e es asks = record { hit = 0; sum = refl; few = omega arith; below = λ low. refl; has = λ one. absurd (omega (arith, one)); rest = tt }
+  front (suc len) seat n e es asks =
+      let x : Served = record { serial = n; request = e.ask; reply = e.reply } in
+      let xs = served_from seat (n + 1) es in
+      let c = nat_eq e.seat seat in
+      let next = front len (seat + 1) n e es asks.1 in
+      let here = each_unless (λ (s : Served). P s.request) c x xs asks.0 in
+      let long = length_if c x xs in
+      by_test c
+      (λ is.
+      let same : e.seat ≡ seat = grind (arith, nat_tests, is) in
+      let none : next.hit ≡ 0 = next.below (omega (arith, same)) in
+      let one : length (cond c (x ∷ xs) xs) ≡ 1 + length xs = long ∙ ap (λ b. cond b 1 0 + length xs) is in
+      record { hit = 1; sum = omega (arith, one, none, next.sum); few = omega arith; below = λ low. absurd (omega (arith, same, low)); has = λ one. here.0 is; rest = (here.1, next.rest) })
+      (λ is.
+      let no : length (cond c (x ∷ xs) xs) ≡ length xs = omega (arith, long ∙ ap (λ b. cond b 1 0 + length xs) is) in
+      record { hit = next.hit; sum = omega (arith, no, next.sum); few = next.few; below = λ low. next.below (omega (arith, low)); has = next.has; rest = (here.1, next.rest) })
+
+  -- where all entries are of these seats, all have requests with P
+  every : (more : List Recorded) (n len : ℕ) → AsksIn 0 n more len → (sums 0 n more len ≤ length more) × (length more ≤ sums 0 n more len → AllByRecursion (λ e. P e.ask) more)
+  every [] n len asks = (none len 0, λ all. tt)
+    where
+      none : (len seat : ℕ) → sums seat n [] len ≤ 0
+      none zero seat = omega arith
+      none (suc len) seat = omega (arith, none len (seat + 1))
+  every (e ∷ es) n len asks =
+      let f = front len 0 n e es asks in
+      let rest = every es (n + 1) len f.rest in
+      (omega (arith, f.sum, f.few, rest.0), λ all. (f.has (omega (arith, f.sum, rest.0, all)), rest.1 (omega (arith, f.sum, f.few, all))))
+
+  total_is : (seat n : ℕ) (more : List Recorded) (served : List (List Served)) → EachSeat seat n more served → total served ≡ sums seat n more (length served)
+  total_is seat n more [] each = refl
+  total_is seat n more (s ∷ served) each = omega (arith, ap length each.0, total_is (seat + 1) n more served each.1)
+
+  -- a history whose requests have P goes on with requests that have it
+  pub grows_with : (before after : List Recorded) (served : List (List Served)) → Grows before after served → AllByRecursion (λ e. P e.ask) before → AllByRecursion (AllByRecursion (λ s. P s.request)) served
+      → AllByRecursion (λ e. P e.ask) after
+  grows_with before after served grows old all =
+      let n = length before in
+      let new = every grows.more n (length served) (asks_in 0 n grows.more served grows.seats all) in
+      subst (AllByRecursion (λ e. P e.ask)) (sym grows.after_is) (each_append (λ (e : Recorded). P e.ask) before grows.more old (new.1 (omega (arith, grows.all, total_is 0 n grows.more served grows.seats))))
+
+module _ (Q : Reply → Type 0) where
+  from_seat : (seat n : ℕ) (more : List Recorded) → AllByRecursion (λ e. Q e.reply) more → AllByRecursion (λ s. Q s.reply) (served_from seat n more)
+  from_seat seat n [] all = tt
+  from_seat seat n (e ∷ es) all =
+      each_if (λ (s : Served). Q s.reply) (nat_eq e.seat seat) (record { serial = n; request = e.ask; reply = e.reply }) (served_from seat (n + 1) es) all.0 (from_seat seat (n + 1) es all.1)
+
+  from_seats : (seat n : ℕ) (more : List Recorded) (served : List (List Served)) → EachSeat seat n more served → AllByRecursion (λ e. Q e.reply) more → AllByRecursion (AllByRecursion (λ s. Q s.reply)) served
+  from_seats seat n more [] each all = tt
+  from_seats seat n more (s ∷ served) each all = (subst (AllByRecursion (λ s. Q s.reply)) each.0 (from_seat seat n more all), from_seats (seat + 1) n more served each.1 all)
+
+  -- where the replies of a history have Q, so have those before it, and those that its seats gave
+  pub replies_with : (before after : List Recorded) (served : List (List Served)) → Grows before after served → AllByRecursion (λ e. Q e.reply) after
+      → AllByRecursion (λ e. Q e.reply) before × AllByRecursion (AllByRecursion (λ s. Q s.reply)) served
+  replies_with before after served grows all =
+      let whole = subst (AllByRecursion (λ e. Q e.reply)) grows.after_is all in
+      (each_left (λ (e : Recorded). Q e.reply) before grows.more whole, from_seats 0 (length before) grows.more served grows.seats (each_right (λ (e : Recorded). Q e.reply) before grows.more whole))

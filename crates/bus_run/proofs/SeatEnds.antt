@@ -1,0 +1,121 @@
+-- A device behind the seat that it had in a phase.
+use Rattle.std.proofs.Common.{◌≡◌, ℕ, zero, suc, ◌+◌, ◌<◌, List, [], ◌∷◌, ◌++◌, length, Some, take, drop, get_or, ap, sym, ◌∙◌, refl, arith}
+use Rattle.std.specs.Prelude.{map}
+use Rattle.std.proofs.lemmas.List.{length-map}
+use Rattle.bus_model.specs.Served.{Served, done_of}
+use Rattle.bus_script.specs.declared.outcome.LineResult.{LineResult}
+use Rattle.bus_script.specs.declared.outcome.LineResult.TheVariants.{Done}
+use Rattle.bus_script.specs.declared.outcome.Reply.{Reply}
+use Rattle.bus_script.specs.declared.line.Ask.TheVariants.{Ic as AskIc, Disk as AskDisk}
+use Rattle.bus_script.specs.declared.line.DeviceSpec.TheVariants.{Disk}
+use Rattle.bus_script.specs.declared.outcome.Reply.TheVariants.{Ic as ReplyIc, Disk as ReplyDisk}
+use Rattle.hist_lock.specs.Calls.{Closes}
+use Rattle.hist_lock.specs.History.{entries_of}
+use Rattle.hist_lock.specs.Legal.{Leaves}
+use Rattle.hist_lock.specs.Seat.{Seat}
+use Rattle.hist_lock.specs.declared.history.Entry.{Entry}
+use Rattle.hist_lock.specs.declared.history.History.{History}
+use Rattle.phase_run.specs.Seats.{IsSame, IsSameSeat, ic_served, disk_served}
+use Rattle.phase_run.specs.declared.seat.DeviceSeat.{DeviceSeat}
+use Rattle.phase_run.specs.declared.seat.DeviceSeat.TheVariants.{Beat as BeatSeat, Down as DownSeat, Disk as DiskSeat}
+use Rattle.scsi_disk.specs.DiskModel.{disk_reply}
+use Rattle.scsi_disk.specs.FiniteMap.{Kept, unwritten, kept_after, stands_for}
+use Rattle.scsi_disk.specs.declared.request.DiskRequest.{DiskRequest}
+use Rattle.scsi_disk.specs.declared.reply.DiskReply.{DiskReply}
+use Rattle.util_ic.specs.Machines.{beat_start, beat_reply, down_start, down_reply}
+use Rattle.util_ic.specs.declared.beat.BeatMachine.{BeatMachine}
+use Rattle.util_ic.specs.declared.down.DownMachine.{DownMachine}
+use Rattle.util_ic.specs.declared.ic.IcAsk.{IcAsk}
+use Rattle.util_ic.specs.declared.ic.IcAnswer.{IcAnswer}
+use Rattle.bus_run.specs.Desk.{GoesOn, subs_of}
+use Rattle.bus_run.specs.Opening.{IsSeatFor, new_seat}
+use Rattle.bus_run.specs.declared.desk.Desk.{Desk}
+use Rattle.bus_run.specs.declared.desk.Desk.TheVariants.{Out, Beat as BeatDesk, Down as DownDesk, Disk as DiskDesk}
+use Rattle.bus_run.proofs.Growing.{grows_one}
+
+-- what a seat keeps of the new one that it was
+
+module _ {S Q A : Type 0} (start : S) (past : List (Entry S Q A)) (quota : ℕ) (first later : Seat S Q A) (new : first ≡ new_seat start past quota) (same : IsSame first later) where
+  number_kept : later.number ≡ 0
+  number_kept = same.number ∙ ap (λ (s : Seat S Q A). s.number) new
+
+  past_kept : later.past ≡ past
+  past_kept = same.past ∙ ap (λ (s : Seat S Q A). s.past) new
+
+  first_kept : later.first ≡ start
+  first_kept = same.first ∙ ap (λ (s : Seat S Q A). s.first) new
+
+pub beat_goes_on : (old : Desk) (quota : ℕ) (first : DeviceSeat) (seat : Seat BeatMachine IcAsk IcAnswer) (state : BeatMachine) (history : History BeatMachine IcAsk IcAnswer) → IsSeatFor old quota first → IsSameSeat first (BeatSeat seat)
+    → Closes (λ s q. s) (λ s q. beat_reply q) (seat ∷ []) (entries_of history) → Leaves (λ s. beat_start) (λ s q. s) (λ s q. beat_reply q) (entries_of history) state → GoesOn old (BeatDesk state history) (ic_served seat.calls)
+beat_goes_on (Out subs) quota first seat state history is same closes leaves = absurd is
+beat_goes_on (BeatDesk state' history') quota (BeatSeat f) seat state history is same closes leaves = record {
+  grows = grows_one AskIc ReplyIc (λ s q. s) (λ s q. beat_reply q) seat (entries_of history') (entries_of history) closes (number_kept beat_start (entries_of history') quota f seat is same) (past_kept beat_start (entries_of history') quota f seat is same);
+  spec = refl;
+  setup = refl;
+  kept = leaves;
+}
+beat_goes_on (BeatDesk state' history') quota (DownSeat f) seat state history is same closes leaves = absurd is
+beat_goes_on (BeatDesk state' history') quota (DiskSeat f) seat state history is same closes leaves = absurd is
+beat_goes_on (DownDesk state' history') quota (BeatSeat f) seat state history is same closes leaves = absurd is
+beat_goes_on (DownDesk state' history') quota (DownSeat f) seat state history is same closes leaves = absurd same
+beat_goes_on (DownDesk state' history') quota (DiskSeat f) seat state history is same closes leaves = absurd is
+beat_goes_on (DiskDesk subs state' history') quota (BeatSeat f) seat state history is same closes leaves = absurd is
+beat_goes_on (DiskDesk subs state' history') quota (DownSeat f) seat state history is same closes leaves = absurd is
+beat_goes_on (DiskDesk subs state' history') quota (DiskSeat f) seat state history is same closes leaves = absurd same
+
+pub down_goes_on : (old : Desk) (quota : ℕ) (first : DeviceSeat) (seat : Seat DownMachine IcAsk IcAnswer) (state : DownMachine) (history : History DownMachine IcAsk IcAnswer) → IsSeatFor old quota first → IsSameSeat first (DownSeat seat)
+    → Closes (λ s q. s) (λ s q. down_reply q) (seat ∷ []) (entries_of history) → Leaves (λ s. down_start) (λ s q. s) (λ s q. down_reply q) (entries_of history) state → GoesOn old (DownDesk state history) (ic_served seat.calls)
+down_goes_on (Out subs) quota first seat state history is same closes leaves = absurd is
+down_goes_on (BeatDesk state' history') quota (BeatSeat f) seat state history is same closes leaves = absurd same
+down_goes_on (BeatDesk state' history') quota (DownSeat f) seat state history is same closes leaves = absurd is
+down_goes_on (BeatDesk state' history') quota (DiskSeat f) seat state history is same closes leaves = absurd is
+down_goes_on (DownDesk state' history') quota (BeatSeat f) seat state history is same closes leaves = absurd is
+down_goes_on (DownDesk state' history') quota (DownSeat f) seat state history is same closes leaves = record {
+  grows = grows_one AskIc ReplyIc (λ s q. s) (λ s q. down_reply q) seat (entries_of history') (entries_of history) closes (number_kept down_start (entries_of history') quota f seat is same) (past_kept down_start (entries_of history') quota f seat is same);
+  spec = refl;
+  setup = refl;
+  kept = leaves;
+}
+down_goes_on (DownDesk state' history') quota (DiskSeat f) seat state history is same closes leaves = absurd is
+down_goes_on (DiskDesk subs state' history') quota (BeatSeat f) seat state history is same closes leaves = absurd is
+down_goes_on (DiskDesk subs state' history') quota (DownSeat f) seat state history is same closes leaves = absurd is
+down_goes_on (DiskDesk subs state' history') quota (DiskSeat f) seat state history is same closes leaves = absurd same
+
+-- no request changes how many blocks a disk has and which places are bad
+pub disk_goes_on : (old : Desk) (subs quota : ℕ) (first : DeviceSeat) (seat : Seat Kept DiskRequest DiskReply) (state : Kept) (history : History Kept DiskRequest DiskReply) → subs_of old ≡ subs → IsSeatFor old quota first → IsSameSeat first (DiskSeat seat)
+    → Closes kept_after (λ s q. disk_reply (stands_for s) q) (seat ∷ []) (entries_of history) → Leaves unwritten kept_after (λ s q. disk_reply (stands_for s) q) (entries_of history) state → unwritten state ≡ seat.first
+    → GoesOn old (DiskDesk subs state history) (disk_served seat.calls)
+disk_goes_on (Out subs') subs quota first seat state history with_subs is same closes leaves begins = absurd is
+disk_goes_on (BeatDesk state' history') subs quota (BeatSeat f) seat state history with_subs is same closes leaves begins = absurd same
+disk_goes_on (BeatDesk state' history') subs quota (DownSeat f) seat state history with_subs is same closes leaves begins = absurd is
+disk_goes_on (BeatDesk state' history') subs quota (DiskSeat f) seat state history with_subs is same closes leaves begins = absurd is
+disk_goes_on (DownDesk state' history') subs quota (BeatSeat f) seat state history with_subs is same closes leaves begins = absurd is
+disk_goes_on (DownDesk state' history') subs quota (DownSeat f) seat state history with_subs is same closes leaves begins = absurd same
+disk_goes_on (DownDesk state' history') subs quota (DiskSeat f) seat state history with_subs is same closes leaves begins = absurd is
+disk_goes_on (DiskDesk subs' state' history') subs quota (BeatSeat f) seat state history with_subs is same closes leaves begins = absurd is
+disk_goes_on (DiskDesk subs' state' history') subs quota (DownSeat f) seat state history with_subs is same closes leaves begins = absurd is
+disk_goes_on (DiskDesk subs' state' history') subs quota (DiskSeat f) seat state history with_subs is same closes leaves begins =
+    let setup : unwritten state ≡ unwritten state' = begins ∙ first_kept (unwritten state') (entries_of history') quota f seat is same in
+    record {
+      grows = grows_one AskDisk ReplyDisk kept_after (λ s q. disk_reply (stands_for s) q) seat (entries_of history') (entries_of history) closes (number_kept (unwritten state') (entries_of history') quota f seat is same)
+          (past_kept (unwritten state') (entries_of history') quota f seat is same);
+      spec = ap (λ n. Disk state.blocks n) (sym with_subs) ∙ ap (λ (k : Kept). Disk k.blocks subs') setup;
+      setup = ap (λ k. Some (stands_for k)) setup;
+      kept = leaves;
+    }
+
+-- the outcomes of what was served, one by one
+
+one_outcome : (served : List Served) (i serial d : ℕ) (reply : Reply) (left : List Reply) → i < length served → serial ≡ get_or (map (λ s. s.serial) served) i d → drop i (map (λ s. s.reply) served) ≡ reply ∷ left
+    → map done_of (take (suc i) served) ≡ map done_of (take i served) ++ Done serial reply ∷ []
+one_outcome [] i serial d reply left less is here = absurd (omega (arith, less))
+one_outcome (s ∷ served) zero serial d reply left less is here = let same : s.reply ≡ reply = ap (λ (l : List Reply). get_or l 0 reply) here in (λ i. Done (sym is i) (same i) ∷ [])
+one_outcome (s ∷ served) (suc i) serial d reply left less is here = ap (λ l. done_of s ∷ l) (one_outcome served i serial d reply left (omega (arith, less)) is here)
+
+pub outcomes_more : (served : List Served) (serials : List ℕ) (replies left : List Reply) (results new : List LineResult) (i serial d : ℕ) (reply : Reply) → serials ≡ map (λ s. s.serial) served → replies ≡ map (λ s. s.reply) served → i < length serials → serial ≡ get_or serials i d
+    → drop i replies ≡ reply ∷ left → results ≡ map done_of (take i served) → new ≡ results ++ Done serial reply ∷ [] → new ≡ map done_of (take (i + 1) served)
+outcomes_more served serials replies left results new i serial d reply serials_are replies_are less is here so_far grown =
+    let within : i < length served = omega (arith, less, ap length serials_are, length-map served (λ s. s.serial)) in
+    let next : i + 1 ≡ suc i = omega arith in
+    grown ∙ ap (λ l. l ++ Done serial reply ∷ []) so_far
+    ∙ sym (ap (λ n. map done_of (take n served)) next ∙ one_outcome served i serial d reply left within (is ∙ ap (λ l. get_or l i d) serials_are) (sym (ap (drop i) replies_are) ∙ here))

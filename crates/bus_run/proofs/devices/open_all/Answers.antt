@@ -1,0 +1,53 @@
+use Rattle.std.proofs.Common.{◌≡◌, ◌*◌, ◌<◌, ◌∙◌, ap, sym, subst, arith, length}
+use Rattle.phase_run.specs.Pairs.{AllCarried}
+use Rattle.bus_script.specs.Parts.{kind_of}
+use Rattle.bus_run.specs.Desk.{spec_of, asks_of, IsKept, IsReady, opened_by}
+use Rattle.bus_run.specs.Opening.{OneIf, OpensDesk, held_of}
+use Rattle.bus_run.proofs.Opened.{desk_there, suits_here, opened_more}
+use Rattle.bus_run.proofs.devices.open_all.Goals as goal
+
+pub open_device-requires-clause-kept : goal.open_device-requires-clause-kept
+open_device-requires-clause-kept c =
+    let i = c.loop-i.i in
+    let d = c.index_mut.result.now in
+    let old = c.args.desks.now.items in
+    let less : i < length old = omega (arith, c.loop-i-test.true, c.len-i-end.ensures) in
+    let within : i < length c.loop-i.desks.items = omega (arith, less, c.loop-i.invariant.count) in
+    let here = desk_there old c.loop-i.desks.items i d c.loop-i.invariant.rest within less c.index_mut.ensures.value in
+    subst IsKept (sym here) (c.requires.ready i d less).kept
+
+pub open_device-requires-clause-asks : goal.open_device-requires-clause-asks
+open_device-requires-clause-asks c =
+    let i = c.loop-i.i in
+    let d = c.index_mut.result.now in
+    let old = c.args.desks.now.items in
+    let less : i < length old = omega (arith, c.loop-i-test.true, c.len-i-end.ensures) in
+    let within : i < length c.loop-i.desks.items = omega (arith, less, c.loop-i.invariant.count) in
+    let here = desk_there old c.loop-i.desks.items i d c.loop-i.invariant.rest within less c.index_mut.ensures.value in
+    subst (AllCarried (kind_of (spec_of d))) (sym c.get.ensures) (suits_here 4096 old c.args.plan.now.asks i d c.requires.suits less here)
+
+pub open_device-requires-clause-room : goal.open_device-requires-clause-room
+open_device-requires-clause-room c =
+    let i = c.loop-i.i in
+    let d = c.index_mut.result.now in
+    let old = c.args.desks.now.items in
+    let less : i < length old = omega (arith, c.loop-i-test.true, c.len-i-end.ensures) in
+    let within : i < length c.loop-i.desks.items = omega (arith, less, c.loop-i.invariant.count) in
+    let here = desk_there old c.loop-i.desks.items i d c.loop-i.invariant.rest within less c.index_mut.ensures.value in
+    let ready : IsReady (4096 * c.args.phase) d = subst (IsReady (4096 * c.args.phase)) (sym here) (c.requires.ready i d less) in
+    omega (arith, ready.few, ap length c.get.ensures, c.requires.suits.few i less, c.requires.phase)
+
+pub loop-i-preserved : goal.loop-i-preserved
+loop-i-preserved c =
+    let i = c.loop-i.i in
+    let d = c.index_mut.result.now in
+    let old = c.args.desks.now.items in
+    let piles = c.args.plan.now.asks in
+    let opened = opened_by c.args.closed.now c.args.plan.now.wanted.items in
+    let less : i < length old = omega (arith, c.loop-i-test.true, c.len-i-end.ensures) in
+    let within : i < length c.loop-i.desks.items = omega (arith, less, c.loop-i.invariant.count) in
+    let pair = c.in_ok-open_device.ensures.pair in
+    let flag : c.is_opened.result ≡ opened i = c.is_opened.ensures ∙ ap (λ w. opened_by c.args.closed.now w i) c.deref.ensures.value in
+    let one = subst (λ b. OneIf b (OpensDesk (asks_of piles i) d) pair.0) flag (subst (λ a. OneIf c.is_opened.result (OpensDesk a d) pair.0) c.get.ensures pair.2) in
+    opened_more opened piles i old c.loop-i.desks.items c.loop-i.pairs.items c.open_device.new.pairs.items pair.0 d c.open_device.new.desk c.loop-i.invariant within c.index_mut.ensures.value
+    (c.in_ok-open_device.ensures.held ∙ ap (λ b. held_of b d) flag) pair.1 one

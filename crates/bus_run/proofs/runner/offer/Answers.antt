@@ -1,0 +1,15 @@
+use Rattle.std.proofs.Common.{◌≡◌, ◌++◌, ◌∙◌, sym, subst, ap, arith, length}
+use Rattle.bus_script.specs.Parts.{offered_by, bads_of}
+use Rattle.bus_run.specs.Whole.{AreFresh}
+use Rattle.bus_run.proofs.Phases.{fresh_more}
+use Rattle.bus_run.proofs.runner.offer.Goals as goal
+
+pub returns-in_ok-push-in-Offer : goal.returns-in_ok-push-in-Offer
+returns-in_ok-push-in-Offer c kinds fresh =
+    let lines = c.args.lines.now in
+    let desks = c.args.desks.now.items in
+    let spec = c.in-Offer.device in
+    let long : c.len.result ≡ length desks = omega (arith, c.len.ensures, c.args.desks.now.ok.0) in
+    let bad : c.deref.result.now ≡ bads_of (length desks) lines = c.deref.ensures.value ∙ c.in_ok-bad-in-Offer.ensures ∙ ap (λ n. bads_of n lines) long in
+    subst (λ w. AreFresh lines (kinds ++ offered_by w) c.push.new.self.items) (sym c.in-Offer.is)
+    (fresh_more lines kinds desks c.push.new.self.items spec c.deref.result.now c.in_ok-new_desk-in-Offer.field-0 fresh bad c.in_ok-new_desk-in-Offer.ensures c.in_ok-push-in-Offer.ensures.items)

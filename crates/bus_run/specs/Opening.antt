@@ -1,0 +1,75 @@
+-- The devices of a phase while their channels have them.
+use Rattle.std.specs.Prelude.{ℕ, ◌≡◌, ◌+◌, Bool, true, false, List, [], ◌∷◌, ◌++◌, length}
+use Rattle.bus_script.specs.Parts.{kind_of}
+use Rattle.bus_script.specs.declared.line.Ask.{Ask}
+use Rattle.hist_lock.specs.History.{entries_of}
+use Rattle.hist_lock.specs.Seat.{Seat}
+use Rattle.hist_lock.specs.declared.history.Entry.{Entry}
+use Rattle.phase_run.specs.Pairs.{Pairing, Opens, Ran}
+use Rattle.phase_run.specs.declared.pair.PairDone.{PairDone}
+use Rattle.phase_run.specs.declared.seat.DeviceSeat.{DeviceSeat}
+use Rattle.phase_run.specs.declared.seat.DeviceSeat.TheVariants.{Beat as BeatSeat, Down as DownSeat, Disk as DiskSeat}
+use Rattle.scsi_disk.specs.FiniteMap.{unwritten}
+use Rattle.util_ic.specs.Machines.{beat_start, down_start}
+use Rattle.bus_run.specs.Desk.{spec_of, subs_of, IsKept}
+use Rattle.bus_run.specs.declared.desk.Desk.{Desk}
+use Rattle.bus_run.specs.declared.desk.Desk.TheVariants.{Out, Beat as BeatDesk, Down as DownDesk, Disk as DiskDesk}
+
+-- the only seat of a history that goes on behind these entries, for so many calls
+abbrev pub new_seat : {S Q A : Type 0} → S → List (Entry S Q A) → ℕ → Seat S Q A
+new_seat first past quota = record { number = 0; first = first; left = quota; past = past; calls = [] }
+
+-- a new seat of this device
+abbrev pub IsSeatFor : Desk → ℕ → DeviceSeat → Type 0
+IsSeatFor (Out subs) quota seat = ⊥
+IsSeatFor (BeatDesk state history) quota (BeatSeat s) = s ≡ new_seat beat_start (entries_of history) quota
+IsSeatFor (BeatDesk state history) quota (DownSeat s) = ⊥
+IsSeatFor (BeatDesk state history) quota (DiskSeat s) = ⊥
+IsSeatFor (DownDesk state history) quota (BeatSeat s) = ⊥
+IsSeatFor (DownDesk state history) quota (DownSeat s) = s ≡ new_seat down_start (entries_of history) quota
+IsSeatFor (DownDesk state history) quota (DiskSeat s) = ⊥
+IsSeatFor (DiskDesk subs state history) quota (BeatSeat s) = ⊥
+IsSeatFor (DiskDesk subs state history) quota (DownSeat s) = ⊥
+IsSeatFor (DiskDesk subs state history) quota (DiskSeat s) = s ≡ new_seat (unwritten state) (entries_of history) quota
+
+-- what stays of a device while its channel is open, or the device
+abbrev pub held_of : Bool → Desk → Desk
+held_of true desk = Out (subs_of desk)
+held_of false desk = desk
+
+-- what stays of the devices from this place on
+abbrev pub held_from : (ℕ → Bool) → ℕ → List Desk → List Desk
+held_from opened place [] = []
+held_from opened place (d ∷ desks) = held_of (opened place) d ∷ held_from opened (place + 1) desks
+
+-- a channel was opened for this device, with a new seat for as many calls as it is asked
+pub record OpensDesk (asks : List Ask) (desk : Desk) (pair : Pairing) : Type 0 where
+  pub seat : DeviceSeat
+  pub is_for : IsSeatFor desk (length asks) seat
+  pub opens : Opens (kind_of (spec_of desk)) asks seat pair
+
+-- that channel has run
+pub record DeskRan (asks : List Ask) (desk : Desk) (done : PairDone) : Type 0 where
+  pub seat : DeviceSeat
+  pub is_for : IsSeatFor desk (length asks) seat
+  pub ran : Ran (kind_of (spec_of desk)) asks seat done
+
+-- one for a device whose channel is opened, and none for another
+abbrev pub OneIf : {A : Type 0} → Bool → (A → Type 0) → List A → Type 0
+OneIf false P xs = xs ≡ []
+OneIf true P [] = ⊥
+OneIf true P (x ∷ []) = P x
+OneIf true P (x ∷ y ∷ xs) = ⊥
+
+-- one for each device from this place on whose channel is opened, in order
+abbrev pub OneEach : {A : Type 0} → (List Ask → Desk → A → Type 0) → (ℕ → Bool) → (ℕ → List Ask) → ℕ → List Desk → List A → Type 0
+OneEach P opened asks place [] xs = xs ≡ []
+OneEach {A} P opened asks place (d ∷ desks) xs =
+    (front : List A) × (rest : List A) × (xs ≡ front ++ rest) × OneIf (opened place) (P (asks place) d) front × OneEach P opened asks (place + 1) desks rest
+
+-- what comes back for a device, before the others: its channel's end, if it was opened
+pub record ComesBack (opened : Bool) (asks : List Ask) (old held : Desk) (dones front rest : List PairDone) : Type 0 where
+  pub held_is : held ≡ held_of opened old
+  pub kept : IsKept old
+  pub dones_are : dones ≡ front ++ rest
+  pub ran : OneIf opened (DeskRan asks old) front

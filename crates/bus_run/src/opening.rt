@@ -1,0 +1,89 @@
+//! A device's channel is opened.
+ghost use Rattle.std.specs.Prelude.{◌≡◌, ◌+◌, ◌<◌, ◌≤◌, ◌^◌, ◌++◌, List, length, IfOk, OnOk};
+ghost use Rattle.bus_script.specs.Parts.{kind_of};
+ghost use Rattle.phase_run.specs.Pairs.{AllCarried, Pairing};
+ghost use Rattle.bus_run.specs.Desk.{spec_of, desk_log, IsKept};
+ghost use Rattle.bus_run.specs.Opening.{IsSeatFor, OpensDesk, OneIf, held_of};
+
+use crate::desk::Desk;
+use crate::lock::open_seat;
+use bus_script::Ask;
+use phase_run::{DeviceSeat, Pair, open_pair};
+use std::alloc::{AllocError, Global};
+use std::mem;
+
+/// A seat at a device, whose history goes on with so many calls.
+fn seat_for(alloc: Global, desk: Desk, quota: u32) -> Result<DeviceSeat, AllocError>
+    requires kept { IsKept desk }
+    requires room { length (desk_log desk) + quota < 2 ^ 32 }
+    ensures { IfOk result (IsSeatFor desk quota) }
+{
+    match desk {
+        Desk::Beat(state, history) => {
+            let seat = open_seat(alloc, state, history, quota)?;
+            Ok(DeviceSeat::Beat(seat))
+        }
+        Desk::Down(state, history) => {
+            let seat = open_seat(alloc, state, history, quota)?;
+            Ok(DeviceSeat::Down(seat))
+        }
+        Desk::Disk {
+            subs: _,
+            state,
+            history,
+        } => {
+            let seat = open_seat(alloc, state, history, quota)?;
+            Ok(DeviceSeat::Disk(seat))
+        }
+        Desk::Out { .. } => unreachable!(),
+    }
+}
+
+/// The two workers of a device's channel, with a seat for as many calls as it is asked. A channel has one request open at a time.
+fn open_desk(
+    alloc: Global,
+    relid: u32,
+    pages: u32,
+    asks: &[Ask],
+    desk: Desk,
+) -> Result<Pair, AllocError>
+    requires kept { IsKept desk }
+    requires asks { AllCarried (kind_of (spec_of desk)) asks.now }
+    requires few { length asks.now ≤ 4096 }
+    requires pages { (1 ≤ pages) × (pages ≤ 16) }
+    requires room { length (desk_log desk) + length asks.now < 2 ^ 32 }
+    ensures { IfOk result (OpensDesk asks.now desk) }
+{
+    let kind = desk.kind();
+    let seat = seat_for(alloc, desk, asks.len() as u32)?;
+    open_pair(alloc, kind, relid, pages, 1, seat, asks)
+}
+
+/// Opens the channel of a device in a phase, if the phase opens it. Relids count from 1, in order of the devices.
+pub fn open_device(
+    alloc: Global,
+    device: u32,
+    pages: u32,
+    opened: bool,
+    asks: &[Ask],
+    desk: &mut Desk,
+    pairs: &mut Vec<Pair>,
+) -> Result<(), AllocError>
+    requires kept { IsKept desk.old }
+    requires asks { AllCarried (kind_of (spec_of desk.old)) asks.now }
+    requires few { length asks.now ≤ 4096 }
+    requires pages { (1 ≤ pages) × (pages ≤ 16) }
+    requires device { device + 1 < 2 ^ 32 }
+    requires room { length (desk_log desk.old) + length asks.now < 2 ^ 32 }
+    ensures held { OnOk result (desk.new ≡ held_of opened desk.old) }
+    ensures pair { OnOk result ((front : List Pairing) × (pairs.new.items ≡ pairs.old.items ++ front) × OneIf opened (OpensDesk asks.now desk.old) front) }
+{
+    if !opened {
+        return Ok(());
+    }
+    let subs = desk.subs();
+    let whole = mem::replace(desk, Desk::Out { subs });
+    let pair = open_desk(alloc, device + 1, pages, asks, whole)?;
+    pairs.push(pair)?;
+    Ok(())
+}

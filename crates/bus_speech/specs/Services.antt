@@ -1,0 +1,29 @@
+-- What the packets of a utility channel say: the host asks a service of the guest.
+use Rattle.std.specs.Prelude.{ℕ, ◌==◌, Bool, ◌&&◌, List, Option, Some, None, if◌then◌else◌}
+use Rattle.contact.specs.declared.kind.Kind.{Kind}
+use Rattle.util_ic.specs.declared.ic.IcAsk.{IcAsk}
+use Rattle.util_ic.specs.declared.ic.IcAnswer.{IcAnswer}
+use Rattle.util_ic.specs.Asks.{ask_of, answer_of, reply_of}
+use Rattle.pkt_desc.specs.Packets.{id_of}
+use Rattle.util_ic.specs.Packets.{served_packet, answer_packet}
+use Rattle.bus_speech.specs.Packets.{is_inband, content_of}
+
+-- what a packet asks of the service of this kind
+unfoldable pub service_read : Kind → List ℕ → Option IcAsk
+service_read kind p = if is_inband p then ask_of kind (content_of p) else None
+
+-- the answer to a packet that asks nothing of the service
+unfoldable pub service_fixed : Kind → List ℕ → List ℕ
+service_fixed kind p = served_packet (id_of p) kind (content_of p)
+
+-- the answer with the service's reply
+unfoldable pub service_answer : List ℕ → IcAnswer → List ℕ
+service_answer p r = answer_packet (id_of p) (content_of p) r
+
+-- what an answer says
+unfoldable pub service_result : Kind → List ℕ → Option IcAnswer
+service_result kind p = if is_inband p then Some (answer_of kind (content_of p)) else None
+
+-- the service replies so
+unfoldable pub service_fits : Kind → IcAsk → IcAnswer → Bool
+service_fits kind q r = (r.status == (reply_of kind q).status) && (r.seq == (reply_of kind q).seq)

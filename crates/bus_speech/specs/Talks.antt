@@ -1,0 +1,22 @@
+-- One end's part in the talk of a channel.
+use Rattle.std.specs.Prelude.{ℕ, ◌<◌, ◌^◌, List, [], ◌++◌, map, length}
+use Rattle.std.specs.List.{AllByRecursion}
+use Rattle.contact.specs.declared.kind.Kind.{Kind}
+use Rattle.bus_script.specs.declared.line.Ask.{Ask}
+use Rattle.bus_speech.specs.declared.want.Want.{Want}
+use Rattle.bus_speech.specs.declared.want.Want.TheVariants.{Script}
+use Rattle.bus_speech.specs.Wants.{startup, IsAskable}
+
+-- the kind of channel, and what the script asks on it
+pub record Talked : Type 0 where
+  pub kind : Kind
+  pub asks : List Ask
+
+-- what the end that asks has to ask: the start-up first
+abbrev pub asks_of : Talked → List Want
+asks_of t = startup t.kind ++ map Script t.asks
+
+-- all of it can be asked, and there is room to count it in
+pub record CanAsk (kind : Kind) (asks : List Ask) : Type 0 where
+  pub can : AllByRecursion (IsAskable kind) asks
+  pub few : length asks < 2 ^ 31

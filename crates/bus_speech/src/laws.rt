@@ -1,0 +1,31 @@
+//! Laws of what the packets of each kind of channel say: each function does nothing, and its contract is a law.
+ghost use Rattle.std.specs.Prelude.{◌≡◌, ℕ, List, Some, map};
+ghost use Rattle.std.specs.List.{AllByRecursion};
+ghost use Rattle.contact.specs.declared.kind.Kind.{Kind};
+ghost use Rattle.bus_script.specs.declared.line.Ask.{Ask};
+ghost use Rattle.work_model.specs.Speech.{Keeps};
+ghost use Rattle.work_model.specs.Channel.{AllFixed, AllAsk};
+ghost use Rattle.bus_speech.specs.declared.want.Want.TheVariants.{Script};
+ghost use Rattle.bus_speech.specs.Wants.{startup, IsAskable};
+ghost use Rattle.bus_speech.specs.Speeches.{encode_on, read_on, speech_of};
+
+/// The packets of each kind of channel keep to the laws of a speech: each request that has an answer is answered once, under its id, and the reply is
+/// read in the answer.
+pub fn keeps_to_its_laws()
+    ensures { (kind : Kind) → Keeps (speech_of kind) }
+{}
+
+/// What goes back for a start-up is fixed: no device is asked.
+pub fn start_up_is_fixed()
+    ensures { (kind : Kind) → AllFixed (speech_of kind) (startup kind) }
+{}
+
+/// Each request of a script that can be asked asks the device.
+pub fn scripts_ask()
+    ensures { (kind : Kind) (asks : List Ask) → AllByRecursion (IsAskable kind) asks → AllAsk (speech_of kind) (map Script asks) }
+{}
+
+/// The device is asked exactly what the script asked.
+pub fn asks_what_was_asked()
+    ensures { (kind : Kind) (id : ℕ) (ask : Ask) → IsAskable kind ask → read_on kind (encode_on kind id (Script ask)) ≡ Some ask }
+{}

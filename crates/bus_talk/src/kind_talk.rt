@@ -1,0 +1,278 @@
+//! The talk of a channel of any kind.
+ghost use Rattle.std.specs.Prelude.{◌≡◌, ◌≤◌, ◌<◌, ◌^◌, ◌&&◌, ◌∷◌, [], length, take, true, Some};
+ghost use Rattle.std.specs.List.{AllByRecursion};
+ghost use Rattle.ring_core.specs.States.{IsPacket};
+ghost use Rattle.chan_talk.specs.Listed.{listed_packet};
+ghost use Rattle.pkt_desc.specs.Packets.{id_of};
+ghost use Rattle.bus_script.specs.declared.line.Ask.{Ask as OneAsk};
+ghost use Rattle.bus_speech.specs.declared.want.Want.{Want as OneWant};
+ghost use Rattle.bus_speech.specs.declared.want.Want.TheVariants.{Starts, Script};
+ghost use Rattle.bus_speech.specs.Wants.{startup, IsAskable};
+ghost use Rattle.bus_speech.specs.Speeches.{encode_on, waits_on, read_on, fixed_on, fits_on, answer_on, said_on, speech_of};
+ghost use Rattle.bus_speech.specs.Talks.{asks_of};
+
+use crate::disks::{
+    is_disk_request, read_disk, read_disk_said, write_disk_answer, write_disk_ask,
+    write_disk_fixed, write_start,
+};
+use crate::packets::{is_inband, write_bare};
+use crate::services::{read_said, read_service, write_ask, write_negotiate, write_served};
+use bus_script::{Ask, Reply};
+use bus_speech::Want;
+use chan_talk::Talk;
+use contact::Kind;
+use std::marker::Model;
+
+/// The part of an end in the talk of a channel: the kind of the channel, and what the script asks on it. The end that serves asks nothing.
+///
+/// A utility service starts up with one request, which negotiates its versions, and a disk with four: it begins, version 6.2 is asked for, then the
+/// properties, and it ends. Linux asks for version 6.0 and then for 5.1 where one is refused; between the two ends of this program none is, so the list
+/// is fixed.
+#[derive(Drop)]
+pub struct KindTalk {
+    kind: Kind,
+    asks: Vec<Ask>,
+}
+
+impl Model for KindTalk {
+    ghost use Rattle.bus_speech.specs.Talks.{Talked, CanAsk};
+
+    ghost Value = { Talked };
+
+    ghost view = { λ t. record { kind = t.kind; asks = t.asks.items } };
+
+    ghost invariant = { λ t. CanAsk t.kind t.asks.items };
+}
+
+impl KindTalk {
+    /// The talk of a channel of this kind on which this is asked.
+    pub fn make(kind: Kind, asks: Vec<Ask>) -> KindTalk
+        requires can { AllByRecursion (IsAskable kind) asks.items }
+        requires few { length asks.items < 2 ^ 31 }
+        ensures { result ≡ record { kind = kind; asks = asks.items } }
+    {
+        KindTalk { kind, asks }
+    }
+
+    /// The kind of the channel.
+    pub fn kind(&self) -> Kind
+        ensures { result ≡ self.now.kind }
+    {
+        self.kind
+    }
+}
+
+/// How many requests the start-up of a channel has.
+fn count_starts(kind: Kind) -> u32
+    ensures value { result ≡ length (startup kind) }
+    ensures few { result ≤ 4 }
+{
+    match kind {
+        Kind::Beat | Kind::Down => 1,
+        Kind::Disk => 4,
+        Kind::Net => 0,
+    }
+}
+
+/// Writes the k-th packet of the start-up under an id: its words.
+fn encode_start(kind: Kind, k: u32, id: u64, out: &mut [u64]) -> usize
+    requires { length out.old ≡ 384 }
+    ensures packet { take result out.new ≡ encode_on kind id (Starts k) }
+    ensures is_packet { IsPacket (take result out.new) }
+    ensures most { result ≤ 384 }
+{
+    match kind {
+        Kind::Beat | Kind::Down => write_negotiate(kind, id, out),
+        Kind::Disk => write_start(k, id, out),
+        Kind::Net => write_bare(id, out),
+    }
+}
+
+/// Writes the packet that asks this under an id: its words.
+fn encode_ask(kind: Kind, ask: &Ask, id: u64, out: &mut [u64]) -> usize
+    requires can { IsAskable kind ask.now }
+    requires out { length out.old ≡ 384 }
+    ensures packet { take result out.new ≡ encode_on kind id (Script ask.now) }
+    ensures is_packet { IsPacket (take result out.new) }
+    ensures most { result ≤ 384 }
+{
+    match (kind, ask) {
+        (Kind::Beat, Ask::Ic(ask)) => write_ask(ask, id, out),
+        (Kind::Down, Ask::Ic(ask)) => write_ask(ask, id, out),
+        (Kind::Disk, Ask::Disk(request)) => write_disk_ask(request, id, out),
+        _ => write_bare(id, out),
+    }
+}
+
+/// Whether a packet is a request that has an answer.
+fn waits(kind: Kind, packet: &[u64]) -> bool
+    requires { IsPacket packet.now }
+    ensures { result ≡ waits_on kind packet.now }
+{
+    match kind {
+        Kind::Beat | Kind::Down => is_inband(packet),
+        Kind::Disk => is_disk_request(packet),
+        Kind::Net => false,
+    }
+}
+
+/// What a packet asks of the device.
+fn read(kind: Kind, packet: &[u64]) -> Option<Ask>
+    requires { IsPacket packet.now }
+    ensures { result ≡ read_on kind packet.now }
+{
+    match kind {
+        Kind::Beat | Kind::Down => match read_service(kind, packet) {
+            Some(ask) => Some(Ask::Ic(ask)),
+            None => None,
+        },
+        Kind::Disk => match read_disk(packet) {
+            Some(request) => Some(Ask::Disk(request)),
+            None => None,
+        },
+        Kind::Net => None,
+    }
+}
+
+/// Writes the answer to a request that asks nothing of the device: its words.
+fn write_fixed_on(kind: Kind, packet: &[u64], out: &mut [u64]) -> usize
+    requires packet { IsPacket packet.now }
+    requires waits { waits_on kind packet.now ≡ true }
+    requires out { length out.old ≡ 384 }
+    ensures packet { take result out.new ≡ fixed_on kind packet.now }
+    ensures is_packet { IsPacket (take result out.new) }
+    ensures most { result ≤ 384 }
+{
+    match kind {
+        Kind::Beat | Kind::Down => write_served(kind, packet, out),
+        Kind::Disk => write_disk_fixed(packet, out),
+        Kind::Net => write_bare(packet[1], out),
+    }
+}
+
+/// Writes the answer with the device's reply: its words.
+fn write_answer_on(kind: Kind, packet: &[u64], reply: &Reply, out: &mut [u64]) -> usize
+    requires packet { IsPacket packet.now }
+    requires fits { (q : OneAsk) × (read_on kind packet.now ≡ Some q) × (fits_on kind q reply.now ≡ true) }
+    requires out { length out.old ≡ 384 }
+    ensures packet { take result out.new ≡ answer_on kind packet.now reply.now }
+    ensures is_packet { IsPacket (take result out.new) }
+    ensures most { result ≤ 384 }
+{
+    match (kind, reply) {
+        (Kind::Beat, Reply::Ic(_)) => write_served(kind, packet, out),
+        (Kind::Down, Reply::Ic(_)) => write_served(kind, packet, out),
+        (Kind::Disk, Reply::Disk(reply)) => write_disk_answer(packet, reply, out),
+        _ => write_bare(packet[1], out),
+    }
+}
+
+/// What an answer says.
+fn said(kind: Kind, packet: &[u64]) -> Option<Reply>
+    requires { IsPacket packet.now }
+    ensures { result ≡ said_on kind packet.now }
+{
+    match kind {
+        Kind::Beat | Kind::Down => match read_said(kind, packet) {
+            Some(reply) => Some(Reply::Ic(reply)),
+            None => None,
+        },
+        Kind::Disk => match read_disk_said(packet) {
+            Some(reply) => Some(Reply::Disk(reply)),
+            None => None,
+        },
+        Kind::Net => None,
+    }
+}
+
+impl Talk for KindTalk {
+    ghost use Rattle.std.specs.Prelude.{refl, []};
+    ghost use Rattle.bus_speech.specs.Speeches.{answer_on, speech_of};
+    ghost use Rattle.bus_speech.specs.Talks.{asks_of};
+    ghost use Rattle.bus_speech.proofs.SpeechLaws.{keeps};
+    ghost use Rattle.bus_speech.proofs.TalkLaws.{listed_answer};
+
+    type Ask = Want;
+
+    type Request = Ask;
+
+    type Reply = Reply;
+
+    ghost speech = { λ s. speech_of s.kind };
+
+    ghost keeps = { λ s. keeps s.kind };
+
+    ghost answers = { λ s p. refl };
+
+    ghost gives = { λ s p r back. listed_answer s.kind p r };
+
+    ghost asks = { asks_of };
+
+    ghost message = { λ s p r back. [] };
+
+    ghost answer = { λ s p r. answer_on s.kind p r };
+
+    fn count(&self) -> u32 {
+        count_starts(self.kind) + self.asks.len() as u32
+    }
+
+    fn starts(&self) -> u32
+        ensures value { result ≡ length (startup self.now.kind) }
+        ensures within { result ≤ length (asks_of self.now) }
+    {
+        count_starts(self.kind)
+    }
+
+    /// Each has one: the requests of both start-ups, and those of a script, which can be asked.
+    fn has_answer(&self, k: u32) -> bool {
+        (k as usize) < count_starts(self.kind) as usize + self.asks.len()
+    }
+
+    fn encode(&self, k: u32, id: u64, out: &mut [u64]) -> usize {
+        let starts = count_starts(self.kind);
+        if k < starts {
+            return encode_start(self.kind, k, id, out);
+        }
+        encode_ask(self.kind, &self.asks[(k - starts) as usize], id, out)
+    }
+
+    fn id(&self, packet: &[u64]) -> u64 {
+        packet[1]
+    }
+
+    fn is_waiting(&self, packet: &[u64]) -> bool {
+        waits(self.kind, packet)
+    }
+
+    fn read(&self, packet: &[u64]) -> Option<Ask> {
+        read(self.kind, packet)
+    }
+
+    fn write_fixed(&self, packet: &[u64], out: &mut [u64]) -> usize {
+        if !waits(self.kind, packet) || read(self.kind, packet).is_some() {
+            return 0;
+        }
+        write_fixed_on(self.kind, packet, out)
+    }
+
+    fn write_message(
+        &self,
+        _packet: &[u64],
+        _reply: &Reply,
+        _back: u64,
+        _out: &mut [u64],
+    ) -> usize {
+        0
+    }
+
+    fn write_answer(&self, packet: &[u64], reply: &Reply, out: &mut [u64]) -> usize {
+        write_answer_on(self.kind, packet, reply, out)
+    }
+
+    fn result(&self, k: u32, packet: &[u64]) -> Option<Reply> {
+        if k < count_starts(self.kind) {
+            return None;
+        }
+        said(self.kind, packet)
+    }
+}

@@ -1,0 +1,13 @@
+//! What the packets of each kind of channel say.
+#![tactic(auto)]
+
+mod askable;
+mod disks;
+mod kind_talk;
+mod packets;
+mod services;
+#[cfg(test)]
+mod tests;
+
+pub use askable::is_askable;
+pub use kind_talk::KindTalk;

@@ -1,0 +1,63 @@
+//! The bytes of a packet.
+ghost use Rattle.std.specs.Prelude.{◌≡◌, ◌≤◌, ◌<◌, ◌^◌, length, take};
+ghost use Rattle.ring_core.specs.States.{IsPacket};
+ghost use Rattle.bus_speech.specs.Packets.{is_of, is_inband as inband, is_completion as completion, content_of, bare_packet};
+
+use pkt_desc::build_inband;
+use vm_page::bytes_of;
+
+/// The most bytes of a payload: a packet has at most 384 words, two of them before its payload.
+pub(crate) const MOST_BYTES: usize = 3_056;
+
+/// Whether a packet is of this type and has at most 384 words.
+fn is_of_type(packet: &[u64], kind: u64) -> bool
+    requires { IsPacket packet.now }
+    ensures value { result ≡ is_of kind packet.now }
+{
+    packet[0] % 0x1_0000 == kind && packet.len() <= 384
+}
+
+/// Whether a packet is in-band data of at most 384 words.
+#[tactic(auto, unfolding(bus_speech::specs::Packets::is_inband))]
+pub(crate) fn is_inband(packet: &[u64]) -> bool
+    requires { IsPacket packet.now }
+    ensures value { result ≡ inband packet.now }
+{
+    is_of_type(packet, 6)
+}
+
+/// Whether a packet is a completion of at most 384 words.
+#[tactic(auto, unfolding(bus_speech::specs::Packets::is_completion))]
+pub(crate) fn is_completion(packet: &[u64]) -> bool
+    requires { IsPacket packet.now }
+    ensures value { result ≡ completion packet.now }
+{
+    is_of_type(packet, 11)
+}
+
+/// The bytes of a packet's payload, put at the front of `bytes`: how many they are.
+#[tactic(auto, unfolding(bus_speech::specs::Packets::content_of))]
+pub(crate) fn content(packet: &[u64], bytes: &mut [u8]) -> usize
+    requires packet { IsPacket packet.now }
+    requires short { length packet.now ≤ 384 }
+    requires room { length bytes.old ≡ 3056 }
+    ensures len { result ≤ 3056 }
+    ensures bytes { take result bytes.new ≡ content_of packet.now }
+{
+    let offset = packet[0] / 0x1_0000 % 0x1_0000;
+    let (_, payload) = packet.split_at(offset as usize);
+    let len = 8 * payload.len();
+    bytes_of(payload, &mut bytes[..len]);
+    len
+}
+
+/// Writes an in-band packet without payload: its words.
+#[tactic(auto, unfolding(bus_speech::specs::Packets::bare_packet))]
+pub(crate) fn write_bare(id: u64, out: &mut [u64]) -> usize
+    requires { length out.old ≡ 384 }
+    ensures packet { take result out.new ≡ bare_packet id }
+    ensures is_packet { IsPacket (take result out.new) }
+    ensures most { result ≤ 384 }
+{
+    build_inband(out, id, 0, &[])
+}

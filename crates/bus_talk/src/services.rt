@@ -1,0 +1,88 @@
+//! Packets of a utility channel. The host asks with in-band packets, and the guest answers each with one.
+//!
+//! Source: Linux 6.12, `drivers/hv/hv_util.c` and `drivers/hv/channel_mgmt.c`.
+ghost use Rattle.std.specs.Prelude.{◌≡◌, ◌≤◌, length, take, true};
+ghost use Rattle.ring_core.specs.States.{IsPacket};
+ghost use Rattle.util_ic.specs.Messages.{IsUtility};
+ghost use Rattle.util_ic.specs.Packets.{ask_packet, negotiate_packet};
+ghost use Rattle.bus_speech.specs.Packets.{is_inband as inband};
+ghost use Rattle.bus_speech.specs.Services.{service_read, service_fixed, service_result};
+
+use crate::packets::{MOST_BYTES, content, is_inband};
+use contact::Kind;
+use pkt_desc::build_inband;
+use util_ic::{IcAnswer, IcAsk, ask, negotiate, read_answer, read_ask, serve};
+
+/// Writes the packet that asks a service under an id: its words.
+pub(crate) fn write_ask(request: &IcAsk, id: u64, out: &mut [u64]) -> usize
+    requires { length out.old ≡ 384 }
+    ensures packet { take result out.new ≡ ask_packet id request.now }
+    ensures is_packet { IsPacket (take result out.new) }
+    ensures most { result ≤ 384 }
+{
+    let mut bytes = [0; 2_112];
+    let len = ask(request, &mut bytes);
+    build_inband(out, id, 0, &bytes[..len])
+}
+
+/// Writes the packet of the start-up under an id: its words.
+pub(crate) fn write_negotiate(kind: Kind, id: u64, out: &mut [u64]) -> usize
+    requires kind { IsUtility kind }
+    requires out { length out.old ≡ 384 }
+    ensures packet { take result out.new ≡ negotiate_packet id }
+    ensures is_packet { IsPacket (take result out.new) }
+    ensures most { result ≤ 384 }
+{
+    let mut bytes = [0; 2_112];
+    let len = negotiate(kind, &mut bytes);
+    build_inband(out, id, 0, &bytes[..len])
+}
+
+/// What a packet asks of the service, where it is in-band.
+#[tactic(auto, unfolding(bus_speech::specs::Services::service_read, bus_speech::specs::Packets::is_inband))]
+pub(crate) fn read_service(kind: Kind, packet: &[u64]) -> Option<IcAsk>
+    requires kind { IsUtility kind }
+    requires packet { IsPacket packet.now }
+    ensures value { result ≡ service_read kind packet.now }
+{
+    if !is_inband(packet) {
+        return None;
+    }
+    let mut bytes = [0; MOST_BYTES];
+    let len = content(packet, &mut bytes);
+    read_ask(&bytes[..len], kind)
+}
+
+/// Writes the answer of the service to an in-band packet: its words. A request of the service is answered with the service's reply, since that is what
+/// the service's table of answers says.
+#[tactic(auto, unfolding(bus_speech::specs::Services::service_fixed, bus_speech::specs::Packets::is_inband))]
+pub(crate) fn write_served(kind: Kind, packet: &[u64], out: &mut [u64]) -> usize
+    requires kind { IsUtility kind }
+    requires packet { IsPacket packet.now }
+    requires inband { inband packet.now ≡ true }
+    requires out { length out.old ≡ 384 }
+    ensures packet { take result out.new ≡ service_fixed kind packet.now }
+    ensures is_packet { IsPacket (take result out.new) }
+    ensures most { result ≤ 384 }
+{
+    let mut bytes = [0; MOST_BYTES];
+    let len = content(packet, &mut bytes);
+    let mut reply = [0; MOST_BYTES];
+    let count = serve(&bytes[..len], kind, &mut reply);
+    build_inband(out, packet[1], 0, &reply[..count])
+}
+
+/// What an answer says, where it is in-band.
+#[tactic(auto, unfolding(bus_speech::specs::Services::service_result, bus_speech::specs::Packets::is_inband))]
+pub(crate) fn read_said(kind: Kind, packet: &[u64]) -> Option<IcAnswer>
+    requires kind { IsUtility kind }
+    requires packet { IsPacket packet.now }
+    ensures value { result ≡ service_result kind packet.now }
+{
+    if !is_inband(packet) {
+        return None;
+    }
+    let mut bytes = [0; MOST_BYTES];
+    let len = content(packet, &mut bytes);
+    Some(read_answer(&bytes[..len], kind))
+}

@@ -1,0 +1,5 @@
+pub mod SeatLaws
+pub mod Joining
+pub mod Opening
+pub mod Running
+pub mod Each

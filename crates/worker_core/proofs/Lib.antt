@@ -1,0 +1,6 @@
+pub mod RoomLaws
+pub mod PortLaws
+pub mod DeskLaws
+pub mod ServeSteps
+pub mod Tables
+pub mod AskSteps

@@ -1,0 +1,255 @@
+-- The serving worker's steps keep what it keeps.
+use Rattle.std.proofs.Common.{◌≡◌, ℕ, ◌+◌, ◌≤◌, List, [], ◌∷◌, ◌++◌, length, filter, drop, refl, sym, ap, ◌∙◌, subst, arith, Option, Some, None, is_some, Bool, true, false, inl, inr, ◌⊎◌, length-append}
+use Rattle.std.specs.Prelude.{◌&&◌, ◌||◌, if◌then◌else◌, slice_get}
+use Rattle.std.proofs.lemmas.List.{drop-append-le, drop_all, drop_more}
+use Rattle.std.proofs.lemmas.Option.{get_or_from_slice_get}
+use Rattle.std.proofs.lemmas.Bool.Decides.{nat_tests}
+use Rattle.chan_run.specs.declared.event.Event.{Event}
+use Rattle.chan_run.specs.declared.event.Event.TheVariants.{Sent, Got, Empty, Marked}
+use Rattle.chan_run.specs.Runs.{sent_of, got_of, has_marked, has_seen, is_drained}
+use Rattle.chan_run.specs.Laws.{Follows}
+use Rattle.chan_run.proofs.Pasts.{drained_seen, follows_unmarked}
+use Rattle.hist_lock.specs.Seat.{Call}
+use Rattle.ring_core.specs.Seen.{Seen}
+use Rattle.ring_seat.specs.declared.table_seat.TableSeat.{TableSeat}
+use Rattle.work_model.specs.Speech.{Speech, Keeps}
+use Rattle.work_model.specs.Channel.{Plan, count_of, held_of, ServerStops, ServerEnds, ServerBreaks}
+use Rattle.work_model.specs.Workers.{ServerKept}
+use Rattle.work_model.proofs.Opens.{by_test, filter_yes, filter_no}
+use Rattle.work_model.proofs.Counts.{calls_left}
+use Rattle.work_model.proofs.Serving.{server_took, server_served, server_passed, server_gave, server_quiet, server_new, server_ends, server_breaks}
+use Rattle.worker_core.specs.Line.{ArmedFor}
+use Rattle.worker_core.specs.Owed.{is_nil, need_of}
+use Rattle.worker_core.specs.Serving.{Desk, Serving, IsServing, Rests, ServesPacket, Orders, EndsAll, BreaksOff, EndsBy, ServesOn, has_served}
+use Rattle.worker_core.specs.declared.ended.Ended.{Ended}
+use Rattle.worker_core.specs.declared.ended.Ended.TheVariants.{Marked as EndedMarked, PeerMarked, Room}
+
+not_both : {X : Type 0} (b : Bool) → b ≡ false → b ≡ true → X
+not_both b e f = absurd (cc)
+
+module _ {T S A Q R : Type 0} (s : Speech (List ℕ) A Q R) (keeps : Keeps s) (w : Serving T S Q R) where
+  waited_more : (p : List ℕ) (got : List (List ℕ)) → length (filter s.waits (filter s.is_request (got ++ p ∷ []))) ≡ length (filter s.waits (filter s.is_request got)) + (if s.is_request p && s.waits p then 1 else 0)
+  waited_more p got =
+      by_test (s.is_request p)
+      (λ e. ap (λ l. length (filter s.waits l)) (filter_yes s.is_request got p e)
+      ∙ by_test (s.waits p)
+      (λ f. ap length (filter_yes s.waits (filter s.is_request got) p f) ∙ (length-append (filter s.waits (filter s.is_request got)) (p ∷ [])
+      ∙ (ap (λ b. length (filter s.waits (filter s.is_request got)) + (if b && true then 1 else 0)) (sym e)
+      ∙ ap (λ b. length (filter s.waits (filter s.is_request got)) + (if s.is_request p && b then 1 else 0)) (sym f))))
+      (λ f. ap length (filter_no s.waits (filter s.is_request got) p f) ∙ (omega arith
+      ∙ (ap (λ b. length (filter s.waits (filter s.is_request got)) + (if b && false then 1 else 0)) (sym e)
+      ∙ ap (λ b. length (filter s.waits (filter s.is_request got)) + (if s.is_request p && b then 1 else 0)) (sym f)))))
+      (λ e. ap (λ l. length (filter s.waits l)) (filter_no s.is_request got p e) ∙ (omega arith ∙ ap (λ b. length (filter s.waits (filter s.is_request got)) + (if b && s.waits p then 1 else 0)) (sym e)))
+
+  -- a packet was taken
+  pub took_kept : (end' : Seen TableSeat) (missing' : ℕ) (p : List ℕ) → end'.state.past ≡ Got p ∷ w.end.state.past → end'.state.got ≡ w.end.state.got ++ p ∷ [] → end'.state.machine.asleep ≡ false
+      → w.missing ≤ missing' + (if s.is_request p && s.waits p then 1 else 0) → IsServing s w → IsServing s (record w { end = end'; missing = missing' })
+  took_kept end' missing' p is more awake less h =
+      let got = w.end.state.got in
+      let rest : drop w.served end'.state.got ≡ drop w.served got ++ p ∷ [] = ap (drop w.served) more ∙ drop-append-le w.served got (p ∷ []) h.within in
+      let k = server_took s keeps w.desk.held w.serve w.end.state.past w.desk.calls w.desk.owed w.desk.left (drop w.served got) p h.kept in
+      record {
+        kept = subst (λ l. ServerKept s w.desk.held w.serve l w.desk.calls w.desk.owed w.desk.left (drop w.served end'.state.got)) (sym is)
+            (subst (λ l. ServerKept s w.desk.held w.serve (Got p ∷ w.end.state.past) w.desk.calls w.desk.owed w.desk.left l) (sym rest) k);
+        within = omega (arith, h.within, ap length more, length-append got (p ∷ []));
+        started = omega (arith, h.started, less, waited_more p (got_of w.end.state.past), ap (λ l. length (filter s.waits (filter s.is_request (got_of l)))) is);
+        saw = λ e. ap has_seen is ∙ h.saw e;
+        rests = λ e. not_both end'.state.machine.asleep awake e;
+      }
+
+  -- nothing was sent or got
+  pub quiet_kept : (end' : Seen TableSeat) (seen' : Bool) (want' : Option ℕ) (e : Event (List ℕ)) → end'.state.past ≡ e ∷ w.end.state.past → sent_of (e ∷ w.end.state.past) ≡ sent_of w.end.state.past
+      → got_of (e ∷ w.end.state.past) ≡ got_of w.end.state.past → end'.state.got ≡ w.end.state.got → end'.state.machine.asleep ≡ false → (seen' ≡ true → has_seen (e ∷ w.end.state.past) ≡ true)
+      → IsServing s w → IsServing s (record w { end = end'; seen = seen'; want = want' })
+  quiet_kept end' seen' want' e is same same' got awake saw h =
+      let k = server_quiet s keeps w.desk.held w.serve w.end.state.past e w.desk.calls w.desk.owed w.desk.left (drop w.served w.end.state.got) same same' h.kept in
+      record {
+        kept = subst (λ l. ServerKept s w.desk.held w.serve l w.desk.calls w.desk.owed w.desk.left (drop w.served end'.state.got)) (sym is)
+            (subst (λ l. ServerKept s w.desk.held w.serve (e ∷ w.end.state.past) w.desk.calls w.desk.owed w.desk.left (drop w.served l)) (sym got) k);
+        within = omega (arith, h.within, ap length got);
+        started = omega (arith, h.started, ap (λ l. length (filter s.waits (filter s.is_request (got_of l)))) is, ap (λ l. length (filter s.waits (filter s.is_request l))) same');
+        saw = λ b. ap has_seen is ∙ saw b;
+        rests = λ b. not_both end'.state.machine.asleep awake b;
+      }
+
+  -- nothing was done that the peer sees
+  pub still_kept : (end' : Seen TableSeat) (want' : Option ℕ) → end'.state.past ≡ w.end.state.past → end'.state.got ≡ w.end.state.got
+      → (end'.state.machine.asleep ≡ true → Rests (record w { end = end'; want = want' })) → IsServing s w → IsServing s (record w { end = end'; want = want' })
+  still_kept end' want' is got rests h =
+      record {
+        kept = subst (λ l. ServerKept s w.desk.held w.serve l w.desk.calls w.desk.owed w.desk.left (drop w.served end'.state.got)) (sym is)
+            (subst (λ l. ServerKept s w.desk.held w.serve w.end.state.past w.desk.calls w.desk.owed w.desk.left (drop w.served l)) (sym got) h.kept);
+        within = omega (arith, h.within, ap length got);
+        started = omega (arith, h.started, ap (λ l. length (filter s.waits (filter s.is_request (got_of l)))) is);
+        saw = λ b. ap has_seen is ∙ h.saw b;
+        rests = rests;
+      }
+
+  -- a packet that was owed was sent
+  pub gave_kept : (end' : Seen TableSeat) (desk' : Desk T S Q R) (p : List ℕ) → end'.state.past ≡ Sent p ∷ w.end.state.past → w.desk.owed ≡ p ∷ drop 1 w.desk.owed
+      → desk' ≡ record w.desk { owed = drop 1 w.desk.owed } → end'.state.got ≡ w.end.state.got → end'.state.machine.asleep ≡ false
+      → IsServing s w → IsServing s (record w { end = end'; desk = desk' })
+  gave_kept end' desk' p is first desk got awake h =
+      let k = server_gave s keeps w.desk.held w.serve w.end.state.past w.desk.calls p (drop 1 w.desk.owed) w.desk.left (drop w.served w.end.state.got)
+      (subst (λ l. ServerKept s w.desk.held w.serve w.end.state.past w.desk.calls l w.desk.left (drop w.served w.end.state.got)) first h.kept) in
+      subst (λ d. IsServing s (record w { end = end'; desk = d })) (sym desk) (record {
+        kept = subst (λ l. ServerKept s w.desk.held w.serve l w.desk.calls (drop 1 w.desk.owed) w.desk.left (drop w.served end'.state.got)) (sym is)
+            (subst (λ l. ServerKept s w.desk.held w.serve (Sent p ∷ w.end.state.past) w.desk.calls (drop 1 w.desk.owed) w.desk.left (drop w.served l)) (sym got) k);
+        within = omega (arith, h.within, ap length got);
+        started = omega (arith, h.started, ap (λ l. length (filter s.waits (filter s.is_request (got_of l)))) is);
+        saw = λ b. ap has_seen is ∙ h.saw b;
+        rests = λ b. not_both end'.state.machine.asleep awake b;
+      })
+
+  -- a packet that came was served
+  served_left : (past : List (Event (List ℕ))) (calls calls' : List (Call Q R)) (owed : List (List ℕ)) (left left' : Option ℕ) (p : List ℕ) (rest : List (List ℕ)) → ServesPacket s w.desk.held p left calls calls' owed left'
+      → ServerKept s w.desk.held w.serve past calls [] left (p ∷ rest) → ServerKept s w.desk.held w.serve past calls' owed left' rest
+  served_left past calls calls' owed None left' p rest one h = rw (one.0, one.1, one.2) (server_passed s keeps w.desk.held w.serve past calls [] p rest h)
+  served_left past calls calls' owed (Some m) left' p rest one h = rw (one.2, one.3) (server_served s keeps w.desk.held w.serve past calls one.0 [] owed m p rest one.1 h)
+
+  pub served_kept : (desk' : Desk T S Q R) (p : List ℕ) → w.served + 1 ≤ length w.end.state.got → slice_get w.end.state.got w.served ≡ Some p → w.desk.owed ≡ [] → desk'.held ≡ w.desk.held
+      → ServesPacket s desk'.held p w.desk.left w.desk.calls desk'.calls desk'.owed desk'.left → w.end.state.machine.asleep ≡ false
+      → IsServing s w → IsServing s (record w { desk = desk'; served = w.served + 1 })
+  served_kept desk' p less at none held one awake h =
+      let got = w.end.state.got in
+      let first : drop w.served got ≡ p ∷ drop (w.served + 1) got = drop_more got w.served [] (omega (arith, less)) ∙ ap (λ x. x ∷ drop (w.served + 1) got) (get_or_from_slice_get got w.served p [] at) in
+      let k : ServerKept s w.desk.held w.serve w.end.state.past w.desk.calls [] w.desk.left (p ∷ drop (w.served + 1) got) =
+      subst (λ l. ServerKept s w.desk.held w.serve w.end.state.past w.desk.calls [] w.desk.left l) first
+      (subst (λ l. ServerKept s w.desk.held w.serve w.end.state.past w.desk.calls l w.desk.left (drop w.served got)) none h.kept) in
+      let one' : ServesPacket s w.desk.held p w.desk.left w.desk.calls desk'.calls desk'.owed desk'.left = subst (λ b. ServesPacket s b p w.desk.left w.desk.calls desk'.calls desk'.owed desk'.left) held one in
+      record {
+        kept = subst (λ b. ServerKept s b w.serve w.end.state.past desk'.calls desk'.owed desk'.left (drop (w.served + 1) got)) (sym held)
+            (served_left w.end.state.past w.desk.calls desk'.calls desk'.owed w.desk.left desk'.left p (drop (w.served + 1) got) one' k);
+        within = omega (arith, less);
+        started = h.started;
+        saw = h.saw;
+        rests = λ b. not_both w.end.state.machine.asleep awake b;
+      }
+
+  -- a worker that ended gives what the plan asks for
+  ends_plan : (plan : Plan A) → Orders s plan w → IsServing s w → w.desk.owed ≡ [] → w.served ≡ length w.end.state.got → ServerStops s plan w.end.state.past w.desk.calls ⊎ ((is_drained w.end.state.past ≡ true) × Follows w.end.state.past)
+      → ServerEnds s plan w.end.state.past w.desk.calls
+  ends_plan plan is h none all end =
+      let nothing : drop w.served w.end.state.got ≡ [] = drop_all w.served w.end.state.got (omega (arith, all)) in
+      let k : ServerKept s (held_of plan.stop (length plan.script)) (count_of plan.stop (length plan.script)) w.end.state.past w.desk.calls [] w.desk.left [] =
+      subst (λ b. ServerKept s b (count_of plan.stop (length plan.script)) w.end.state.past w.desk.calls [] w.desk.left []) is.held
+      (subst (λ n. ServerKept s w.desk.held n w.end.state.past w.desk.calls [] w.desk.left []) is.serve
+      (subst (λ l. ServerKept s w.desk.held w.serve w.end.state.past w.desk.calls [] w.desk.left l) nothing
+      (subst (λ l. ServerKept s w.desk.held w.serve w.end.state.past w.desk.calls l w.desk.left (drop w.served w.end.state.got)) none h.kept))) in
+      server_ends s plan w.end.state.past w.desk.calls w.desk.left k end
+
+  served_all : (left : Option ℕ) (rest : List (List ℕ)) → has_served left ≡ true → ServerKept s w.desk.held w.serve w.end.state.past w.desk.calls w.desk.owed left rest → length w.desk.calls ≡ w.serve
+  served_all None rest e h = (calls_left s keeps w.desk.held h.served w.serve w.desk.calls (sent_of w.end.state.past ++ w.desk.owed) h.serves).1 h.stands
+  served_all (Some m) rest e h =
+      let none : m ≡ 0 = grind (arith, nat_tests, e) in
+      omega (arith, none, (calls_left s keeps w.desk.held h.served w.serve w.desk.calls (sent_of w.end.state.past ++ w.desk.owed) h.serves).0 m h.stands)
+
+  the_stop : (o : Option (ℕ × Bool)) → true ≡ is_some o → (after : ℕ × Bool) × (o ≡ Some after)
+  the_stop None e = absurd (cc)
+  the_stop (Some after) e = (after, refl)
+
+  -- it stopped
+  ends_stopped : w.stops ≡ true → w.desk.owed ≡ [] → w.served ≡ length w.end.state.got → has_served w.desk.left ≡ true → w.missing ≡ 0 → IsServing s w → EndsAll s w w.end.state.past w.desk.calls
+  ends_stopped stops none all served started h plan is =
+      let after = the_stop plan.stop (sym stops ∙ is.stops) in
+      ends_plan plan is h none all (inl (record {
+        after = after.0;
+        stop = after.1;
+        count = served_all w.desk.left (drop w.served w.end.state.got) served h.kept ∙ is.serve;
+        started = omega (arith, h.started, started, is.starts);
+      }))
+
+  -- the other end had ended
+  ends_drained : w.desk.owed ≡ [] → w.served ≡ length w.end.state.got → is_drained w.end.state.past ≡ true → Follows w.end.state.past → IsServing s w → EndsAll s w w.end.state.past w.desk.calls
+  ends_drained none all drained follows h plan is = ends_plan plan is h none all (inr (drained, follows))
+
+module _ {T S A Q R : Type 0} (s : Speech (List ℕ) A Q R) (keeps : Keeps s) (w : Serving T S Q R) where
+  marked_kept : (end' : Seen TableSeat) → end'.state.past ≡ Marked ∷ w.end.state.past → end'.state.got ≡ w.end.state.got → end'.state.machine.asleep ≡ false → IsServing s w → IsServing s (record w { end = end' })
+  marked_kept end' is got awake h = quiet_kept s keeps w end' w.seen w.want Marked is refl refl got awake h.saw h
+
+  -- a mark is an end
+  pub marks_stopped : (end' : Seen TableSeat) → end'.state.past ≡ Marked ∷ w.end.state.past → end'.state.got ≡ w.end.state.got → end'.state.machine.asleep ≡ false
+      → w.stops ≡ true → w.desk.owed ≡ [] → w.served ≡ length w.end.state.got → has_served w.desk.left ≡ true → w.missing ≡ 0 → IsServing s w → EndsAll s (record w { end = end' }) end'.state.past w.desk.calls
+  marks_stopped end' is got awake stops none all served started h =
+      ends_stopped s keeps (record w { end = end' }) stops none (all ∙ ap length (sym got)) served started (marked_kept end' is got awake h)
+
+  pub marks_drained : (end' : Seen TableSeat) → end'.state.past ≡ Marked ∷ w.end.state.past → end'.state.got ≡ w.end.state.got → end'.state.machine.asleep ≡ false
+      → w.desk.owed ≡ [] → w.served ≡ length w.end.state.got → is_drained w.end.state.past ≡ true → has_marked w.end.state.past ≡ false → IsServing s w → EndsAll s (record w { end = end' }) end'.state.past w.desk.calls
+  marks_drained end' is got awake none all drained unmarked h =
+      ends_drained s keeps (record w { end = end' }) none (all ∙ ap length (sym got)) (ap is_drained is ∙ drained) (subst Follows (sym is) (drained_seen w.end.state.past drained, follows_unmarked w.end.state.past unmarked))
+      (marked_kept end' is got awake h)
+
+  -- none waited after the mark was seen
+  pub drains : (end' : Seen TableSeat) → end'.state.past ≡ Empty ∷ w.end.state.past → IsServing s w → w.seen ≡ true → is_drained end'.state.past ≡ true
+  drains end' is h seen = ap is_drained is ∙ ap (λ b. b || is_drained w.end.state.past) (h.saw seen)
+
+  -- it fell asleep
+  pub rests_now : (end' : Seen TableSeat) (want' : Option ℕ) → want' ≡ need_of w.desk.owed → ArmedFor want' w.end end' → end'.state.machine.asleep ≡ true → end'.state.got ≡ w.end.state.got
+      → (is_nil w.desk.owed ≡ true → w.served ≡ length w.end.state.got) → Rests (record w { end = end'; want = want' })
+  rests_now end' want' want armed asleep got all =
+      record { want = want; armed = record { before = w.end; after = end'; armed = armed; asleep = asleep; since = refl }; served = λ e. all e ∙ ap length (sym got) }
+
+  -- it sleeps on
+  pub rests_on : (end' : Seen TableSeat) → end'.state.past ≡ w.end.state.past → end'.state.got ≡ w.end.state.got → Rests w → Rests (record w { end = end' })
+  rests_on end' is got h = record {
+    want = h.want;
+    armed = record { before = h.armed.before; after = h.armed.after; armed = h.armed.armed; asleep = h.armed.asleep; since = is ∙ h.armed.since };
+    served = λ e. h.served e ∙ ap length (sym got);
+  }
+
+  pub breaks : IsServing s w → BreaksOff s w w.end.state.past w.desk.calls
+  breaks h = server_breaks s w.desk.held w.serve w.end.state.past w.desk.calls w.desk.owed w.desk.left (drop w.served w.end.state.got) h.kept
+
+  -- a new worker
+  pub new_kept : w.end.state.past ≡ [] → w.end.state.got ≡ [] → w.desk.calls ≡ [] → w.desk.owed ≡ [] → w.desk.left ≡ Some w.serve → w.served ≡ 0 → w.missing ≡ w.starts → w.seen ≡ false → w.end.state.machine.asleep ≡ false → IsServing s w
+  new_kept past got calls owed left served missing seen awake = record {
+    kept = rw (past, got, calls, owed, left, served) (server_new s keeps w.desk.held w.serve);
+    within = omega (arith, served);
+    started = omega (arith, missing);
+    saw = λ e. not_both w.seen seen e;
+    rests = λ e. not_both w.end.state.machine.asleep awake e;
+  }
+
+module _ {T S A Q R : Type 0} (sp : T → Speech (List ℕ) A Q R) (keeps : (t : T) → Keeps (sp t)) (w : Serving T S Q R) where
+  pub gave_by : (end' : Seen TableSeat) (desk' : Desk T S Q R) (p : List ℕ) → end'.state.past ≡ Sent p ∷ w.end.state.past → w.desk.owed ≡ p ∷ drop 1 w.desk.owed
+      → desk' ≡ record w.desk { owed = drop 1 w.desk.owed } → end'.state.got ≡ w.end.state.got → end'.state.machine.asleep ≡ false
+      → IsServing (sp w.desk.talk) w → IsServing (sp desk'.talk) (record w { end = end'; desk = desk' })
+  gave_by end' desk' p is first desk got awake h =
+      subst (λ t. IsServing (sp t) (record w { end = end'; desk = desk' })) (sym (ap (λ (d : Desk T S Q R). d.talk) desk)) (gave_kept (sp w.desk.talk) (keeps w.desk.talk) w end' desk' p is first desk got awake h)
+
+  pub served_by : (desk' : Desk T S Q R) (p : List ℕ) → w.served + 1 ≤ length w.end.state.got → slice_get w.end.state.got w.served ≡ Some p → w.desk.owed ≡ [] → desk'.held ≡ w.desk.held → desk'.talk ≡ w.desk.talk
+      → ServesPacket (sp desk'.talk) desk'.held p w.desk.left w.desk.calls desk'.calls desk'.owed desk'.left → w.end.state.machine.asleep ≡ false
+      → IsServing (sp w.desk.talk) w → IsServing (sp desk'.talk) (record w { desk = desk'; served = w.served + 1 })
+  served_by desk' p less at none held talk one awake h =
+      subst (λ t. IsServing (sp t) (record w { desk = desk'; served = w.served + 1 })) (sym talk)
+      (served_kept (sp w.desk.talk) (keeps w.desk.talk) w desk' p less at none held (subst (λ t. ServesPacket (sp t) desk'.held p w.desk.left w.desk.calls desk'.calls desk'.owed desk'.left) talk one) awake h)
+
+module _ {T S Q R : Type 0} (same : S → S → Type 0) where
+  -- the same worker still
+  pub on_trans : ((a b c : S) → same a b → same b c → same a c) → (u v w : Serving T S Q R) → ServesOn same u v → ServesOn same v w → ServesOn same u w
+  on_trans trans u v w a b = record {
+    talk = b.talk ∙ a.talk;
+    held = b.held ∙ a.held;
+    serve = b.serve ∙ a.serve;
+    stops = b.stops ∙ a.stops;
+    starts = b.starts ∙ a.starts;
+    come = b.come ∙ a.come;
+    end = record { seat = b.end.seat ∙ a.end.seat; side = b.end.side ∙ a.end.side };
+    seat = trans u.desk.seat v.desk.seat w.desk.seat a.seat b.seat;
+  }
+
+  pub on_refl : ((a : S) → same a a) → (w : Serving T S Q R) → ServesOn same w w
+  on_refl r w = record { talk = refl; held = refl; serve = refl; stops = refl; starts = refl; come = refl; end = record { seat = refl; side = refl }; seat = r w.desk.seat }
+
+  orders_on : {A : Type 0} (s : Speech (List ℕ) A Q R) (plan : Plan A) (u w : Serving T S Q R) → ServesOn same u w → Orders s plan u → Orders s plan w
+  orders_on s plan u w on is = record { serve = on.serve ∙ is.serve; held = on.held ∙ is.held; stops = on.stops ∙ is.stops; starts = on.starts ∙ is.starts }
+
+  -- what it gives at its end is what was asked of it at its beginning
+  pub ends_on : {A : Type 0} (sp : T → Speech (List ℕ) A Q R) (how : Ended) (u w : Serving T S Q R) (past : List (Event (List ℕ))) (calls : List (Call Q R)) → ServesOn same u w
+      → EndsBy (sp w.desk.talk) how w past calls → EndsBy (sp u.desk.talk) how u past calls
+  ends_on {A = A} sp how u w past calls on h = by how (subst (λ t. EndsBy (sp t) how w past calls) on.talk h)
+    where
+      by : (how : Ended) → EndsBy (sp u.desk.talk) how w past calls → EndsBy (sp u.desk.talk) how u past calls
+      by EndedMarked h = λ plan is. h plan (orders_on (sp u.desk.talk) plan u w on is)
+      by PeerMarked h = (λ plan is. h.0 plan (orders_on (sp u.desk.talk) plan u w on is), h.1)
+      by (Room packets words left) h = subst (λ b. ServerBreaks (sp u.desk.talk) b u.serve past calls) on.held (subst (λ n. ServerBreaks (sp u.desk.talk) w.desk.held n past calls) on.serve h)

@@ -1,0 +1,23 @@
+use Rattle.std.proofs.Common.{refl, ap, sym, ◌∙◌, length, ◌+◌}
+use Rattle.chan_run.specs.declared.event.Event.TheVariants.{Marked}
+use Rattle.chan_run.specs.Runs.{sent_of}
+use Rattle.worker_core.specs.Serving.{has_served}
+use Rattle.worker_core.proofs.ServeSteps.{quiet_kept, marks_stopped}
+use Rattle.worker_core.proofs.RoomLaws.{serve_quiet, got_same, marked_back}
+use Rattle.worker_core.proofs.server.Server.stop.Goals as goal
+
+pub invariant_of-self : goal.invariant_of-self
+invariant_of-self g c =
+    record {
+      live = quiet_kept (g.T.Talk.speech c.self.inside.desk.talk) (g.T.Talk.keeps c.self.inside.desk.talk) _ _ c.self.inside.seen c.self.inside.want Marked c.mark.ensures.past refl refl c.mark.ensures.lists.0 c.mark.ensures.awake c.self.invariant.live.saw c.self.invariant.live;
+      room = serve_quiet (c.self.inside.starts + c.self.inside.come) c.self.inside.served (length c.self.inside.desk.owed) _ _ (got_same _ _ c.mark.ensures.lists.0 c.mark.ensures.lists.1) c.mark.ensures.stays.cells c.mark.ensures.lists.2 (ap sent_of c.mark.ensures.past) c.self.invariant.room;
+    }
+
+pub returns-clause-ends : goal.returns-clause-ends
+returns-clause-ends g c =
+    let v = c.self.view_is in
+    marks_stopped (g.T.Talk.speech c.self.inside.desk.talk) (g.T.Talk.keeps c.self.inside.desk.talk) _ _ c.mark.ensures.past c.mark.ensures.lists.0 c.mark.ensures.awake (ap (λ w. w.stops) v ∙ c.requires.stops)
+    (ap (λ w. w.desk.owed) v ∙ c.requires.owed) (ap (λ w. w.served) v ∙ (c.requires.served ∙ ap (λ w. length w.end.state.got) (sym v))) (ap (λ w. has_served w.desk.left) v ∙ c.requires.all) (ap (λ w. w.missing) v ∙ c.requires.started) c.self.invariant.live
+
+pub returns-clause-sent : goal.returns-clause-sent
+returns-clause-sent g c = marked_back (g.T.Talk.speech c.self.inside.desk.talk) (g.T.Talk.answers c.self.inside.desk.talk) (c.self.inside.starts + c.self.inside.come) c.self.inside.served (length c.self.inside.desk.owed) c.self.inside.port _ c.mark.ensures.past c.self.invariant.live.kept.order c.self.invariant.room

@@ -1,0 +1,5 @@
+pub mod Rooms
+pub mod Line
+pub mod Owed
+pub mod Serving
+pub mod Asking

@@ -1,0 +1,40 @@
+-- What is owed.
+use Rattle.std.specs.Prelude.{ℕ, ◌≡◌, ◌<◌, ◌≤◌, ◌+◌, ◌*◌, ◌⊎◌, Bool, true, false, List, [], ◌∷◌, length, take, Option, Some, None}
+use Rattle.ring_core.specs.States.{IsPacket}
+use Rattle.ring_core.specs.Seen.{Seen}
+use Rattle.ring_seat.specs.declared.table_seat.TableSeat.{TableSeat}
+use Rattle.work_model.specs.Speech.{Speech}
+
+abbrev pub is_nil : {P : Type 0} → List P → Bool
+is_nil [] = true
+is_nil (p ∷ ps) = false
+
+-- a sheet has 384 words, and what is written on it is a packet
+pub record IsSheet (words : List ℕ) (len : ℕ) : Type 0 where
+  pub size : length words ≡ 384
+  pub most : len ≤ 384
+  pub packet : 0 < len → IsPacket (take len words)
+
+-- the device may give this reply to what the packet asks
+abbrev pub FitsReply : {A Q R : Type 0} → Speech (List ℕ) A Q R → List ℕ → R → Type 0
+FitsReply {Q = Q} s p r = (q : Q) × (s.read p ≡ Some q) × (s.fits q r ≡ true)
+
+-- the room in bytes that the next packet needs
+abbrev pub need_of : List (List ℕ) → Option ℕ
+need_of [] = None
+need_of (p ∷ ps) = Some (8 * length p + 8)
+
+-- the first of these packets, which has at most 384 words, lacks the room of the list of what was sent
+pub record LacksSend (packets words : ℕ) (owed : List (List ℕ)) (e : Seen TableSeat) : Type 0 where
+  pub packet : List ℕ
+  pub rest : List (List ℕ)
+  pub first : owed ≡ packet ∷ rest
+  pub most : length packet ≤ 384
+  pub packets_is : packets ≡ e.spare_sent.packets
+  pub words_is : words ≡ e.spare_sent.words
+  pub lacks : (packets ≡ 0) ⊎ (words < length packet)
+
+-- a need of a packet of 2 to 384 words
+abbrev pub IsNeed : Option ℕ → Type 0
+IsNeed None = Unit {0}
+IsNeed (Some need) = (24 ≤ need) × (need ≤ 3080)

@@ -1,0 +1,151 @@
+//! A talk and a seat for the tests: the device's reply is the value that it was asked.
+ghost use Rattle.std.specs.Prelude.{◌≡◌, ◌≤◌, ◌<◌, ◌+◌, ◌^◌, [], length, take, slice_index_or, IfOk};
+ghost use Rattle.chan_talk.specs.Echo.{echo_packet};
+
+use chan_talk::{Seat, Talk};
+use std::alloc::{AllocError, Global};
+use std::sync::Wait;
+
+// The first word of a packet of three words: in-band data with a payload of one.
+const HEAD: u64 = 12_885_032_966;
+
+/// What one end has to ask.
+#[derive(Drop)]
+pub(crate) struct Echo {
+    pub(crate) asks: Vec<u64>,
+    pub(crate) starts: u32,
+    ghost few: { asks.len < 2 ^ 32 },
+    ghost within: { starts ≤ asks.len },
+}
+
+// Writes three words.
+fn write(out: &mut [u64], id: u64, value: u64) -> usize
+    requires { length out.old ≡ 384 }
+    ensures value { take result out.new ≡ echo_packet id value }
+    ensures most { result ≡ 3 }
+    ensures size { length out.new ≡ 384 }
+{
+    out[..3].copy_from_slice(&[HEAD, id, value]);
+    3
+}
+
+// A word of a packet, or 0.
+fn word(packet: &[u64], i: usize) -> u64
+    ensures { result ≡ slice_index_or packet.now i 0 }
+{
+    if i < packet.len() { packet[i] } else { 0 }
+}
+
+impl Talk for Echo {
+    ghost use Rattle.std.specs.Prelude.{[], refl, slice_index_or};
+    ghost use Rattle.chan_talk.specs.Echo.{echo_speech, echo_packet};
+    ghost use Rattle.chan_talk.proofs.EchoLaws.{echo_keeps};
+
+    type Ask = u64;
+
+    type Request = u64;
+
+    type Reply = u64;
+
+    ghost speech = { λ s. echo_speech };
+
+    ghost keeps = { λ s. echo_keeps };
+
+    ghost answers = { λ s p. refl };
+
+    ghost asks = { λ s. s.asks.items };
+
+    ghost message = { λ s p r back. [] };
+
+    ghost answer = { λ s p r. echo_packet (slice_index_or p 1 0) r };
+
+    ghost gives = { λ s p r back. refl };
+
+    fn count(&self) -> u32 {
+        self.asks.len() as u32
+    }
+
+    fn starts(&self) -> u32 {
+        self.starts
+    }
+
+    fn has_answer(&self, _k: u32) -> bool {
+        true
+    }
+
+    fn encode(&self, k: u32, id: u64, out: &mut [u64]) -> usize {
+        write(out, id, self.asks[k as usize])
+    }
+
+    fn id(&self, packet: &[u64]) -> u64 {
+        word(packet, 1)
+    }
+
+    fn is_waiting(&self, _packet: &[u64]) -> bool {
+        true
+    }
+
+    fn read(&self, packet: &[u64]) -> Option<u64> {
+        Some(word(packet, 2))
+    }
+
+    fn write_fixed(&self, _packet: &[u64], _out: &mut [u64]) -> usize {
+        0
+    }
+
+    fn write_message(&self, _packet: &[u64], _reply: &u64, _back: u64, _out: &mut [u64]) -> usize {
+        0
+    }
+
+    fn write_answer(&self, packet: &[u64], reply: &u64, out: &mut [u64]) -> usize {
+        write(out, word(packet, 1), *reply)
+    }
+
+    fn result(&self, _k: u32, packet: &[u64]) -> Option<u64> {
+        Some(word(packet, 2))
+    }
+}
+
+/// A place at the device.
+#[derive(Drop)]
+pub(crate) struct EchoSeat {
+    log: Vec<u64>,
+    left: u32,
+    ghost room: { log.len + left ≤ log.cap },
+}
+
+impl EchoSeat {
+    pub(crate) fn make(alloc: Global, left: u32) -> Result<EchoSeat, AllocError>
+        ensures { IfOk result (λ s. (s.log.items ≡ []) × (s.left ≡ left)) }
+    {
+        let log = Vec::with_capacity(alloc, left as usize)?;
+        Ok(EchoSeat { log, left })
+    }
+}
+
+impl Seat<Echo> for EchoSeat {
+    ghost use Rattle.std.specs.Prelude.{◌≡◌, refl};
+    ghost use Rattle.chan_talk.specs.Echo.{echo_calls};
+
+    ghost calls = { λ s. echo_calls s.log.items };
+
+    ghost left = { λ s. s.left };
+
+    ghost serves = { λ s t. Unit {0} };
+
+    ghost same = { λ s t. Unit {0} };
+
+    ghost same_refl = { λ s. tt };
+
+    ghost same_trans = { λ s t u p q. tt };
+
+    fn left(&self) -> u32 {
+        self.left
+    }
+
+    fn call<R: Wait>(&mut self, _rt: &R, _talk: &Echo, request: u64) -> (u32, u64) {
+        self.left -= 1;
+        self.log.push_reserved(request);
+        (7, request)
+    }
+}

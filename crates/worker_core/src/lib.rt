@@ -1,0 +1,21 @@
+//! The two workers of a channel, the one that asks and the one that serves, for every kind of device.
+#![tactic(auto)]
+
+mod asker;
+mod desk;
+#[cfg(test)]
+mod echo;
+mod ended;
+pub mod laws;
+mod owed;
+mod port;
+mod put;
+mod server;
+mod settle;
+mod sheet;
+#[cfg(test)]
+mod tests;
+
+pub use asker::{Asker, AskerDone, Hold};
+pub use ended::{Ended, Turn};
+pub use server::{Server, ServerDone};

@@ -1,0 +1,409 @@
+//! The worker of the end that serves.
+ghost use Rattle.std.specs.Prelude.{◌≡◌, ◌<◌, ◌≤◌, ◌+◌, ◌*◌, ◌⊎◌, [], ◌∷◌, length, drop, map, Some, None, true, false, IfOk, if◌then◌else◌, ℕ};
+ghost use Rattle.chan_run.specs.Runs.{got_of, has_seen, is_drained};
+ghost use Rattle.ring_seat.specs.Seats.{new_end};
+ghost use Rattle.ring_seat.specs.Settling.{IsSameEnd};
+ghost use Rattle.worker_core.specs.Line.{IsReady, HasTakeRoom, LacksTake, TookOne};
+ghost use Rattle.worker_core.specs.Owed.{is_nil, LacksSend};
+ghost use Rattle.worker_core.specs.Rooms.{CameOver, LacksFor, SentAtMost, ServesInRoom};
+ghost use Rattle.worker_core.specs.Serving.{EndsAll, EndsBy, LacksRoom, Turns, GaveOne, ServeEnds, ServesOn, BreaksOff, has_served};
+ghost use Rattle.worker_core.specs.declared.ended.Ended.TheVariants.{Room as RoomEnd};
+
+use crate::desk::Desk;
+use crate::ended::{Ended, Turn};
+use crate::port::{Looked, Port};
+use crate::put::Given;
+use chan_talk::{Seat, Talk};
+use io_edge::{Gate, Side};
+use ring_core::{End, Room};
+use ring_seat::TableSeat;
+use std::alloc::{AllocError, Global};
+use std::marker::{Model, PhantomData};
+use std::sync::Wait;
+
+/// The worker of the end that serves: it answers what comes, in order, as its plan says.
+#[derive(Drop)]
+pub struct Server<T: Talk, S: Seat<T>> {
+    desk: Desk<T, S>,
+    port: Port,
+    serve: u32,
+    stops: bool,
+    starts: u32,
+    come: u32,
+    missing: u32,
+    served: usize,
+    seen: bool,
+    want: Option<u32>,
+}
+
+impl<T: Talk, S: Seat<T>> Model for Server<T, S> {
+    ghost use Rattle.std.specs.Prelude.{◌+◌, length};
+    ghost use Rattle.worker_core.specs.Rooms.{ServesInRoom};
+    ghost use Rattle.worker_core.specs.Serving.{Serving, IsServing};
+
+    ghost Value = { Serving T S T.Request T.Reply };
+
+    ghost view = { λ w. record { desk = w.desk; end = w.port; serve = w.serve; stops = w.stops; starts = w.starts; come = w.come; missing = w.missing; served = w.served; seen = w.seen; want = w.want } };
+
+    ghost invariant = { λ w. record { live : IsServing (T.speech w.desk.talk) (record { desk = w.desk; end = w.port; serve = w.serve; stops = w.stops; starts = w.starts; come = w.come; missing = w.missing; served = w.served; seen = w.seen; want = w.want }); room : ServesInRoom (w.starts + w.come) w.served (length w.desk.owed) w.port } };
+}
+
+/// What a serving worker gives once it has ended.
+#[derive(Drop)]
+pub struct ServerDone<T: Talk, S: Seat<T>> {
+    pub end: End<TableSeat>,
+    pub seat: S,
+    pub ended: Ended,
+    /// The serials of the requests that were served, in order.
+    pub serials: Vec<u32>,
+    of: PhantomData<T>,
+}
+
+impl<T: Talk, S: Seat<T>> Server<T, S> {
+    // Sends what is owed first, if there is room.
+    fn give(&mut self) -> Given
+        requires ready { IsReady self.old.end }
+        requires owed { is_nil self.old.desk.owed ≡ false }
+        ensures gave { GaveOne result self.old self.new }
+        ensures ready { IsReady self.new.end }
+        ensures on { ServesOn S.same self.old self.new }
+    {
+        let packet = self.desk.first();
+        let room = self.port.spare_sent();
+        if room.packets == 0 || room.words < packet.len() as u64 {
+            return Given::Lacks {
+                packets: room.packets,
+                words: room.words,
+            };
+        }
+        if self.port.send(packet) {
+            self.desk.pop();
+            Given::Sent
+        } else {
+            Given::Full
+        }
+    }
+
+    // Serves the next packet of those that came.
+    fn serve_next<R: Wait, G: Gate>(&mut self, rt: &R, gate: &G)
+        requires ready { IsReady self.old.end }
+        requires owed { self.old.desk.owed ≡ [] }
+        requires some { self.old.served < length self.old.end.state.got }
+        ensures end { self.new.end ≡ self.old.end }
+        ensures on { ServesOn S.same self.old self.new }
+    {
+        let came = self.port.got_len();
+        let place = self.served as u64 + 1;
+        prove!(self.served < came);
+        self.desk.serve(rt, gate, self.port.got(self.served), place);
+        self.served += 1;
+    }
+
+    // Takes a packet, if one waits.
+    fn take_one(&mut self) -> bool
+        requires ready { IsReady self.old.end }
+        requires room { HasTakeRoom self.old.end }
+        ensures took { TookOne result self.old.end.state self.new.end.state }
+        ensures drained { result ≡ false → self.old.seen ≡ true → is_drained self.new.end.state.past ≡ true }
+        ensures kept { (self.new.desk ≡ self.old.desk) × (self.new.served ≡ self.old.served) × (self.new.seen ≡ self.old.seen) }
+        ensures ready { IsReady self.new.end }
+        ensures on { ServesOn S.same self.old self.new }
+    {
+        if !self.port.take() {
+            return false;
+        }
+        let waiting = self.desk.is_waiting(self.port.last());
+        self.missing = missing_after(self.missing, waiting);
+        true
+    }
+
+    // Ends here, since the plan says so.
+    fn stop(&mut self)
+        requires ready { IsReady self.old.end }
+        requires stops { self.old.stops ≡ true }
+        requires owed { self.old.desk.owed ≡ [] }
+        requires served { self.old.served ≡ length self.old.end.state.got }
+        requires all { has_served self.old.desk.left ≡ true }
+        requires started { self.old.missing ≡ 0 }
+        ensures ends { EndsAll (T.speech self.new.desk.talk) self.new self.new.end.state.past self.new.desk.calls }
+        ensures sent { SentAtMost (length (got_of self.new.end.state.past)) self.new.end.state.past }
+        ensures on { ServesOn S.same self.old self.new }
+    {
+        self.port.mark();
+    }
+
+    // Ends after the other end.
+    fn follow(&mut self)
+        requires ready { IsReady self.old.end }
+        requires owed { self.old.desk.owed ≡ [] }
+        requires served { self.old.served ≡ length self.old.end.state.got }
+        requires drained { is_drained self.old.end.state.past ≡ true }
+        ensures ends { EndsAll (T.speech self.new.desk.talk) self.new self.new.end.state.past self.new.desk.calls }
+        ensures sent { SentAtMost (length (got_of self.new.end.state.past)) self.new.end.state.past }
+        ensures seen { has_seen self.new.end.state.past ≡ true }
+        ensures on { ServesOn S.same self.old self.new }
+    {
+        self.port.mark();
+    }
+
+    // Arms for the room that the packet needs that is owed, and sleeps where nothing is to be done.
+    fn rest(&mut self) -> Turn
+        requires ready { IsReady self.old.end }
+        requires served { is_nil self.old.desk.owed ≡ true → self.old.served ≡ length self.old.end.state.got }
+        ensures turns { Turns (T.speech self.new.desk.talk) result self.new }
+        ensures on { ServesOn S.same self.old self.new }
+    {
+        let want = self.desk.need();
+        self.want = want;
+        match self.port.arm(want) {
+            Looked::Nothing => Turn::Idle,
+            Looked::Work => Turn::Moved,
+            Looked::Mark => {
+                self.seen = true;
+                Turn::Moved
+            }
+        }
+    }
+
+    // A worker that lacks room gives what it has.
+    fn broken(&self, packets: u64, words: u64) -> Ended
+        requires list { got_of self.now.end.state.past ≡ self.now.end.state.got }
+        requires lacks { LacksSend packets words self.now.desk.owed self.now.end ⊎ LacksTake packets words self.now.end }
+        ensures room { (left : ℕ) × (result ≡ RoomEnd packets words left) }
+        ensures breaks { BreaksOff (T.speech self.now.desk.talk) self.now self.now.end.state.past self.now.desk.calls }
+        ensures reserved { ServesInRoom (self.now.starts + self.now.come) self.now.served (length self.now.desk.owed) self.now.end }
+        ensures over { CameOver (self.now.starts + self.now.come) self.now.end.state.past }
+        ensures sent { SentAtMost (length (got_of self.now.end.state.past)) self.now.end.state.past }
+    {
+        Ended::Room {
+            packets,
+            words,
+            left: self.desk.left(),
+        }
+    }
+
+    fn has_unserved(&self) -> bool
+        ensures more { result ≡ true → self.now.served < length self.now.end.state.got }
+        ensures none { result ≡ false → self.now.served ≡ length self.now.end.state.got }
+    {
+        self.served < self.port.got_len()
+    }
+
+    // Takes a packet. Where none waits once the other end's mark was seen, and nothing is owed, this end follows; else it rests.
+    fn take_or_rest(&mut self) -> Turn
+        requires ready { IsReady self.old.end }
+        requires served { is_nil self.old.desk.owed ≡ true → self.old.served ≡ length self.old.end.state.got }
+        ensures turns { Turns (T.speech self.new.desk.talk) result self.new }
+        ensures on { ServesOn S.same self.old self.new }
+    {
+        if let Some(room) = self.port.lacks_take() {
+            return Turn::Ended(self.broken(room.packets, room.words));
+        }
+        let seen = self.seen;
+        if self.take_one() {
+            return Turn::Moved;
+        }
+        if seen && self.desk.is_clear() {
+            self.follow();
+            return Turn::Ended(Ended::PeerMarked);
+        }
+        self.rest()
+    }
+
+    // Sends what is owed. An end that waits for room goes on taking.
+    fn give_or_take(&mut self) -> Turn
+        requires ready { IsReady self.old.end }
+        requires owed { is_nil self.old.desk.owed ≡ false }
+        ensures turns { Turns (T.speech self.new.desk.talk) result self.new }
+        ensures on { ServesOn S.same self.old self.new }
+    {
+        match self.give() {
+            Given::Sent => Turn::Moved,
+            Given::Lacks { packets, words } => Turn::Ended(self.broken(packets, words)),
+            Given::Full => self.take_or_rest(),
+        }
+    }
+
+    // Stops where the plan says so, with nothing owed and all served.
+    fn stop_or_take(&mut self) -> Turn
+        requires ready { IsReady self.old.end }
+        requires owed { self.old.desk.owed ≡ [] }
+        requires served { self.old.served ≡ length self.old.end.state.got }
+        ensures turns { Turns (T.speech self.new.desk.talk) result self.new }
+        ensures on { ServesOn S.same self.old self.new }
+    {
+        if self.stops && self.missing == 0 && self.desk.has_served() {
+            self.stop();
+            return Turn::Ended(Ended::Marked);
+        }
+        self.take_or_rest()
+    }
+
+    // A turn of an end that is awake: what is owed is sent first, and then the next packet is served.
+    fn work<R: Wait, G: Gate>(&mut self, rt: &R, gate: &G) -> Turn
+        requires ready { IsReady self.old.end }
+        ensures turns { Turns (T.speech self.new.desk.talk) result self.new }
+        ensures on { ServesOn S.same self.old self.new }
+    {
+        if !self.desk.is_clear() {
+            return self.give_or_take();
+        }
+        if !self.has_unserved() {
+            return self.stop_or_take();
+        }
+        self.serve_next(rt, gate);
+        if self.desk.is_clear() {
+            return Turn::Moved;
+        }
+        self.give_or_take()
+    }
+
+    // A turn of an end that is asleep.
+    fn doze(&mut self) -> Turn
+        requires asleep { self.old.end.state.machine.asleep ≡ true }
+        requires unmarked { self.old.end.state.machine.marked ≡ false }
+        ensures turns { Turns (T.speech self.new.desk.talk) result self.new }
+        ensures on { ServesOn S.same self.old self.new }
+    {
+        if self.port.poll() {
+            return Turn::Moved;
+        }
+        Turn::Idle
+    }
+
+    /// A worker over a new end and a seat with no calls. `starts` is how many requests of the start-up have answers, `serve` how many requests of the
+    /// device it serves, the answer to the last one being kept where `held`; `stops` says whether it ends then. It makes room for `starts` and `come`
+    /// packets that come. It takes all its memory here.
+    pub fn make(
+        alloc: Global,
+        talk: T,
+        end: End<TableSeat>,
+        seat: S,
+        side: Side,
+        relid: u32,
+        starts: u32,
+        serve: u32,
+        held: bool,
+        stops: bool,
+        come: u32,
+    ) -> Result<Server<T, S>, AllocError>
+        requires serves { S.serves seat talk }
+        requires uncalled { S.calls seat ≡ [] }
+        requires calls { serve ≤ S.left seat }
+        requires fresh { end.state ≡ new_end end.state.machine.cells end.state.machine.side }
+        requires size { (512 ≤ end.state.machine.cells) × (end.state.machine.cells ≤ 8192) }
+        ensures talk { IfOk result (λ w. (w.desk.talk ≡ talk) × (w.desk.seat ≡ seat)) }
+        ensures orders { IfOk result (λ w. (w.serve ≡ serve) × (w.desk.held ≡ held) × (w.stops ≡ stops) × (w.starts ≡ starts) × (w.come ≡ come)) }
+        ensures end { IfOk result (λ w. (w.end.state ≡ end.state) × (w.end.seat ≡ end.seat)) }
+    {
+        let mut port = Port::over(end);
+        let packets = starts as u64 + come as u64;
+        let cells = port.cells() as u64;
+        port.reserve(
+            Room {
+                packets: 2 * packets,
+                words: 768 * packets,
+            },
+            Room {
+                packets: packets + 1,
+                words: 384 * packets + cells,
+            },
+        )?;
+        let desk = Desk::make(alloc, talk, seat, side, relid, serve, held)?;
+        Ok(Server {
+            desk,
+            port,
+            serve,
+            stops,
+            starts,
+            come,
+            missing: starts,
+            served: 0,
+            seen: false,
+            want: None,
+        })
+    }
+
+    /// A turn: an end that is asleep polls its signal. Otherwise the worker sends what it owes, serves what came, takes a packet, ends, or rests.
+    pub fn turn<R: Wait, G: Gate>(&mut self, rt: &R, gate: &G) -> Turn
+        requires unmarked { self.old.end.state.machine.marked ≡ false }
+        ensures turns { Turns (T.speech self.new.desk.talk) result self.new }
+        ensures room { ServeEnds (self.new.starts + self.new.come) result self.new.end.state.past }
+        ensures on { ServesOn S.same self.old self.new }
+    {
+        if self.port.is_asleep() {
+            return self.doze();
+        }
+        self.work(rt, gate)
+    }
+
+    // Sleeps until the signal was up.
+    fn sleep<R: Wait>(&mut self, rt: &R)
+        requires asleep { self.old.end.state.machine.asleep ≡ true }
+        requires unmarked { self.old.end.state.machine.marked ≡ false }
+        ensures unmarked { self.new.end.state.machine.marked ≡ false }
+        ensures on { ServesOn S.same self.old self.new }
+    {
+        self.port.sleep(rt);
+    }
+
+    /// Gives what it did, once it has ended.
+    pub fn done(self, ended: Ended) -> ServerDone<T, S>
+        requires { EndsBy (T.speech self.desk.talk) ended self self.end.state.past self.desk.calls }
+        ensures ends { (result.ended ≡ ended) × EndsBy (T.speech self.desk.talk) result.ended self result.end.state.past (S.calls result.seat) }
+        ensures serials { result.serials.items ≡ map (λ c. c.serial) (S.calls result.seat) }
+        ensures same { (result.end ≡ self.end) × (result.seat ≡ self.desk.seat) }
+    {
+        let Server {
+            desk,
+            port,
+            serve: _,
+            stops: _,
+            starts: _,
+            come: _,
+            missing: _,
+            served: _,
+            seen: _,
+            want: _,
+        } = self;
+        let (seat, serials) = desk.into_seat();
+        ServerDone {
+            end: port.into_end(),
+            seat,
+            ended,
+            serials,
+            of: PhantomData,
+        }
+    }
+
+    /// Takes turns, and sleeps after a turn that found nothing to do, until the worker has ended.
+    pub fn run<R: Wait, G: Gate>(mut self, rt: &R, gate: &G) -> ServerDone<T, S>
+        requires unmarked { self.end.state.machine.marked ≡ false }
+        ensures ends { EndsBy (T.speech self.desk.talk) result.ended self result.end.state.past (S.calls result.seat) }
+        ensures serials { result.serials.items ≡ map (λ c. c.serial) (S.calls result.seat) }
+        ensures end { IsSameEnd self.end result.end }
+        ensures seat { S.same self.desk.seat result.seat }
+        ensures sent { SentAtMost (length (got_of result.end.state.past)) result.end.state.past }
+        ensures room { LacksFor (self.starts + self.come) result.ended result.end.state.past }
+    {
+        for _ in rt.forever() {
+            match self.turn(rt, gate) {
+                Turn::Moved => {}
+                Turn::Idle => self.sleep(rt),
+                Turn::Ended(ended) => return self.done(ended),
+            }
+        }
+        unreachable!()
+    }
+}
+
+/// What may be missing of the start-up after one more packet.
+fn missing_after(missing: u32, waiting: bool) -> u32
+    ensures { missing ≤ result + (if waiting then 1 else 0) }
+{
+    if waiting {
+        missing.saturating_sub(1)
+    } else {
+        missing
+    }
+}
