@@ -1,33 +1,28 @@
 -- A disk's channel: what was asked is read, what was answered is read, and packets under other ids say the same.
-use Rattle.std.proofs.Common.{◌≡◌, ℕ, zero, suc, ◌+◌, ◌*◌, ◌^◌, ◌<◌, ◌≤◌, ◌≢◌, ◌==◌, Bool, true, false, cond, not, ◌&&◌, nat_lt, List, [], ◌∷◌, ◌++◌, length, replicate, Option, Some, None, Result, Ok, Err, inl, inr, refl, sym, ap, subst, ◌∙◌, lit<, lit≤, arith}
-use Rattle.std.specs.Prelude.{nat_le, is_none, IsSome}
+use Rattle.std.proofs.Common.{◌≡◌, ℕ, zero, suc, ◌^◌, ◌<◌, ◌≤◌, Bool, true, false, cond, ◌&&◌, List, [], ◌++◌, length, replicate, Option, Some, None, refl, sym, ap, ◌∙◌, lit<, lit≤, arith}
+use Rattle.std.specs.Prelude.{nat_le, is_none}
 use Rattle.std.proofs.lemmas.Bool.Decides.{nat_tests}
 use Rattle.wire_table.proofs.RowLaws.{IsBytes}
-use Rattle.vm_page.specs.Words.{words_for, words_of, bytes_in}
-use Rattle.pkt_desc.specs.Packets.{id_of, plain_packet, inband_packet, completion_packet}
+use Rattle.pkt_desc.specs.Packets.{inband_packet}
 use Rattle.scsi_disk.specs.Commands.{command_of}
-use Rattle.scsi_disk.specs.DiskModel.{most_back, IsSized}
+use Rattle.scsi_disk.specs.DiskModel.{most_back}
 use Rattle.scsi_disk.specs.declared.command.Command.{Command}
 use Rattle.scsi_disk.specs.declared.command.Command.TheVariants.{TestUnitReady, Inquiry, ReadCapacity, Read as ReadBlocks, Write, SynchronizeCache}
 use Rattle.scsi_disk.specs.declared.request.DiskRequest.{DiskRequest}
-use Rattle.scsi_disk.specs.declared.reply.DiskReply.{DiskReply}
-use Rattle.scsi_disk.specs.declared.reply.DiskReply.TheVariants.{Good, Check}
-use Rattle.stor_proto.specs.Fields.{number_at, with_number, with_bytes}
-use Rattle.stor_proto.specs.Operations.{operation_of, number_of_operation}
+use Rattle.stor_proto.specs.Fields.{with_number}
+use Rattle.stor_proto.specs.Operations.{number_of_operation}
 use Rattle.stor_proto.specs.Opening.{start_of}
-use Rattle.stor_proto.specs.Packets.{vstor_bytes, vstor_in, vstor_fault, InForm, IsAllowed}
-use Rattle.stor_proto.specs.Srbs.{cdb_in, names_disk, data_for, request_of, moved_by, sense_of, good_srb, check_srb, reply_of, done_of, bytes_moved, cdb_length, data_in, ask_rest, ask_of}
+use Rattle.stor_proto.specs.Packets.{vstor_bytes, vstor_fault, InForm, IsAllowed}
+use Rattle.stor_proto.specs.Srbs.{data_for, bytes_moved, cdb_length, data_in, ask_rest, ask_of}
 use Rattle.stor_proto.specs.declared.operation.Operation.{Operation}
 use Rattle.stor_proto.specs.declared.operation.Operation.TheVariants.{CompleteIo, RemoveDevice, ExecuteSrb, BeginInitialization, EndInitialization, QueryProtocolVersion, QueryProperties, EnumerateBus, CreateSubChannels}
 use Rattle.stor_proto.specs.declared.vstor.Vstor.{Vstor}
-use Rattle.stor_proto.specs.declared.stop.SrbStop.{SrbStop}
-use Rattle.stor_proto.proofs.PacketLaws.{vstor_found}
-use Rattle.stor_proto.proofs.SrbLaws.{ask_read_more, good_read_back, good_read_more, check_read_back}
-use Rattle.bus_speech.specs.Packets.{is_of, is_inband, is_completion, content_of}
-use Rattle.bus_speech.specs.Disks.{vstor_of, data_of, has_vstor, sent_packet, done_packet, disk_waits, asked_by, disk_asked, disk_read, back_of, disk_answer, disk_result, disk_fits, start_vstor, disk_start, disk_ask, IsDiskAsk}
-use Rattle.bus_speech.proofs.ByteLaws.{from_all, append_bytes, zero_bytes, with_number_bytes, with_bytes_bytes, all_from_test, test_from_all}
-use Rattle.bus_speech.proofs.PacketLaws.{content_any, content_bytes, is_of_kept}
-use Rattle.bus_speech.proofs.VstorLaws.{Formed, formed, in_form, Read, read_again, zeros_behind, length-vstor, length-with_bytes, number_put}
+use Rattle.stor_proto.proofs.SrbLaws.{ask_read_more}
+use Rattle.bus_speech.specs.Packets.{is_of, is_inband, content_of}
+use Rattle.bus_speech.specs.Disks.{vstor_of, data_of, has_vstor, sent_packet, disk_waits, asked_by, disk_asked, disk_read, start_vstor, disk_start, disk_ask, IsDiskAsk}
+use Rattle.bus_speech.proofs.ByteLaws.{from_all, zero_bytes, with_number_bytes, with_bytes_bytes}
+use Rattle.bus_speech.proofs.PacketLaws.{content_any, is_of_kept}
+use Rattle.bus_speech.proofs.VstorLaws.{Formed, in_form, Read, read_again, zeros_behind, length-vstor, length-with_bytes, number_put}
 use Rattle.std.proofs.Common.{length-append}
 
 pub by_test : {P : Type 0} (b : Bool) → (b ≡ true → P) → (b ≡ false → P) → P

@@ -1,10 +1,9 @@
 -- The disk's reply is read in the answer that carries it.
-use Rattle.std.proofs.Common.{◌≡◌, ℕ, zero, suc, ◌+◌, ◌*◌, ◌^◌, ◌<◌, ◌≤◌, ◌≢◌, ◌==◌, Bool, true, false, cond, not, ◌&&◌, nat_lt, List, [], ◌∷◌, ◌++◌, length, replicate, Option, Some, None, Result, Ok, Err, refl, sym, ap, subst, ◌∙◌, lit<, lit≤, arith, length-append}
-use Rattle.std.specs.Prelude.{nat_le, is_none, IsSome}
+use Rattle.std.proofs.Common.{◌≡◌, ℕ, ◌<◌, ◌≤◌, ◌==◌, Bool, true, false, cond, not, ◌&&◌, nat_lt, List, [], ◌∷◌, ◌++◌, length, Option, Some, None, Result, Ok, Err, refl, sym, ap, subst, ◌∙◌, lit<, lit≤, arith, length-append}
+use Rattle.std.specs.Prelude.{nat_le, is_none}
 use Rattle.std.specs.List.{AllByRecursion, list_all}
 use Rattle.std.proofs.lemmas.Bool.Decides.{nat_tests}
 use Rattle.wire_table.proofs.RowLaws.{IsBytes}
-use Rattle.vm_page.specs.Words.{words_for}
 use Rattle.pkt_desc.specs.Packets.{id_of, kind_of, completion_packet}
 use Rattle.scsi_disk.specs.Commands.{command_of}
 use Rattle.scsi_disk.specs.DiskModel.{most_back, IsSized}
@@ -13,7 +12,7 @@ use Rattle.scsi_disk.specs.declared.command.Command.TheVariants.{TestUnitReady, 
 use Rattle.scsi_disk.specs.declared.request.DiskRequest.{DiskRequest}
 use Rattle.scsi_disk.specs.declared.reply.DiskReply.{DiskReply}
 use Rattle.scsi_disk.specs.declared.reply.DiskReply.TheVariants.{Good, Check}
-use Rattle.stor_proto.specs.Fields.{number_at, with_number, with_bytes}
+use Rattle.stor_proto.specs.Fields.{number_at, with_number}
 use Rattle.stor_proto.specs.Packets.{vstor_bytes, vstor_fault, InForm, IsAllowed}
 use Rattle.stor_proto.specs.Srbs.{cdb_in, names_disk, data_for, request_of, moved_by, sense_of, reply_of, done_of}
 use Rattle.stor_proto.specs.declared.vstor.Vstor.{Vstor}
@@ -24,7 +23,7 @@ use Rattle.bus_speech.specs.Packets.{is_of, is_inband, is_completion, content_of
 use Rattle.bus_speech.specs.Disks.{vstor_of, data_of, has_vstor, done_packet, disk_waits, asked_by, disk_asked, disk_read, back_of, disk_answer, disk_result, disk_fits}
 use Rattle.bus_speech.proofs.ByteLaws.{from_all, with_number_bytes, with_bytes_bytes, all_from_test, test_from_all}
 use Rattle.bus_speech.proofs.PacketLaws.{content_bytes, is_of_kept, right}
-use Rattle.bus_speech.proofs.VstorLaws.{Formed, formed, in_form, Read, read_again, zeros_behind, length-vstor, length-with_bytes, number_put}
+use Rattle.bus_speech.proofs.VstorLaws.{Formed, formed, in_form, read_again, zeros_behind, length-vstor, length-with_bytes, number_put}
 use Rattle.bus_speech.proofs.DiskLaws.{cond_some}
 
 -- what it means that a packet asks the disk

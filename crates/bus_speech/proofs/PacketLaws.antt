@@ -1,12 +1,12 @@
 -- Packets whose payload follows the descriptor: what is read of them.
-use Rattle.std.proofs.Common.{◌≡◌, ℕ, suc, ◌+◌, ◌-◌, ◌*◌, ◌/◌, ◌%◌, ◌^◌, ◌<◌, ◌≤◌, Bool, true, false, ◌&&◌, ◌==◌, List, [], ◌∷◌, ◌++◌, length, get_or, take, drop, replicate, refl, sym, ap, ◌∙◌, arith}
+use Rattle.std.proofs.Common.{◌≡◌, ℕ, ◌+◌, ◌*◌, ◌^◌, ◌<◌, ◌≤◌, Bool, true, false, ◌&&◌, ◌==◌, List, length, drop, refl, ap, ◌∙◌, arith}
 use Rattle.std.specs.Prelude.{nat_le}
 use Rattle.std.proofs.lemmas.Bool.Decides.{nat_tests}
 use Rattle.wire_table.proofs.RowLaws.{IsBytes}
 use Rattle.vm_page.specs.Words.{words_for, words_of, bytes_in, padded}
 use Rattle.vm_page.proofs.WordLaws.{length-words_from, length-bytes_in, bytes_in-words_from}
-use Rattle.pkt_desc.specs.Packets.{kind_in, offset8_of, head, kind_of, id_of, payload_of, plain_packet, inband_packet, completion_packet}
-use Rattle.bus_speech.specs.Packets.{is_of, is_inband, is_completion, content_of, bare_packet}
+use Rattle.pkt_desc.specs.Packets.{kind_in, offset8_of, head, kind_of, payload_of, plain_packet}
+use Rattle.bus_speech.specs.Packets.{is_of, content_of}
 use Rattle.bus_speech.proofs.ByteLaws.{words_bytes}
 
 offset_two : (kind len8 flags : ℕ) → kind < 2 ^ 16 → offset8_of (head kind 2 len8 flags) ≡ 2

@@ -1,21 +1,20 @@
 -- A utility channel: what was asked is read, and what was answered is read.
-use Rattle.std.proofs.Common.{◌≡◌, ℕ, zero, suc, ◌+◌, ◌*◌, ◌-◌, ◌^◌, ◌<◌, ◌≤◌, ◌==◌, Bool, true, false, cond, ◌&&◌, ◌||◌, nat_lt, List, [], ◌∷◌, ◌++◌, length, replicate, Option, Some, None, refl, sym, ap, subst, ◌∙◌, lit<, lit≤, arith, length-append}
+use Rattle.std.proofs.Common.{◌≡◌, ℕ, ◌*◌, ◌-◌, ◌≤◌, ◌==◌, Bool, true, false, cond, ◌&&◌, ◌||◌, nat_lt, List, ◌++◌, length, replicate, Option, Some, None, refl, sym, ap, ◌∙◌, lit<, lit≤, arith}
 use Rattle.std.specs.Prelude.{nat_le}
 use Rattle.std.proofs.lemmas.Bool.Decides.{nat_tests}
 use Rattle.wire_table.specs.Little.{number_of, bytes_of}
 use Rattle.wire_table.proofs.RowLaws.{IsBytes, length-spelled_after}
-use Rattle.vm_page.specs.Words.{words_for, words_of, bytes_in, padded}
-use Rattle.pkt_desc.specs.Packets.{id_of, payload_of, inband_packet, Carries}
+use Rattle.vm_page.specs.Words.{words_for}
+use Rattle.pkt_desc.specs.Packets.{id_of, inband_packet}
 use Rattle.contact.specs.declared.kind.Kind.{Kind}
 use Rattle.util_ic.specs.declared.ic.IcAsk.{IcAsk}
 use Rattle.util_ic.specs.declared.ic.IcAsk.TheVariants.{Beat, Down}
 use Rattle.util_ic.specs.declared.ic.IcAnswer.{IcAnswer}
 use Rattle.util_ic.specs.declared.version.Version.{Version}
-use Rattle.util_ic.specs.declared.row.AnswerRow.{AnswerRow}
-use Rattle.util_ic.specs.declared.row.AnswerRow.TheVariants.{Short, Cut, Agreed, Unknown, Heartbeat, Shutdown, Other}
-use Rattle.util_ic.specs.Messages.{on_beat, on_down, put, type_of, with_result, with_seq, ask_bytes, negotiate_bytes, zeros}
+use Rattle.util_ic.specs.declared.row.AnswerRow.TheVariants.{Short, Cut, Heartbeat, Shutdown, Other}
+use Rattle.util_ic.specs.Messages.{on_beat, on_down, put, type_of, with_seq, ask_bytes, negotiate_bytes}
 use Rattle.util_ic.specs.Versions.{greatest_known}
-use Rattle.util_ic.specs.Answers.{row_of, negotiation_of, agreed_row, frames_in, messages_in, versions_end, utility_answer, HasRoom}
+use Rattle.util_ic.specs.Answers.{row_of, agreed_row, frames_in, messages_in, versions_end, utility_answer, HasRoom}
 use Rattle.util_ic.specs.Asks.{asked_by, ask_of, answer_of, reply_of, kind_for, answer_bytes, Answered}
 use Rattle.util_ic.specs.Packets.{ask_packet, negotiate_packet, answer_packet}
 use Rattle.util_ic.proofs.ByteLaws.{length-put}

@@ -1,6 +1,6 @@
 -- Each kind of channel keeps to the laws of a speech.
-use Rattle.std.proofs.Common.{◌≡◌, ◌≢◌, ℕ, suc, ◌^◌, ◌<◌, Bool, true, false, cond, ◌&&◌, List, [], ◌∷◌, ◌++◌, Option, Some, None, refl, sym, ap, ◌∙◌}
-use Rattle.std.specs.Prelude.{map, is_some, is_none}
+use Rattle.std.proofs.Common.{◌≡◌, ◌≢◌, ℕ, true, false, List, [], ◌∷◌, ◌++◌, Option, Some, None, refl, sym, ap, ◌∙◌}
+use Rattle.std.specs.Prelude.{map, is_some}
 use Rattle.std.specs.List.{AllByRecursion}
 use Rattle.contact.specs.declared.kind.Kind.{Kind}
 use Rattle.contact.specs.declared.kind.Kind.TheVariants.{Beat, Down, Disk, Net}
@@ -19,13 +19,13 @@ use Rattle.bus_script.specs.declared.line.Ask.TheVariants.{Ic as AskIc, Disk as 
 use Rattle.bus_script.specs.declared.outcome.Reply.{Reply}
 use Rattle.bus_script.specs.declared.outcome.Reply.TheVariants.{Ic as ReplyIc, Disk as ReplyDisk}
 use Rattle.pkt_desc.specs.Packets.{id_of, inband_packet}
-use Rattle.work_model.specs.Speech.{Speech, Keeps, Answers}
+use Rattle.work_model.specs.Speech.{Keeps, Answers}
 use Rattle.work_model.specs.Channel.{AllFixed, AllAsk}
 use Rattle.bus_speech.specs.declared.want.Want.{Want}
 use Rattle.bus_speech.specs.declared.want.Want.TheVariants.{Starts, Script}
-use Rattle.bus_speech.specs.Packets.{is_inband, bare_packet}
+use Rattle.bus_speech.specs.Packets.{bare_packet}
 use Rattle.bus_speech.specs.Services.{service_read, service_fixed, service_answer}
-use Rattle.bus_speech.specs.Disks.{sent_packet, done_packet, disk_waits, disk_read, disk_fixed, disk_answer, disk_start, disk_ask, start_vstor, IsDiskAsk}
+use Rattle.bus_speech.specs.Disks.{sent_packet, done_packet, disk_read, disk_fixed, disk_answer, disk_start, disk_ask, start_vstor}
 use Rattle.bus_speech.specs.Wants.{startup, IsBeatAsk, IsDownAsk, IsAskable}
 use Rattle.bus_speech.specs.Speeches.{ic_ask, disk_asks, ic_reply, disk_replies, encode_on, waits_on, read_on, fixed_on, fits_on, answer_on, said_on, asks_device, has_answer_on, fixed_back, result_on, speech_of}
 use Rattle.bus_speech.proofs.DiskLaws.{by_test, waits_any, read_any, start_waits as disk_start_waits, start_read as disk_start_read, ask_waits as disk_ask_waits, ask_read as disk_ask_read}

@@ -1,17 +1,14 @@
 -- Storage packets in packets: they are read as they were written.
-use Rattle.std.proofs.Common.{◌≡◌, ℕ, zero, suc, ◌+◌, ◌-◌, ◌*◌, ◌^◌, ◌<◌, ◌≤◌, ◌≢◌, Bool, true, false, List, [], ◌∷◌, ◌++◌, length, take, drop, replicate, refl, sym, ap, ◌∙◌, append_assoc, length-append, length-drop, arith}
-use Rattle.std.specs.Prelude.{is_none, IsSome}
+use Rattle.std.proofs.Common.{◌≡◌, ℕ, ◌+◌, ◌-◌, ◌*◌, ◌^◌, ◌<◌, ◌≤◌, true, List, [], ◌∷◌, ◌++◌, length, take, drop, replicate, refl, ap, ◌∙◌, append_assoc, length-append, length-drop, arith}
+use Rattle.std.specs.Prelude.{is_none}
 use Rattle.std.proofs.lemmas.List.{take_at, drop_at, length-take-le}
 use Rattle.wire_table.specs.Little.{bytes_of}
-use Rattle.wire_table.specs.Rows.{Row, num, raw, Kind, nums, raws, Has, AllHave, spelled_after}
+use Rattle.wire_table.specs.Rows.{Row, num, raw, Kind, nums, raws, Has, AllHave}
 use Rattle.wire_table.proofs.RowLaws.{IsBytes, all_bytes, length-spelled_after}
-use Rattle.scsi_disk.specs.declared.command.Command.{Command}
-use Rattle.std.proofs.Common.{Option}
-use Rattle.vm_page.specs.Words.{words_for, padded}
+use Rattle.vm_page.specs.Words.{words_for}
 use Rattle.pkt_desc.specs.Packets.{plain_packet}
 use Rattle.stor_proto.specs.Fields.{with_number, with_bytes}
-use Rattle.stor_proto.specs.Operations.{operation_of}
-use Rattle.stor_proto.specs.Packets.{rows_of, vstor_kinds, vstor_bytes, vstor_in, vstor_fault, InForm, IsAllowed}
+use Rattle.stor_proto.specs.Packets.{rows_of, vstor_kinds, vstor_bytes, InForm, IsAllowed}
 use Rattle.stor_proto.specs.declared.vstor.Vstor.{Vstor}
 use Rattle.stor_proto.proofs.FieldLaws.{length-with_number}
 use Rattle.stor_proto.proofs.PacketLaws.{vstor_only}

@@ -1,5 +1,5 @@
 -- One end's part in the talk of a channel.
-use Rattle.std.specs.Prelude.{ℕ, ◌<◌, ◌^◌, List, [], ◌++◌, map, length}
+use Rattle.std.specs.Prelude.{◌<◌, ◌^◌, List, ◌++◌, map, length}
 use Rattle.std.specs.List.{AllByRecursion}
 use Rattle.contact.specs.declared.kind.Kind.{Kind}
 use Rattle.bus_script.specs.declared.line.Ask.{Ask}

@@ -1,5 +1,5 @@
 -- What can be asked on a channel of each kind, and what its start-up asks.
-use Rattle.std.specs.Prelude.{ℕ, ◌<◌, ◌^◌, List, [], ◌∷◌}
+use Rattle.std.specs.Prelude.{◌<◌, ◌^◌, List, [], ◌∷◌}
 use Rattle.contact.specs.declared.kind.Kind.{Kind}
 use Rattle.contact.specs.declared.kind.Kind.TheVariants.{Beat, Down, Disk, Net}
 use Rattle.util_ic.specs.declared.ic.IcAsk.{IcAsk}

@@ -1,12 +1,11 @@
 -- What can be asked of a disk.
-use Rattle.std.proofs.Common.{◌≡◌, ℕ, ◌≤◌, List, [], ◌∷◌, length, take, get_or, Option, Some, None, refl, ap, subst, sym, ◌∙◌, arith}
+use Rattle.std.proofs.Common.{◌≡◌, ℕ, ◌≤◌, List, [], ◌∷◌, length, Option, Some, refl, subst, arith}
 use Rattle.std.specs.Prelude.{IsSome}
 use Rattle.std.proofs.lemmas.List.{take_all}
 use Rattle.wire_table.proofs.RowLaws.{IsBytes, all_bytes}
 use Rattle.scsi_disk.specs.Commands.{command_of}
 use Rattle.scsi_disk.specs.declared.command.Command.{Command}
 use Rattle.scsi_disk.specs.declared.command.Command.TheVariants.{TestUnitReady, Inquiry, ReadCapacity, Read, Write, SynchronizeCache}
-use Rattle.scsi_disk.specs.declared.request.DiskRequest.{DiskRequest}
 use Rattle.stor_proto.specs.Srbs.{bytes_moved, data_for}
 use Rattle.bus_speech.specs.Disks.{IsDiskAsk}
 

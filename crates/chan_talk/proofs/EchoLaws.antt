@@ -1,5 +1,5 @@
 -- The example keeps to what packets keep to.
-use Rattle.std.proofs.Common.{◌≡◌, ℕ, List, [], refl, Option, Some, None}
+use Rattle.std.proofs.Common.{[], refl}
 use Rattle.work_model.specs.Speech.{Keeps}
 use Rattle.chan_talk.specs.Echo.{echo_speech}
 

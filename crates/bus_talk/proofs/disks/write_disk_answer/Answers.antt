@@ -1,8 +1,5 @@
-use Rattle.std.proofs.Common.{◌≡◌, ◌∙◌, ◌≤◌, ℕ, List, length, true, false, Option, Some, None, ap, sym, subst, arith}
-use Rattle.std.specs.Prelude.{MatchOption}
-use Rattle.bus_speech.specs.Disks.{has_vstor, vstor_of}
-use Rattle.stor_proto.specs.Packets.{IsAllowed}
-use Rattle.stor_proto.specs.declared.vstor.Vstor.{Vstor}
+use Rattle.std.proofs.Common.{◌≡◌, ◌∙◌, length, false, ap, arith}
+use Rattle.bus_speech.specs.Disks.{has_vstor}
 use Rattle.bus_speech.proofs.DoneLaws.{asks, asks_short, back_short, waits_has}
 use Rattle.bus_talk.proofs.disks.write_disk_answer.Goals as goal
 

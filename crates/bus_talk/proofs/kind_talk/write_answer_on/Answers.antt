@@ -1,6 +1,5 @@
-use Rattle.std.proofs.Common.{◌≡◌, ◌∙◌, List, ℕ, take, Some, true}
+use Rattle.std.proofs.Common.{◌∙◌}
 use Rattle.contact.specs.declared.kind.Kind.TheVariants.{Beat, Down}
-use Rattle.bus_speech.specs.Services.{service_fixed}
 use Rattle.bus_speech.proofs.SpeechLaws.{read_waits, beat_answers, down_answers}
 use Rattle.bus_talk.proofs.kind_talk.write_answer_on.Goals as goal
 

@@ -1,7 +1,6 @@
-use Rattle.std.proofs.Common.{◌≡◌, ℕ, ◌+◌, ◌<◌, List, Bool, true, Some, slice_get, length, sym, ap, subst, ◌∙◌, arith}
+use Rattle.std.proofs.Common.{◌≡◌, ◌+◌, true, Some, slice_get, length, sym, ap, subst, ◌∙◌, arith}
 use Rattle.std.specs.Prelude.{nat_lt}
 use Rattle.std.proofs.lemmas.Bool.Decides.{nat_tests}
-use Rattle.bus_speech.specs.declared.want.Want.{Want}
 use Rattle.bus_speech.specs.Speeches.{has_answer_on}
 use Rattle.bus_speech.specs.Talks.{Talked, asks_of}
 use Rattle.bus_speech.proofs.TalkLaws.{all_wait, length-asks}

@@ -1,7 +1,4 @@
-use Rattle.std.proofs.Common.{◌≡◌, ℕ, List, cond, true, false, None, Some, Option, slice_get, length, sym, ap, subst, ◌∙◌, arith}
-use Rattle.bus_script.specs.declared.outcome.Reply.{Reply}
-use Rattle.bus_speech.specs.declared.want.Want.{Want}
-use Rattle.bus_speech.specs.Wants.{startup}
+use Rattle.std.proofs.Common.{◌≡◌, cond, true, false, None, Some, slice_get, sym, ap, subst, ◌∙◌, arith}
 use Rattle.bus_speech.specs.Speeches.{asks_device, said_on}
 use Rattle.bus_speech.specs.Talks.{Talked, asks_of}
 use Rattle.bus_speech.proofs.TalkLaws.{start_says_nothing, script_says}
