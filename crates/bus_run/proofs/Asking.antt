@@ -21,7 +21,7 @@ use Rattle.bus_script.specs.WellFormed.{IsRight, AllRight, CanGo, AskGoes, AllGo
 use Rattle.bus_model.specs.Dests.{Dest, ToChannel, Known, ended_by, dest_of, dest_in, dests, asked_in, asks_to, wants_open, is_opened, address_of, addresses_from}
 use Rattle.bus_plan.specs.Flags.{IsBelow, AllBelow, AreMarked, closed_by}
 use Rattle.bus_plan.specs.Plans.{LeadsBelow, AllLeadBelow, IsThere, AllThere}
-use Rattle.phase_run.specs.Pairs.{AllCarried}
+use Rattle.end_work.specs.Plans.{AllCarried}
 use Rattle.bus_run.specs.Desk.{opened_by}
 
 -- right lines speak of devices that are offered

@@ -5,11 +5,12 @@ use Rattle.bus_script.specs.declared.line.DeviceSpec.TheVariants.{Beat}
 use Rattle.std.proofs.lemmas.List.{get_or-map, take_more, take_more_set, drop_more, drop-set-lt, append-nil, take_all}
 use Rattle.bus_script.specs.Parts.{kind_of}
 use Rattle.bus_script.specs.declared.line.Ask.{Ask}
-use Rattle.phase_run.specs.Pairs.{AllCarried, Pairing, EachRuns, RunsPair}
-use Rattle.phase_run.specs.Seats.{kind_at, served_at, left_at}
+use Rattle.end_work.specs.Plans.{AllCarried}
+use Rattle.phase_run.specs.Pairs.{Pairing, EachRuns, RunsPair}
+use Rattle.end_work.specs.Seats.{kind_at, served_at, left_at}
 use Rattle.phase_run.specs.declared.pair.PairDone.{PairDone}
-use Rattle.phase_run.specs.declared.seat.DeviceSeat.{DeviceSeat}
-use Rattle.phase_run.specs.declared.seat.DeviceSeat.TheVariants.{Beat as BeatSeat, Down as DownSeat, Disk as DiskSeat}
+use Rattle.end_work.specs.declared.device_seat.DeviceSeat.{DeviceSeat}
+use Rattle.end_work.specs.declared.device_seat.DeviceSeat.TheVariants.{Beat as BeatSeat, Down as DownSeat, Disk as DiskSeat}
 use Rattle.bus_run.specs.Desk.{spec_of, asks_of, Suits}
 use Rattle.bus_run.specs.Opening.{IsSeatFor, OpensDesk, DeskRan, OneIf, OneEach, held_of, held_from}
 use Rattle.bus_run.specs.declared.desk.Desk.{Desk}
@@ -59,7 +60,7 @@ desk_ran : (asks : List Ask) (desk : Desk) (pair : Pairing) (done : PairDone) �
 desk_ran asks desk pair done opens runs = record {
   seat = opens.seat;
   is_for = opens.is_for;
-  ran = runs (kind_of (spec_of desk)) asks opens.seat opens.opens;
+  ran = runs.runs (kind_of (spec_of desk)) asks opens.seat opens.opens;
 }
 
 one_ran : (b : Bool) (asks : List Ask) (desk : Desk) (front rest : List Pairing) (dones : List PairDone) → OneIf b (OpensDesk asks desk) front → EachRuns (front ++ rest) dones

@@ -12,7 +12,7 @@ use Rattle.bus_script.specs.declared.line.DeviceSpec.TheVariants.{Beat}
 use Rattle.bus_script.specs.declared.outcome.LineResult.{LineResult}
 use Rattle.bus_script.specs.Parts.{asks_in, shuts, kind_of}
 use Rattle.bus_script.specs.WellFormed.{AllRight, AllGo}
-use Rattle.phase_run.specs.Pairs.{AllCarried}
+use Rattle.end_work.specs.Plans.{AllCarried}
 use Rattle.bus_model.specs.Served.{Served, done_of}
 use Rattle.bus_model.specs.Dests.{Address, dests, asks_to, addresses, is_opened}
 use Rattle.bus_model.specs.Logs.{Grows}

@@ -15,9 +15,9 @@ use Rattle.hist_lock.specs.Legal.{Leaves}
 use Rattle.hist_lock.specs.Seat.{Seat}
 use Rattle.hist_lock.specs.declared.history.Entry.{Entry}
 use Rattle.hist_lock.specs.declared.history.History.{History}
-use Rattle.phase_run.specs.Seats.{IsSame, IsSameSeat, ic_served, disk_served}
-use Rattle.phase_run.specs.declared.seat.DeviceSeat.{DeviceSeat}
-use Rattle.phase_run.specs.declared.seat.DeviceSeat.TheVariants.{Beat as BeatSeat, Down as DownSeat, Disk as DiskSeat}
+use Rattle.end_work.specs.Seats.{IsSame, IsSameSeat, ic_served, disk_served}
+use Rattle.end_work.specs.declared.device_seat.DeviceSeat.{DeviceSeat}
+use Rattle.end_work.specs.declared.device_seat.DeviceSeat.TheVariants.{Beat as BeatSeat, Down as DownSeat, Disk as DiskSeat}
 use Rattle.scsi_disk.specs.DiskModel.{disk_reply}
 use Rattle.scsi_disk.specs.FiniteMap.{Kept, unwritten, kept_after, stands_for}
 use Rattle.scsi_disk.specs.declared.request.DiskRequest.{DiskRequest}

@@ -13,7 +13,7 @@ use Rattle.bus_script.specs.declared.line.DeviceSpec.TheVariants.{Beat, Down, Di
 use Rattle.bus_script.specs.declared.outcome.LineResult.{LineResult}
 use Rattle.hist_lock.specs.History.{entries_of}
 use Rattle.hist_lock.specs.Legal.{Leaves}
-use Rattle.phase_run.specs.Pairs.{AllCarried}
+use Rattle.end_work.specs.Plans.{AllCarried}
 use Rattle.ring_model.specs.Lists.{Lists}
 use Rattle.scsi_disk.specs.DiskModel.{DiskState, new_disk, disk_reply}
 use Rattle.scsi_disk.specs.FiniteMap.{unwritten, kept_after, stands_for}

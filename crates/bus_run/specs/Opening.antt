@@ -7,8 +7,8 @@ use Rattle.hist_lock.specs.Seat.{Seat}
 use Rattle.hist_lock.specs.declared.history.Entry.{Entry}
 use Rattle.phase_run.specs.Pairs.{Pairing, Opens, Ran}
 use Rattle.phase_run.specs.declared.pair.PairDone.{PairDone}
-use Rattle.phase_run.specs.declared.seat.DeviceSeat.{DeviceSeat}
-use Rattle.phase_run.specs.declared.seat.DeviceSeat.TheVariants.{Beat as BeatSeat, Down as DownSeat, Disk as DiskSeat}
+use Rattle.end_work.specs.declared.device_seat.DeviceSeat.{DeviceSeat}
+use Rattle.end_work.specs.declared.device_seat.DeviceSeat.TheVariants.{Beat as BeatSeat, Down as DownSeat, Disk as DiskSeat}
 use Rattle.scsi_disk.specs.FiniteMap.{unwritten}
 use Rattle.util_ic.specs.Machines.{beat_start, down_start}
 use Rattle.bus_run.specs.Desk.{spec_of, subs_of, IsKept}

@@ -3,9 +3,9 @@ ghost use Rattle.std.specs.Prelude.{◌≡◌, ◌+◌, ◌<◌, ◌^◌, ◌++�
 ghost use Rattle.std.specs.Vec.Iter.{into_iter_items};
 ghost use Rattle.bus_model.specs.Served.{Served, done_of};
 ghost use Rattle.bus_script.specs.declared.line.Ask.{Ask as OneAsk};
-ghost use Rattle.phase_run.specs.Seats.{served_at, IsSameSeat};
+ghost use Rattle.end_work.specs.Seats.{served_at, IsSameSeat};
 ghost use Rattle.phase_run.specs.declared.pair.PairDone.{PairDone as OneDone};
-ghost use Rattle.phase_run.specs.declared.seat.DeviceSeat.{DeviceSeat as OneSeat};
+ghost use Rattle.end_work.specs.declared.device_seat.DeviceSeat.{DeviceSeat as OneSeat};
 ghost use Rattle.bus_run.specs.declared.desk.Desk.{Desk as OneDesk};
 ghost use Rattle.bus_run.specs.Desk.{subs_of, GoesOn, OpenRan, DeviceRan};
 ghost use Rattle.bus_run.specs.Opening.{IsSeatFor, DeskRan, ComesBack};
@@ -14,7 +14,8 @@ use crate::desk::Desk;
 use crate::lock::close_seat;
 use bus_model::ChannelRun;
 use bus_script::{LineResult, Reply};
-use phase_run::{DeviceSeat, PairDone};
+use end_work::DeviceSeat;
+use phase_run::{PairDone, serving_seat};
 use ring_seat::Settled;
 use std::alloc::{AllocError, Global};
 use std::vec::IntoIter;
@@ -77,10 +78,16 @@ fn close_desk(
 {
     let PairDone {
         settled,
-        seat,
+        guest_seat,
+        host_seat,
+        guest: _,
+        host: _,
         serials,
         replies,
     } = done;
+    let Some(seat) = serving_seat(guest_seat, host_seat) else {
+        unreachable!();
+    };
     let results = results_of(alloc, &serials, replies)?;
     let desk = desk_of(alloc, subs, seat)?;
     Ok((settled, desk, results))

@@ -1,14 +1,16 @@
 //! A device's channel is opened.
 ghost use Rattle.std.specs.Prelude.{◌≡◌, ◌+◌, ◌<◌, ◌≤◌, ◌^◌, ◌++◌, List, length, IfOk, OnOk};
 ghost use Rattle.bus_script.specs.Parts.{kind_of};
-ghost use Rattle.phase_run.specs.Pairs.{AllCarried, Pairing};
+ghost use Rattle.end_work.specs.Plans.{AllCarried};
+ghost use Rattle.phase_run.specs.Pairs.{Pairing};
 ghost use Rattle.bus_run.specs.Desk.{spec_of, desk_log, IsKept};
 ghost use Rattle.bus_run.specs.Opening.{IsSeatFor, OpensDesk, OneIf, held_of};
 
 use crate::desk::Desk;
 use crate::lock::open_seat;
 use bus_script::Ask;
-use phase_run::{DeviceSeat, Pair, open_pair};
+use end_work::DeviceSeat;
+use phase_run::{Pair, open_pair};
 use std::alloc::{AllocError, Global};
 use std::mem;
 

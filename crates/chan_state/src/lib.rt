@@ -6,6 +6,7 @@ mod chan_state;
 mod event;
 mod fault;
 mod state;
+mod stop;
 mod table;
 #[cfg(test)]
 mod tests;
@@ -15,3 +16,4 @@ pub use chan_state::ChanState;
 pub use event::Event;
 pub use fault::StateFault;
 pub use state::State;
+pub use stop::Stop;

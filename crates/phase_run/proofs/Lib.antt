@@ -1,5 +1,4 @@
-pub mod SeatLaws
 pub mod Joining
-pub mod Opening
+pub mod Making
 pub mod Running
 pub mod Each

@@ -1,8 +1,11 @@
 -- What both workers of a pair come to, once they ended.
-use Rattle.std.proofs.Common.{◌≡◌, ◌+◌, ℕ, length, true, List, map, refl, sym, ap, ◌∙◌, subst}
-use Rattle.std.proofs.lemmas.List.{length-map}
+use Rattle.std.proofs.Common.{◌≡◌, ◌≤◌, ◌+◌, ℕ, length, true, Bool, List, [], ◌++◌, map, Option, Some, None, refl, sym, ap, ◌∙◌, subst}
+use Rattle.std.proofs.lemmas.List.{length-map, append-nil}
 use Rattle.chan_run.specs.declared.event.Event.{Event}
-use Rattle.bus_model.specs.Channel.{plan_of}
+use Rattle.chan_run.specs.Laws.{AreOfOneRun}
+use Rattle.chan_run.specs.Runs.{sent_of, got_of}
+use Rattle.chan_run.proofs.Steps.{ends_exchanged}
+use Rattle.bus_model.specs.Channel.{IsChannelRun, plan_of, sent_by, got_by, other}
 use Rattle.bus_model.specs.Served.{Served}
 use Rattle.bus_script.specs.declared.line.Ask.{Ask}
 use Rattle.bus_script.specs.declared.outcome.Reply.{Reply}
@@ -10,51 +13,58 @@ use Rattle.bus_speech.specs.Speeches.{speech_of}
 use Rattle.bus_speech.specs.Talks.{Talked, asks_of}
 use Rattle.bus_speech.specs.declared.want.Want.{Want}
 use Rattle.bus_speech.specs.declared.want.Want.TheVariants.{Script}
-use Rattle.chan_run.specs.Laws.{AreOfOneRun}
 use Rattle.contact.specs.declared.kind.Kind.{Kind}
+use Rattle.io_edge.specs.declared.side.Side.{Side}
+use Rattle.io_edge.specs.declared.side.Side.TheVariants.{Guest, Host}
 use Rattle.ring_core.specs.Seen.{Seen}
+use Rattle.ring_model.specs.Lists.{Lists}
 use Rattle.ring_seat.specs.declared.table_seat.TableSeat.{TableSeat}
 use Rattle.work_model.specs.Channel.{AskerEnds, ServerEnds, IsChannelRun as Runs}
 use Rattle.work_model.specs.Roles.{side_that_asks}
 use Rattle.work_model.specs.Speech.{Speech}
-use Rattle.worker_core.specs.Asking.{AsksAll, AsksBy}
+use Rattle.worker_core.specs.Asking.{Asking, AsksAll, AsksBy}
 use Rattle.worker_core.specs.Rooms.{has_room}
 use Rattle.worker_core.specs.Serving.{Serving, EndsAll, EndsBy}
 use Rattle.worker_core.specs.declared.ended.Ended.{Ended}
 use Rattle.worker_core.specs.declared.ended.Ended.TheVariants.{Marked, PeerMarked, Room}
 use Rattle.worker_core.proofs.RoomLaws.{never_lacks}
-use Rattle.phase_run.specs.Leaving.{LeavesAsked, LeavesServed}
-use Rattle.phase_run.specs.Pairs.{Pairing, IsPair, Opens, Ran}
-use Rattle.phase_run.specs.Seats.{served_at, device_place}
-use Rattle.phase_run.specs.Standing.{is_whole, Joins}
+use Rattle.end_work.specs.Leaving.{Leaves, LeavesAsked, LeavesServed}
+use Rattle.end_work.specs.Pairs.{ArePair}
+use Rattle.end_work.specs.Seats.{served_at, device_place, IsSameSeat, at_guest, at_host}
+use Rattle.end_work.specs.declared.device_seat.DeviceSeat.{DeviceSeat}
+use Rattle.end_work.specs.declared.worker.ChannelWorker.{ChannelWorker}
+use Rattle.end_work.specs.declared.worker.ChannelWorker.TheVariants.{Asks, Serves}
+use Rattle.end_work.specs.declared.worker.WorkerDone.{WorkerDone}
+use Rattle.end_work.proofs.SeatLaws.{same_place}
+use Rattle.phase_run.specs.Pairs.{MadeFor, Opens, Ran, RunsPair, ComesBack, KeepsSeats, first_of, is_whole}
 use Rattle.phase_run.specs.declared.pair.PairDone.{PairDone}
-use Rattle.phase_run.specs.declared.seat.DeviceSeat.{DeviceSeat}
-use Rattle.phase_run.specs.declared.worker.AskedEnd.{AskedEnd}
-use Rattle.phase_run.specs.declared.worker.ServedEnd.{ServedEnd}
 use Rattle.phase_run.proofs.Joining.{BothEnd, told_is, runs, serves_asks}
-use Rattle.phase_run.proofs.SeatLaws.{same_place}
+
+-- what the joined ends of a channel tell: their lists, and one run of both
+pub record Joins (asker server : Seen TableSeat) (lists : Lists) (side : Side) : Type 0 where
+  pub one : AreOfOneRun asker.state.past server.state.past
+  pub asker_sent : sent_by side lists ≡ sent_of asker.state.past
+  pub asker_got : got_by side lists ≡ got_of asker.state.past
+  pub server_sent : sent_by (other side) lists ≡ sent_of server.state.past
+  pub server_got : got_by (other side) lists ≡ got_of server.state.past
+
+-- both workers have ended, and their ends were joined
+pub record BothLeave (a : Asking Talked Reply) (s : Serving Talked DeviceSeat Ask Reply) (asked served : WorkerDone) (lists : Lists) (side : Side) : Type 0 where
+  pub room : length (asks_of a.talk) ≤ s.starts + s.come
+  pub asker_leaves : LeavesAsked a asked
+  pub server_leaves : LeavesServed s served
+  pub joins : Joins asked.end served.end lists side
 
 is_whole_of : (how : Ended) → has_room how ≡ true → is_whole how ≡ true
 is_whole_of Marked is = refl
 is_whole_of PeerMarked is = refl
 is_whole_of (Room packets words left) is = absurd (cc (is))
 
--- neither worker of a pair ended for want of room
-pub both_whole : (p : Pairing) (asked : AskedEnd) (served : ServedEnd) → IsPair p → AreOfOneRun asked.end.state.past served.end.state.past → LeavesAsked p.asker asked → LeavesServed p.server served
-    → (is_whole asked.ended ≡ true) × (is_whole served.ended ≡ true)
-both_whole p asked served pair one a b =
-    let whole = never_lacks (length (asks_of p.asker.talk)) (p.server.starts + p.server.come) asked.end.state.past served.end.state.past asked.ended served.ended pair.room one a.sent a.room b.sent b.room in
+-- neither ended for want of room
+both_whole : (a : Asking Talked Reply) (s : Serving Talked DeviceSeat Ask Reply) (asked served : WorkerDone) (lists : Lists) (side : Side) → BothLeave a s asked served lists side → (is_whole asked.ended ≡ true) × (is_whole served.ended ≡ true)
+both_whole a s asked served lists side both =
+    let whole = never_lacks (length (asks_of a.talk)) (s.starts + s.come) asked.end.state.past served.end.state.past asked.ended served.ended both.room both.joins.one both.asker_leaves.sent both.asker_leaves.room both.server_leaves.sent both.server_leaves.room in
     (is_whole_of asked.ended whole.0, is_whole_of served.ended whole.1)
-
--- both workers ended where their plans end, and their ends were joined
-pub record Came (p : Pairing) (asked served : Ended) (asker server : Seen TableSeat) (done : PairDone) : Type 0 where
-  pub joins : Joins asker server done.settled p.side
-  pub asks : AsksBy (speech_of p.asker.talk.kind) asked (asks_of p.asker.talk) asker.state.past done.replies.items
-  pub serves : EndsBy (speech_of p.server.desk.talk.kind) served p.server server.state.past (served_at done.seat)
-  pub asked_whole : is_whole asked ≡ true
-  pub served_whole : is_whole served ≡ true
-  pub place : device_place done.seat ≡ device_place p.server.desk.seat
-  pub serials : done.serials.items ≡ map (λ c. c.serial) (served_at done.seat)
 
 asks_all : (s : Speech (List ℕ) Want Ask Reply) (how : Ended) (asks : List Want) (past : List (Event (List ℕ))) (told : List Reply) → is_whole how ≡ true → AsksBy s how asks past told → AsksAll s asks past told
 asks_all s Marked asks past told whole by = by
@@ -72,11 +82,11 @@ asker_ends : (kind : Kind) (asks : List Ask) (talk : Talked) (past : List (Event
 asker_ends kind asks talk past told is all = subst (λ (t : Talked). AsksAll (speech_of t.kind) (asks_of t) past told) is all (plan_of kind asks) refl
 
 -- and the one that serves
-server_ends : (kind : Kind) (asks : List Ask) (seat : DeviceSeat) (p : Pairing) (past : List (Event (List ℕ))) (calls : List Served) → Opens kind asks seat p → EndsAll (speech_of p.server.desk.talk.kind) p.server past calls
-    → ServerEnds (speech_of kind) (plan_of kind asks) past calls
-server_ends kind asks seat p past calls opens all =
-    subst (λ k. EndsAll (speech_of k) p.server past calls) opens.answers all (plan_of kind asks)
-    (record { serve = opens.serve ∙ sym (length-map asks Script); held = opens.held; stops = opens.stops; starts = opens.starts })
+server_ends : (kind : Kind) (asks : List Ask) (seat : DeviceSeat) (a : Asking Talked Reply) (s : Serving Talked DeviceSeat Ask Reply) (past : List (Event (List ℕ))) (calls : List Served) → MadeFor kind asks seat a s
+    → EndsAll (speech_of s.desk.talk.kind) s past calls → ServerEnds (speech_of kind) (plan_of kind asks) past calls
+server_ends kind asks seat a s past calls made all =
+    subst (λ k. EndsAll (speech_of k) s past calls) made.answers all (plan_of kind asks)
+    (record { serve = made.serve ∙ sym (length-map asks Script); held = made.held; stops = made.stops; starts = made.starts })
 
 -- the lists of a run are those that the joined ends tell
 lists_are : (kind : Kind) (asks : List Ask) (a b c d a' b' c' d' : List (List ℕ)) (calls : List Served) (told : List Reply) → a' ≡ a → b' ≡ b → c' ≡ c → d' ≡ d
@@ -85,25 +95,120 @@ lists_are kind asks a b c d a' b' c' d' calls told e f g h run =
     subst (λ x. Runs (speech_of kind) (plan_of kind asks) x b' c' d' calls told) (sym e) (subst (λ x. Runs (speech_of kind) (plan_of kind asks) a x c' d' calls told) (sym f)
     (subst (λ x. Runs (speech_of kind) (plan_of kind asks) a b x d' calls told) (sym g) (subst (λ x. Runs (speech_of kind) (plan_of kind asks) a b c x calls told) (sym h) run)))
 
--- the run of the channel of a pair that was opened so
-pub ran : (kind : Kind) (asks : List Ask) (seat : DeviceSeat) (p : Pairing) (asked served : Ended) (asker server : Seen TableSeat) (done : PairDone) → Opens kind asks seat p → Came p asked served asker server done
-    → Ran kind asks seat done
-ran kind asks seat p asked served asker server done opens came =
-    let told = done.replies.items in
-    let calls = served_at done.seat in
-    let at : Joins asker server done.settled (side_that_asks kind) = subst (Joins asker server done.settled) opens.side came.joins in
-    let both : BothEnd kind asks asker.state.past server.state.past calls told = record {
-      can = opens.can;
+-- the channel ran, and each request was a call of the seat
+pub record RanBy (kind : Kind) (asks : List Ask) (seat back : DeviceSeat) (lists : Lists) (asked served : WorkerDone) : Type 0 where
+  pub channel : IsChannelRun kind asks lists (served_at back)
+  pub same : IsSameSeat seat back
+  pub serials : served.serials.items ≡ map (λ s. s.serial) (served_at back)
+  pub replies : asked.replies.items ≡ map (λ s. s.reply) (served_at back)
+
+ran : (kind : Kind) (asks : List Ask) (seat : DeviceSeat) (a : Asking Talked Reply) (s : Serving Talked DeviceSeat Ask Reply) (asked served : WorkerDone) (lists : Lists) (side : Side) → side_that_asks kind ≡ side → MadeFor kind asks seat a s
+    → (both : BothLeave a s asked served lists side) → RanBy kind asks seat both.server_leaves.back lists asked served
+ran kind asks seat a s asked served lists side at_side made ended =
+    let told = asked.replies.items in
+    let calls = served_at ended.server_leaves.back in
+    let whole = both_whole a s asked served lists side ended in
+    let at : Joins asked.end served.end lists (side_that_asks kind) = subst (Joins asked.end served.end lists) (sym at_side) ended.joins in
+    let both : BothEnd kind asks asked.end.state.past served.end.state.past calls told = record {
+      can = made.can;
       one = at.one;
-      asker_ends = asker_ends kind asks p.asker.talk asker.state.past told opens.talk (asks_all _ asked _ _ _ came.asked_whole came.asks);
-      server_ends = server_ends kind asks seat p server.state.past calls opens (ends_all _ served _ _ _ came.served_whole came.serves);
+      asker_ends = asker_ends kind asks a.talk asked.end.state.past told made.talk (asks_all _ asked.ended _ _ _ whole.0 ended.asker_leaves.asks);
+      server_ends = server_ends kind asks seat a s served.end.state.past calls made (ends_all _ served.ended _ _ _ whole.1 ended.server_leaves.serves);
     } in
     record {
       channel = record {
-        carried = lists_are kind asks _ _ _ _ _ _ _ _ calls (map (λ c. c.reply) calls) at.asker_sent at.asker_got at.server_sent at.server_got (runs kind asks asker.state.past server.state.past calls told both);
-        serves = serves_asks kind asks asker.state.past server.state.past calls told both;
+        carried = lists_are kind asks _ _ _ _ _ _ _ _ calls (map (λ c. c.reply) calls) at.asker_sent at.asker_got at.server_sent at.server_got (runs kind asks asked.end.state.past served.end.state.past calls told both);
+        serves = serves_asks kind asks asked.end.state.past served.end.state.past calls told both;
       };
-      same = same_place seat done.seat (came.place ∙ ap device_place opens.seat_is);
-      serials = came.serials;
-      replies = told_is kind asks asker.state.past server.state.past calls told both;
+      same = same_place seat ended.server_leaves.back (ended.server_leaves.place ∙ ap device_place made.seat_is);
+      serials = ended.server_leaves.serials;
+      replies = told_is kind asks asked.end.state.past served.end.state.past calls told both;
     }
+
+-- the seat that comes back
+comes_back : (s : Serving Talked DeviceSeat Ask Reply) (served : WorkerDone) (seat : Option DeviceSeat) → seat ≡ served.seat → LeavesServed s served → ComesBack s.desk.seat seat
+comes_back s served seat is leaves = record {
+  same = leaves.back;
+  is_back = is ∙ leaves.seat;
+  place = same_place s.desk.seat leaves.back leaves.place;
+}
+
+-- what a channel comes to is put together from what both workers leave
+pub record Closes (g h : ChannelWorker) (guest host : WorkerDone) (done : PairDone) : Type 0 where
+  pub pair : ArePair g h
+  pub guest_leaves : Leaves g guest
+  pub host_leaves : Leaves h host
+  pub run : AreOfOneRun guest.end.state.past host.end.state.past
+  pub guest_sent : done.settled.guest_sent ≡ sent_of guest.end.state.past
+  pub guest_got : done.settled.guest_got ≡ got_of guest.end.state.past
+  pub host_sent : done.settled.host_sent ≡ sent_of host.end.state.past
+  pub host_got : done.settled.host_got ≡ got_of host.end.state.past
+  pub guest_seat : at_guest done.guest_seat ≡ guest.seat
+  pub host_seat : at_host done.host_seat ≡ host.seat
+  pub guest_ended : done.guest ≡ guest.ended
+  pub host_ended : done.host ≡ host.ended
+  pub serials : done.serials.items ≡ guest.serials.items ++ host.serials.items
+  pub replies : done.replies.items ≡ guest.replies.items ++ host.replies.items
+
+none_before : {A : Type 0} (all front back : List A) → all ≡ front ++ back → front ≡ [] → all ≡ back
+none_before {A} all front back is none = is ∙ ap (λ (l : List A). l ++ back) none
+
+none_after : {A : Type 0} (all front back : List A) → all ≡ front ++ back → back ≡ [] → all ≡ front
+none_after {A} all front back is none = is ∙ ap (λ (l : List A). front ++ l) none ∙ append-nil front
+
+guest_asks : (a : Asking Talked Reply) (s : Serving Talked DeviceSeat Ask Reply) (guest host : WorkerDone) (done : PairDone) → Closes (Asks a) (Serves s) guest host done → BothLeave a s guest host done.settled Guest
+guest_asks a s guest host done closes = record {
+  room = closes.pair.roles;
+  asker_leaves = closes.guest_leaves;
+  server_leaves = closes.host_leaves;
+  joins = record { one = closes.run; asker_sent = closes.guest_sent; asker_got = closes.guest_got; server_sent = closes.host_sent; server_got = closes.host_got };
+}
+
+host_asks : (a : Asking Talked Reply) (s : Serving Talked DeviceSeat Ask Reply) (guest host : WorkerDone) (done : PairDone) → Closes (Serves s) (Asks a) guest host done → BothLeave a s host guest done.settled Host
+host_asks a s guest host done closes = record {
+  room = closes.pair.roles;
+  asker_leaves = closes.host_leaves;
+  server_leaves = closes.guest_leaves;
+  joins = record { one = ends_exchanged _ _ closes.run; asker_sent = closes.host_sent; asker_got = closes.host_got; server_sent = closes.guest_sent; server_got = closes.guest_got };
+}
+
+pub runs_pair : (g h : ChannelWorker) (guest host : WorkerDone) (done : PairDone) → Closes g h guest host done → RunsPair (record { guest = g; host = h }) done
+unfolding guest_asks host_asks
+runs_pair (Asks a) (Asks b) guest host done closes = absurd closes.pair.roles
+runs_pair (Asks a) (Serves s) guest host done closes =
+    let both = guest_asks a s guest host done closes in
+    let whole = both_whole a s guest host done.settled Guest both in
+    record {
+      guest = ap is_whole closes.guest_ended ∙ whole.0;
+      host = ap is_whole closes.host_ended ∙ whole.1;
+      seats = (closes.guest_seat ∙ closes.guest_leaves.seat, comes_back s host (at_host done.host_seat) closes.host_seat closes.host_leaves);
+      runs = λ kind asks seat opens.
+          let r = ran kind asks seat a s guest host done.settled Guest opens.0 opens.1 both in
+          record {
+            back = closes.host_leaves.back;
+            serving = ap (λ o. first_of o (at_host done.host_seat)) (closes.guest_seat ∙ closes.guest_leaves.seat) ∙ closes.host_seat ∙ closes.host_leaves.seat;
+            channel = r.channel;
+            same = r.same;
+            serials = none_before done.serials.items guest.serials.items host.serials.items closes.serials closes.guest_leaves.serials ∙ r.serials;
+            replies = none_after done.replies.items guest.replies.items host.replies.items closes.replies closes.host_leaves.replies ∙ r.replies;
+          };
+    }
+runs_pair (Serves s) (Asks a) guest host done closes =
+    let both = host_asks a s guest host done closes in
+    let whole = both_whole a s host guest done.settled Host both in
+    record {
+      guest = ap is_whole closes.guest_ended ∙ whole.1;
+      host = ap is_whole closes.host_ended ∙ whole.0;
+      seats = (comes_back s guest (at_guest done.guest_seat) closes.guest_seat closes.guest_leaves, closes.host_seat ∙ closes.host_leaves.seat);
+      runs = λ kind asks seat opens.
+          let r = ran kind asks seat a s host guest done.settled Host opens.0 opens.1 both in
+          record {
+            back = closes.guest_leaves.back;
+            serving = ap (λ o. first_of o (at_host done.host_seat)) (closes.guest_seat ∙ closes.guest_leaves.seat);
+            channel = r.channel;
+            same = r.same;
+            serials = none_after done.serials.items guest.serials.items host.serials.items closes.serials closes.host_leaves.serials ∙ r.serials;
+            replies = none_before done.replies.items guest.replies.items host.replies.items closes.replies closes.guest_leaves.replies ∙ r.replies;
+          };
+    }
+runs_pair (Serves s) (Serves t) guest host done closes = absurd closes.pair.roles

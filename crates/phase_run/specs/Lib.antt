@@ -1,6 +1,3 @@
-pub mod Seats
-pub mod Standing
-pub mod Leaving
-pub mod Starting
 pub mod Pairs
+pub mod Starting
 pub mod Beginning

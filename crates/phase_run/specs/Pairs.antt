@@ -1,71 +1,105 @@
 -- The two workers of a channel, and what they come to.
-use Rattle.std.specs.Prelude.{◌≡◌, ◌≤◌, ◌+◌, false, List, [], ◌∷◌, length, map, filter}
+use Rattle.std.specs.Prelude.{ℕ, ◌≡◌, ◌≤◌, Bool, true, false, List, [], ◌∷◌, length, map, filter, Option, Some, None}
 use Rattle.std.specs.List.{AllByRecursion}
 use Rattle.bus_model.specs.Channel.{IsChannelRun}
-use Rattle.bus_script.specs.Parts.{kind_asked}
-use Rattle.bus_script.specs.WellFormed.{CanGo}
 use Rattle.bus_script.specs.declared.line.Ask.{Ask}
 use Rattle.bus_script.specs.declared.outcome.Reply.{Reply}
 use Rattle.bus_speech.specs.Speeches.{has_answer_on}
-use Rattle.bus_speech.specs.Talks.{Talked, asks_of}
+use Rattle.bus_speech.specs.Talks.{Talked}
 use Rattle.bus_speech.specs.Wants.{startup, IsAskable}
 use Rattle.contact.specs.declared.kind.Kind.{Kind}
-use Rattle.io_edge.specs.declared.side.Side.{Side}
+use Rattle.end_work.specs.Seats.{served_at, kind_at, left_at, IsSameSeat, at_guest, at_host}
+use Rattle.end_work.specs.declared.device_seat.DeviceSeat.{DeviceSeat}
+use Rattle.end_work.specs.declared.guest_seat.GuestSeat.{GuestSeat}
+use Rattle.end_work.specs.declared.host_seat.HostSeat.{HostSeat}
+use Rattle.end_work.specs.declared.worker.ChannelWorker.{ChannelWorker}
+use Rattle.end_work.specs.declared.worker.ChannelWorker.TheVariants.{Asks, Serves}
 use Rattle.io_edge.specs.declared.side.Side.TheVariants.{Guest, Host}
-use Rattle.ring_core.specs.Seen.{Seen}
-use Rattle.ring_seat.specs.Settling.{AreOfOneChannel}
-use Rattle.ring_seat.specs.declared.table_seat.TableSeat.{TableSeat}
 use Rattle.work_model.specs.Roles.{side_that_asks}
 use Rattle.worker_core.specs.Asking.{Asking}
 use Rattle.worker_core.specs.Serving.{Serving}
-use Rattle.phase_run.specs.Seats.{served_at, IsSameSeat}
-use Rattle.phase_run.specs.declared.seat.DeviceSeat.{DeviceSeat}
+use Rattle.worker_core.specs.declared.ended.Ended.{Ended}
+use Rattle.worker_core.specs.declared.ended.Ended.TheVariants.{Marked, PeerMarked, Room}
 use Rattle.phase_run.specs.declared.pair.PairDone.{PairDone}
 
--- each request is one for devices of this kind, and its channel carries it
-abbrev pub AllCarried : Kind → List Ask → Type 0
-AllCarried kind [] = Unit {0}
-AllCarried kind (a ∷ asks) = (kind_asked a ≡ kind) × CanGo a × AllCarried kind asks
-
--- the side whose end asks, and both workers
+-- the guest's worker and the host's
 pub record Pairing : Type 0 where
-  pub side : Side
-  pub asker : Asking Talked Reply
-  pub server : Serving Talked DeviceSeat Ask Reply
+  pub guest : ChannelWorker
+  pub host : ChannelWorker
 
--- the ends of a channel, where the end at this side asks
-abbrev pub AreEnds : Side → Seen TableSeat → Seen TableSeat → Type 0
-AreEnds Guest asker server = AreOfOneChannel asker server
-AreEnds Host asker server = AreOfOneChannel server asker
-
--- both workers have the ends of one channel, neither has ended, and the one that serves made room for all that the other one asks
-pub record IsPair (p : Pairing) : Type 0 where
-  pub ends : AreEnds p.side p.asker.end p.server.end
-  pub asks : p.asker.end.state.machine.marked ≡ false
-  pub serves : p.server.end.state.machine.marked ≡ false
-  pub room : length (asks_of p.asker.talk) ≤ p.server.starts + p.server.come
-
--- the pair was opened for a device of this kind, with these requests of the phase, and its device has this seat
-pub record Opens (kind : Kind) (asks : List Ask) (seat : DeviceSeat) (p : Pairing) : Type 0 where
+-- the workers were made for a device of this kind, with these requests of the phase, and its device has this seat
+pub record MadeFor (kind : Kind) (asks : List Ask) (seat : DeviceSeat) (asker : Asking Talked Reply) (server : Serving Talked DeviceSeat Ask Reply) : Type 0 where
   pub can : AllByRecursion (IsAskable kind) asks
-  pub side : p.side ≡ side_that_asks kind
-  pub talk : p.asker.talk ≡ record { kind = kind; asks = asks }
-  pub answers : p.server.desk.talk.kind ≡ kind
-  pub seat_is : p.server.desk.seat ≡ seat
-  pub serve : p.server.serve ≡ length asks
-  pub held : p.server.desk.held ≡ false
-  pub stops : p.server.stops ≡ false
-  pub starts : p.server.starts ≡ length (filter (has_answer_on kind) (startup kind))
+  pub talk : asker.talk ≡ record { kind = kind; asks = asks }
+  pub answers : server.desk.talk.kind ≡ kind
+  pub seat_is : server.desk.seat ≡ seat
+  pub serve : server.serve ≡ length asks
+  pub held : server.desk.held ≡ false
+  pub stops : server.stops ≡ false
+  pub starts : server.starts ≡ length (filter (has_answer_on kind) (startup kind))
+
+-- and the one that asks is at the side that asks such a device
+abbrev pub OpensAt : Kind → List Ask → DeviceSeat → ChannelWorker → ChannelWorker → Type 0
+OpensAt kind asks seat (Asks a) (Asks b) = ⊥
+OpensAt kind asks seat (Asks a) (Serves s) = (side_that_asks kind ≡ Guest) × MadeFor kind asks seat a s
+OpensAt kind asks seat (Serves s) (Asks a) = (side_that_asks kind ≡ Host) × MadeFor kind asks seat a s
+OpensAt kind asks seat (Serves s) (Serves t) = ⊥
+
+abbrev pub Opens : Kind → List Ask → DeviceSeat → Pairing → Type 0
+Opens kind asks seat p = OpensAt kind asks seat p.guest p.host
+
+-- there is a seat, a new one of a device of this kind, with so many calls at least
+abbrev pub IsNewSeat : Kind → ℕ → Option DeviceSeat → Type 0
+IsNewSeat kind count None = ⊥
+IsNewSeat kind count (Some s) = (kind_at s ≡ kind) × (served_at s ≡ []) × (count ≤ left_at s)
+
+-- the pair was opened with this seat
+abbrev pub OpensWith : Kind → List Ask → Option DeviceSeat → Pairing → Type 0
+OpensWith kind asks None p = ⊥
+OpensWith kind asks (Some s) p = Opens kind asks s p
+
+-- the seat of the end that served, which is not of two
+abbrev pub first_of : Option DeviceSeat → Option DeviceSeat → Option DeviceSeat
+first_of None host = host
+first_of (Some s) host = Some s
+
+abbrev pub serving_of : GuestSeat → HostSeat → Option DeviceSeat
+serving_of guest host = first_of (at_guest guest) (at_host host)
 
 -- a pair of this kind, with these requests and this seat, has run: its channel carried them, each was a call of the seat, and these are the calls' serials and replies
 pub record Ran (kind : Kind) (asks : List Ask) (seat : DeviceSeat) (done : PairDone) : Type 0 where
-  pub channel : IsChannelRun kind asks done.settled (served_at done.seat)
-  pub same : IsSameSeat seat done.seat
-  pub serials : done.serials.items ≡ map (λ s. s.serial) (served_at done.seat)
-  pub replies : done.replies.items ≡ map (λ s. s.reply) (served_at done.seat)
+  pub back : DeviceSeat
+  pub serving : serving_of done.guest_seat done.host_seat ≡ Some back
+  pub channel : IsChannelRun kind asks done.settled (served_at back)
+  pub same : IsSameSeat seat back
+  pub serials : done.serials.items ≡ map (λ s. s.serial) (served_at back)
+  pub replies : done.replies.items ≡ map (λ s. s.reply) (served_at back)
 
-abbrev pub RunsPair : Pairing → PairDone → Type 0
-RunsPair p done = (kind : Kind) (asks : List Ask) (seat : DeviceSeat) → Opens kind asks seat p → Ran kind asks seat done
+-- it ended where its plan ends, and not for want of room in its lists
+abbrev pub is_whole : Ended → Bool
+is_whole Marked = true
+is_whole PeerMarked = true
+is_whole (Room packets words left) = false
+
+-- the seat of the worker that served, later
+pub record ComesBack (seat : DeviceSeat) (back : Option DeviceSeat) : Type 0 where
+  pub same : DeviceSeat
+  pub is_back : back ≡ Some same
+  pub place : IsSameSeat seat same
+
+-- the seats are the workers': the one that asks has none
+abbrev pub KeepsSeats : ChannelWorker → ChannelWorker → Option DeviceSeat → Option DeviceSeat → Type 0
+KeepsSeats (Asks a) (Asks b) guest host = ⊥
+KeepsSeats (Asks a) (Serves s) guest host = (guest ≡ None) × ComesBack s.desk.seat host
+KeepsSeats (Serves s) (Asks a) guest host = ComesBack s.desk.seat guest × (host ≡ None)
+KeepsSeats (Serves s) (Serves t) guest host = ⊥
+
+-- both workers of a pair ended where their plans end, with their seats; and for each plan that the pair was opened for, it has run
+pub record RunsPair (p : Pairing) (done : PairDone) : Type 0 where
+  pub guest : is_whole done.guest ≡ true
+  pub host : is_whole done.host ≡ true
+  pub seats : KeepsSeats p.guest p.host (at_guest done.guest_seat) (at_host done.host_seat)
+  pub runs : (kind : Kind) (asks : List Ask) (seat : DeviceSeat) → Opens kind asks seat p → Ran kind asks seat done
 
 -- each pair has run, in order
 abbrev pub EachRuns : List Pairing → List PairDone → Type 0

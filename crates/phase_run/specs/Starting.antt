@@ -1,35 +1,30 @@
 -- What the start of a worker gives.
 use Rattle.std.specs.Prelude.{◌≡◌}
-use Rattle.bus_script.specs.declared.line.Ask.{Ask}
-use Rattle.bus_script.specs.declared.outcome.Reply.{Reply}
-use Rattle.bus_speech.specs.Talks.{Talked}
-use Rattle.worker_core.specs.Asking.{Asking}
-use Rattle.worker_core.specs.Serving.{Serving}
-use Rattle.phase_run.specs.Leaving.{LeavesAsked, LeavesServed}
-use Rattle.phase_run.specs.declared.seat.DeviceSeat.{DeviceSeat}
-use Rattle.phase_run.specs.declared.start.AskerStart.{AskerStart}
-use Rattle.phase_run.specs.declared.start.AskerStart.TheVariants.{Ran as AskerRan, Back as AskerBack}
-use Rattle.phase_run.specs.declared.start.ServerStart.{ServerStart}
-use Rattle.phase_run.specs.declared.start.ServerStart.TheVariants.{Ran as ServerRan, Back as ServerBack}
-use Rattle.phase_run.specs.declared.start.AskerBegun.{AskerBegun}
-use Rattle.phase_run.specs.declared.start.AskerBegun.TheVariants.{Thread as AskerThread, Here as AskerHere}
-use Rattle.phase_run.specs.declared.start.ServerBegun.{ServerBegun}
-use Rattle.phase_run.specs.declared.start.ServerBegun.TheVariants.{Thread as ServerThread, Here as ServerHere}
+use Rattle.end_work.specs.Leaving.{Leaves, of_guest, of_host}
+use Rattle.end_work.specs.declared.worker.ChannelWorker.{ChannelWorker}
+use Rattle.phase_run.specs.declared.start.GuestStart.{GuestStart}
+use Rattle.phase_run.specs.declared.start.GuestStart.TheVariants.{Ran as GuestRan, Back as GuestBack}
+use Rattle.phase_run.specs.declared.start.HostStart.{HostStart}
+use Rattle.phase_run.specs.declared.start.HostStart.TheVariants.{Ran as HostRan, Back as HostBack}
+use Rattle.phase_run.specs.declared.start.GuestBegun.{GuestBegun}
+use Rattle.phase_run.specs.declared.start.GuestBegun.TheVariants.{Thread as GuestThread, Here as GuestHere}
+use Rattle.phase_run.specs.declared.start.HostBegun.{HostBegun}
+use Rattle.phase_run.specs.declared.start.HostBegun.TheVariants.{Thread as HostThread, Here as HostHere}
 
 -- the worker has run, or comes back
-abbrev pub AskerComes : Asking Talked Reply → AskerStart → Type 0
-AskerComes w (AskerRan e) = LeavesAsked w e
-AskerComes w (AskerBack asker) = asker ≡ w
+abbrev pub GuestComes : ChannelWorker → GuestStart → Type 0
+GuestComes w (GuestRan done) = Leaves w (of_guest done)
+GuestComes w (GuestBack guest) = guest ≡ w
 
-abbrev pub ServerComes : Serving Talked DeviceSeat Ask Reply → ServerStart → Type 0
-ServerComes w (ServerRan e) = LeavesServed w e
-ServerComes w (ServerBack server) = server ≡ w
+abbrev pub HostComes : ChannelWorker → HostStart → Type 0
+HostComes w (HostRan done) = Leaves w (of_host done)
+HostComes w (HostBack host) = host ≡ w
 
 -- a thread has it, or it came
-abbrev pub AskerBegins : Asking Talked Reply → AskerBegun → Type 0
-AskerBegins w (AskerThread handle) = handle.promise.asker.value ≡ w
-AskerBegins w (AskerHere start) = AskerComes w start
+abbrev pub GuestBegins : ChannelWorker → GuestBegun → Type 0
+GuestBegins w (GuestThread handle) = handle.promise.guest.value ≡ w
+GuestBegins w (GuestHere start) = GuestComes w start
 
-abbrev pub ServerBegins : Serving Talked DeviceSeat Ask Reply → ServerBegun → Type 0
-ServerBegins w (ServerThread handle) = handle.promise.server.value ≡ w
-ServerBegins w (ServerHere start) = ServerComes w start
+abbrev pub HostBegins : ChannelWorker → HostBegun → Type 0
+HostBegins w (HostThread handle) = handle.promise.host.value ≡ w
+HostBegins w (HostHere start) = HostComes w start

@@ -1,15 +1,14 @@
 //! The channels of a phase: two workers for each, and what they come to.
 #![tactic(auto)]
 
+mod close;
+mod open;
 mod pair;
 mod phase;
-mod pump;
-mod seat;
 mod start;
 #[cfg(test)]
 mod tests;
-mod worker;
 
-pub use pair::{Pair, PairDone, open_pair, run_pair};
+pub use open::open_pair;
+pub use pair::{Pair, PairDone, run_pair, serving_seat};
 pub use phase::run_phase;
-pub use seat::DeviceSeat;

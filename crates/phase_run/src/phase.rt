@@ -1,18 +1,18 @@
 //! The channels of a phase.
 ghost use Rattle.std.specs.Prelude.{◌≡◌, ◌≤◌, ◌+◌, [], ◌++◌, length, vec_len, vec_capacity, false};
 ghost use Rattle.phase_run.specs.Beginning.{Begins};
-ghost use Rattle.phase_run.specs.Leaving.{LeavesAsked, LeavesServed};
-ghost use Rattle.phase_run.specs.Pairs.{EachRuns, IsPair, RunsPair};
-ghost use Rattle.phase_run.specs.Starting.{AskerComes, ServerComes, AskerBegins, ServerBegins};
+ghost use Rattle.end_work.specs.Leaving.{Leaves, of_guest, of_host};
+ghost use Rattle.end_work.specs.Pairs.{ArePair};
+ghost use Rattle.phase_run.specs.Pairs.{EachRuns, RunsPair};
+ghost use Rattle.phase_run.specs.Starting.{GuestComes, HostComes, GuestBegins};
 
-use crate::pair::close;
-use crate::pump::pump;
+use crate::close::close;
 use crate::start::{
-    AskerBegun, AskerPromise, AskerStart, ServerBegun, ServerStart, start_asker, start_server,
+    GuestBegun, GuestStart, HostBegun, HostPromise, HostStart, start_guest, start_host,
 };
-use crate::worker::{AskedEnd, ChannelAsker, ChannelServer, ServedEnd, run_asker, run_server};
 use crate::{Pair, PairDone};
-use io_edge::{Gate, Side};
+use end_work::{GuestDone, GuestWorker, HostDone, pump};
+use io_edge::Gate;
 use std::snapshot::Snapshot;
 use std::sync::Wait;
 use std::sync::atomic::AtomicU64;
@@ -22,21 +22,19 @@ use std::{mem, thread};
 /// The workers of a channel, once they were started.
 #[derive(Drop)]
 pub(crate) enum Begun {
-    /// The asking one has a thread, and the serving one was started then.
+    /// The host's has a thread, and the guest's was started then.
     Threads {
-        side: Side,
-        asker: PromisedHandle<AskerStart, AskerPromise>,
-        server: ServerBegun,
+        guest: GuestBegun,
+        host: PromisedHandle<HostStart, HostPromise>,
     },
-    /// The asking one has none, and the serving one was not started.
+    /// The host's has none, and the guest's was not started.
     Here {
-        side: Side,
-        asker: AskerStart,
-        server: ChannelServer,
+        guest: GuestWorker,
+        host: HostStart,
     },
 }
 
-// Starts both workers of a channel, each in a thread of its own where one can be made.
+// Starts both workers of a channel, the host's first, each in a thread of its own where one can be made.
 fn begin<'s, E, R: Threads + Wait + Sync, G: Gate>(
     rt: &'s R,
     gate: &'s G,
@@ -48,93 +46,84 @@ fn begin<'s, E, R: Threads + Wait + Sync, G: Gate>(
     requires { number ≤ 16 }
     ensures { Begins pair result }
 {
-    let Pair {
-        side,
-        asker,
-        server,
-    } = pair;
-    match start_asker(rt, gate, scope, refused, 2 * number + 1, asker) {
-        AskerBegun::Thread(asker) => Begun::Threads {
-            side,
-            asker,
-            server: start_server(rt, gate, scope, refused, 2 * number + 2, server),
+    let Pair { guest, host } = pair;
+    match start_host(rt, gate, scope, refused, 2 * number + 1, host) {
+        HostBegun::Thread(host) => Begun::Threads {
+            guest: start_guest(rt, gate, scope, refused, 2 * number + 2, guest),
+            host,
         },
-        AskerBegun::Here(asker) => Begun::Here {
-            side,
-            asker,
-            server,
-        },
+        HostBegun::Here(host) => Begun::Here { guest, host },
     }
 }
 
-// An asking worker that came back runs here.
-fn asker_here<R: Wait, G: Gate>(
+// A guest's worker that came back runs here.
+fn guest_here<R: Wait, G: Gate>(
     rt: &R,
     gate: &G,
     pair: &Snapshot<Pair>,
-    start: AskerStart,
-) -> AskedEnd
-    requires pair { IsPair pair.now.value }
-    requires comes { AskerComes pair.now.value.asker start }
-    ensures { LeavesAsked pair.now.value.asker result }
+    start: GuestStart,
+) -> GuestDone
+    requires pair { ArePair pair.now.value.guest pair.now.value.host }
+    requires comes { GuestComes pair.now.value.guest start }
+    ensures { Leaves pair.now.value.guest (of_guest result) }
 {
     match start {
-        AskerStart::Ran(end) => end,
-        AskerStart::Back(asker) => run_asker(rt, gate, asker),
+        GuestStart::Ran(done) => done,
+        GuestStart::Back(guest) => guest.run(rt, gate),
     }
 }
 
-// And a serving one.
-fn server_here<R: Wait, G: Gate>(
+// And a host's.
+fn host_here<R: Wait, G: Gate>(
     rt: &R,
     gate: &G,
     pair: &Snapshot<Pair>,
-    start: ServerStart,
-) -> ServedEnd
-    requires pair { IsPair pair.now.value }
-    requires comes { ServerComes pair.now.value.server start }
-    ensures { LeavesServed pair.now.value.server result }
+    start: HostStart,
+) -> HostDone
+    requires pair { ArePair pair.now.value.guest pair.now.value.host }
+    requires comes { HostComes pair.now.value.host start }
+    ensures { Leaves pair.now.value.host (of_host result) }
 {
     match start {
-        ServerStart::Ran(end) => end,
-        ServerStart::Back(server) => run_server(rt, gate, server),
+        HostStart::Ran(done) => done,
+        HostStart::Back(host) => host.run(rt, gate),
     }
 }
 
-// Both workers run here, where the asking one came back.
+// Both workers run here, where the host's came back.
 fn both_here<R: Wait, G: Gate>(
     rt: &R,
     gate: &G,
     pair: &Snapshot<Pair>,
-    start: AskerStart,
-    server: ChannelServer,
-) -> (AskedEnd, ServedEnd)
-    requires pair { IsPair pair.now.value }
-    requires comes { AskerComes pair.now.value.asker start }
-    requires server { server ≡ pair.now.value.server }
-    ensures asked { LeavesAsked pair.now.value.asker result.0 }
-    ensures served { LeavesServed pair.now.value.server result.1 }
+    guest: GuestWorker,
+    start: HostStart,
+) -> (GuestDone, HostDone)
+    requires pair { ArePair pair.now.value.guest pair.now.value.host }
+    requires guest { guest ≡ pair.now.value.guest }
+    requires comes { HostComes pair.now.value.host start }
+    ensures guest { Leaves pair.now.value.guest (of_guest result.0) }
+    ensures host { Leaves pair.now.value.host (of_host result.1) }
 {
     match start {
-        AskerStart::Ran(end) => (end, run_server(rt, gate, server)),
-        AskerStart::Back(asker) => pump(rt, gate, asker, server),
+        HostStart::Ran(done) => (guest.run(rt, gate), done),
+        HostStart::Back(host) => pump(rt, guest, host, gate),
     }
 }
 
-// What a serving worker leaves: one that has a thread is waited for.
-fn served<R: Threads + Wait, G: Gate>(
+// What a guest's worker leaves: one that has a thread is waited for.
+fn guest_left<R: Threads + Wait, G: Gate>(
     rt: &R,
     gate: &G,
     pair: &Snapshot<Pair>,
-    begun: ServerBegun,
-) -> ServedEnd
-    requires pair { IsPair pair.now.value }
-    requires begins { ServerBegins pair.now.value.server begun }
-    ensures { LeavesServed pair.now.value.server result }
+    begun: GuestBegun,
+) -> GuestDone
+    requires pair { ArePair pair.now.value.guest pair.now.value.host }
+    requires begins { GuestBegins pair.now.value.guest begun }
+    ensures { Leaves pair.now.value.guest (of_guest result) }
 {
     match begun {
-        ServerBegun::Thread(handle) => server_here(rt, gate, pair, handle.join(rt)),
-        ServerBegun::Here(start) => server_here(rt, gate, pair, start),
+        GuestBegun::Thread(handle) => guest_here(rt, gate, pair, handle.join(rt)),
+        GuestBegun::Here(start) => guest_here(rt, gate, pair, start),
     }
 }
 
@@ -149,22 +138,14 @@ fn end<R: Threads + Wait, G: Gate>(
     ensures { RunsPair pair.now.value result }
 {
     match begun {
-        Begun::Threads {
-            side,
-            asker,
-            server,
-        } => {
-            let served = served(rt, gate, pair, server);
-            let asked = asker_here(rt, gate, pair, asker.join(rt));
-            close(pair, side, asked, served)
+        Begun::Threads { guest, host } => {
+            let guest = guest_left(rt, gate, pair, guest);
+            let host = host_here(rt, gate, pair, host.join(rt));
+            close(pair, guest, host)
         }
-        Begun::Here {
-            side,
-            asker,
-            server,
-        } => {
-            let (asked, served) = both_here(rt, gate, pair, asker, server);
-            close(pair, side, asked, served)
+        Begun::Here { guest, host } => {
+            let (guest, host) = both_here(rt, gate, pair, guest, host);
+            close(pair, guest, host)
         }
     }
 }

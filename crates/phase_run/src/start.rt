@@ -1,155 +1,154 @@
 //! Workers in threads of a scope. A worker whose thread was refused comes back.
-ghost use Rattle.std.specs.Prelude.{◌≡◌, false};
-ghost use Rattle.phase_run.specs.Leaving.{LeavesAsked, LeavesServed};
-ghost use Rattle.phase_run.specs.Starting.{AskerComes, ServerComes, AskerBegins, ServerBegins};
+ghost use Rattle.end_work.specs.Workers.{IsLive};
+ghost use Rattle.phase_run.specs.Starting.{GuestComes, HostComes, GuestBegins, HostBegins};
 
-use crate::worker::{AskedEnd, ChannelAsker, ChannelServer, ServedEnd, run_asker, run_server};
+use end_work::{GuestDone, GuestWorker, HostDone, HostWorker};
 use io_edge::Gate;
 use std::snapshot::Snapshot;
 use std::sync::Wait;
 use std::sync::atomic::{AtomicU64, Ordering};
 use std::thread::{Promise, PromisedHandle, Scope, Threads};
 
-/// What the start of an asking worker gives: the worker has run, or comes back.
+/// What the start of a guest's worker gives: the worker has run, or comes back.
 #[derive(Drop)]
-pub(crate) enum AskerStart {
-    Ran(AskedEnd),
-    Back(ChannelAsker),
+pub(crate) enum GuestStart {
+    Ran(GuestDone),
+    Back(GuestWorker),
 }
 
-/// What the start of a serving worker gives.
+/// What the start of a host's worker gives.
 #[derive(Drop)]
-pub(crate) enum ServerStart {
-    Ran(ServedEnd),
-    Back(ChannelServer),
+pub(crate) enum HostStart {
+    Ran(HostDone),
+    Back(HostWorker),
 }
 
-/// The thread of an asking worker keeps this.
+/// The thread of a guest's worker keeps this.
 #[derive(Drop)]
-pub(crate) struct AskerPromise {
-    asker: Snapshot<ChannelAsker>,
+pub(crate) struct GuestPromise {
+    guest: Snapshot<GuestWorker>,
 }
 
-impl Promise<AskerStart> for AskerPromise {
-    ghost use Rattle.phase_run.specs.Starting.{AskerComes};
+impl Promise<GuestStart> for GuestPromise {
+    ghost use Rattle.phase_run.specs.Starting.{GuestComes};
 
-    ghost kept_by = { λ p s. AskerComes p.asker.value s };
+    ghost kept_by = { λ p s. GuestComes p.guest.value s };
 }
 
-/// The thread of a serving worker keeps this.
+/// The thread of a host's worker keeps this.
 #[derive(Drop)]
-pub(crate) struct ServerPromise {
-    server: Snapshot<ChannelServer>,
+pub(crate) struct HostPromise {
+    host: Snapshot<HostWorker>,
 }
 
-impl Promise<ServerStart> for ServerPromise {
-    ghost use Rattle.phase_run.specs.Starting.{ServerComes};
+impl Promise<HostStart> for HostPromise {
+    ghost use Rattle.phase_run.specs.Starting.{HostComes};
 
-    ghost kept_by = { λ p s. ServerComes p.server.value s };
+    ghost kept_by = { λ p s. HostComes p.host.value s };
 }
 
 /// A thread, or what the start gave where none could be made.
 #[derive(Drop)]
-pub(crate) enum AskerBegun {
-    Thread(PromisedHandle<AskerStart, AskerPromise>),
-    Here(AskerStart),
+pub(crate) enum GuestBegun {
+    Thread(PromisedHandle<GuestStart, GuestPromise>),
+    Here(GuestStart),
 }
 
-/// The same of a serving worker.
+/// The same of a host's worker.
 #[derive(Drop)]
-pub(crate) enum ServerBegun {
-    Thread(PromisedHandle<ServerStart, ServerPromise>),
-    Here(ServerStart),
+pub(crate) enum HostBegun {
+    Thread(PromisedHandle<HostStart, HostPromise>),
+    Here(HostStart),
 }
 
 // What a thread does: it runs the worker, unless the start of this number was refused.
-fn ask_all<R: Wait, G: Gate>(
+fn run_guest<R: Wait, G: Gate>(
     rt: &R,
     gate: &G,
     refused: &AtomicU64,
     number: u64,
-    asker: ChannelAsker,
-) -> AskerStart
-    requires { asker.end.state.machine.marked ≡ false }
-    ensures { AskerComes asker result }
+    guest: GuestWorker,
+) -> GuestStart
+    requires { IsLive guest }
+    ensures { GuestComes guest result }
 {
     if refused.load(Ordering::SeqCst) == number {
-        return AskerStart::Back(asker);
+        return GuestStart::Back(guest);
     }
-    AskerStart::Ran(run_asker(rt, gate, asker))
+    GuestStart::Ran(guest.run(rt, gate))
 }
 
 // The same for the end that serves.
-fn serve_all<R: Wait, G: Gate>(
+fn run_host<R: Wait, G: Gate>(
     rt: &R,
     gate: &G,
     refused: &AtomicU64,
     number: u64,
-    server: ChannelServer,
-) -> ServerStart
-    requires { server.end.state.machine.marked ≡ false }
-    ensures { ServerComes server result }
+    host: HostWorker,
+) -> HostStart
+    requires { IsLive host }
+    ensures { HostComes host result }
 {
     if refused.load(Ordering::SeqCst) == number {
-        return ServerStart::Back(server);
+        return HostStart::Back(host);
     }
-    ServerStart::Ran(run_server(rt, gate, server))
+    HostStart::Ran(host.run(rt, gate))
 }
 
-/// Starts an asking worker in a thread. No two starts of a scope have one number.
-pub(crate) fn start_asker<'s, E, R: Threads + Wait + Sync, G: Gate>(
+/// Starts a guest's worker in a thread. No two starts of a scope have one number.
+pub(crate) fn start_guest<'s, E, R: Threads + Wait + Sync, G: Gate>(
     rt: &'s R,
     gate: &'s G,
     scope: &Scope<'s, E>,
     refused: &'s AtomicU64,
     number: u64,
-    asker: ChannelAsker,
-) -> AskerBegun
-    requires { asker.end.state.machine.marked ≡ false }
-    ensures { AskerBegins asker result }
+    guest: GuestWorker,
+) -> GuestBegun
+    requires { IsLive guest }
+    ensures { GuestBegins guest result }
 {
-    let promise = AskerPromise {
-        asker: Snapshot::of(&asker),
+    let promise = GuestPromise {
+        guest: Snapshot::of(&guest),
     };
     match scope.spawn_with(
         promise,
         move ||
-            requires { asker.end.state.machine.marked ≡ false }
-        { ask_all(rt, gate, refused, number, asker) },
+            requires { IsLive guest }
+        { run_guest(rt, gate, refused, number, guest) },
     ) {
-        Ok(started) => AskerBegun::Thread(started),
+        Ok(started) => GuestBegun::Thread(started),
         Err(back) => {
             refused.store(number, Ordering::SeqCst);
-            AskerBegun::Here((back.value)())
+            GuestBegun::Here((back.value)())
         }
     }
 }
 
-/// Starts a serving worker in a thread.
-pub(crate) fn start_server<'s, E, R: Threads + Wait + Sync, G: Gate>(
+/// Starts a host's worker in a thread.
+pub(crate) fn start_host<'s, E, R: Threads + Wait + Sync, G: Gate>(
     rt: &'s R,
     gate: &'s G,
     scope: &Scope<'s, E>,
     refused: &'s AtomicU64,
     number: u64,
-    server: ChannelServer,
-) -> ServerBegun
-    requires { server.end.state.machine.marked ≡ false }
-    ensures { ServerBegins server result }
+    host: HostWorker,
+) -> HostBegun
+    requires { IsLive host }
+    ensures { HostBegins host result }
 {
-    let promise = ServerPromise {
-        server: Snapshot::of(&server),
+    let promise = HostPromise {
+        host: Snapshot::of(&host),
     };
     match scope.spawn_with(
         promise,
         move ||
-            requires { server.end.state.machine.marked ≡ false }
-        { serve_all(rt, gate, refused, number, server) },
+            requires { IsLive host }
+        { run_host(rt, gate, refused, number, host) },
     ) {
-        Ok(started) => ServerBegun::Thread(started),
+        Ok(started) => HostBegun::Thread(started),
         Err(back) => {
             refused.store(number, Ordering::SeqCst);
-            ServerBegun::Here((back.value)())
+            HostBegun::Here((back.value)())
         }
     }
 }

@@ -5,9 +5,10 @@ ghost use Rattle.bus_script.specs.Parts.{kind_asked};
 ghost use Rattle.bus_script.specs.Requests.{IsCarried};
 ghost use Rattle.bus_script.specs.WellFormed.{CanGo};
 
-use crate::{DeviceSeat, Pair, PairDone, open_pair, run_pair, run_phase};
+use crate::{Pair, PairDone, open_pair, run_pair, run_phase};
 use bus_script::{Ask, Reply};
 use contact::Kind;
+use end_work::DeviceSeat;
 use hist_lock::HistLock;
 use io_edge::NoGate;
 use ring_core::Packets;

@@ -1,5 +1,5 @@
 use Rattle.std.proofs.Common.{sym, subst}
-use Rattle.phase_run.specs.Seats.{served_at, IsSameSeat}
+use Rattle.end_work.specs.Seats.{served_at, IsSameSeat}
 use Rattle.bus_run.specs.Desk.{GoesOn}
 use Rattle.bus_run.specs.declared.desk.Desk.TheVariants.{Beat as BeatDesk, Down as DownDesk, Disk as DiskDesk}
 use Rattle.bus_run.proofs.SeatEnds.{beat_goes_on, down_goes_on, disk_goes_on}

@@ -1,5 +1,5 @@
 use Rattle.std.proofs.Common.{◌≡◌, ◌*◌, ◌<◌, ◌∙◌, ap, sym, subst, arith, length}
-use Rattle.phase_run.specs.Pairs.{AllCarried}
+use Rattle.end_work.specs.Plans.{AllCarried}
 use Rattle.bus_script.specs.Parts.{kind_of}
 use Rattle.bus_run.specs.Desk.{spec_of, asks_of, IsKept, IsReady, opened_by}
 use Rattle.bus_run.specs.Opening.{OneIf, OpensDesk, held_of}

@@ -1,0 +1,63 @@
+-- What the workers of a channel leave.
+use Rattle.std.specs.Prelude.{◌≡◌, ◌+◌, false, [], length, map, Option, Some, None}
+use Rattle.bus_script.specs.declared.line.Ask.{Ask}
+use Rattle.bus_script.specs.declared.outcome.Reply.{Reply}
+use Rattle.bus_speech.specs.Speeches.{speech_of}
+use Rattle.bus_speech.specs.Talks.{Talked, asks_of}
+use Rattle.chan_run.specs.Runs.{got_of}
+use Rattle.ring_seat.specs.Settling.{IsSameEnd}
+use Rattle.worker_core.specs.Asking.{Asking, AsksBy}
+use Rattle.worker_core.specs.Rooms.{SentAtMost, LacksFor}
+use Rattle.worker_core.specs.Serving.{Serving, EndsBy}
+use Rattle.worker_core.specs.declared.ended.Ended.{Ended}
+use Rattle.end_work.specs.Seats.{served_at, device_place, at_guest, at_host}
+use Rattle.end_work.specs.declared.device_seat.DeviceSeat.{DeviceSeat}
+use Rattle.end_work.specs.declared.done.GuestDone.{GuestDone}
+use Rattle.end_work.specs.declared.done.HostDone.{HostDone}
+use Rattle.end_work.specs.declared.worker.ChannelWorker.{ChannelWorker}
+use Rattle.end_work.specs.declared.worker.ChannelWorker.TheVariants.{Asks, Serves}
+use Rattle.end_work.specs.declared.worker.WorkerDone.{WorkerDone}
+
+-- the worker that asks has ended so, with these replies; it has no seat and no serials
+pub record LeavesAsked (w : Asking Talked Reply) (d : WorkerDone) : Type 0 where
+  pub asks : AsksBy (speech_of w.talk.kind) d.ended (asks_of w.talk) d.end.state.past d.replies.items
+  pub end : IsSameEnd w.end d.end
+  pub sent : SentAtMost (length (asks_of w.talk)) d.end.state.past
+  pub room : LacksFor (length (asks_of w.talk)) d.ended d.end.state.past
+  pub seat : d.seat ≡ None
+  pub serials : d.serials.items ≡ []
+
+-- the worker that serves has ended so, with these calls of its seat and their serials; it has no replies
+pub record LeavesServed (w : Serving Talked DeviceSeat Ask Reply) (d : WorkerDone) : Type 0 where
+  pub back : DeviceSeat
+  pub seat : d.seat ≡ Some back
+  pub serves : EndsBy (speech_of w.desk.talk.kind) d.ended w d.end.state.past (served_at back)
+  pub serials : d.serials.items ≡ map (λ c. c.serial) (served_at back)
+  pub end : IsSameEnd w.end d.end
+  pub place : device_place back ≡ device_place w.desk.seat
+  pub sent : SentAtMost (length (got_of d.end.state.past)) d.end.state.past
+  pub room : LacksFor (w.starts + w.come) d.ended d.end.state.past
+  pub replies : d.replies.items ≡ []
+
+abbrev pub Leaves : ChannelWorker → WorkerDone → Type 0
+Leaves (Asks w) d = LeavesAsked w d
+Leaves (Serves w) d = LeavesServed w d
+
+-- what a guest's worker leaves, and what a host's
+abbrev pub of_guest : GuestDone → WorkerDone
+of_guest d = record { end = d.end; ended = d.ended; seat = at_guest d.seat; serials = d.serials; replies = d.replies }
+
+abbrev pub of_host : HostDone → WorkerDone
+of_host d = record { end = d.end; ended = d.ended; seat = at_host d.seat; serials = d.serials; replies = d.replies }
+
+-- a worker that asks, which hasn't ended or has ended so
+abbrev pub StandsAsking : Option Ended → Asking Talked Reply → Type 0
+StandsAsking None w = w.end.state.machine.marked ≡ false
+StandsAsking (Some how) w =
+    AsksBy (speech_of w.talk.kind) how (asks_of w.talk) w.end.state.past w.told × SentAtMost (length (asks_of w.talk)) w.end.state.past × LacksFor (length (asks_of w.talk)) how w.end.state.past
+
+-- and one that serves
+abbrev pub StandsServing : Option Ended → Serving Talked DeviceSeat Ask Reply → Type 0
+StandsServing None w = w.end.state.machine.marked ≡ false
+StandsServing (Some how) w =
+    EndsBy (speech_of w.desk.talk.kind) how w w.end.state.past w.desk.calls × SentAtMost (length (got_of w.end.state.past)) w.end.state.past × LacksFor (w.starts + w.come) how w.end.state.past

@@ -1,0 +1,5 @@
+pub mod Seats
+pub mod Plans
+pub mod Workers
+pub mod Leaving
+pub mod Pairs

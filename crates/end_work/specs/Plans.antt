@@ -1,0 +1,98 @@
+-- What the workers of a channel are made for.
+use Rattle.std.specs.Prelude.{ℕ, ◌≡◌, ◌≤◌, Bool, true, List, [], ◌∷◌, length, map, filter, Option, Some, None, is_some}
+use Rattle.std.specs.List.{AllByRecursion}
+use Rattle.bus_script.specs.Parts.{kind_asked}
+use Rattle.bus_script.specs.WellFormed.{CanGo}
+use Rattle.bus_script.specs.declared.line.Ask.{Ask}
+use Rattle.bus_script.specs.declared.line.Ask.TheVariants.{Ic as AskIc, Disk as AskDisk}
+use Rattle.bus_script.specs.declared.outcome.Reply.{Reply}
+use Rattle.bus_speech.specs.Speeches.{has_answer_on}
+use Rattle.bus_speech.specs.Talks.{Talked}
+use Rattle.bus_speech.specs.Wants.{startup, IsAskable}
+use Rattle.chan_state.specs.declared.stop.Stop.{Stop}
+use Rattle.contact.specs.declared.kind.Kind.{Kind}
+use Rattle.contact.specs.declared.kind.Kind.TheVariants.{Disk as DiskKind}
+use Rattle.io_edge.specs.declared.side.Side.{Side}
+use Rattle.work_model.specs.Channel.{count_of, held_of}
+use Rattle.work_model.specs.Roles.{side_that_asks}
+use Rattle.worker_core.specs.Asking.{Asking}
+use Rattle.worker_core.specs.Serving.{Serving}
+use Rattle.end_work.specs.Seats.{served_at, kind_at, left_at}
+use Rattle.end_work.specs.declared.device_seat.DeviceSeat.{DeviceSeat}
+use Rattle.end_work.specs.declared.guest_plan.GuestPlan.{GuestPlan}
+use Rattle.end_work.specs.declared.host_plan.HostPlan.{HostPlan}
+use Rattle.end_work.specs.declared.making.Order.{Order}
+use Rattle.end_work.specs.declared.worker.ChannelWorker.{ChannelWorker}
+use Rattle.end_work.specs.declared.worker.ChannelWorker.TheVariants.{Asks, Serves}
+
+-- each request is one for devices of this kind, and its channel carries it
+abbrev pub AllCarried : Kind → List Ask → Type 0
+AllCarried kind [] = Unit {0}
+AllCarried kind (a ∷ asks) = (kind_asked a ≡ kind) × CanGo a × AllCarried kind asks
+
+-- after how many requests a host stops, and whether nothing goes back for the last of them
+abbrev pub stop_of : Option Stop → Option (ℕ × Bool)
+stop_of None = None
+stop_of (Some s) = Some (s.after, s.held)
+
+-- a plan of either side: the kind of the device, which of its channels this is and how many are beside the first one, how many requests are open at
+-- most, how many there are, where a host stops, and which they are, where this side asks
+pub record Planned : Type 0 where
+  pub kind : Kind
+  pub sub : ℕ
+  pub subs : ℕ
+  pub window : ℕ
+  pub count : ℕ
+  pub stop : Option (ℕ × Bool)
+  pub asks : List Ask
+
+abbrev pub guest_planned : GuestPlan → Planned
+guest_planned p = record { kind = p.kind; sub = p.sub; subs = p.subs; window = p.window; count = p.count; stop = None; asks = map AskDisk p.disk.items }
+
+abbrev pub host_planned : HostPlan → Planned
+host_planned p = record { kind = p.kind; sub = p.sub; subs = p.subs; window = p.window; count = p.count; stop = stop_of p.stop; asks = map AskIc p.asks.items }
+
+abbrev pub planned : Order → Planned
+planned p = record { kind = p.kind; sub = p.sub; subs = p.subs; window = p.window; count = p.count; stop = stop_of p.stop; asks = p.asks.items }
+
+-- a host stops at a disk alone, and holds the last answer where there is one
+abbrev pub CanStop : Kind → Option (ℕ × Bool) → Type 0
+CanStop kind None = Unit {0}
+CanStop kind (Some k) = (kind ≡ DiskKind) × (k.0 ≤ 4096) × (k.1 ≡ true → 1 ≤ k.0)
+
+-- A plan that a worker of this side can have: at most 64 requests are open, the channel is its device's first one, and where this side asks the list
+-- has all requests, each of which the channel carries
+pub record CanPlan (side : Side) (p : Planned) : Type 0 where
+  pub window : (1 ≤ p.window) × (p.window ≤ 64)
+  pub few : p.count ≤ 4096
+  pub primary : p.sub ≡ 0
+  pub subs : p.subs ≤ 3
+  pub stop : CanStop p.kind p.stop
+  pub asks : side ≡ side_that_asks p.kind → (length p.asks ≡ p.count) × AllCarried p.kind p.asks
+
+-- the side that asks has no seat; the other one has a new seat of a device of the plan's kind, with a call for each request
+abbrev pub HasSeat : Side → Planned → Option DeviceSeat → Type 0
+HasSeat side p None = side ≡ side_that_asks p.kind
+HasSeat side p (Some s) = (kind_at s ≡ p.kind) × (served_at s ≡ []) × (p.count ≤ left_at s)
+
+-- a worker that asks was made for this plan
+pub record AsksFor (p : Planned) (w : Asking Talked Reply) : Type 0 where
+  pub can : AllByRecursion (IsAskable p.kind) p.asks
+  pub talk : w.talk ≡ record { kind = p.kind; asks = p.asks }
+
+-- and one that serves, with this seat
+pub record ServesFor (p : Planned) (seat : DeviceSeat) (w : Serving Talked DeviceSeat Ask Reply) : Type 0 where
+  pub answers : w.desk.talk.kind ≡ p.kind
+  pub seat_is : w.desk.seat ≡ seat
+  pub serve : w.serve ≡ count_of p.stop p.count
+  pub held : w.desk.held ≡ held_of p.stop p.count
+  pub stops : w.stops ≡ is_some p.stop
+  pub starts : w.starts ≡ length (filter (has_answer_on p.kind) (startup p.kind))
+  pub come : w.come ≡ p.count
+
+-- a worker was made for this plan: without a seat it asks, and with one it serves
+abbrev pub IsMade : Planned → Option DeviceSeat → ChannelWorker → Type 0
+IsMade p None (Asks w) = AsksFor p w
+IsMade p None (Serves w) = ⊥
+IsMade p (Some s) (Asks w) = ⊥
+IsMade p (Some s) (Serves w) = ServesFor p s w

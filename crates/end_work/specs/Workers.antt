@@ -1,0 +1,45 @@
+-- The workers of a channel, as contracts see them.
+use Rattle.std.specs.Prelude.{◌≡◌, ◌+◌, false, length, Option, Some, None}
+use Rattle.io_edge.specs.declared.side.Side.{Side}
+use Rattle.bus_speech.specs.Speeches.{speech_of}
+use Rattle.bus_speech.specs.Talks.{asks_of}
+use Rattle.ring_core.specs.Seen.{Seen}
+use Rattle.ring_seat.specs.declared.table_seat.TableSeat.{TableSeat}
+use Rattle.worker_core.specs.Asking.{AskTurns, AskEnds, AsksOn}
+use Rattle.worker_core.specs.Serving.{Turns, ServeEnds, ServesOn}
+use Rattle.worker_core.specs.declared.ended.Turn.{Turn}
+use Rattle.end_work.specs.Seats.{device_place, IsAt}
+use Rattle.end_work.specs.declared.device_seat.DeviceSeat.{DeviceSeat}
+use Rattle.end_work.specs.declared.worker.ChannelWorker.{ChannelWorker}
+use Rattle.end_work.specs.declared.worker.ChannelWorker.TheVariants.{Asks, Serves}
+
+-- its end of the channel
+abbrev pub end_at : ChannelWorker → Seen TableSeat
+end_at (Asks w) = w.end
+end_at (Serves w) = w.end
+
+-- its seat, if it serves
+abbrev pub seat_at : ChannelWorker → Option DeviceSeat
+seat_at (Asks w) = None
+seat_at (Serves w) = Some w.desk.seat
+
+-- it has not ended
+abbrev pub IsLive : ChannelWorker → Type 0
+IsLive w = (end_at w).state.machine.marked ≡ false
+
+-- it has the end of this side, and serves no device of the other side
+pub record IsOfSide (side : Side) (w : ChannelWorker) : Type 0 where
+  pub end : (end_at w).state.machine.side ≡ side
+  pub seat : IsAt side (seat_at w)
+
+-- how a turn ends, by what the worker does
+abbrev pub Turned : Turn → ChannelWorker → Type 0
+Turned turn (Asks w) = AskTurns (speech_of w.talk.kind) (asks_of w.talk) turn w × AskEnds (length (asks_of w.talk)) turn w.end.state.past
+Turned turn (Serves w) = Turns (speech_of w.desk.talk.kind) turn w × ServeEnds (w.starts + w.come) turn w.end.state.past
+
+-- the same worker later
+abbrev pub GoesOn : ChannelWorker → ChannelWorker → Type 0
+GoesOn (Asks v) (Asks w) = AsksOn v w
+GoesOn (Asks v) (Serves w) = ⊥
+GoesOn (Serves v) (Asks w) = ⊥
+GoesOn (Serves v) (Serves w) = ServesOn (λ s t. device_place t ≡ device_place s) v w

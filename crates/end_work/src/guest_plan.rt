@@ -1,0 +1,22 @@
+//! What a guest's worker is made for.
+use contact::Kind;
+use scsi_disk::DiskRequest;
+
+/// What the guest's worker of a channel does in a phase.
+#[derive(Drop)]
+pub struct GuestPlan {
+    /// The channel's number among the offers.
+    pub relid: u32,
+    /// The kind of its device.
+    pub kind: Kind,
+    /// 0 for the primary channel of the device.
+    pub sub: u16,
+    /// How many channels the device has beside it.
+    pub subs: u32,
+    /// How many requests are open at most.
+    pub window: u32,
+    /// How many requests of the script the channel carries in the phase.
+    pub count: u32,
+    /// The requests, where the guest asks a disk.
+    pub disk: Vec<DiskRequest>,
+}

@@ -1,0 +1,106 @@
+//! The guest's worker of a channel.
+ghost use Rattle.std.specs.Prelude.{◌≡◌, ◌≤◌, IfOk};
+ghost use Rattle.io_edge.specs.declared.side.Side.TheVariants.{Guest as GuestSide};
+ghost use Rattle.ring_seat.specs.Seats.{new_end};
+ghost use Rattle.end_work.specs.Leaving.{Leaves, of_guest};
+ghost use Rattle.end_work.specs.Plans.{CanPlan, HasSeat, IsMade, guest_planned};
+ghost use Rattle.end_work.specs.Seats.{IsAt, at_guest};
+ghost use Rattle.end_work.specs.Workers.{GoesOn, IsLive, IsOfSide, Turned, end_at};
+
+use crate::making::{Order, disk_asks, make_worker};
+use crate::worker::{ChannelWorker, WorkerDone};
+use crate::{GuestDone, GuestPlan, GuestSeat};
+use io_edge::{Gate, Side};
+use ring_seat::GuestEnd;
+use std::alloc::{AllocError, Global};
+use std::marker::Model;
+use std::sync::Wait;
+use worker_core::Turn;
+
+/// The worker of the guest's end of a channel. It asks a disk, and serves heartbeats and shutdowns.
+#[derive(Drop)]
+pub struct GuestWorker {
+    worker: ChannelWorker,
+}
+
+impl Model for GuestWorker {
+    ghost use Rattle.io_edge.specs.declared.side.Side.TheVariants.{Guest as GuestSide};
+    ghost use Rattle.end_work.specs.Workers.{IsOfSide};
+    ghost use Rattle.end_work.specs.declared.worker.ChannelWorker.{ChannelWorker as OneWorker};
+
+    ghost Value = { OneWorker };
+
+    ghost view = { λ w. w.worker };
+
+    ghost invariant = { λ w. IsOfSide GuestSide w.worker };
+}
+
+impl GuestWorker {
+    /// A worker over a new end of the guest, and a new seat where it serves. It takes all memory that the phase needs.
+    pub fn make(
+        alloc: Global,
+        end: GuestEnd,
+        seat: GuestSeat,
+        plan: GuestPlan,
+    ) -> Result<GuestWorker, AllocError>
+        requires plan { CanPlan GuestSide (guest_planned plan) }
+        requires seat { HasSeat GuestSide (guest_planned plan) (at_guest seat) }
+        requires fresh { end.state ≡ new_end end.state.machine.cells GuestSide }
+        requires size { (512 ≤ end.state.machine.cells) × (end.state.machine.cells ≤ 8192) }
+        ensures made { IfOk result (IsMade (guest_planned plan) (at_guest seat)) }
+        ensures end { IfOk result (λ w. ((end_at w).state ≡ end.state) × ((end_at w).seat ≡ end.seat)) }
+    {
+        let order = Order {
+            relid: plan.relid,
+            kind: plan.kind,
+            sub: plan.sub,
+            subs: plan.subs,
+            window: plan.window,
+            count: plan.count,
+            stop: None,
+            asks: disk_asks(alloc, plan.disk)?,
+        };
+        let worker = make_worker(alloc, Side::Guest, end, seat.into_device(), order)?;
+        Ok(GuestWorker { worker })
+    }
+
+    /// A turn. An end that is asleep polls its signal. Otherwise the worker takes a packet, sends one, serves one, ends, or falls asleep.
+    pub fn turn<R: Wait, G: Gate>(&mut self, rt: &R, gate: &G) -> Turn
+        requires { IsLive self.old }
+        ensures turned { Turned result self.new }
+        ensures on { GoesOn self.old self.new }
+    {
+        self.worker.turn(rt, gate)
+    }
+
+    /// Takes turns, and sleeps after a turn that found nothing to do, until the worker has ended.
+    pub fn run<R: Wait, G: Gate>(self, rt: &R, gate: &G) -> GuestDone
+        requires { IsLive self }
+        ensures { Leaves self (of_guest result) }
+    {
+        guest_done(self.into_worker().run(rt, gate))
+    }
+
+    /// What it does.
+    pub(crate) fn into_worker(self) -> ChannelWorker
+        ensures same { result ≡ self }
+        ensures side { IsOfSide GuestSide result }
+    {
+        let GuestWorker { worker } = self;
+        worker
+    }
+}
+
+/// What a guest's worker leaves.
+pub(crate) fn guest_done(done: WorkerDone) -> GuestDone
+    requires { IsAt GuestSide done.seat }
+    ensures { of_guest result ≡ done }
+{
+    GuestDone {
+        end: done.end,
+        seat: GuestSeat::of_device(done.seat),
+        ended: done.ended,
+        serials: done.serials,
+        replies: done.replies,
+    }
+}

@@ -1,0 +1,26 @@
+//! The workers at the two ends of a channel, the guest's and the host's, each of which asks or serves by the kind of the channel's device.
+#![tactic(auto)]
+
+mod device_seat;
+mod done;
+mod guest_plan;
+mod guest_seat;
+mod guest_worker;
+mod host_plan;
+mod host_seat;
+mod host_worker;
+mod making;
+#[cfg(test)]
+mod tests;
+mod turns;
+mod worker;
+
+pub use device_seat::DeviceSeat;
+pub use done::{GuestDone, HostDone};
+pub use guest_plan::GuestPlan;
+pub use guest_seat::GuestSeat;
+pub use guest_worker::GuestWorker;
+pub use host_plan::HostPlan;
+pub use host_seat::HostSeat;
+pub use host_worker::HostWorker;
+pub use turns::pump;

@@ -1,0 +1,224 @@
+//! The making of a worker.
+ghost use Rattle.std.specs.Prelude.{◌≡◌, ◌≤◌, [], length, map, filter, is_some, IfOk, None};
+ghost use Rattle.std.specs.List.{AllByRecursion};
+ghost use Rattle.bus_script.specs.Parts.{kind_asked};
+ghost use Rattle.bus_script.specs.Requests.{IsCarried};
+ghost use Rattle.bus_script.specs.WellFormed.{CanGo};
+ghost use Rattle.bus_script.specs.declared.line.Ask.{Ask as Asked};
+ghost use Rattle.bus_script.specs.declared.line.Ask.TheVariants.{Ic as AskedIc, Disk as AskedDisk};
+ghost use Rattle.bus_speech.specs.Disks.{IsDiskAsk};
+ghost use Rattle.bus_speech.specs.Speeches.{has_answer_on};
+ghost use Rattle.bus_speech.specs.Wants.{startup, IsAskable};
+ghost use Rattle.ring_seat.specs.Seats.{new_end};
+ghost use Rattle.end_work.specs.Plans.{AllCarried, CanPlan, HasSeat, IsMade, planned, stop_of};
+ghost use Rattle.work_model.specs.Channel.{count_of, held_of};
+ghost use Rattle.end_work.specs.Seats.{served_at, kind_at, left_at, IsAt};
+ghost use Rattle.end_work.specs.Workers.{IsOfSide, end_at};
+
+use crate::DeviceSeat;
+use crate::worker::{ChannelAsker, ChannelServer, ChannelWorker};
+use bus_script::Ask;
+use bus_talk::KindTalk;
+use chan_state::Stop;
+use contact::Kind;
+use io_edge::Side;
+use ring_core::End;
+use ring_seat::TableSeat;
+use scsi_disk::DiskRequest;
+use std::alloc::{AllocError, Global};
+use util_ic::IcAsk;
+use worker_core::{Asker, Server};
+
+// How many requests of a start-up have answers.
+fn starts_of(kind: Kind) -> u32
+    ensures value { result ≡ length (filter (has_answer_on kind) (startup kind)) }
+    ensures few { result ≤ 4 }
+{
+    match kind {
+        Kind::Beat | Kind::Down => 1,
+        Kind::Disk => 4,
+        Kind::Net => 0,
+    }
+}
+
+// A heartbeat or a shutdown can be asked on its channel. It does nothing.
+fn service_can(kind: Kind, ask: IcAsk)
+    requires { kind_asked (Asked.Ic ask) ≡ kind }
+    ensures { IsAskable kind (Asked.Ic ask) }
+{
+    let _beat = matches!(ask, IcAsk::Beat { .. });
+}
+
+// A command that a disk's channel carries can be asked on it. It does nothing.
+fn disk_can(cdb: &[u8], out: &[u8])
+    requires { IsCarried (record { cdb = cdb.now; out = out.now }) }
+    ensures { IsDiskAsk (record { cdb = cdb.now; out = out.now }) }
+{
+    let _len = cdb.len() + out.len();
+}
+
+// A request that stands in a script can be asked on its channel. It does nothing.
+fn ask_can(kind: Kind, ask: &Ask)
+    requires kind { kind_asked ask.now ≡ kind }
+    requires goes { CanGo ask.now }
+    ensures { IsAskable kind ask.now }
+{
+    match ask {
+        Ask::Ic(ask) => service_can(kind, *ask),
+        Ask::Disk(request) => disk_can(&request.cdb, request.out.bytes()),
+    }
+}
+
+// And all of these can be. It does nothing.
+fn all_can(kind: Kind, asks: &[Ask])
+    requires { AllCarried kind asks.now }
+    ensures { AllByRecursion (IsAskable kind) asks.now }
+{
+    for ask in asks {
+        ask_can(kind, ask);
+    }
+}
+
+/// What a disk is asked, as requests to any device.
+pub(crate) fn disk_asks(alloc: Global, disk: Vec<DiskRequest>) -> Result<Vec<Ask>, AllocError>
+    ensures { IfOk result (λ asks. asks.items ≡ map AskedDisk disk.items) }
+{
+    disk.into_iter()
+        .map(|request| Ask::Disk(request))
+        .collect(alloc)
+}
+
+/// What a service is asked.
+pub(crate) fn ic_asks(alloc: Global, asks: Vec<IcAsk>) -> Result<Vec<Ask>, AllocError>
+    ensures { IfOk result (λ all. all.items ≡ map AskedIc asks.items) }
+{
+    asks.into_iter().map(|ask| Ask::Ic(ask)).collect(alloc)
+}
+
+// A worker that asks.
+fn make_asker(
+    alloc: Global,
+    side: Side,
+    end: End<TableSeat>,
+    relid: u32,
+    kind: Kind,
+    window: u32,
+    asks: Vec<Ask>,
+) -> Result<ChannelAsker, AllocError>
+    requires window { (1 ≤ window) × (window ≤ 64) }
+    requires few { length asks.items ≤ 4096 }
+    requires asks { AllCarried kind asks.items }
+    requires fresh { end.state ≡ new_end end.state.machine.cells end.state.machine.side }
+    requires size { (512 ≤ end.state.machine.cells) × (end.state.machine.cells ≤ 8192) }
+    ensures can { IfOk result (λ w. AllByRecursion (IsAskable kind) asks.items) }
+    ensures talk { IfOk result (λ w. w.talk ≡ record { kind = kind; asks = asks.items }) }
+    ensures end { IfOk result (λ w. (w.end.state ≡ end.state) × (w.end.seat ≡ end.seat)) }
+{
+    all_can(kind, &asks);
+    Asker::make(alloc, KindTalk::make(kind, asks), end, side, relid, window)
+}
+
+// How many of so many requests are served.
+fn serve_count(stop: Option<Stop>, count: u32) -> u32
+    ensures value { result ≡ count_of (stop_of stop) count }
+    ensures most { result ≤ count }
+{
+    match stop {
+        None => count,
+        Some(stop) => stop.after.min(count),
+    }
+}
+
+// Whether nothing goes back for the last of them.
+fn is_held(stop: Option<Stop>, count: u32) -> bool
+    ensures { result ≡ held_of (stop_of stop) count }
+{
+    match stop {
+        None => false,
+        Some(stop) => stop.held && stop.after <= count,
+    }
+}
+
+// A worker that serves.
+fn make_server(
+    alloc: Global,
+    side: Side,
+    end: End<TableSeat>,
+    seat: DeviceSeat,
+    relid: u32,
+    kind: Kind,
+    count: u32,
+    stop: Option<Stop>,
+) -> Result<ChannelServer, AllocError>
+    requires kind { kind_at seat ≡ kind }
+    requires uncalled { served_at seat ≡ [] }
+    requires left { count ≤ left_at seat }
+    requires few { count ≤ 4096 }
+    requires fresh { end.state ≡ new_end end.state.machine.cells end.state.machine.side }
+    requires size { (512 ≤ end.state.machine.cells) × (end.state.machine.cells ≤ 8192) }
+    ensures talk { IfOk result (λ w. (w.desk.talk.kind ≡ kind) × (w.desk.seat ≡ seat)) }
+    ensures orders { IfOk result (λ w. (w.serve ≡ count_of (stop_of stop) count) × (w.desk.held ≡ held_of (stop_of stop) count) × (w.stops ≡ is_some (stop_of stop)) × (w.come ≡ count)) }
+    ensures starts { IfOk result (λ w. w.starts ≡ length (filter (has_answer_on kind) (startup kind))) }
+    ensures end { IfOk result (λ w. (w.end.state ≡ end.state) × (w.end.seat ≡ end.seat)) }
+{
+    let talk = KindTalk::make(kind, Vec::new(alloc));
+    let starts = starts_of(kind);
+    let serve = serve_count(stop, count);
+    let held = is_held(stop, count);
+    let stops = stop.is_some();
+    Server::make(
+        alloc, talk, end, seat, side, relid, starts, serve, held, stops, count,
+    )
+}
+
+/// What a worker is made for: the plan of either side.
+#[derive(Drop)]
+pub(crate) struct Order {
+    pub(crate) relid: u32,
+    pub(crate) kind: Kind,
+    pub(crate) sub: u16,
+    pub(crate) subs: u32,
+    pub(crate) window: u32,
+    pub(crate) count: u32,
+    pub(crate) stop: Option<Stop>,
+    pub(crate) asks: Vec<Ask>,
+}
+
+/// A worker at this side: it serves where it has a seat, and asks where it has none.
+pub(crate) fn make_worker(
+    alloc: Global,
+    side: Side,
+    end: End<TableSeat>,
+    seat: Option<DeviceSeat>,
+    order: Order,
+) -> Result<ChannelWorker, AllocError>
+    requires plan { CanPlan side (planned order) }
+    requires seat { HasSeat side (planned order) seat }
+    requires side { IsAt side seat }
+    requires fresh { end.state ≡ new_end end.state.machine.cells side }
+    requires size { (512 ≤ end.state.machine.cells) × (end.state.machine.cells ≤ 8192) }
+    ensures made { IfOk result (IsMade (planned order) seat) }
+    ensures end { IfOk result (λ w. ((end_at w).state ≡ end.state) × ((end_at w).seat ≡ end.seat)) }
+    ensures side { IfOk result (IsOfSide side) }
+{
+    let Order {
+        relid,
+        kind,
+        sub: _,
+        subs: _,
+        window,
+        count,
+        stop,
+        asks,
+    } = order;
+    match seat {
+        None => {
+            let asker = make_asker(alloc, side, end, relid, kind, window, asks)?;
+            Ok(ChannelWorker::Asks(asker))
+        }
+        Some(seat) => {
+            let server = make_server(alloc, side, end, seat, relid, kind, count, stop)?;
+            Ok(ChannelWorker::Serves(server))
+        }
+    }
+}

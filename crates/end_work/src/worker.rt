@@ -1,0 +1,94 @@
+//! A worker of a channel, which asks or serves.
+ghost use Rattle.std.specs.Prelude.{◌≡◌, [], None, Some};
+ghost use Rattle.end_work.specs.Leaving.{Leaves};
+ghost use Rattle.end_work.specs.Workers.{GoesOn, IsLive, Turned};
+
+use crate::DeviceSeat;
+use bus_script::Reply;
+use bus_talk::KindTalk;
+use io_edge::Gate;
+use ring_core::End;
+use ring_seat::TableSeat;
+use std::sync::Wait;
+use worker_core::{Asker, AskerDone, Ended, Server, ServerDone, Turn};
+
+/// The worker of the end that asks.
+pub(crate) type ChannelAsker = Asker<KindTalk>;
+
+/// The worker of the end that serves.
+pub(crate) type ChannelServer = Server<KindTalk, DeviceSeat>;
+
+/// A worker, by what it does.
+#[derive(Drop)]
+pub enum ChannelWorker {
+    Asks(ChannelAsker),
+    Serves(ChannelServer),
+}
+
+/// What a worker leaves.
+#[derive(Drop)]
+pub struct WorkerDone {
+    pub end: End<TableSeat>,
+    pub ended: Ended,
+    pub seat: Option<DeviceSeat>,
+    pub serials: Vec<u32>,
+    pub replies: Vec<Reply>,
+}
+
+/// What a worker leaves that asked.
+pub(crate) fn asked(done: AskerDone<KindTalk>) -> WorkerDone
+    ensures end { (result.end ≡ done.end) × (result.ended ≡ done.ended) }
+    ensures replies { result.replies.items ≡ done.replies.items }
+    ensures others { (result.seat ≡ None) × (result.serials.items ≡ []) }
+{
+    let serials = Vec::new(*done.replies.allocator());
+    WorkerDone {
+        end: done.end,
+        ended: done.ended,
+        seat: None,
+        serials,
+        replies: done.replies,
+    }
+}
+
+/// What a worker leaves that served.
+pub(crate) fn served(done: ServerDone<KindTalk, DeviceSeat>) -> WorkerDone
+    ensures end { (result.end ≡ done.end) × (result.ended ≡ done.ended) }
+    ensures seat { result.seat ≡ Some done.seat }
+    ensures serials { result.serials.items ≡ done.serials.items }
+    ensures others { result.replies.items ≡ [] }
+{
+    let replies = Vec::new(*done.serials.allocator());
+    WorkerDone {
+        end: done.end,
+        ended: done.ended,
+        seat: Some(done.seat),
+        serials: done.serials,
+        replies,
+    }
+}
+
+impl ChannelWorker {
+    /// A turn, by what the worker does.
+    pub fn turn<R: Wait, G: Gate>(&mut self, rt: &R, gate: &G) -> Turn
+        requires { IsLive self.old }
+        ensures turned { Turned result self.new }
+        ensures on { GoesOn self.old self.new }
+    {
+        match self {
+            ChannelWorker::Asks(asker) => asker.turn(rt, gate),
+            ChannelWorker::Serves(server) => server.turn(rt, gate),
+        }
+    }
+
+    /// Takes turns, and sleeps between them, until the worker has ended.
+    pub fn run<R: Wait, G: Gate>(self, rt: &R, gate: &G) -> WorkerDone
+        requires { IsLive self }
+        ensures { Leaves self result }
+    {
+        match self {
+            ChannelWorker::Asks(asker) => asked(asker.run(rt, gate)),
+            ChannelWorker::Serves(server) => served(server.run(rt, gate)),
+        }
+    }
+}

@@ -1,0 +1,97 @@
+-- The two workers of a channel are made.
+use Rattle.std.proofs.Common.{◌≡◌, ◌≤◌, ◌+◌, ℕ, length, filter, map, List, [], ◌∷◌, Option, Some, None, is_some, ap, sym, ◌∙◌, subst, arith}
+use Rattle.std.specs.List.{AllByRecursion}
+use Rattle.bus_script.specs.declared.line.Ask.{Ask}
+use Rattle.bus_speech.specs.Speeches.{has_answer_on}
+use Rattle.bus_speech.specs.Talks.{Talked, asks_of}
+use Rattle.bus_speech.specs.Wants.{startup, IsAskable}
+use Rattle.bus_script.specs.declared.outcome.Reply.{Reply}
+use Rattle.worker_core.specs.Asking.{Asking}
+use Rattle.worker_core.specs.Serving.{Serving}
+use Rattle.contact.specs.declared.kind.Kind.{Kind}
+use Rattle.io_edge.specs.declared.side.Side.TheVariants.{Guest, Host}
+use Rattle.work_model.specs.Channel.{count_of, held_of}
+use Rattle.work_model.specs.Roles.{side_that_asks}
+use Rattle.ring_core.specs.Seen.{Seen}
+use Rattle.ring_core.specs.declared.state.EndState.{EndState}
+use Rattle.ring_seat.specs.Seats.{new_end}
+use Rattle.ring_seat.specs.Settling.{AreOfOneChannel}
+use Rattle.ring_seat.specs.declared.table_seat.TableSeat.{TableSeat}
+use Rattle.end_work.specs.Pairs.{AreRoles, ArePair}
+use Rattle.end_work.specs.Workers.{end_at}
+use Rattle.end_work.specs.Plans.{Planned, AsksFor, ServesFor, IsMade}
+use Rattle.end_work.specs.declared.device_seat.DeviceSeat.{DeviceSeat}
+use Rattle.end_work.specs.declared.worker.ChannelWorker.{ChannelWorker}
+use Rattle.end_work.specs.declared.worker.ChannelWorker.TheVariants.{Asks, Serves}
+use Rattle.end_work.proofs.Opening.{asks_length, starts_all}
+use Rattle.phase_run.specs.Pairs.{MadeFor, OpensWith, IsNewSeat}
+
+-- where the one that serves made room for the start-up and the requests, it made room for all that the other one asks
+room_for : (kind : Kind) (asks : List Ask) (a : Asking Talked Reply) (s : Serving Talked DeviceSeat Ask Reply) → a.talk ≡ record { kind = kind; asks = asks } → s.starts ≡ length (filter (has_answer_on kind) (startup kind)) → s.come ≡ length asks
+    → length (asks_of a.talk) ≤ s.starts + s.come
+room_for kind asks a s talk starts come = omega (arith, asks_length kind asks a.talk talk, starts_all kind, starts, come)
+
+-- both were made for one plan
+made_for : (kind : Kind) (asks : List Ask) (seat : DeviceSeat) (g h : Planned) (a : Asking Talked Reply) (s : Serving Talked DeviceSeat Ask Reply) → g.kind ≡ kind → g.asks ≡ asks → h.kind ≡ kind → h.count ≡ length asks → h.stop ≡ None → AsksFor g a → ServesFor h seat s
+    → MadeFor kind asks seat a s
+made_for kind asks seat g h a s g_kind g_asks h_kind h_count h_stop asked served = record {
+  can = subst (λ k. AllByRecursion (IsAskable k) asks) g_kind (subst (AllByRecursion (IsAskable g.kind)) g_asks asked.can);
+  talk = asked.talk ∙ ap (λ k. talked k g.asks) g_kind ∙ ap (talked kind) g_asks;
+  answers = served.answers ∙ h_kind;
+  seat_is = served.seat_is;
+  serve = served.serve ∙ ap (λ k. count_of k h.count) h_stop ∙ h_count;
+  held = served.held ∙ ap (λ k. held_of k h.count) h_stop;
+  stops = served.stops ∙ ap is_some h_stop;
+  starts = served.starts ∙ ap (λ k. length (filter (has_answer_on k) (startup k))) h_kind;
+}
+  where
+    talked : Kind → List Ask → Talked
+    talked k l = record { kind = k; asks = l }
+
+-- a guest that serves, and a host that asks
+pub guest_roles : (kind : Kind) (asks : List Ask) (seat : Option DeviceSeat) (g h : Planned) (guest host : ChannelWorker) → IsNewSeat kind (length asks) seat → g.kind ≡ kind → g.count ≡ length asks → g.stop ≡ None → h.kind ≡ kind → h.asks ≡ asks
+    → IsMade g seat guest → IsMade h None host → AreRoles guest host
+guest_roles kind asks None g h guest host new g_kind g_count g_stop h_kind h_asks made asked = absurd new
+guest_roles kind asks (Some seat) g h (Asks a) host new g_kind g_count g_stop h_kind h_asks made asked = absurd made
+guest_roles kind asks (Some seat) g h (Serves s) (Asks a) new g_kind g_count g_stop h_kind h_asks made asked =
+    let both = made_for kind asks seat h g a s h_kind h_asks g_kind g_count g_stop asked made in
+    room_for kind asks a s both.talk both.starts (made.come ∙ g_count)
+guest_roles kind asks (Some seat) g h (Serves s) (Serves t) new g_kind g_count g_stop h_kind h_asks made asked = absurd asked
+
+pub guest_opens : (kind : Kind) (asks : List Ask) (seat : Option DeviceSeat) (g h : Planned) (guest host : ChannelWorker) → side_that_asks kind ≡ Host → IsNewSeat kind (length asks) seat → g.kind ≡ kind → g.count ≡ length asks → g.stop ≡ None → h.kind ≡ kind → h.asks ≡ asks
+    → IsMade g seat guest → IsMade h None host → OpensWith kind asks seat (record { guest = guest; host = host })
+guest_opens kind asks None g h guest host side new g_kind g_count g_stop h_kind h_asks made asked = absurd new
+guest_opens kind asks (Some seat) g h (Asks a) host side new g_kind g_count g_stop h_kind h_asks made asked = absurd made
+guest_opens kind asks (Some seat) g h (Serves s) (Asks a) side new g_kind g_count g_stop h_kind h_asks made asked = (side, made_for kind asks seat h g a s h_kind h_asks g_kind g_count g_stop asked made)
+guest_opens kind asks (Some seat) g h (Serves s) (Serves t) side new g_kind g_count g_stop h_kind h_asks made asked = absurd asked
+
+-- a guest that asks, and a host that serves
+pub host_roles : (kind : Kind) (asks : List Ask) (seat : Option DeviceSeat) (g h : Planned) (guest host : ChannelWorker) → IsNewSeat kind (length asks) seat → h.kind ≡ kind → h.count ≡ length asks → h.stop ≡ None → g.kind ≡ kind → g.asks ≡ asks
+    → IsMade h seat host → IsMade g None guest → AreRoles guest host
+host_roles kind asks None g h guest host new h_kind h_count h_stop g_kind g_asks made asked = absurd new
+host_roles kind asks (Some seat) g h guest (Asks a) new h_kind h_count h_stop g_kind g_asks made asked = absurd made
+host_roles kind asks (Some seat) g h (Asks a) (Serves s) new h_kind h_count h_stop g_kind g_asks made asked =
+    let both = made_for kind asks seat g h a s g_kind g_asks h_kind h_count h_stop asked made in
+    room_for kind asks a s both.talk both.starts (made.come ∙ h_count)
+host_roles kind asks (Some seat) g h (Serves t) (Serves s) new h_kind h_count h_stop g_kind g_asks made asked = absurd asked
+
+pub host_opens : (kind : Kind) (asks : List Ask) (seat : Option DeviceSeat) (g h : Planned) (guest host : ChannelWorker) → side_that_asks kind ≡ Guest → IsNewSeat kind (length asks) seat → h.kind ≡ kind → h.count ≡ length asks → h.stop ≡ None → g.kind ≡ kind → g.asks ≡ asks
+    → IsMade h seat host → IsMade g None guest → OpensWith kind asks seat (record { guest = guest; host = host })
+host_opens kind asks None g h guest host side new h_kind h_count h_stop g_kind g_asks made asked = absurd new
+host_opens kind asks (Some seat) g h guest (Asks a) side new h_kind h_count h_stop g_kind g_asks made asked = absurd made
+host_opens kind asks (Some seat) g h (Asks a) (Serves s) side new h_kind h_count h_stop g_kind g_asks made asked = (side, made_for kind asks seat g h a s g_kind g_asks h_kind h_count h_stop asked made)
+host_opens kind asks (Some seat) g h (Serves t) (Serves s) side new h_kind h_count h_stop g_kind g_asks made asked = absurd asked
+
+-- the ends of one channel, which the workers have, and which are new
+pub pair_of : (g h : Seen TableSeat) (cells : ℕ) (guest host : ChannelWorker) → AreOfOneChannel g h → g.state ≡ new_end cells Guest → h.state ≡ new_end cells Host → ((end_at guest).state ≡ g.state) × ((end_at guest).seat ≡ g.seat)
+    → ((end_at host).state ≡ h.state) × ((end_at host).seat ≡ h.seat) → AreRoles guest host → ArePair guest host
+pair_of g h cells guest host one g_new h_new at_g at_h roles = record {
+  ends = record {
+    same = ap (λ (s : TableSeat). s.seat.table_id) at_g.1 ∙ one.same ∙ sym (ap (λ (s : TableSeat). s.seat.table_id) at_h.1);
+    guest = ap (λ (s : EndState). s.machine.side) at_g.0 ∙ one.guest;
+    host = ap (λ (s : EndState). s.machine.side) at_h.0 ∙ one.host;
+  };
+  guest_live = ap (λ (s : EndState). s.machine.marked) (at_g.0 ∙ g_new);
+  host_live = ap (λ (s : EndState). s.machine.marked) (at_h.0 ∙ h_new);
+  roles = roles;
+}

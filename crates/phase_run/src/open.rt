@@ -1,0 +1,191 @@
+//! A channel is opened with its two workers.
+ghost use Rattle.std.specs.Prelude.{◌≡◌, ◌≤◌, [], length, map, IfOk};
+ghost use Rattle.bus_script.specs.Parts.{kind_asked};
+ghost use Rattle.bus_script.specs.declared.line.Ask.TheVariants.{Ic as AskedIc, Disk as AskedDisk};
+ghost use Rattle.contact.specs.declared.kind.Kind.TheVariants.{Disk as DiskKind};
+ghost use Rattle.io_edge.specs.declared.side.Side.TheVariants.{Host as HostSide};
+ghost use Rattle.work_model.specs.Roles.{side_that_asks};
+ghost use Rattle.end_work.specs.Plans.{AllCarried, guest_planned, host_planned};
+ghost use Rattle.end_work.specs.Seats.{served_at, kind_at, left_at, at_guest, at_host};
+ghost use Rattle.phase_run.specs.Pairs.{IsNewSeat, Opens, OpensWith};
+
+use crate::Pair;
+use bus_script::Ask;
+use contact::Kind;
+use end_work::{DeviceSeat, GuestPlan, GuestSeat, GuestWorker, HostPlan, HostSeat, HostWorker};
+use ring_seat::ChannelMem;
+use scsi_disk::DiskRequest;
+use std::alloc::{AllocError, Global};
+use util_ic::IcAsk;
+
+// The command for a disk that a request is.
+fn disk_of(kind: Kind, ask: &Ask) -> DiskRequest
+    requires kind { kind_asked ask.now ≡ kind }
+    requires disk { kind ≡ DiskKind }
+    ensures { AskedDisk result ≡ ask.now }
+{
+    match ask.again() {
+        Ask::Disk(request) => request,
+        Ask::Ic(_) => unreachable!(),
+    }
+}
+
+// The commands for a disk.
+fn disk_requests(alloc: Global, kind: Kind, asks: &[Ask]) -> Result<Vec<DiskRequest>, AllocError>
+    requires asks { AllCarried kind asks.now }
+    requires disk { kind ≡ DiskKind }
+    ensures { IfOk result (λ all. map AskedDisk all.items ≡ asks.now) }
+{
+    let mut all = Vec::with_capacity(alloc, asks.len())?;
+    for ask in asks {
+        all.push_reserved(disk_of(kind, ask));
+    }
+    Ok(all)
+}
+
+// The request to a service that a request is.
+fn ic_of(kind: Kind, ask: &Ask) -> IcAsk
+    requires kind { kind_asked ask.now ≡ kind }
+    requires host { side_that_asks kind ≡ HostSide }
+    ensures { AskedIc result ≡ ask.now }
+{
+    match ask {
+        Ask::Ic(ask) => *ask,
+        Ask::Disk(_) => unreachable!(),
+    }
+}
+
+// The requests to a service.
+fn ic_requests(alloc: Global, kind: Kind, asks: &[Ask]) -> Result<Vec<IcAsk>, AllocError>
+    requires asks { AllCarried kind asks.now }
+    requires host { side_that_asks kind ≡ HostSide }
+    ensures { IfOk result (λ all. map AskedIc all.items ≡ asks.now) }
+{
+    let mut all = Vec::with_capacity(alloc, asks.len())?;
+    for ask in asks {
+        all.push_reserved(ic_of(kind, ask));
+    }
+    Ok(all)
+}
+
+// The plan of a guest.
+fn guest_plan(relid: u32, kind: Kind, window: u32, count: u32, disk: Vec<DiskRequest>) -> GuestPlan
+    ensures { guest_planned result ≡ record { kind = kind; sub = 0; subs = 0; window = window; count = count; stop = None; asks = map AskedDisk disk.items } }
+{
+    GuestPlan {
+        relid,
+        kind,
+        sub: 0,
+        subs: 0,
+        window,
+        count,
+        disk,
+    }
+}
+
+// The plan of a host.
+fn host_plan(relid: u32, kind: Kind, window: u32, count: u32, asks: Vec<IcAsk>) -> HostPlan
+    ensures { host_planned result ≡ record { kind = kind; sub = 0; subs = 0; window = window; count = count; stop = None; asks = map AskedIc asks.items } }
+{
+    HostPlan {
+        relid,
+        kind,
+        sub: 0,
+        subs: 0,
+        window,
+        count,
+        stop: None,
+        asks,
+    }
+}
+
+// Opens the channel of a service, which the guest serves.
+fn open_service(
+    alloc: Global,
+    kind: Kind,
+    relid: u32,
+    pages: u32,
+    window: u32,
+    seat: GuestSeat,
+    asks: &[Ask],
+) -> Result<Pair, AllocError>
+    requires host { side_that_asks kind ≡ HostSide }
+    requires pages { (1 ≤ pages) × (pages ≤ 16) }
+    requires window { (1 ≤ window) × (window ≤ 64) }
+    requires few { length asks.now ≤ 4096 }
+    requires asks { AllCarried kind asks.now }
+    requires seat { IsNewSeat kind (length asks.now) (at_guest seat) }
+    ensures { IfOk result (OpensWith kind asks.now (at_guest seat)) }
+{
+    let count = asks.len() as u32;
+    let requests = ic_requests(alloc, kind, asks)?;
+    let (guest_end, host_end) = ChannelMem::make(alloc, pages, 0)?;
+    let plan = guest_plan(relid, kind, window, count, Vec::new(alloc));
+    let guest = GuestWorker::make(alloc, guest_end, seat, plan)?;
+    let plan = host_plan(relid, kind, window, count, requests);
+    let host = HostWorker::make(alloc, host_end, HostSeat::None, plan)?;
+    Ok(Pair { guest, host })
+}
+
+// Opens the channel of a disk, which the host serves.
+fn open_disk(
+    alloc: Global,
+    kind: Kind,
+    relid: u32,
+    pages: u32,
+    window: u32,
+    seat: HostSeat,
+    asks: &[Ask],
+) -> Result<Pair, AllocError>
+    requires disk { kind ≡ DiskKind }
+    requires pages { (1 ≤ pages) × (pages ≤ 16) }
+    requires window { (1 ≤ window) × (window ≤ 64) }
+    requires few { length asks.now ≤ 4096 }
+    requires asks { AllCarried kind asks.now }
+    requires seat { IsNewSeat kind (length asks.now) (at_host seat) }
+    ensures { IfOk result (OpensWith kind asks.now (at_host seat)) }
+{
+    let count = asks.len() as u32;
+    let requests = disk_requests(alloc, kind, asks)?;
+    let (guest_end, host_end) = ChannelMem::make(alloc, pages, 0)?;
+    let plan = guest_plan(relid, kind, window, count, requests);
+    let guest = GuestWorker::make(alloc, guest_end, GuestSeat::None, plan)?;
+    let plan = host_plan(relid, kind, window, count, Vec::new(alloc));
+    let host = HostWorker::make(alloc, host_end, seat, plan)?;
+    Ok(Pair { guest, host })
+}
+
+/// Opens a channel whose rings have so many pages, with its two workers, and takes all memory that they need.
+pub fn open_pair(
+    alloc: Global,
+    kind: Kind,
+    relid: u32,
+    pages: u32,
+    window: u32,
+    seat: DeviceSeat,
+    asks: &[Ask],
+) -> Result<Pair, AllocError>
+    requires kind { kind_at seat ≡ kind }
+    requires pages { (1 ≤ pages) × (pages ≤ 16) }
+    requires window { (1 ≤ window) × (window ≤ 64) }
+    requires few { length asks.now ≤ 4096 }
+    requires asks { AllCarried kind asks.now }
+    requires fresh { served_at seat ≡ [] }
+    requires left { length asks.now ≤ left_at seat }
+    ensures { IfOk result (Opens kind asks.now seat) }
+{
+    match seat {
+        DeviceSeat::Beat(seat) => {
+            let seat = GuestSeat::Beat(seat);
+            open_service(alloc, kind, relid, pages, window, seat, asks)
+        }
+        DeviceSeat::Down(seat) => {
+            let seat = GuestSeat::Down(seat);
+            open_service(alloc, kind, relid, pages, window, seat, asks)
+        }
+        DeviceSeat::Disk(seat) => {
+            let seat = HostSeat::Disk(seat);
+            open_disk(alloc, kind, relid, pages, window, seat, asks)
+        }
+    }
+}
