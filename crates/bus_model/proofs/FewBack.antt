@@ -29,7 +29,7 @@ use Rattle.bus_script.proofs.Plain.{PlainAsk, PlainWhat, PlainLine, script_plain
 use Rattle.bus_model.specs.Served.{Served, done_of}
 use Rattle.bus_model.specs.Dests.{Dest, ToChannel, Known, dest_of, dest_in, dests, asked_in, asks_to, Address, At, Fixed, address_of, addresses_from}
 use Rattle.bus_model.specs.Logs.{Recorded, ic_log, disk_log, log_of, IsHistory, EachHistory}
-use Rattle.bus_model.specs.Run.{ChannelPhase, Carries, EachChannel, DevicePhase, served_by, EachDevice, outcomes_of, outcome_at, PhaseRuns, RunFrom}
+use Rattle.bus_model.specs.Run.{ChannelPhase, CarriesIfOpened, EachChannel, DevicePhase, served_by, EachDevice, outcomes_of, outcome_at, PhaseRuns, RunFrom}
 use Rattle.bus_model.specs.declared.channel_run.ChannelRun.{ChannelRun}
 use Rattle.bus_model.specs.declared.history.DeviceHistory.{DeviceHistory}
 use Rattle.bus_model.specs.declared.history.DeviceHistory.TheVariants.{Beat as BeatHistory, Down as DownHistory, Disk as DiskHistory}
@@ -118,7 +118,7 @@ outcomes_few outcomes few (a ∷ addresses) fine = (outcome_few outcomes few a f
 
 -- channels serve what the lines ask
 
-carries_plain : (opened : Bool) (phase relid device : ℕ) (kind : DeviceSpec) (asks : List Ask) (runs : List ChannelRun) (served : List Served) → Carries opened phase relid device kind asks runs served → AllByRecursion PlainAsk asks → PlainServed served
+carries_plain : (opened : Bool) (phase relid device : ℕ) (kind : DeviceSpec) (asks : List Ask) (runs : List ChannelRun) (served : List Served) → CarriesIfOpened opened phase relid device kind asks runs served → AllByRecursion PlainAsk asks → PlainServed served
 carries_plain false phase relid device kind asks runs served carries plain = subst PlainServed (sym carries.1) tt
 carries_plain true phase relid device kind asks [] served carries plain = absurd carries
 carries_plain true phase relid device kind asks (r ∷ []) served carries plain = each_unmap PlainAsk (λ (s : Served). s.request) served (subst (AllByRecursion PlainAsk) (sym carries.3.serves) plain)

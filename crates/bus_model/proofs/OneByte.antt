@@ -2,6 +2,7 @@
 use Rattle.std.proofs.Common.{◌≤◌, List, [], ◌∷◌, length, sym, subst, arith}
 use Rattle.std.specs.List.{AllByRecursion}
 use Rattle.hist_lock.specs.declared.history.Entry.{Entry}
+use Rattle.hist_lock.specs.Legal.{IsLegal}
 use Rattle.scsi_disk.specs.DiskModel.{DiskState, disk_reply, disk_after}
 use Rattle.scsi_disk.specs.declared.request.DiskRequest.{DiskRequest}
 use Rattle.scsi_disk.specs.declared.reply.DiskReply.{DiskReply}
@@ -9,7 +10,6 @@ use Rattle.scsi_disk.specs.declared.reply.DiskReply.TheVariants.{Good, Check}
 use Rattle.scsi_disk.proofs.OneByteLaws.{IsOneByte, HasPlainBlocks, GoodHas, stays_plain, reply_has}
 use Rattle.bus_script.specs.Report.{disk_runs}
 use Rattle.bus_script.specs.Runs.{runs_of}
-use Rattle.bus_model.specs.Logs.{IsDiskLog}
 use Rattle.bus_model.proofs.RunCounts.{runs_most, runs_of_blocks}
 
 few_of_good : (r : DiskReply) → GoodHas (λ bytes. length (runs_of bytes) ≤ 36) r → disk_runs r ≤ 36
@@ -23,7 +23,7 @@ few_reply d q plain =
     (λ lba count few. omega (arith, runs_of_blocks d.bytes_at plain lba count, few)) q)
 
 -- where the data of each request are all the same byte, each reply has few runs
-pub entries_few : {S : Type 0} (d : DiskState) (es : List (Entry S DiskRequest DiskReply)) → HasPlainBlocks d → AllByRecursion (λ e. IsOneByte e.request.out) es → IsDiskLog d es
+pub entries_few : {S : Type 0} (d : DiskState) (es : List (Entry S DiskRequest DiskReply)) → HasPlainBlocks d → AllByRecursion (λ e. IsOneByte e.request.out) es → IsLegal disk_after disk_reply d es
     → AllByRecursion (λ e. disk_runs e.reply ≤ 36) es
 entries_few d [] plain ones log = tt
 entries_few d (e ∷ es) plain ones log =

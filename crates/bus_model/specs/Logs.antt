@@ -11,7 +11,7 @@ use Rattle.bus_script.specs.Parts.{bads_of}
 use Rattle.hist_lock.specs.declared.history.Entry.{Entry}
 use Rattle.hist_lock.specs.Legal.{IsLegal}
 use Rattle.hist_lock.specs.History.{entries_of}
-use Rattle.scsi_disk.specs.DiskModel.{DiskState, new_disk, disk_reply, disk_after}
+use Rattle.scsi_disk.specs.DiskModel.{new_disk, disk_reply, disk_after}
 use Rattle.scsi_disk.specs.declared.request.DiskRequest.{DiskRequest}
 use Rattle.scsi_disk.specs.declared.reply.DiskReply.{DiskReply}
 use Rattle.util_ic.specs.declared.ic.IcAsk.{IcAsk}
@@ -60,12 +60,8 @@ pub record Grows (before after : List Recorded) (served : List (List Served)) : 
   pub seats : EachSeat 0 (length before) more served
   pub all : length more ≡ total served
 
--- each reply is the disk's on the state that the entries before it leave
-abbrev pub IsDiskLog : {S : Type 0} → DiskState → List (Entry S DiskRequest DiskReply) → Type 0
-IsDiskLog d [] = Unit {0}
-IsDiskLog d (e ∷ es) = (e.reply ≡ disk_reply d e.request) × IsDiskLog (disk_after d e.request) es
-
--- the history is of the device's machine, from its first state: a disk's blocks are zero, and these places are bad
+-- The history is legal for the device's machine, from its first state: a disk's blocks are zero, and these places are bad. A disk's states are those of
+-- its model, all of its blocks
 abbrev pub IsHistory : DeviceSpec → List ℕ → DeviceHistory → Type 0
 IsHistory Beat bad (BeatHistory h) = IsLegal (λ s q. s) (λ s q. beat_reply q) beat_start (entries_of h)
 IsHistory Beat bad (DownHistory h) = ⊥
@@ -75,7 +71,7 @@ IsHistory Down bad (DownHistory h) = IsLegal (λ s q. s) (λ s q. down_reply q) 
 IsHistory Down bad (DiskHistory h) = ⊥
 IsHistory (Disk blocks subs) bad (BeatHistory h) = ⊥
 IsHistory (Disk blocks subs) bad (DownHistory h) = ⊥
-IsHistory (Disk blocks subs) bad (DiskHistory h) = IsDiskLog (new_disk blocks bad) (entries_of h)
+IsHistory (Disk blocks subs) bad (DiskHistory h) = IsLegal disk_after disk_reply (new_disk blocks bad) (entries_of h)
 
 -- one for each device from one on, in order of offer
 abbrev pub EachHistory : List Line → ℕ → List DeviceSpec → List DeviceHistory → Type 0

@@ -22,18 +22,18 @@ pub record ChannelPhase : Type 0 where
   pub served : List Served
 
 -- an opened channel carried one run: of the phase, the relid and the device, with these requests. One that wasn't opened carried none
-abbrev pub Carries : Bool → ℕ → ℕ → ℕ → DeviceSpec → List Ask → List ChannelRun → List Served → Type 0
-Carries false phase relid device kind asks runs served = (runs ≡ []) × (served ≡ [])
-Carries true phase relid device kind asks [] served = ⊥
-Carries true phase relid device kind asks (r ∷ []) served =
+abbrev pub CarriesIfOpened : Bool → ℕ → ℕ → ℕ → DeviceSpec → List Ask → List ChannelRun → List Served → Type 0
+CarriesIfOpened false phase relid device kind asks runs served = (runs ≡ []) × (served ≡ [])
+CarriesIfOpened true phase relid device kind asks [] served = ⊥
+CarriesIfOpened true phase relid device kind asks (r ∷ []) served =
     (r.phase ≡ phase) × (r.relid ≡ relid) × (r.device ≡ device) × IsChannelRun (kind_of kind) asks r.settled served
-Carries true phase relid device kind asks (r ∷ s ∷ runs) served = ⊥
+CarriesIfOpened true phase relid device kind asks (r ∷ s ∷ runs) served = ⊥
 
 -- the channel with this place among the phase's channels; relids count from 1
 pub record IsChannelPhase (earlier part : List Line) (phase place : ℕ) (c : ChannelPhase) : Type 0 where
   pub device : c.device ≡ place
   pub opened : c.opened ≡ is_opened c.device earlier part
-  pub carries : Carries c.opened phase (place + 1) c.device c.kind (asks_to place (dests earlier part)) c.runs c.served
+  pub carries : CarriesIfOpened c.opened phase (place + 1) c.device c.kind (asks_to place (dests earlier part)) c.runs c.served
 
 -- the channels from one on, in order of their relids
 abbrev pub EachChannel : List Line → List Line → ℕ → ℕ → List ChannelPhase → Type 0

@@ -10,7 +10,7 @@ use Rattle.bus_script.specs.declared.line.Ask.{Ask}
 use Rattle.bus_script.specs.declared.line.DeviceSpec.{DeviceSpec}
 use Rattle.bus_script.specs.declared.outcome.LineResult.{LineResult}
 use Rattle.bus_model.specs.Served.{Served, done_of}
-use Rattle.bus_model.specs.Run.{ChannelPhase, DevicePhase, Carries, outcomes_of}
+use Rattle.bus_model.specs.Run.{ChannelPhase, DevicePhase, CarriesIfOpened, outcomes_of}
 use Rattle.bus_model.specs.declared.channel_run.ChannelRun.{ChannelRun}
 use Rattle.phase_run.specs.declared.pair.PairDone.{PairDone}
 use Rattle.ring_model.specs.Lists.{Lists}
@@ -28,7 +28,7 @@ device_idle phase device asks old desk dones front rest settled results opened n
     (record {
       runs = [];
       served = [];
-      carries = subst (λ (b : Bool). Carries b phase (device + 1) device (spec_of old) asks [] []) (sym not) (refl, refl);
+      carries = subst (λ (b : Bool). CarriesIfOpened b phase (device + 1) device (spec_of old) asks [] []) (sym not) (refl, refl);
       goes_on = record {
         grows = record { more = []; after_is = sym (append-nil (desk_log old)); seats = (refl, tt); all = refl };
         spec = refl;
@@ -56,19 +56,19 @@ pub device_open : (phase device : ℕ) (asks : List Ask) (old new : Desk) (lists
 device_open phase device asks old new lists settled settled' results opened is_open ran grown = record {
   runs = record { phase = phase; relid = device + 1; device = device; settled = lists } ∷ [];
   served = ran.served;
-  carries = subst (λ (b : Bool). Carries b phase (device + 1) device (spec_of old) asks (record { phase = phase; relid = device + 1; device = device; settled = lists } ∷ []) ran.served) (sym is_open) (refl, refl, refl, ran.channel);
+  carries = subst (λ (b : Bool). CarriesIfOpened b phase (device + 1) device (spec_of old) asks (record { phase = phase; relid = device + 1; device = device; settled = lists } ∷ []) ran.served) (sym is_open) (refl, refl, refl, ran.channel);
   goes_on = ran.goes_on;
   settled_are = grown;
   outcomes = ran.outcomes;
 }
 
 -- a channel serves no more than it is asked, and all where the channel is opened
-pub served_all : (kind : DeviceSpec) (phase relid device : ℕ) (asks : List Ask) (runs : List ChannelRun) (served : List Served) → Carries true phase relid device kind asks runs served → length served ≡ length asks
+pub served_all : (kind : DeviceSpec) (phase relid device : ℕ) (asks : List Ask) (runs : List ChannelRun) (served : List Served) → CarriesIfOpened true phase relid device kind asks runs served → length served ≡ length asks
 served_all kind phase relid device asks [] served carries = absurd carries
 served_all kind phase relid device asks (r ∷ []) served carries = sym (length-map served (λ s. s.request)) ∙ ap length carries.3.serves
 served_all kind phase relid device asks (r ∷ s ∷ runs) served carries = absurd carries
 
-served_few : (opened : Bool) (kind : DeviceSpec) (phase relid device : ℕ) (asks : List Ask) (runs : List ChannelRun) (served : List Served) → Carries opened phase relid device kind asks runs served → length served ≤ length asks
+served_few : (opened : Bool) (kind : DeviceSpec) (phase relid device : ℕ) (asks : List Ask) (runs : List ChannelRun) (served : List Served) → CarriesIfOpened opened phase relid device kind asks runs served → length served ≤ length asks
 served_few true kind phase relid device asks runs served carries = omega (arith, served_all kind phase relid device asks runs served carries)
 served_few false kind phase relid device asks runs served carries = omega (arith, ap length carries.1)
 

@@ -6,7 +6,7 @@ use Rattle.std.proofs.lemmas.Bool.Decides.{nat_tests}
 use Rattle.bus_script.specs.declared.line.Ask.{Ask}
 use Rattle.bus_script.specs.declared.outcome.Reply.{Reply}
 use Rattle.bus_model.specs.Served.{Served}
-use Rattle.bus_model.specs.Logs.{Recorded, IsDiskLog, served_from}
+use Rattle.bus_model.specs.Logs.{Recorded, served_from}
 use Rattle.hist_lock.specs.Seat.{Call}
 use Rattle.hist_lock.specs.Calls.{calls_from}
 use Rattle.hist_lock.specs.Legal.{IsLegal}
@@ -15,7 +15,7 @@ use Rattle.hist_lock.specs.declared.history.History.{History}
 use Rattle.hist_lock.specs.History.{entries_of}
 use Rattle.bus_model.specs.Logs.{IsHistory}
 use Rattle.bus_model.specs.declared.history.DeviceHistory.TheVariants.{Disk as DiskHistory}
-use Rattle.scsi_disk.specs.DiskModel.{DiskState, disk_reply}
+use Rattle.scsi_disk.specs.DiskModel.{DiskState, disk_reply, disk_after}
 use Rattle.scsi_disk.specs.FiniteMap.{Kept, kept_after, unwritten, stands_for}
 use Rattle.scsi_disk.specs.declared.request.DiskRequest.{DiskRequest}
 use Rattle.scsi_disk.specs.declared.reply.DiskReply.{DiskReply}
@@ -56,13 +56,13 @@ log_long {S} {Q} {A} n (e ∷ es) own =
     ap (λ (b : Bool). length (cond b (record { serial = n; request = e.request; reply = e.reply } ∷ calls_from 0 (n + 1) es) (calls_from 0 (n + 1) es))) here ∙ omega (arith, more)
 
 -- a legal history of what a disk keeps is one of the disk
-pub disk_legal : (k : Kept) (es : List (Entry Kept DiskRequest DiskReply)) → IsLegal kept_after (λ s q. disk_reply (stands_for s) q) k es → IsDiskLog (stands_for k) es
+pub disk_legal : (k : Kept) (es : List (Entry Kept DiskRequest DiskReply)) → IsLegal kept_after (λ s q. disk_reply (stands_for s) q) k es → IsLegal disk_after disk_reply (stands_for k) es
 disk_legal k [] legal = tt
-disk_legal k (e ∷ es) legal = (legal.0, subst (λ d. IsDiskLog d es) (stands_for-kept_after k e.request) (disk_legal (kept_after k e.request) es legal.1))
+disk_legal k (e ∷ es) legal = (legal.0, subst (λ d. IsLegal disk_after disk_reply d es) (stands_for-kept_after k e.request) (disk_legal (kept_after k e.request) es legal.1))
 
 pub disk_history : (desk : Desk) (subs : ℕ) (state : Kept) (history : History Kept DiskRequest DiskReply) (bad : List ℕ) → desk ≡ DiskDesk subs state history → IsKept desk → setup_of desk ≡ setup_for (spec_of desk) bad → IsHistory (spec_of desk) bad (DiskHistory history)
 disk_history desk subs state history bad is kept setup =
     let same = subst (λ d. setup_of d ≡ setup_for (spec_of d) bad) is setup in
     let here = subst IsKept is kept in
     subst (λ d. IsHistory (spec_of d) bad (DiskHistory history)) (sym is)
-    (subst (λ d. IsDiskLog d (entries_of history)) (ap (λ (o : Option DiskState). unwrap_or o (stands_for (unwritten state))) same) (disk_legal (unwritten state) (entries_of history) here.legal))
+    (subst (λ d. IsLegal disk_after disk_reply d (entries_of history)) (ap (λ (o : Option DiskState). unwrap_or o (stands_for (unwritten state))) same) (disk_legal (unwritten state) (entries_of history) here.legal))

@@ -16,7 +16,7 @@ use Rattle.end_work.specs.Plans.{AllCarried}
 use Rattle.bus_model.specs.Served.{Served, done_of}
 use Rattle.bus_model.specs.Dests.{Address, dests, asks_to, addresses, is_opened}
 use Rattle.bus_model.specs.Logs.{Grows}
-use Rattle.bus_model.specs.Run.{ChannelPhase, DevicePhase, Carries, EachChannel, EachDevice, served_by, outcomes_of, outcome_at}
+use Rattle.bus_model.specs.Run.{ChannelPhase, DevicePhase, CarriesIfOpened, EachChannel, EachDevice, served_by, outcomes_of, outcome_at}
 use Rattle.bus_model.specs.declared.channel_run.ChannelRun.{ChannelRun}
 use Rattle.bus_plan.specs.declared.plan.PartPlan.{PartPlan}
 use Rattle.bus_plan.specs.Flags.{Marks, AreMarked, closed_by}
@@ -49,7 +49,7 @@ each_channel opened asks earlier part phase place (c ∷ channels) (d ∷ device
       record {
         device = each.0;
         opened = each.1 ∙ opens ∙ sym (ap (λ n. is_opened n earlier part) each.0);
-        carries = subst (λ l. Carries c.opened phase (place + 1) c.device c.kind l c.runs c.served) first each.2;
+        carries = subst (λ l. CarriesIfOpened c.opened phase (place + 1) c.device c.kind l c.runs c.served) first each.2;
       },
       each_channel opened asks earlier part phase (place + 1) channels devices
           (λ k less. let next : place + 1 + k ≡ place + suc k = omega arith in ap opened next ∙ opens_at (suc k) (omega arith) ∙ ap (λ n. is_opened n earlier part) (sym next))
@@ -110,7 +110,7 @@ each_device opened asks phase place before (c ∷ channels) (d ∷ devices) belo
 
 -- an outcome stands at each place of a channel's requests
 
-carried_all : (opened : Bool) (kind : DeviceSpec) (phase relid device : ℕ) (asks : List Ask) (runs : List ChannelRun) (served : List Served) → Carries opened phase relid device kind asks runs served → (opened ≡ false → asks ≡ []) → length served ≡ length asks
+carried_all : (opened : Bool) (kind : DeviceSpec) (phase relid device : ℕ) (asks : List Ask) (runs : List ChannelRun) (served : List Served) → CarriesIfOpened opened phase relid device kind asks runs served → (opened ≡ false → asks ≡ []) → length served ≡ length asks
 carried_all true kind phase relid device asks runs served carries none = served_all kind phase relid device asks runs served carries
 carried_all false kind phase relid device asks runs served carries none = ap length carries.1 ∙ sym (ap length (none refl))
 
