@@ -4,7 +4,7 @@ use Rattle.std.specs.List.{flat_map}
 use Rattle.bus_model.specs.Served.{Served, done_of}
 use Rattle.bus_model.specs.Channel.{IsChannelRun}
 use Rattle.bus_model.specs.Logs.{Recorded, Grows, ic_log, disk_log}
-use Rattle.bus_model.specs.Run.{ChannelPhase, DevicePhase, Carries, outcomes_of}
+use Rattle.bus_model.specs.Run.{ChannelPhase, DevicePhase, CarriesIfOpened, outcomes_of}
 use Rattle.bus_model.specs.declared.channel_run.ChannelRun.{ChannelRun}
 use Rattle.bus_script.specs.Parts.{kind_of}
 use Rattle.bus_script.specs.declared.line.Ask.{Ask}
@@ -92,7 +92,7 @@ pub record OpenRan (asks : List Ask) (old new : Desk) (lists : Lists) (results :
 pub record DeviceRan (opened : Bool) (phase device : ℕ) (asks : List Ask) (old new : Desk) (settled settled' : List ChannelRun) (results : List LineResult) : Type 0 where
   pub runs : List ChannelRun
   pub served : List Served
-  pub carries : Carries opened phase (device + 1) device (spec_of old) asks runs served
+  pub carries : CarriesIfOpened opened phase (device + 1) device (spec_of old) asks runs served
   pub goes_on : GoesOn old new served
   pub settled_are : settled' ≡ settled ++ runs
   pub outcomes : results ≡ map done_of served
@@ -122,7 +122,7 @@ EachRan opened asks phase place [] [] = Unit {0}
 EachRan opened asks phase place [] (d ∷ devices) = ⊥
 EachRan opened asks phase place (c ∷ channels) [] = ⊥
 EachRan opened asks phase place (c ∷ channels) (d ∷ devices) =
-    (c.device ≡ place) × (c.opened ≡ opened place) × Carries c.opened phase (place + 1) c.device c.kind (asks place) c.runs c.served
+    (c.device ≡ place) × (c.opened ≡ opened place) × CarriesIfOpened c.opened phase (place + 1) c.device c.kind (asks place) c.runs c.served
     × Grows d.before d.after (c.served ∷ []) × (c.kind ≡ d.kind) × EachRan opened asks phase (place + 1) channels devices
 
 -- what all channels did
