@@ -35,9 +35,10 @@ abbrev pub stop_of : Option Stop → Option (ℕ × Bool)
 stop_of None = None
 stop_of (Some s) = Some (s.after, s.held)
 
--- a plan of either side: the kind of the device, which of its channels this is and how many are beside the first one, how many requests are open at
+-- a plan of either side: the relid of the channel, the kind of the device, which of its channels this is and how many are beside the first one, how many requests are open at
 -- most, how many there are, where a host stops, and which they are, where this side asks
 pub record Planned : Type 0 where
+  pub relid : ℕ
   pub kind : Kind
   pub sub : ℕ
   pub subs : ℕ
@@ -47,13 +48,13 @@ pub record Planned : Type 0 where
   pub asks : List Ask
 
 abbrev pub guest_planned : GuestPlan → Planned
-guest_planned p = record { kind = p.kind; sub = p.sub; subs = p.subs; window = p.window; count = p.count; stop = None; asks = map AskDisk p.disk.items }
+guest_planned p = record { relid = p.relid; kind = p.kind; sub = p.sub; subs = p.subs; window = p.window; count = p.count; stop = None; asks = map AskDisk p.disk.items }
 
 abbrev pub host_planned : HostPlan → Planned
-host_planned p = record { kind = p.kind; sub = p.sub; subs = p.subs; window = p.window; count = p.count; stop = stop_of p.stop; asks = map AskIc p.asks.items }
+host_planned p = record { relid = p.relid; kind = p.kind; sub = p.sub; subs = p.subs; window = p.window; count = p.count; stop = stop_of p.stop; asks = map AskIc p.asks.items }
 
 abbrev pub planned : Order → Planned
-planned p = record { kind = p.kind; sub = p.sub; subs = p.subs; window = p.window; count = p.count; stop = stop_of p.stop; asks = p.asks.items }
+planned p = record { relid = p.relid; kind = p.kind; sub = p.sub; subs = p.subs; window = p.window; count = p.count; stop = stop_of p.stop; asks = p.asks.items }
 
 -- a host stops at a disk alone, and holds the last answer where there is one
 abbrev pub CanStop : Kind → Option (ℕ × Bool) → Type 0
@@ -79,10 +80,12 @@ HasSeat side p (Some s) = (kind_at s ≡ p.kind) × (served_at s ≡ []) × (p.c
 pub record AsksFor (p : Planned) (w : Asking Talked Reply) : Type 0 where
   pub can : AllByRecursion (IsAskable p.kind) p.asks
   pub talk : w.talk ≡ record { kind = p.kind; asks = p.asks }
+  pub relid : w.relid ≡ p.relid
 
 -- and one that serves, with this seat
 pub record ServesFor (p : Planned) (seat : DeviceSeat) (w : Serving Talked DeviceSeat Ask Reply) : Type 0 where
   pub answers : w.desk.talk.kind ≡ p.kind
+  pub relid : w.desk.relid ≡ p.relid
   pub seat_is : w.desk.seat ≡ seat
   pub serve : w.serve ≡ count_of p.stop p.count
   pub held : w.desk.held ≡ held_of p.stop p.count

@@ -1,11 +1,12 @@
 -- The workers of a channel, as contracts see them.
-use Rattle.std.specs.Prelude.{◌≡◌, ◌+◌, false, length, Option, Some, None}
+use Rattle.std.specs.Prelude.{ℕ, ◌≡◌, ◌+◌, false, length, Option, Some, None}
 use Rattle.io_edge.specs.declared.side.Side.{Side}
 use Rattle.bus_speech.specs.Speeches.{speech_of}
 use Rattle.bus_speech.specs.Talks.{asks_of}
 use Rattle.ring_core.specs.Seen.{Seen}
 use Rattle.ring_seat.specs.declared.table_seat.TableSeat.{TableSeat}
 use Rattle.worker_core.specs.Asking.{AskTurns, AskEnds, AsksOn}
+use Rattle.worker_core.specs.Causes.{AskCause, ServeCause}
 use Rattle.worker_core.specs.Serving.{Turns, ServeEnds, ServesOn}
 use Rattle.worker_core.specs.declared.ended.Turn.{Turn}
 use Rattle.end_work.specs.Seats.{device_place, IsAt}
@@ -17,6 +18,11 @@ use Rattle.end_work.specs.declared.worker.ChannelWorker.TheVariants.{Asks, Serve
 abbrev pub end_at : ChannelWorker → Seen TableSeat
 end_at (Asks w) = w.end
 end_at (Serves w) = w.end
+
+-- the relid of its channel
+abbrev pub relid_at : ChannelWorker → ℕ
+relid_at (Asks w) = w.relid
+relid_at (Serves w) = w.desk.relid
 
 -- its seat, if it serves
 abbrev pub seat_at : ChannelWorker → Option DeviceSeat
@@ -36,6 +42,13 @@ pub record IsOfSide (side : Side) (w : ChannelWorker) : Type 0 where
 abbrev pub Turned : Turn → ChannelWorker → Type 0
 Turned turn (Asks w) = AskTurns (speech_of w.talk.kind) (asks_of w.talk) turn w × AskEnds (length (asks_of w.talk)) turn w.end.state.past
 Turned turn (Serves w) = Turns (speech_of w.desk.talk.kind) turn w × ServeEnds (w.starts + w.come) turn w.end.state.past
+
+-- why it went so: what the worker did in it
+abbrev pub Caused : Turn → ChannelWorker → ChannelWorker → Type 0
+Caused turn (Asks v) (Asks w) = AskCause turn v.end w.end
+Caused turn (Asks v) (Serves w) = ⊥
+Caused turn (Serves v) (Asks w) = ⊥
+Caused turn (Serves v) (Serves w) = ServeCause turn v w
 
 -- the same worker later
 abbrev pub GoesOn : ChannelWorker → ChannelWorker → Type 0

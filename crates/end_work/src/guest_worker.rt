@@ -5,7 +5,7 @@ ghost use Rattle.ring_seat.specs.Seats.{new_end};
 ghost use Rattle.end_work.specs.Leaving.{Leaves, of_guest};
 ghost use Rattle.end_work.specs.Plans.{CanPlan, HasSeat, IsMade, guest_planned};
 ghost use Rattle.end_work.specs.Seats.{IsAt, at_guest};
-ghost use Rattle.end_work.specs.Workers.{GoesOn, IsLive, IsOfSide, Turned, end_at};
+ghost use Rattle.end_work.specs.Workers.{Caused, GoesOn, IsLive, IsOfSide, Turned, end_at};
 
 use crate::making::{Order, disk_asks, make_worker};
 use crate::worker::{ChannelWorker, WorkerDone};
@@ -68,6 +68,7 @@ impl GuestWorker {
     pub fn turn<R: Wait, G: Gate>(&mut self, rt: &R, gate: &G) -> Turn
         requires { IsLive self.old }
         ensures turned { Turned result self.new }
+        ensures cause { Caused result self.old self.new }
         ensures on { GoesOn self.old self.new }
     {
         self.worker.turn(rt, gate)

@@ -110,8 +110,10 @@ fn make_asker(
     requires asks { AllCarried kind asks.items }
     requires fresh { end.state ≡ new_end end.state.machine.cells end.state.machine.side }
     requires size { (512 ≤ end.state.machine.cells) × (end.state.machine.cells ≤ 8192) }
+    requires side { side ≡ end.state.machine.side }
     ensures can { IfOk result (λ w. AllByRecursion (IsAskable kind) asks.items) }
     ensures talk { IfOk result (λ w. w.talk ≡ record { kind = kind; asks = asks.items }) }
+    ensures relid { IfOk result (λ w. w.relid ≡ relid) }
     ensures end { IfOk result (λ w. (w.end.state ≡ end.state) × (w.end.seat ≡ end.seat)) }
 {
     all_can(kind, &asks);
@@ -156,6 +158,8 @@ fn make_server(
     requires few { count ≤ 4096 }
     requires fresh { end.state ≡ new_end end.state.machine.cells end.state.machine.side }
     requires size { (512 ≤ end.state.machine.cells) × (end.state.machine.cells ≤ 8192) }
+    requires side { side ≡ end.state.machine.side }
+    ensures relid { IfOk result (λ w. w.desk.relid ≡ relid) }
     ensures talk { IfOk result (λ w. (w.desk.talk.kind ≡ kind) × (w.desk.seat ≡ seat)) }
     ensures orders { IfOk result (λ w. (w.serve ≡ count_of (stop_of stop) count) × (w.desk.held ≡ held_of (stop_of stop) count) × (w.stops ≡ is_some (stop_of stop)) × (w.come ≡ count)) }
     ensures starts { IfOk result (λ w. w.starts ≡ length (filter (has_answer_on kind) (startup kind))) }

@@ -1,7 +1,7 @@
 //! A worker of a channel, which asks or serves.
 ghost use Rattle.std.specs.Prelude.{◌≡◌, [], None, Some};
 ghost use Rattle.end_work.specs.Leaving.{Leaves};
-ghost use Rattle.end_work.specs.Workers.{GoesOn, IsLive, Turned};
+ghost use Rattle.end_work.specs.Workers.{Caused, GoesOn, IsLive, Turned};
 
 use crate::DeviceSeat;
 use bus_script::Reply;
@@ -73,6 +73,7 @@ impl ChannelWorker {
     pub fn turn<R: Wait, G: Gate>(&mut self, rt: &R, gate: &G) -> Turn
         requires { IsLive self.old }
         ensures turned { Turned result self.new }
+        ensures cause { Caused result self.old self.new }
         ensures on { GoesOn self.old self.new }
     {
         match self {

@@ -303,7 +303,7 @@ module _ {T A Q R : Type 0} (s : Speech (List ℕ) A Q R) (keeps : Keeps s) (sin
   need_in (Room need) h = (h.4, h.5)
 
 pub ask_trans : {T R : Type 0} (u v w : Asking T R) → AsksOn u v → AsksOn v w → AsksOn u w
-ask_trans u v w a b = record { talk = b.talk ∙ a.talk; end = record { seat = b.end.seat ∙ a.end.seat; side = b.end.side ∙ a.end.side } }
+ask_trans u v w a b = record { talk = b.talk ∙ a.talk; relid = b.relid ∙ a.relid; end = record { seat = b.end.seat ∙ a.end.seat; side = b.end.side ∙ a.end.side } }
 
 -- what it gives at its end is what was asked of it at its beginning
 pub asks_on : {T A Q R : Type 0} (sp : T → Speech (List ℕ) A Q R) (asks : T → List A) (how : Ended) (u w : Asking T R) (past : List (Event (List ℕ))) (told : List R) → AsksOn u w

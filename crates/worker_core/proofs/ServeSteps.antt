@@ -229,6 +229,7 @@ module _ {T S Q R : Type 0} (same : S → S → Type 0) where
   pub on_trans : ((a b c : S) → same a b → same b c → same a c) → (u v w : Serving T S Q R) → ServesOn same u v → ServesOn same v w → ServesOn same u w
   on_trans trans u v w a b = record {
     talk = b.talk ∙ a.talk;
+    relid = b.relid ∙ a.relid;
     held = b.held ∙ a.held;
     serve = b.serve ∙ a.serve;
     stops = b.stops ∙ a.stops;
@@ -239,7 +240,7 @@ module _ {T S Q R : Type 0} (same : S → S → Type 0) where
   }
 
   pub on_refl : ((a : S) → same a a) → (w : Serving T S Q R) → ServesOn same w w
-  on_refl r w = record { talk = refl; held = refl; serve = refl; stops = refl; starts = refl; come = refl; end = record { seat = refl; side = refl }; seat = r w.desk.seat }
+  on_refl r w = record { talk = refl; relid = refl; held = refl; serve = refl; stops = refl; starts = refl; come = refl; end = record { seat = refl; side = refl }; seat = r w.desk.seat }
 
   orders_on : {A : Type 0} (s : Speech (List ℕ) A Q R) (plan : Plan A) (u w : Serving T S Q R) → ServesOn same u w → Orders s plan u → Orders s plan w
   orders_on s plan u w on is = record { serve = on.serve ∙ is.serve; held = on.held ∙ is.held; stops = on.stops ∙ is.stops; starts = on.starts ∙ is.starts }

@@ -23,7 +23,7 @@ use Rattle.worker_core.specs.declared.asker.Asked.{Asked}
 use Rattle.worker_core.specs.declared.asker.Asked.TheVariants.{Sent as AskedSent, Held as AskedHeld}
 
 -- the talk, the end, the open requests by the number of their ask, the next ask, its id where it waits for room, the replies, how many asks are the
--- start-up's, whether the other end's mark was seen, and why the last arm had nothing to send
+-- start-up's, whether the other end's mark was seen, why the last arm had nothing to send, and the relid of the channel
 pub record Asking (T R : Type 0) : Type 0 where
   pub talk : T
   pub end : Seen TableSeat
@@ -34,6 +34,7 @@ pub record Asking (T R : Type 0) : Type 0 where
   pub starts : ℕ
   pub seen : Bool
   pub hold : Hold
+  pub relid : ℕ
 
 module _ {A : Type 0} where
   -- the ask of this number
@@ -128,6 +129,7 @@ AskedBy s asks (AskedHeld hold) w = Holds s asks hold w
 -- the same worker
 pub record AsksOn {T R : Type 0} (old new : Asking T R) : Type 0 where
   pub talk : new.talk ≡ old.talk
+  pub relid : new.relid ≡ old.relid
   pub end : IsSameEnd old.end new.end
 
 -- a request that waits stands in the table already

@@ -3,3 +3,4 @@ pub mod Line
 pub mod Owed
 pub mod Serving
 pub mod Asking
+pub mod Causes

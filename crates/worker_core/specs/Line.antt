@@ -6,11 +6,13 @@ use Rattle.chan_run.specs.Runs.{got_of, has_marked}
 use Rattle.ring_core.specs.declared.machine.Stage.TheVariants.{Idle}
 use Rattle.ring_core.specs.declared.last.Armed.{Armed}
 use Rattle.ring_core.specs.declared.last.Armed.TheVariants.{Asleep, Work as ArmedWork}
+use Rattle.ring_core.specs.declared.machine.Ending.{Ending}
+use Rattle.ring_core.specs.declared.machine.Ending.TheVariants.{FellAsleep, FoundWork, NoSignal, Woke}
 use Rattle.ring_core.specs.declared.state.EndState.{EndState}
 use Rattle.ring_core.specs.Endings.{want_of}
 use Rattle.ring_core.specs.Seen.{Seen}
 use Rattle.ring_core.specs.States.{IsPacket, entered}
-use Rattle.ring_core.specs.Steps.{arm_begun}
+use Rattle.ring_core.specs.Steps.{arm_begun, poll_begun}
 use Rattle.ring_core.specs.Told.{Ran}
 use Rattle.ring_seat.specs.Seats.{state_in}
 use Rattle.ring_seat.specs.Settling.{IsSameEnd}
@@ -58,6 +60,21 @@ abbrev pub is_asleep : Looked → Bool
 is_asleep Nothing = true
 is_asleep Work = false
 is_asleep Mark = false
+
+-- how the arm ended that found so
+abbrev pub armed_by : Looked → Ending
+armed_by Nothing = FellAsleep
+armed_by Work = FoundWork
+armed_by Mark = FoundWork
+
+-- how the exchange of the signal ended, which was up or down
+abbrev pub polled_by : Bool → Ending
+polled_by true = Woke
+polled_by false = NoSignal
+
+-- its signal was exchanged once
+abbrev pub PolledOnce : Seen TableSeat → Seen TableSeat → Type 0
+PolledOnce old new = Ran (entered old.state (poll_begun old.state.machine) []) new.state (Some (state_in old.seat.seat.me.0)) (Some (state_in new.seat.seat.me.0)) None None
 
 -- it armed for this room
 abbrev pub ArmedFor : Option ℕ → Seen TableSeat → Seen TableSeat → Type 0

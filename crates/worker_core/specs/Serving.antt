@@ -3,6 +3,7 @@ use Rattle.std.specs.Prelude.{ℕ, ◌≡◌, ◌≤◌, ◌+◌, Bool, true, fa
 use Rattle.chan_run.specs.declared.event.Event.{Event}
 use Rattle.chan_run.specs.Runs.{got_of, has_seen}
 use Rattle.hist_lock.specs.Seat.{Call}
+use Rattle.io_edge.specs.declared.side.Side.{Side}
 use Rattle.ring_core.specs.Seen.{Seen}
 use Rattle.ring_seat.specs.Settling.{IsSameEnd}
 use Rattle.ring_seat.specs.declared.table_seat.TableSeat.{TableSeat}
@@ -20,7 +21,8 @@ use Rattle.worker_core.specs.declared.ended.Turn.TheVariants.{Moved, Idle, Ended
 use Rattle.worker_core.specs.declared.put.Given.{Given}
 use Rattle.worker_core.specs.declared.put.Given.TheVariants.{Sent as GivenSent, Full as GivenFull, Lacks as GivenLacks}
 
--- the talk, the seat with its calls and their serials, what is owed, whether the last answer is held, and how many requests are still to be served
+-- the talk, the seat with its calls and their serials, what is owed, whether the last answer is held, how many requests are still to be served, and the
+-- side and the relid that the gate is told
 pub record Desk (T S Q R : Type 0) : Type 0 where
   pub talk : T
   pub seat : S
@@ -29,6 +31,8 @@ pub record Desk (T S Q R : Type 0) : Type 0 where
   pub left : Option ℕ
   pub held : Bool
   pub serials : List ℕ
+  pub side : Side
+  pub relid : ℕ
 
 -- the desk and the end; how many requests are to be served, whether this end stops then, how many requests of the start-up have answers, for how many
 -- packets besides these it made room, and how many of the start-up's may still be missing; how many of the packets that were got are served; whether the other end's mark was seen; and what the last arm waits for
@@ -122,6 +126,7 @@ GaveOne (GivenLacks packets words) old new = LacksSend packets words new.desk.ow
 -- the same worker, with the same orders
 pub record ServesOn {T S Q R : Type 0} (same : S → S → Type 0) (old new : Serving T S Q R) : Type 0 where
   pub talk : new.desk.talk ≡ old.desk.talk
+  pub relid : new.desk.relid ≡ old.desk.relid
   pub held : new.desk.held ≡ old.desk.held
   pub serve : new.serve ≡ old.serve
   pub stops : new.stops ≡ old.stops

@@ -5,6 +5,7 @@ ghost use Rattle.ring_seat.specs.Seats.{new_end};
 ghost use Rattle.ring_seat.specs.Settling.{IsSameEnd};
 ghost use Rattle.work_model.specs.Channel.{AskerBreaks};
 ghost use Rattle.worker_core.specs.declared.ended.Ended.TheVariants.{Room as RoomEnd};
+ghost use Rattle.worker_core.specs.Causes.{Arms, AskCause, AskerActs, AsksOne, AsksOrArms, Polls};
 ghost use Rattle.worker_core.specs.Line.{IsReady, HasTakeRoom, LacksTake, TookOne};
 ghost use Rattle.worker_core.specs.Asking.{AsksAll, AsksBy, AskTurns, AskLacks, AsksOn, AskEnds, Holds, HasSettled, HasNone, waits_under, want_by, AskedBy};
 ghost use Rattle.worker_core.specs.Rooms.{CameOver, HasReserved, LacksFor, SentAtMost};
@@ -69,9 +70,9 @@ impl<T: Talk> Model for Asker<T> {
 
     ghost Value = { Asking T T.Reply };
 
-    ghost view = { λ w. record { talk = w.talk; end = w.port; table = w.table; next = w.next; waiting = w.waiting; told = w.replies.items; starts = w.starts; seen = w.seen; hold = w.hold } };
+    ghost view = { λ w. record { talk = w.talk; end = w.port; table = w.table; next = w.next; waiting = w.waiting; told = w.replies.items; starts = w.starts; seen = w.seen; hold = w.hold; relid = w.relid } };
 
-    ghost invariant = { λ w. w.port.state.machine.marked ≡ false → record { live : IsAsking (T.speech w.talk) (T.asks w.talk) (record { talk = w.talk; end = w.port; table = w.table; next = w.next; waiting = w.waiting; told = w.replies.items; starts = w.starts; seen = w.seen; hold = w.hold }); replies : vec_len w.replies + count_by is_some w.table + (length (T.asks w.talk) - w.next) ≤ vec_capacity w.replies + pending w.waiting; spare : vec_len w.rescinded + length w.table ≤ vec_capacity w.rescinded; size : length w.table ≤ 64; room : AsksInRoom (length (T.asks w.talk)) w.next w.port } };
+    ghost invariant = { λ w. w.port.state.machine.marked ≡ false → record { live : IsAsking (T.speech w.talk) (T.asks w.talk) (record { talk = w.talk; end = w.port; table = w.table; next = w.next; waiting = w.waiting; told = w.replies.items; starts = w.starts; seen = w.seen; hold = w.hold; relid = w.relid }); replies : vec_len w.replies + count_by is_some w.table + (length (T.asks w.talk) - w.next) ≤ vec_capacity w.replies + pending w.waiting; spare : vec_len w.rescinded + length w.table ≤ vec_capacity w.rescinded; size : length w.table ≤ 64; room : AsksInRoom (length (T.asks w.talk)) w.next w.port; side : w.side ≡ w.port.state.machine.side } };
 }
 
 /// What an asking worker gives once it has ended.
@@ -135,6 +136,7 @@ impl<T: Talk> Asker<T> {
         requires next { self.old.next < length (T.asks self.old.talk) }
         requires waits { self.old.waiting ≡ Some id }
         ensures asked { AskedBy (T.speech self.new.talk) (T.asks self.new.talk) result self.new }
+        ensures cause { AsksOne result self.old.end.state.past self.new.end }
         ensures ready { IsReady self.new.end }
         ensures on { AsksOn self.old self.new }
     {
@@ -159,6 +161,7 @@ impl<T: Talk> Asker<T> {
         requires none { self.old.waiting ≡ None }
         requires answers { (a : T.Ask) → slice_get (T.asks self.old.talk) self.old.next ≡ Some a → (T.speech self.old.talk).has_answer a ≡ false }
         ensures asked { AskedBy (T.speech self.new.talk) (T.asks self.new.talk) result self.new }
+        ensures cause { AsksOne result self.old.end.state.past self.new.end }
         ensures ready { IsReady self.new.end }
         ensures on { AsksOn self.old self.new }
     {
@@ -200,6 +203,7 @@ impl<T: Talk> Asker<T> {
     fn ask<G: Gate>(&mut self, gate: &G) -> Asked
         requires ready { IsReady self.old.end }
         ensures asked { AskedBy (T.speech self.new.talk) (T.asks self.new.talk) result self.new }
+        ensures cause { AsksOne result self.old.end.state.past self.new.end }
         ensures ready { IsReady self.new.end }
         ensures on { AsksOn self.old self.new }
     {
@@ -231,6 +235,7 @@ impl<T: Talk> Asker<T> {
         requires ready { IsReady self.old.end }
         requires holds { Holds (T.speech self.old.talk) (T.asks self.old.talk) hold self.old }
         ensures turns { AskTurns (T.speech self.new.talk) (T.asks self.new.talk) result self.new }
+        ensures cause { Arms result self.old.end.state.past self.new.end }
         ensures on { AsksOn self.old self.new }
     {
         self.hold = hold;
@@ -300,6 +305,7 @@ impl<T: Talk> Asker<T> {
     fn ask_or_rest<G: Gate>(&mut self, gate: &G) -> Turn
         requires ready { IsReady self.old.end }
         ensures turns { AskTurns (T.speech self.new.talk) (T.asks self.new.talk) result self.new }
+        ensures cause { AsksOrArms result self.old.end.state.past self.new.end }
         ensures on { AsksOn self.old self.new }
     {
         match self.ask(gate) {
@@ -313,6 +319,7 @@ impl<T: Talk> Asker<T> {
     fn work<G: Gate>(&mut self, gate: &G) -> Turn
         requires ready { IsReady self.old.end }
         ensures turns { AskTurns (T.speech self.new.talk) (T.asks self.new.talk) result self.new }
+        ensures cause { AskerActs result self.old.end.state.past self.new.end }
         ensures on { AsksOn self.old self.new }
     {
         if let Some(room) = self.port.lacks_take() {
@@ -338,6 +345,7 @@ impl<T: Talk> Asker<T> {
         requires asleep { self.old.end.state.machine.asleep ≡ true }
         requires unmarked { self.old.end.state.machine.marked ≡ false }
         ensures turns { AskTurns (T.speech self.new.talk) (T.asks self.new.talk) result self.new }
+        ensures cause { Polls result self.old.end self.new.end }
         ensures on { AsksOn self.old self.new }
     {
         if self.port.poll() {
@@ -358,7 +366,9 @@ impl<T: Talk> Asker<T> {
         requires window { (1 ≤ window) × (window ≤ 64) }
         requires fresh { end.state ≡ new_end end.state.machine.cells end.state.machine.side }
         requires size { (512 ≤ end.state.machine.cells) × (end.state.machine.cells ≤ 8192) }
+        requires side { side ≡ end.state.machine.side }
         ensures talk { IfOk result (λ w. w.talk ≡ talk) }
+        ensures relid { IfOk result (λ w. w.relid ≡ relid) }
         ensures end { IfOk result (λ w. (w.end.state ≡ end.state) × (w.end.seat ≡ end.seat)) }
     {
         let mut port = Port::over(end);
@@ -401,6 +411,7 @@ impl<T: Talk> Asker<T> {
     pub fn turn<R: Wait, G: Gate>(&mut self, _rt: &R, gate: &G) -> Turn
         requires unmarked { self.old.end.state.machine.marked ≡ false }
         ensures turns { AskTurns (T.speech self.new.talk) (T.asks self.new.talk) result self.new }
+        ensures cause { AskCause result self.old.end self.new.end }
         ensures room { AskEnds (length (T.asks self.new.talk)) result self.new.end.state.past }
         ensures on { AsksOn self.old self.new }
     {

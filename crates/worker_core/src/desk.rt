@@ -32,7 +32,7 @@ impl<T: Talk, S: Seat<T>> Model for Desk<T, S> {
 
     ghost Value = { Desk T S T.Request T.Reply };
 
-    ghost view = { λ d. record { talk = d.talk; seat = d.seat; calls = S.calls d.seat; owed = d.owed; left = d.left; held = d.held; serials = d.serials.items } };
+    ghost view = { λ d. record { talk = d.talk; seat = d.seat; calls = S.calls d.seat; owed = d.owed; left = d.left; held = d.held; serials = d.serials.items; side = d.side; relid = d.relid } };
 
     ghost invariant = { λ d. record { calls : HasCalls d.left (S.left d.seat); room : HasCalls d.left (vec_capacity d.serials - vec_len d.serials); serves : S.serves d.seat d.talk; serials : d.serials.items ≡ map (λ c. c.serial) (S.calls d.seat) } };
 }
@@ -51,7 +51,7 @@ impl<T: Talk, S: Seat<T>> Desk<T, S> {
         requires serves { S.serves seat talk }
         requires fresh { S.calls seat ≡ [] }
         requires calls { serve ≤ S.left seat }
-        ensures { IfOk result (λ d. d ≡ record { talk = talk; seat = seat; calls = []; owed = []; left = Some serve; held = held; serials = [] }) }
+        ensures { IfOk result (λ d. d ≡ record { talk = talk; seat = seat; calls = []; owed = []; left = Some serve; held = held; serials = []; side = side; relid = relid }) }
     {
         let serials = Vec::with_capacity(alloc, serve as usize)?;
         let owed = Owed::make(alloc)?;
@@ -132,6 +132,7 @@ impl<T: Talk, S: Seat<T>> Desk<T, S> {
         ensures serves { ServesPacket (T.speech self.new.talk) self.new.held packet.now self.old.left self.old.calls self.new.calls self.new.owed self.new.left }
         ensures few { length self.new.owed ≤ 2 }
         ensures same { (self.new.talk ≡ self.old.talk) × (self.new.held ≡ self.old.held) × S.same self.old.seat self.new.seat }
+        ensures channel { (self.new.side ≡ self.old.side) × (self.new.relid ≡ self.old.relid) }
     {
         let Some(count) = self.left else {
             return;
@@ -159,6 +160,7 @@ impl<T: Talk, S: Seat<T>> Desk<T, S> {
         ensures serves { ServesPacket (T.speech self.new.talk) self.new.held packet.now (Some count) self.old.calls self.new.calls self.new.owed self.new.left }
         ensures few { length self.new.owed ≤ 2 }
         ensures same { (self.new.talk ≡ self.old.talk) × (self.new.held ≡ self.old.held) × S.same self.old.seat self.new.seat }
+        ensures channel { (self.new.side ≡ self.old.side) × (self.new.relid ≡ self.old.relid) }
     {
         if count == 0 {
             self.left = None;

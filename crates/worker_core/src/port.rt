@@ -6,7 +6,7 @@ ghost use Rattle.ring_core.specs.States.{IsPacket};
 ghost use Rattle.ring_seat.specs.Seats.{new_end};
 ghost use Rattle.worker_core.specs.Owed.{IsNeed};
 ghost use Rattle.worker_core.specs.Rooms.{GotInto, SentInto};
-ghost use Rattle.worker_core.specs.Line.{IsReady, Stays, TookOne, looked, look_of, is_asleep, ArmedFor, HasTakeRoom, LacksTake};
+ghost use Rattle.worker_core.specs.Line.{IsReady, Stays, TookOne, looked, look_of, is_asleep, armed_by, polled_by, ArmedFor, PolledOnce, HasTakeRoom, LacksTake};
 
 use ring_core::{Armed, End, Room};
 use ring_seat::{Sleeper, TableSeat};
@@ -157,11 +157,13 @@ impl Port {
     }
 
     // Arms the signal, and looks once more for packets, for the room that is wanted, and for the peer's mark.
+    #[tactic(auto, using(crate::proofs::PortLaws::arm_ended))]
     pub(crate) fn arm(&mut self, want: Option<u32>) -> Looked
         requires ready { IsReady self.old }
         requires want { IsNeed want }
         ensures past { self.new.state.past ≡ looked result self.old.state.past }
         ensures asleep { self.new.state.machine.asleep ≡ is_asleep result }
+        ensures ended { self.new.state.machine.ended ≡ armed_by result }
         ensures unmarked { self.new.state.machine.marked ≡ false }
         ensures armed { ArmedFor want self.old self.new }
         ensures stays { Stays self.old self.new }
@@ -172,10 +174,13 @@ impl Port {
     }
 
     // Takes the signal of an end that is asleep, if it is up.
+    #[tactic(auto, using(crate::proofs::PortLaws::poll_ended))]
     pub(crate) fn poll(&mut self) -> bool
         requires asleep { self.old.state.machine.asleep ≡ true }
         requires unmarked { self.old.state.machine.marked ≡ false }
         ensures asleep { self.new.state.machine.asleep ≡ not result }
+        ensures ended { self.new.state.machine.ended ≡ polled_by result }
+        ensures polled { PolledOnce self.old self.new }
         ensures unmarked { self.new.state.machine.marked ≡ false }
         ensures past { self.new.state.past ≡ self.old.state.past }
         ensures stays { Stays self.old self.new }

@@ -3,6 +3,7 @@ ghost use Rattle.std.specs.Prelude.{◌≡◌, ◌<◌, ◌≤◌, ◌+◌, ◌*
 ghost use Rattle.chan_run.specs.Runs.{got_of, has_seen, is_drained};
 ghost use Rattle.ring_seat.specs.Seats.{new_end};
 ghost use Rattle.ring_seat.specs.Settling.{IsSameEnd};
+ghost use Rattle.worker_core.specs.Causes.{Arms, GivesOne, GivesOrTakes, Polls, ServeCause, ServerActs, TakesOrArms};
 ghost use Rattle.worker_core.specs.Line.{IsReady, HasTakeRoom, LacksTake, TookOne};
 ghost use Rattle.worker_core.specs.Owed.{is_nil, LacksSend};
 ghost use Rattle.worker_core.specs.Rooms.{CameOver, LacksFor, SentAtMost, ServesInRoom};
@@ -37,7 +38,7 @@ pub struct Server<T: Talk, S: Seat<T>> {
 }
 
 impl<T: Talk, S: Seat<T>> Model for Server<T, S> {
-    ghost use Rattle.std.specs.Prelude.{◌+◌, length};
+    ghost use Rattle.std.specs.Prelude.{◌≡◌, ◌+◌, length};
     ghost use Rattle.worker_core.specs.Rooms.{ServesInRoom};
     ghost use Rattle.worker_core.specs.Serving.{Serving, IsServing};
 
@@ -45,7 +46,7 @@ impl<T: Talk, S: Seat<T>> Model for Server<T, S> {
 
     ghost view = { λ w. record { desk = w.desk; end = w.port; serve = w.serve; stops = w.stops; starts = w.starts; come = w.come; missing = w.missing; served = w.served; seen = w.seen; want = w.want } };
 
-    ghost invariant = { λ w. record { live : IsServing (T.speech w.desk.talk) (record { desk = w.desk; end = w.port; serve = w.serve; stops = w.stops; starts = w.starts; come = w.come; missing = w.missing; served = w.served; seen = w.seen; want = w.want }); room : ServesInRoom (w.starts + w.come) w.served (length w.desk.owed) w.port } };
+    ghost invariant = { λ w. record { live : IsServing (T.speech w.desk.talk) (record { desk = w.desk; end = w.port; serve = w.serve; stops = w.stops; starts = w.starts; come = w.come; missing = w.missing; served = w.served; seen = w.seen; want = w.want }); room : ServesInRoom (w.starts + w.come) w.served (length w.desk.owed) w.port; side : w.desk.side ≡ w.port.state.machine.side } };
 }
 
 /// What a serving worker gives once it has ended.
@@ -65,6 +66,7 @@ impl<T: Talk, S: Seat<T>> Server<T, S> {
         requires ready { IsReady self.old.end }
         requires owed { is_nil self.old.desk.owed ≡ false }
         ensures gave { GaveOne result self.old self.new }
+        ensures cause { GivesOne result self.old.end.state.past self.new.end }
         ensures ready { IsReady self.new.end }
         ensures on { ServesOn S.same self.old self.new }
     {
@@ -90,6 +92,7 @@ impl<T: Talk, S: Seat<T>> Server<T, S> {
         requires owed { self.old.desk.owed ≡ [] }
         requires some { self.old.served < length self.old.end.state.got }
         ensures end { self.new.end ≡ self.old.end }
+        ensures served { self.new.served ≡ self.old.served + 1 }
         ensures on { ServesOn S.same self.old self.new }
     {
         let came = self.port.got_len();
@@ -151,6 +154,7 @@ impl<T: Talk, S: Seat<T>> Server<T, S> {
         requires ready { IsReady self.old.end }
         requires served { is_nil self.old.desk.owed ≡ true → self.old.served ≡ length self.old.end.state.got }
         ensures turns { Turns (T.speech self.new.desk.talk) result self.new }
+        ensures cause { Arms result self.old.end.state.past self.new.end }
         ensures on { ServesOn S.same self.old self.new }
     {
         let want = self.desk.need();
@@ -194,6 +198,7 @@ impl<T: Talk, S: Seat<T>> Server<T, S> {
         requires ready { IsReady self.old.end }
         requires served { is_nil self.old.desk.owed ≡ true → self.old.served ≡ length self.old.end.state.got }
         ensures turns { Turns (T.speech self.new.desk.talk) result self.new }
+        ensures cause { TakesOrArms result self.old.end.state.past self.new.end }
         ensures on { ServesOn S.same self.old self.new }
     {
         if let Some(room) = self.port.lacks_take() {
@@ -215,6 +220,7 @@ impl<T: Talk, S: Seat<T>> Server<T, S> {
         requires ready { IsReady self.old.end }
         requires owed { is_nil self.old.desk.owed ≡ false }
         ensures turns { Turns (T.speech self.new.desk.talk) result self.new }
+        ensures cause { GivesOrTakes result self.old.end.state.past self.new.end }
         ensures on { ServesOn S.same self.old self.new }
     {
         match self.give() {
@@ -230,6 +236,7 @@ impl<T: Talk, S: Seat<T>> Server<T, S> {
         requires owed { self.old.desk.owed ≡ [] }
         requires served { self.old.served ≡ length self.old.end.state.got }
         ensures turns { Turns (T.speech self.new.desk.talk) result self.new }
+        ensures cause { TakesOrArms result self.old.end.state.past self.new.end }
         ensures on { ServesOn S.same self.old self.new }
     {
         if self.stops && self.missing == 0 && self.desk.has_served() {
@@ -243,6 +250,7 @@ impl<T: Talk, S: Seat<T>> Server<T, S> {
     fn work<R: Wait, G: Gate>(&mut self, rt: &R, gate: &G) -> Turn
         requires ready { IsReady self.old.end }
         ensures turns { Turns (T.speech self.new.desk.talk) result self.new }
+        ensures cause { ServerActs result self.old self.new }
         ensures on { ServesOn S.same self.old self.new }
     {
         if !self.desk.is_clear() {
@@ -263,6 +271,7 @@ impl<T: Talk, S: Seat<T>> Server<T, S> {
         requires asleep { self.old.end.state.machine.asleep ≡ true }
         requires unmarked { self.old.end.state.machine.marked ≡ false }
         ensures turns { Turns (T.speech self.new.desk.talk) result self.new }
+        ensures cause { Polls result self.old.end self.new.end }
         ensures on { ServesOn S.same self.old self.new }
     {
         if self.port.poll() {
@@ -292,7 +301,9 @@ impl<T: Talk, S: Seat<T>> Server<T, S> {
         requires calls { serve ≤ S.left seat }
         requires fresh { end.state ≡ new_end end.state.machine.cells end.state.machine.side }
         requires size { (512 ≤ end.state.machine.cells) × (end.state.machine.cells ≤ 8192) }
+        requires side { side ≡ end.state.machine.side }
         ensures talk { IfOk result (λ w. (w.desk.talk ≡ talk) × (w.desk.seat ≡ seat)) }
+        ensures relid { IfOk result (λ w. w.desk.relid ≡ relid) }
         ensures orders { IfOk result (λ w. (w.serve ≡ serve) × (w.desk.held ≡ held) × (w.stops ≡ stops) × (w.starts ≡ starts) × (w.come ≡ come)) }
         ensures end { IfOk result (λ w. (w.end.state ≡ end.state) × (w.end.seat ≡ end.seat)) }
     {
@@ -328,6 +339,7 @@ impl<T: Talk, S: Seat<T>> Server<T, S> {
     pub fn turn<R: Wait, G: Gate>(&mut self, rt: &R, gate: &G) -> Turn
         requires unmarked { self.old.end.state.machine.marked ≡ false }
         ensures turns { Turns (T.speech self.new.desk.talk) result self.new }
+        ensures cause { ServeCause result self.old self.new }
         ensures room { ServeEnds (self.new.starts + self.new.come) result self.new.end.state.past }
         ensures on { ServesOn S.same self.old self.new }
     {

@@ -20,4 +20,5 @@ invariant_of-self g c =
       spare = omega (arith, l.spare, ap length ok.3, length-set c.self.inside.table (c.in-Ok.id - 1) (Some c.self.inside.next));
       size = omega (arith, l.size, ap length ok.3, length-set c.self.inside.table (c.in-Ok.id - 1) (Some c.self.inside.next));
       room = l.room;
+      side = l.side;
     }

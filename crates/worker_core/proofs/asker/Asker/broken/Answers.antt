@@ -19,6 +19,7 @@ returns-clause-breaks g c =
       starts = c.self.inside.starts;
       seen = c.self.inside.seen;
       hold = c.self.inside.hold;
+      relid = c.self.inside.relid;
     }) l.live)
 
 pub returns-clause-reserved : goal.returns-clause-reserved

@@ -1,4 +1,4 @@
-use Rattle.std.proofs.Common.{ap, ◌∙◌, length}
+use Rattle.std.proofs.Common.{ap, ◌∙◌, length, sym}
 use Rattle.chan_run.specs.Runs.{sent_of}
 use Rattle.worker_core.proofs.AskSteps.{still_kept, sleeps_on}
 use Rattle.worker_core.proofs.RoomLaws.{ask_quiet, got_same}
@@ -19,6 +19,7 @@ invariant_of-self-2 g c =
         starts = c.self.inside.starts;
         seen = c.self.inside.seen;
         hold = c.self.inside.hold;
+        relid = c.self.inside.relid;
       }) _ c.self.inside.hold c.if-poll.ensures.past (λ _. sleeps_on (g.T.Talk.speech c.self.inside.talk) (g.T.Talk.keeps c.self.inside.talk) (g.T.Talk.answers c.self.inside.talk) (g.T.Talk.asks c.self.inside.talk) (record {
         talk = c.self.inside.talk;
         end = c.self.inside.port;
@@ -29,11 +30,13 @@ invariant_of-self-2 g c =
         starts = c.self.inside.starts;
         seen = c.self.inside.seen;
         hold = c.self.inside.hold;
+        relid = c.self.inside.relid;
       }) _ c.if-poll.ensures.past (l.live.rests (ap (λ w. w.end.state.machine.asleep) v ∙ c.requires.asleep))) l.live;
       replies = l.replies;
       spare = l.spare;
       size = l.size;
       room = ask_quiet (length (g.T.Talk.asks c.self.inside.talk)) c.self.inside.next _ _ (got_same _ _ c.poll.ensures.lists.0 c.poll.ensures.lists.1) c.poll.ensures.stays.cells c.poll.ensures.lists.2 (ap sent_of c.if-poll.ensures.past) l.room;
+      side = l.side ∙ sym c.poll.ensures.stays.same.side;
     }
 
 pub returns-clause-turns : goal.returns-clause-turns
@@ -50,5 +53,6 @@ returns-clause-turns g c =
       starts = c.self.inside.starts;
       seen = c.self.inside.seen;
       hold = c.self.inside.hold;
+      relid = c.self.inside.relid;
     }) _ c.if-poll.ensures.past (l.live.rests (ap (λ w. w.end.state.machine.asleep) v ∙ c.requires.asleep)) in
     (c.if-poll.ensures.unmarked, c.if-poll.ensures.asleep, on.0, on.1)

@@ -18,6 +18,7 @@ returns-clause-ends g c =
       starts = c.self.inside.starts;
       seen = c.self.inside.seen;
       hold = c.self.inside.hold;
+      relid = c.self.inside.relid;
     }) _ c.mark.ensures.past (subst (λ w. HasSettled (g.T.Talk.asks w.talk) w) (sym v) c.requires.settled) l.live
 
 pub returns-clause-sent : goal.returns-clause-sent

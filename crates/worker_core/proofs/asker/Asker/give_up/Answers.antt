@@ -19,6 +19,7 @@ returns-clause-ends g c =
       starts = c.self.inside.starts;
       seen = c.self.inside.seen;
       hold = c.self.inside.hold;
+      relid = c.self.inside.relid;
     }) _ c.mark.ensures.past (ap (λ w. is_drained w.end.state.past) v ∙ c.requires.drained) c.mark.ensures.first l.live
 
 pub returns-clause-seen : goal.returns-clause-seen

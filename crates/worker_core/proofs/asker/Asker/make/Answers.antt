@@ -1,4 +1,4 @@
-use Rattle.std.proofs.Common.{ℕ, refl, ap, ◌∙◌, length, arith, None, count_by, is_some, Option}
+use Rattle.std.proofs.Common.{ℕ, refl, ap, ◌∙◌, length, arith, None, count_by, is_some, Option, sym}
 use Rattle.std.proofs.lemmas.List.{length-replicate}
 use Rattle.worker_core.proofs.Tables.{none_count}
 use Rattle.worker_core.proofs.AskSteps.{new_kept}
@@ -21,4 +21,5 @@ invariant_of-result g c =
       spare = omega (arith, c.in_ok-rescinded.ensures.len, c.in_ok-rescinded.ensures.capacity, ap length t, length-replicate n none, c.requires.window.1);
       size = omega (arith, ap length t, length-replicate n none, c.requires.window.1);
       room = ask_new (length (g.T.Talk.asks c.args.talk)) _ (ap (λ s. s.past) e) (ap (λ s. s.got) e) (omega (arith, r.0, m)) (omega (arith, r.1, m)) (omega (arith, r.2, m)) (omega (arith, r.3, m, k, ap (λ s. s.machine.cells) c.reserve.ensures.state.0));
+      side = c.requires.side ∙ sym (ap (λ e. e.state.machine.side) c.over-port.ensures) ∙ sym (ap (λ s. s.machine.side) c.reserve.ensures.state.0);
     }

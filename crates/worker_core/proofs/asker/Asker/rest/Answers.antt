@@ -21,6 +21,7 @@ invariant_of-self g c =
         starts = c.self.inside.starts;
         seen = c.self.inside.seen;
         hold = c.self.inside.hold;
+        relid = c.self.inside.relid;
       }) _ c.args.hold c.in-Nothing.ensures.past (λ _. sleeps_now (g.T.Talk.speech c.self.inside.talk) (g.T.Talk.keeps c.self.inside.talk) (g.T.Talk.answers c.self.inside.talk) (g.T.Talk.asks c.self.inside.talk) (record {
         talk = c.self.inside.talk;
         end = c.self.inside.port;
@@ -31,12 +32,14 @@ invariant_of-self g c =
         starts = c.self.inside.starts;
         seen = c.self.inside.seen;
         hold = c.self.inside.hold;
+        relid = c.self.inside.relid;
       }) c.arm.new.self c.args.hold (subst (λ w. Holds (g.T.Talk.speech w.talk) (g.T.Talk.asks w.talk) c.args.hold w) (sym v) c.requires.holds)
           (subst (λ o. ArmedFor o c.self.inside.port c.arm.new.self) c.want_for.ensures c.arm.ensures.armed) c.in-Nothing.ensures.asleep) l.live;
       replies = l.replies;
       spare = l.spare;
       size = l.size;
       room = ask_quiet (length (g.T.Talk.asks c.self.inside.talk)) c.self.inside.next _ _ (got_same _ _ c.arm.ensures.lists.0 c.arm.ensures.lists.1) c.arm.ensures.stays.cells c.arm.ensures.lists.2 (ap sent_of c.in-Nothing.ensures.past) l.room;
+      side = l.side ∙ sym c.arm.ensures.stays.same.side;
     }
 
 pub returns-in-Nothing-clause-turns : goal.returns-in-Nothing-clause-turns
@@ -53,6 +56,7 @@ returns-in-Nothing-clause-turns g c =
       starts = c.self.inside.starts;
       seen = c.self.inside.seen;
       hold = c.self.inside.hold;
+      relid = c.self.inside.relid;
     }) c.arm.new.self c.args.hold (subst (λ w. Holds (g.T.Talk.speech w.talk) (g.T.Talk.asks w.talk) c.args.hold w) (sym v) c.requires.holds)
     (subst (λ o. ArmedFor o c.self.inside.port c.arm.new.self) c.want_for.ensures c.arm.ensures.armed) c.in-Nothing.ensures.asleep in
     (c.arm.ensures.unmarked, c.in-Nothing.ensures.asleep, now.0, now.1)

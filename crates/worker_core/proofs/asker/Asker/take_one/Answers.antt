@@ -15,7 +15,7 @@ invariant_of-self-then-is_waiting_under g c =
     let t = c.if-not-take.ensures.took in
     let same = c.last.ensures.value c.self.inside.port.state.got t.0 t.2 in
     let e = ap (waits_under c.self.inside.waiting) (sym (c.id-id.ensures ∙ ap s.id_of same)) ∙ (sym c.is_waiting_under.ensures ∙ c.if-is_waiting_under.true) in
-    λ _. record { live = stray_by (g.T.Talk.speech c.self.inside.talk) (g.T.Talk.keeps c.self.inside.talk) (g.T.Talk.answers c.self.inside.talk) (g.T.Talk.asks c.self.inside.talk) _ c.self.inside.waiting refl _ t.0 e t.1 c.take.ensures.ready.awake l.live; replies = l.replies; spare = l.spare; size = l.size; room = ask_quiet (length (g.T.Talk.asks c.self.inside.talk)) c.self.inside.next _ _ c.take.ensures.into c.take.ensures.stays.cells c.take.ensures.sent (ap sent_of t.1) l.room }
+    λ _. record { live = stray_by (g.T.Talk.speech c.self.inside.talk) (g.T.Talk.keeps c.self.inside.talk) (g.T.Talk.answers c.self.inside.talk) (g.T.Talk.asks c.self.inside.talk) _ c.self.inside.waiting refl _ t.0 e t.1 c.take.ensures.ready.awake l.live; replies = l.replies; spare = l.spare; size = l.size; room = ask_quiet (length (g.T.Talk.asks c.self.inside.talk)) c.self.inside.next _ _ c.take.ensures.into c.take.ensures.stays.cells c.take.ensures.sent (ap sent_of t.1) l.room; side = l.side ∙ sym c.take.ensures.stays.same.side }
 
 pub settle-requires-clause-room : goal.settle-requires-clause-room
 settle-requires-clause-room g c =
@@ -39,4 +39,5 @@ invariant_of-self-2 g c =
       spare = omega (arith, l.spare, c.settle.ensures.size);
       size = omega (arith, l.size, c.settle.ensures.size);
       room = ask_quiet (length (g.T.Talk.asks c.self.inside.talk)) c.self.inside.next _ _ c.take.ensures.into c.take.ensures.stays.cells c.take.ensures.sent (ap sent_of t.1) l.room;
+      side = l.side ∙ sym c.take.ensures.stays.same.side;
     }

@@ -17,6 +17,7 @@ invariant_of-self-2 g c =
       spare = l.spare;
       size = l.size;
       room = ask_sent (length (g.T.Talk.asks c.self.inside.talk)) c.self.inside.next c.packet.result.now _ _ c.packet.ensures.most (got_same _ _ c.send.ensures.got.0 c.send.ensures.got.1) c.send.ensures.stays.cells c.send.ensures.into c.if-not-send.ensures.past l.room;
+      side = l.side ∙ sym c.send.ensures.stays.same.side;
     }
 
 pub returns-then-not-send-clause-asked : goal.returns-then-not-send-clause-asked

@@ -1,4 +1,4 @@
-use Rattle.std.proofs.Common.{◌+◌, length, ap, ◌∙◌}
+use Rattle.std.proofs.Common.{◌+◌, length, ap, ◌∙◌, sym}
 use Rattle.chan_run.specs.Runs.{sent_of}
 use Rattle.worker_core.proofs.ServeSteps.{still_kept, rests_on}
 use Rattle.worker_core.proofs.RoomLaws.{serve_quiet, got_same}
@@ -21,6 +21,7 @@ invariant_of-self-2 g c =
         want = c.self.inside.want;
       }) _ c.if-poll.ensures.past c.if-poll.ensures.lists.0 (c.self.invariant.live.rests (ap (λ w. w.end.state.machine.asleep) v ∙ c.requires.asleep))) c.self.invariant.live;
       room = serve_quiet (c.self.inside.starts + c.self.inside.come) c.self.inside.served (length c.self.inside.desk.owed) _ _ (got_same _ _ c.poll.ensures.lists.0 c.poll.ensures.lists.1) c.poll.ensures.stays.cells c.poll.ensures.lists.2 (ap sent_of c.if-poll.ensures.past) c.self.invariant.room;
+      side = c.self.invariant.side ∙ sym c.poll.ensures.stays.same.side;
     }
 
 pub returns-clause-turns : goal.returns-clause-turns

@@ -11,6 +11,7 @@ invariant_of-self g c =
     record {
       live = quiet_kept (g.T.Talk.speech c.self.inside.desk.talk) (g.T.Talk.keeps c.self.inside.desk.talk) _ _ c.self.inside.seen c.self.inside.want Marked c.mark.ensures.past refl refl c.mark.ensures.lists.0 c.mark.ensures.awake c.self.invariant.live.saw c.self.invariant.live;
       room = serve_quiet (c.self.inside.starts + c.self.inside.come) c.self.inside.served (length c.self.inside.desk.owed) _ _ (got_same _ _ c.mark.ensures.lists.0 c.mark.ensures.lists.1) c.mark.ensures.stays.cells c.mark.ensures.lists.2 (ap sent_of c.mark.ensures.past) c.self.invariant.room;
+      side = c.self.invariant.side ∙ sym c.mark.ensures.stays.same.side;
     }
 
 pub returns-clause-ends : goal.returns-clause-ends

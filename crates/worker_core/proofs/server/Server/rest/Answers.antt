@@ -24,6 +24,7 @@ invariant_of-self g c =
       }) _ c.need-want.result c.need-want.ensures.value c.arm.ensures.armed c.in-Nothing.ensures.asleep c.arm.ensures.lists.0
           (λ e. ap (λ w. w.served) v ∙ (c.requires.served (sym (ap (λ w. is_nil w.desk.owed) v) ∙ e) ∙ ap (λ w. length w.end.state.got) (sym v)))) c.self.invariant.live;
       room = serve_quiet (c.self.inside.starts + c.self.inside.come) c.self.inside.served (length c.self.inside.desk.owed) _ _ (got_same _ _ c.arm.ensures.lists.0 c.arm.ensures.lists.1) c.arm.ensures.stays.cells c.arm.ensures.lists.2 (ap sent_of c.in-Nothing.ensures.past) c.self.invariant.room;
+      side = c.self.invariant.side ∙ sym c.arm.ensures.stays.same.side;
     }
 
 pub invariant_of-self-in-Mark : goal.invariant_of-self-in-Mark
@@ -31,6 +32,7 @@ invariant_of-self-in-Mark g c =
     record {
       live = quiet_kept (g.T.Talk.speech c.self.inside.desk.talk) (g.T.Talk.keeps c.self.inside.desk.talk) _ _ true c.need-want.result Saw c.in-Mark.ensures.past refl refl c.arm.ensures.lists.0 c.in-Mark.ensures.asleep (λ _. refl) c.self.invariant.live;
       room = serve_quiet (c.self.inside.starts + c.self.inside.come) c.self.inside.served (length c.self.inside.desk.owed) _ _ (got_same _ _ c.arm.ensures.lists.0 c.arm.ensures.lists.1) c.arm.ensures.stays.cells c.arm.ensures.lists.2 (ap sent_of c.in-Mark.ensures.past) c.self.invariant.room;
+      side = c.self.invariant.side ∙ sym c.arm.ensures.stays.same.side;
     }
 
 pub returns-in-Nothing-clause-turns : goal.returns-in-Nothing-clause-turns
