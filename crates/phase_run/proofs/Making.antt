@@ -18,13 +18,13 @@ use Rattle.ring_seat.specs.Seats.{new_end}
 use Rattle.ring_seat.specs.Settling.{AreOfOneChannel}
 use Rattle.ring_seat.specs.declared.table_seat.TableSeat.{TableSeat}
 use Rattle.end_work.specs.Pairs.{AreRoles, ArePair}
-use Rattle.end_work.specs.Workers.{end_at}
+use Rattle.end_work.specs.Workers.{end_at, relid_at}
 use Rattle.end_work.specs.Plans.{Planned, AsksFor, ServesFor, IsMade}
 use Rattle.end_work.specs.declared.device_seat.DeviceSeat.{DeviceSeat}
 use Rattle.end_work.specs.declared.worker.ChannelWorker.{ChannelWorker}
 use Rattle.end_work.specs.declared.worker.ChannelWorker.TheVariants.{Asks, Serves}
 use Rattle.end_work.proofs.Opening.{asks_length, starts_all}
-use Rattle.phase_run.specs.Pairs.{MadeFor, OpensWith, IsNewSeat}
+use Rattle.phase_run.specs.Pairs.{AreOnChannel, MadeFor, OpensWith, IsNewSeat}
 
 -- where the one that serves made room for the start-up and the requests, it made room for all that the other one asks
 room_for : (kind : Kind) (asks : List Ask) (a : Asking Talked Reply) (s : Serving Talked DeviceSeat Ask Reply) → a.talk ≡ record { kind = kind; asks = asks } → s.starts ≡ length (filter (has_answer_on kind) (startup kind)) → s.come ≡ length asks
@@ -94,4 +94,21 @@ pair_of g h cells guest host one g_new h_new at_g at_h roles = record {
   guest_live = ap (λ (s : EndState). s.machine.marked) (at_g.0 ∙ g_new);
   host_live = ap (λ (s : EndState). s.machine.marked) (at_h.0 ∙ h_new);
   roles = roles;
+}
+
+-- a worker has the relid of its plan
+made_relid : (p : Planned) (seat : Option DeviceSeat) (w : ChannelWorker) → IsMade p seat w → relid_at w ≡ p.relid
+made_relid p None (Asks w) made = made.relid
+made_relid p None (Serves w) made = absurd made
+made_relid p (Some s) (Asks w) made = absurd made
+made_relid p (Some s) (Serves w) made = made.relid
+
+-- both have the channel of the plans' relid, with new rings of so many cells
+pub on_channel : (relid cells : ℕ) (p q : Planned) (s t : Option DeviceSeat) (g h : Seen TableSeat) (guest host : ChannelWorker) → IsMade p s guest → IsMade q t host → p.relid ≡ relid → q.relid ≡ relid → g.state ≡ new_end cells Guest → h.state ≡ new_end cells Host
+    → (end_at guest).state ≡ g.state → (end_at host).state ≡ h.state → AreOnChannel relid cells (record { guest = guest; host = host })
+on_channel relid cells p q s t g h guest host p_made q_made p_relid q_relid g_new h_new at_g at_h = record {
+  guest_relid = made_relid p s guest p_made ∙ p_relid;
+  host_relid = made_relid q t host q_made ∙ q_relid;
+  guest_cells = ap (λ (s : EndState). s.machine.cells) (at_g ∙ g_new);
+  host_cells = ap (λ (s : EndState). s.machine.cells) (at_h ∙ h_new);
 }

@@ -1,5 +1,5 @@
 //! A channel is opened with its two workers.
-ghost use Rattle.std.specs.Prelude.{◌≡◌, ◌≤◌, [], length, map, IfOk};
+ghost use Rattle.std.specs.Prelude.{◌≡◌, ◌≤◌, ◌*◌, [], length, map, IfOk};
 ghost use Rattle.bus_script.specs.Parts.{kind_asked};
 ghost use Rattle.bus_script.specs.declared.line.Ask.TheVariants.{Ic as AskedIc, Disk as AskedDisk};
 ghost use Rattle.contact.specs.declared.kind.Kind.TheVariants.{Disk as DiskKind};
@@ -7,7 +7,7 @@ ghost use Rattle.io_edge.specs.declared.side.Side.TheVariants.{Host as HostSide}
 ghost use Rattle.work_model.specs.Roles.{side_that_asks};
 ghost use Rattle.end_work.specs.Plans.{AllCarried, guest_planned, host_planned};
 ghost use Rattle.end_work.specs.Seats.{served_at, kind_at, left_at, at_guest, at_host};
-ghost use Rattle.phase_run.specs.Pairs.{IsNewSeat, Opens, OpensWith};
+ghost use Rattle.phase_run.specs.Pairs.{AreOnChannel, IsNewSeat, Opens, OpensWith};
 
 use crate::Pair;
 use bus_script::Ask;
@@ -70,7 +70,7 @@ fn ic_requests(alloc: Global, kind: Kind, asks: &[Ask]) -> Result<Vec<IcAsk>, Al
 
 // The plan of a guest.
 fn guest_plan(relid: u32, kind: Kind, window: u32, count: u32, disk: Vec<DiskRequest>) -> GuestPlan
-    ensures { guest_planned result ≡ record { kind = kind; sub = 0; subs = 0; window = window; count = count; stop = None; asks = map AskedDisk disk.items } }
+    ensures { guest_planned result ≡ record { relid = relid; kind = kind; sub = 0; subs = 0; window = window; count = count; stop = None; asks = map AskedDisk disk.items } }
 {
     GuestPlan {
         relid,
@@ -85,7 +85,7 @@ fn guest_plan(relid: u32, kind: Kind, window: u32, count: u32, disk: Vec<DiskReq
 
 // The plan of a host.
 fn host_plan(relid: u32, kind: Kind, window: u32, count: u32, asks: Vec<IcAsk>) -> HostPlan
-    ensures { host_planned result ≡ record { kind = kind; sub = 0; subs = 0; window = window; count = count; stop = None; asks = map AskedIc asks.items } }
+    ensures { host_planned result ≡ record { relid = relid; kind = kind; sub = 0; subs = 0; window = window; count = count; stop = None; asks = map AskedIc asks.items } }
 {
     HostPlan {
         relid,
@@ -115,7 +115,8 @@ fn open_service(
     requires few { length asks.now ≤ 4096 }
     requires asks { AllCarried kind asks.now }
     requires seat { IsNewSeat kind (length asks.now) (at_guest seat) }
-    ensures { IfOk result (OpensWith kind asks.now (at_guest seat)) }
+    ensures opens { IfOk result (OpensWith kind asks.now (at_guest seat)) }
+    ensures channel { IfOk result (AreOnChannel relid (512 * pages)) }
 {
     let count = asks.len() as u32;
     let requests = ic_requests(alloc, kind, asks)?;
@@ -143,7 +144,8 @@ fn open_disk(
     requires few { length asks.now ≤ 4096 }
     requires asks { AllCarried kind asks.now }
     requires seat { IsNewSeat kind (length asks.now) (at_host seat) }
-    ensures { IfOk result (OpensWith kind asks.now (at_host seat)) }
+    ensures opens { IfOk result (OpensWith kind asks.now (at_host seat)) }
+    ensures channel { IfOk result (AreOnChannel relid (512 * pages)) }
 {
     let count = asks.len() as u32;
     let requests = disk_requests(alloc, kind, asks)?;
@@ -172,7 +174,8 @@ pub fn open_pair(
     requires asks { AllCarried kind asks.now }
     requires fresh { served_at seat ≡ [] }
     requires left { length asks.now ≤ left_at seat }
-    ensures { IfOk result (Opens kind asks.now seat) }
+    ensures opens { IfOk result (Opens kind asks.now seat) }
+    ensures channel { IfOk result (AreOnChannel relid (512 * pages)) }
 {
     match seat {
         DeviceSeat::Beat(seat) => {
