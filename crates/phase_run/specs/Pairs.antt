@@ -1,6 +1,6 @@
 -- The two workers of a channel, and what they come to.
 use Rattle.std.specs.Prelude.{ℕ, ◌≡◌, ◌≤◌, Bool, true, false, List, [], ◌∷◌, length, map, filter, Option, Some, None}
-use Rattle.std.specs.List.{AllByRecursion}
+use Rattle.std.specs.List.{AllByRecursion, filter_map}
 use Rattle.bus_model.specs.Channel.{IsChannelRun}
 use Rattle.bus_script.specs.declared.line.Ask.{Ask}
 use Rattle.bus_script.specs.declared.outcome.Reply.{Reply}
@@ -115,3 +115,7 @@ EachRuns [] [] = Unit {0}
 EachRuns [] (d ∷ dones) = ⊥
 EachRuns (p ∷ pairs) [] = ⊥
 EachRuns (p ∷ pairs) (d ∷ dones) = RunsPair p d × EachRuns pairs dones
+
+-- the pairs at those places that have one
+abbrev pub present : List (Option Pairing) → List Pairing
+present = filter_map (λ p. p)

@@ -1,6 +1,7 @@
 //! The channels of a phase: two workers for each, and what they come to.
 #![tactic(auto)]
 
+mod channel;
 mod close;
 mod open;
 mod pair;

@@ -6,7 +6,7 @@ use end_work::{GuestDone, GuestWorker, HostDone, HostWorker};
 use io_edge::Gate;
 use std::snapshot::Snapshot;
 use std::sync::Wait;
-use std::sync::atomic::{AtomicU64, Ordering};
+use std::sync::atomic::{AtomicBool, Ordering};
 use std::thread::{Promise, PromisedHandle, Scope, Threads};
 
 /// What the start of a guest's worker gives: the worker has run, or comes back.
@@ -61,18 +61,17 @@ pub(crate) enum HostBegun {
     Here(HostStart),
 }
 
-// What a thread does: it runs the worker, unless the start of this number was refused.
+// What a thread does: it runs the worker, unless this start was refused. Then the worker comes back.
 fn run_guest<R: Wait, G: Gate>(
     rt: &R,
     gate: &G,
-    refused: &AtomicU64,
-    number: u64,
+    refused: &AtomicBool,
     guest: GuestWorker,
 ) -> GuestStart
     requires { IsLive guest }
     ensures { GuestComes guest result }
 {
-    if refused.load(Ordering::SeqCst) == number {
+    if refused.load(Ordering::SeqCst) {
         return GuestStart::Back(guest);
     }
     GuestStart::Ran(guest.run(rt, gate))
@@ -82,26 +81,25 @@ fn run_guest<R: Wait, G: Gate>(
 fn run_host<R: Wait, G: Gate>(
     rt: &R,
     gate: &G,
-    refused: &AtomicU64,
-    number: u64,
+    refused: &AtomicBool,
     host: HostWorker,
 ) -> HostStart
     requires { IsLive host }
     ensures { HostComes host result }
 {
-    if refused.load(Ordering::SeqCst) == number {
+    if refused.load(Ordering::SeqCst) {
         return HostStart::Back(host);
     }
     HostStart::Ran(host.run(rt, gate))
 }
 
-/// Starts a guest's worker in a thread. No two starts of a scope have one number.
+/// Starts a guest's worker in a thread. The word is this start's own: it is set only once the start was refused, and the work that is handed back then
+/// gives the worker.
 pub(crate) fn start_guest<'s, E, R: Threads + Wait + Sync, G: Gate>(
     rt: &'s R,
     gate: &'s G,
     scope: &Scope<'s, E>,
-    refused: &'s AtomicU64,
-    number: u64,
+    refused: &'s AtomicBool,
     guest: GuestWorker,
 ) -> GuestBegun
     requires { IsLive guest }
@@ -114,23 +112,22 @@ pub(crate) fn start_guest<'s, E, R: Threads + Wait + Sync, G: Gate>(
         promise,
         move ||
             requires { IsLive guest }
-        { run_guest(rt, gate, refused, number, guest) },
+        { run_guest(rt, gate, refused, guest) },
     ) {
         Ok(started) => GuestBegun::Thread(started),
         Err(back) => {
-            refused.store(number, Ordering::SeqCst);
+            refused.store(true, Ordering::SeqCst);
             GuestBegun::Here((back.value)())
         }
     }
 }
 
-/// Starts a host's worker in a thread.
+/// Starts a host's worker in a thread, with a word of its own.
 pub(crate) fn start_host<'s, E, R: Threads + Wait + Sync, G: Gate>(
     rt: &'s R,
     gate: &'s G,
     scope: &Scope<'s, E>,
-    refused: &'s AtomicU64,
-    number: u64,
+    refused: &'s AtomicBool,
     host: HostWorker,
 ) -> HostBegun
     requires { IsLive host }
@@ -143,11 +140,11 @@ pub(crate) fn start_host<'s, E, R: Threads + Wait + Sync, G: Gate>(
         promise,
         move ||
             requires { IsLive host }
-        { run_host(rt, gate, refused, number, host) },
+        { run_host(rt, gate, refused, host) },
     ) {
         Ok(started) => HostBegun::Thread(started),
         Err(back) => {
-            refused.store(number, Ordering::SeqCst);
+            refused.store(true, Ordering::SeqCst);
             HostBegun::Here((back.value)())
         }
     }

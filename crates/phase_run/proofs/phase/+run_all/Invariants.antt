@@ -1,5 +1,0 @@
-use Rattle.std.proofs.Common.{vec_len}
-use Rattle.phase_run.proofs.phase.+run_all.Given as goal
-
-abbrev pub decreases-run_all : goal.decreases-run_all
-decreases-run_all g l = vec_len l.pairs
