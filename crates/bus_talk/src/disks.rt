@@ -3,7 +3,7 @@
 //! A storage packet of 64 bytes stands in front, and behind it the data of a write in the request and the data of a read in the completion.
 //! Source: Linux 6.12, `drivers/scsi/storvsc_drv.c`; that data stands in the packets is this project's own.
 ghost use Rattle.std.specs.Prelude.{◌≡◌, ◌≤◌, ◌<◌, ◌^◌, ◌+◌, ◌++◌, ◌==◌, [], length, take, drop, true, false, Some, None, MatchOption, is_none, nat_le, if◌then◌else◌};
-ghost use Rattle.ring_core.specs.States.{IsPacket};
+ghost use Rattle.ring_machine.specs.States.{IsPacket};
 ghost use Rattle.scsi_disk.specs.declared.request.DiskRequest.{DiskRequest as OneRequest};
 ghost use Rattle.scsi_disk.specs.Commands.{command_of};
 ghost use Rattle.scsi_disk.specs.DiskModel.{most_back};

@@ -1,7 +1,7 @@
 //! The talk of a channel of any kind.
 ghost use Rattle.std.specs.Prelude.{◌≡◌, ◌≤◌, ◌<◌, ◌^◌, ◌&&◌, ◌∷◌, [], length, take, true, Some};
 ghost use Rattle.std.specs.List.{AllByRecursion};
-ghost use Rattle.ring_core.specs.States.{IsPacket};
+ghost use Rattle.ring_machine.specs.States.{IsPacket};
 ghost use Rattle.chan_talk.specs.Listed.{listed_packet};
 ghost use Rattle.pkt_desc.specs.Packets.{id_of};
 ghost use Rattle.bus_script.specs.declared.line.Ask.{Ask as OneAsk};

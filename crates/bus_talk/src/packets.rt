@@ -1,6 +1,6 @@
 //! The bytes of a packet.
 ghost use Rattle.std.specs.Prelude.{◌≡◌, ◌≤◌, ◌<◌, ◌^◌, length, take};
-ghost use Rattle.ring_core.specs.States.{IsPacket};
+ghost use Rattle.ring_machine.specs.States.{IsPacket};
 ghost use Rattle.bus_speech.specs.Packets.{is_of, is_inband as inband, is_completion as completion, content_of, bare_packet};
 
 use pkt_desc::build_inband;

@@ -2,7 +2,7 @@
 //!
 //! Source: Linux 6.12, `drivers/hv/hv_util.c` and `drivers/hv/channel_mgmt.c`.
 ghost use Rattle.std.specs.Prelude.{◌≡◌, ◌≤◌, length, take, true};
-ghost use Rattle.ring_core.specs.States.{IsPacket};
+ghost use Rattle.ring_machine.specs.States.{IsPacket};
 ghost use Rattle.util_ic.specs.Messages.{IsUtility};
 ghost use Rattle.util_ic.specs.Packets.{ask_packet, negotiate_packet};
 ghost use Rattle.bus_speech.specs.Packets.{is_inband as inband};

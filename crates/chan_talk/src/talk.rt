@@ -5,7 +5,7 @@
 /// Packets are written into 384 words, as many as a packet of this program has at most. A call that writes no packet answers 0.
 pub trait Talk: Drop {
     ghost use Rattle.std.specs.Prelude.{◌≡◌, ◌≤◌, ◌<◌, ◌^◌, ◌&&◌, ℕ, true, List, [], ◌∷◌, ◌++◌, length, take, slice_get, Some};
-    ghost use Rattle.ring_core.specs.States.{IsPacket};
+    ghost use Rattle.ring_machine.specs.States.{IsPacket};
     ghost use Rattle.work_model.specs.Speech.{Speech, Keeps};
     ghost use Rattle.chan_talk.specs.Listed.{listed_packet};
 

@@ -13,7 +13,7 @@ use Rattle.io_edge.specs.declared.side.Side.TheVariants.{Guest, Host}
 use Rattle.work_model.specs.Channel.{count_of, held_of}
 use Rattle.work_model.specs.Roles.{side_that_asks}
 use Rattle.ring_core.specs.Seen.{Seen}
-use Rattle.ring_core.specs.declared.state.EndState.{EndState}
+use Rattle.ring_machine.specs.declared.state.EndState.{EndState}
 use Rattle.ring_seat.specs.Seats.{new_end}
 use Rattle.ring_seat.specs.Settling.{AreOfOneChannel}
 use Rattle.ring_seat.specs.declared.table_seat.TableSeat.{TableSeat}

@@ -3,7 +3,7 @@
 #![tactic(auto)]
 
 ghost use Rattle.std.specs.Prelude.{◌≡◌, true};
-ghost use Rattle.ring_core.specs.Places.{IsIndex, IsRingSize};
+ghost use Rattle.ring_machine.specs.Places.{IsIndex, IsRingSize};
 
 use io_edge::{StdSource, read_all};
 use ring_core::{raise_on_commit, raise_on_write};

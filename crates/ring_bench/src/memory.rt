@@ -1,5 +1,5 @@
 //! Two ends in turn over one memory.
-ghost use Rattle.ring_core.specs.States.{IsPacket};
+ghost use Rattle.ring_machine.specs.States.{IsPacket};
 
 use crate::packet::{room_for, send, take};
 use ring_core::{End, Room, Side, SoloMem};

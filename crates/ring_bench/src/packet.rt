@@ -1,6 +1,6 @@
 //! A packet, and its way through the calls of both ends.
 ghost use Rattle.std.specs.Prelude.{◌≡◌};
-ghost use Rattle.ring_core.specs.States.{IsPacket};
+ghost use Rattle.ring_machine.specs.States.{IsPacket};
 
 use ring_core::{End, Room, Seatlike};
 use ring_rows::may_take;

@@ -1,7 +1,7 @@
 //! Two ends on atomic words: in turn on one thread, and on two threads.
 ghost use Rattle.std.specs.Prelude.{◌≤◌, ℕ, length};
-ghost use Rattle.ring_core.specs.Endings.{IsWant};
-ghost use Rattle.ring_core.specs.States.{IsPacket};
+ghost use Rattle.ring_machine.specs.Endings.{IsWant};
+ghost use Rattle.ring_machine.specs.States.{IsPacket};
 
 use crate::packet::{room_for, send, take};
 use ring_core::{Armed, End, Room};

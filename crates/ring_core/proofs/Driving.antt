@@ -4,21 +4,21 @@ use Rattle.std.specs.Prelude.{slice_index}
 use Rattle.std.proofs.lemmas.List.{length-take-le}
 use Rattle.chan_run.specs.declared.event.Event.{Event}
 use Rattle.chan_run.specs.declared.event.Event.TheVariants.{Got as GotEvent}
-use Rattle.ring_core.specs.declared.machine.Stage.{Stage}
-use Rattle.ring_core.specs.declared.machine.Stage.TheVariants.{Idle, Stopped, SendRead, SendCell, SendWrite, SendMask, TakeWrite, TakeFirst, TakeCell, CommitRead, CommitFeature, CommitPending, ArmPending, ArmMask, PollSignal, MarkStore, PeerMark}
-use Rattle.ring_core.specs.declared.machine.Ending.{Ending}
-use Rattle.ring_core.specs.declared.machine.Ending.TheVariants.{Fresh, SentQuiet, SentRaised, Full, BadPeer, Took, Empty, BadIndex, BadLength, BadOffset, CommittedQuiet, CommittedRaised, FellAsleep, FoundWork, NoSignal, Woke, Marked, PeerMarkDown, PeerMarkUp}
-use Rattle.ring_core.specs.declared.machine.Machine.{Machine}
-use Rattle.ring_core.specs.declared.state.EndState.{EndState}
-use Rattle.ring_core.specs.declared.place.Op.{Op}
-use Rattle.ring_core.specs.Places.{ahead, len8_of, offset8_of}
-use Rattle.ring_core.specs.Steps.{IsSound, fed, next_of, is_busy_at, is_copying_at, is_sent, is_took, is_broken, call_at, call_by, made_at, send_begun, take_begun, commit_begun, arm_begun, poll_begun, mark_begun, peer_mark_begun}
-use Rattle.ring_core.specs.Loops.{is_storing_at, is_writing_at, is_masking_at, is_first_at, is_loading_at, is_asking_at, is_seeking_at, is_giving_at, is_feature_at, is_pending_at, is_polling_at, is_opening_at, Starts}
-use Rattle.ring_core.specs.States.{IsPacket, Gets, kept_at, copied_at, copied_after, sent_after, sent_while, got_after, past_after, past_while, past_by, sent_by, got_by, past_by_ending, past_of, stored, after, afters, entered, resting, shown, IsAwake, Begins, Continues}
-use Rattle.ring_core.specs.Endings.{Leaves, LeavesBy, is_committed, is_dozed, is_marked}
+use Rattle.ring_machine.specs.declared.machine.Stage.{Stage}
+use Rattle.ring_machine.specs.declared.machine.Stage.TheVariants.{Idle, Stopped, SendRead, SendCell, SendWrite, SendMask, TakeWrite, TakeFirst, TakeCell, CommitRead, CommitFeature, CommitPending, ArmPending, ArmMask, PollSignal, MarkStore, PeerMark}
+use Rattle.ring_machine.specs.declared.machine.Ending.{Ending}
+use Rattle.ring_machine.specs.declared.machine.Ending.TheVariants.{Fresh, SentQuiet, SentRaised, Full, BadPeer, Took, Empty, BadIndex, BadLength, BadOffset, CommittedQuiet, CommittedRaised, FellAsleep, FoundWork, NoSignal, Woke, Marked, PeerMarkDown, PeerMarkUp}
+use Rattle.ring_machine.specs.declared.machine.Machine.{Machine}
+use Rattle.ring_machine.specs.declared.state.EndState.{EndState}
+use Rattle.ring_machine.specs.declared.place.Op.{Op}
+use Rattle.ring_machine.specs.Places.{ahead, len8_of, offset8_of}
+use Rattle.ring_machine.specs.Steps.{IsSound, fed, next_of, is_busy_at, is_copying_at, is_sent, is_took, is_broken, call_at, call_by, made_at, send_begun, take_begun, commit_begun, arm_begun, poll_begun, mark_begun, peer_mark_begun}
+use Rattle.ring_machine.specs.Loops.{is_storing_at, is_writing_at, is_masking_at, is_first_at, is_loading_at, is_asking_at, is_seeking_at, is_giving_at, is_feature_at, is_pending_at, is_polling_at, is_opening_at, Starts}
+use Rattle.ring_machine.specs.States.{IsPacket, Gets, kept_at, copied_at, copied_after, sent_after, sent_while, got_after, past_after, past_while, past_by, sent_by, got_by, past_by_ending, past_of, stored, after, afters, entered, resting, shown, IsAwake, Begins, Continues}
+use Rattle.ring_machine.specs.Endings.{Leaves, LeavesBy, is_committed, is_dozed, is_marked}
 use Rattle.ring_core.specs.Told.{Memory, pair, step, step_by, run, memory_after, answer_of, Ran, Left}
-use Rattle.ring_core.proofs.Sound.{at_cond, fed_made, no_true}
-use Rattle.ring_core.proofs.Tables.{copied_by, fed_cells, busy_next, Lists, lists_by, Moves, moves_by, w_at, r_at, s_at, a_at, k_at, write_at, read_at, start_at, asleep_at, marked_at, Form, is_formed, form_by}
+use Rattle.ring_machine.proofs.Sound.{at_cond, fed_made, no_true}
+use Rattle.ring_machine.proofs.Tables.{copied_by, fed_cells, busy_next, Lists, lists_by, Moves, moves_by, w_at, r_at, s_at, a_at, k_at, write_at, read_at, start_at, asleep_at, marked_at, Form, is_formed, form_by}
 
 -- what holds at the first step of a call
 record Opens (st : Stage) : Type 0 where

@@ -1,10 +1,4 @@
-pub mod Places
-pub mod Steps
-pub mod States
-pub mod Loops
-pub mod Endings
 pub mod Told
 pub mod Seen
 pub mod Cut
 pub mod Taking
-pub mod Inside

@@ -1,8 +1,8 @@
 -- What a contract sees of an end.
 use Rattle.std.specs.Prelude.{◌≡◌, ◌≤◌, ◌+◌, ℕ, false, List}
-use Rattle.ring_core.specs.declared.machine.Ending.{Ending}
-use Rattle.ring_core.specs.Steps.{is_sent}
-use Rattle.ring_core.specs.declared.state.EndState.{EndState}
+use Rattle.ring_machine.specs.declared.machine.Ending.{Ending}
+use Rattle.ring_machine.specs.Steps.{is_sent}
+use Rattle.ring_machine.specs.declared.state.EndState.{EndState}
 use Rattle.ring_core.specs.declared.room.Room.{Room}
 
 -- the state, the seat, and the spare room of the two lists of packets

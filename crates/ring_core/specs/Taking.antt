@@ -1,19 +1,14 @@
 -- What a take leaves.
-use Rattle.std.specs.Prelude.{◌≡◌, ◌+◌, ◌≤◌, Bool, true, false, cond, [], Option, Some, None, Result, Ok, Err}
-use Rattle.ring_core.specs.declared.last.TakeRefusal.{TakeRefusal}
-use Rattle.ring_core.specs.declared.last.TakeRefusal.TheVariants.{Stopped as StoppedTake}
-use Rattle.ring_core.specs.declared.machine.Stage.TheVariants.{Idle, Stopped}
-use Rattle.ring_core.specs.declared.state.EndState.{EndState}
-use Rattle.ring_core.specs.Steps.{is_took, call_by, take_begun}
-use Rattle.ring_core.specs.States.{Gets, entered, past_of}
-use Rattle.ring_core.specs.Endings.{Leaves, LeavesBy, why_of, take_refusal, is_empty_refusal}
+use Rattle.std.specs.Prelude.{◌≡◌, ◌+◌, ◌≤◌, Bool, true, false, cond, [], Option, Some, None}
+use Rattle.ring_machine.specs.declared.last.TakeRefusal.{TakeRefusal}
+use Rattle.ring_machine.specs.declared.last.TakeRefusal.TheVariants.{Stopped as StoppedTake}
+use Rattle.ring_machine.specs.declared.machine.Stage.TheVariants.{Idle, Stopped}
+use Rattle.ring_machine.specs.declared.state.EndState.{EndState}
+use Rattle.ring_machine.specs.Steps.{is_took, call_by, take_begun}
+use Rattle.ring_machine.specs.States.{Gets, entered, past_of}
+use Rattle.ring_machine.specs.Endings.{Leaves, LeavesBy, why_of, take_refusal, is_empty_refusal}
 use Rattle.ring_core.specs.Told.{Memory, Ran}
 use Rattle.ring_core.specs.Seen.{Seen}
-
--- the refusal, where there is one
-abbrev pub refused : {T E : Type 0} → Result T E → Option E
-refused (Ok _) = None
-refused (Err e) = Some e
 
 -- a refusal that an honest peer can cause, or none
 abbrev pub is_honest_take : Option TakeRefusal → Bool

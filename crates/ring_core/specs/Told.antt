@@ -2,17 +2,17 @@
 use Rattle.std.specs.Prelude.{◌≡◌, ◌≢◌, ◌≤◌, ℕ, zero, suc, ◌+◌, ◌%◌, ◌^◌, cond, leb, List, [], ◌∷◌, length, replicate, slice_index, slice_set, Option, Some, None}
 use Rattle.chan_run.specs.declared.event.Event.{Event}
 use Rattle.ring_core.specs.declared.told_mem.Change.{Change}
-use Rattle.ring_core.specs.declared.place.Op.{Op}
-use Rattle.ring_core.specs.declared.place.Op.TheVariants.{Load, Store, Raise, TakeSignal, StoreMark}
-use Rattle.ring_core.specs.declared.machine.Machine.{Machine}
-use Rattle.ring_core.specs.declared.machine.Stage.TheVariants.{Stopped}
-use Rattle.ring_core.specs.declared.state.EndState.{EndState}
-use Rattle.ring_core.specs.declared.place.Ring.{Ring}
-use Rattle.ring_core.specs.declared.place.Ring.TheVariants.{ToHost, ToGuest}
-use Rattle.ring_core.specs.declared.place.Place.TheVariants.{Mask, Feature}
-use Rattle.ring_core.specs.Places.{index_of, signal_of, mark_of, words_of, IsPlaceOf}
-use Rattle.ring_core.specs.Steps.{next_of, made_at}
-use Rattle.ring_core.specs.States.{after, afters, resting}
+use Rattle.ring_machine.specs.declared.place.Op.{Op}
+use Rattle.ring_machine.specs.declared.place.Op.TheVariants.{Load, Store, Raise, TakeSignal, StoreMark}
+use Rattle.ring_machine.specs.declared.machine.Machine.{Machine}
+use Rattle.ring_machine.specs.declared.machine.Stage.TheVariants.{Stopped}
+use Rattle.ring_machine.specs.declared.state.EndState.{EndState}
+use Rattle.ring_machine.specs.declared.place.Ring.{Ring}
+use Rattle.ring_machine.specs.declared.place.Ring.TheVariants.{ToHost, ToGuest}
+use Rattle.ring_machine.specs.declared.place.Place.TheVariants.{Mask, Feature}
+use Rattle.ring_machine.specs.Places.{index_of, signal_of, mark_of, words_of, IsPlaceOf}
+use Rattle.ring_machine.specs.Steps.{next_of, made_at}
+use Rattle.ring_machine.specs.States.{after, afters, resting}
 
 pub record Memory : Type 0 where
   pub words : List ℕ

@@ -1,16 +1,16 @@
 //! The drivers of a call: the loops that make its steps.
 ghost use Rattle.std.specs.Prelude.{◌≡◌, ◌≢◌, ℕ, ◌<◌, true, length, Some, None};
-ghost use Rattle.ring_core.specs.Loops.{SendKeeps, TakeKeeps, CommitKeeps};
-ghost use Rattle.ring_core.specs.States.{after, entered, stored, Continues};
-ghost use Rattle.ring_core.specs.Steps.{is_busy_at, is_copying_at, next_of, fed};
+ghost use Rattle.ring_machine.specs.Loops.{SendKeeps, TakeKeeps, CommitKeeps};
+ghost use Rattle.ring_machine.specs.States.{after, entered, stored, Continues};
+ghost use Rattle.ring_machine.specs.Steps.{is_busy_at, is_copying_at, next_of, fed};
 ghost use Rattle.ring_core.specs.Told.{Memory, memory_after, answer_of};
-ghost use Rattle.ring_core.specs.declared.machine.Stage.TheVariants.{Stopped};
-ghost use Rattle.ring_core.specs.declared.place.Op.{Op};
-ghost use Rattle.ring_core.specs.declared.state.EndState.{EndState};
+ghost use Rattle.ring_machine.specs.declared.machine.Stage.TheVariants.{Stopped};
+ghost use Rattle.ring_machine.specs.declared.place.Op.{Op};
+ghost use Rattle.ring_machine.specs.declared.state.EndState.{EndState};
 
-use crate::end_core::EndCore;
 use crate::parts::Parts;
 use crate::seat::Seatlike;
+use ring_machine::EndCore;
 
 // Copies a word into the buffer where the step loaded one of a packet.
 #[inline(always)]
@@ -121,13 +121,13 @@ fn commit_back(to: &mut EndCore, from: &EndCore)
 /// such a loop the stage is known, so that a step is a few instructions.
 pub(crate) trait Driver<S: Seatlike> {
     ghost use Rattle.std.specs.Prelude.{◌≡◌, ◌≢◌, true, false, take, Some};
-    ghost use Rattle.ring_core.specs.Endings.{Leaves};
-    ghost use Rattle.ring_core.specs.Loops.{Starts};
-    ghost use Rattle.ring_core.specs.States.{IsPacket, entered, shown, sent_by, got_by, past_by, Continues};
-    ghost use Rattle.ring_core.specs.Steps.{is_busy_at, is_took, call_at, call_by};
+    ghost use Rattle.ring_machine.specs.Endings.{Leaves};
+    ghost use Rattle.ring_machine.specs.Loops.{Starts};
+    ghost use Rattle.ring_machine.specs.States.{IsPacket, entered, shown, sent_by, got_by, past_by, Continues};
+    ghost use Rattle.ring_machine.specs.Steps.{is_busy_at, is_took, call_at, call_by};
     ghost use Rattle.ring_core.specs.Told.{Left};
-    ghost use Rattle.ring_core.specs.declared.machine.Stage.TheVariants.{Stopped};
-    ghost use Rattle.ring_core.specs.declared.state.EndState.{EndState};
+    ghost use Rattle.ring_machine.specs.declared.machine.Stage.TheVariants.{Stopped};
+    ghost use Rattle.ring_machine.specs.declared.state.EndState.{EndState};
 
     fn drive(parts: &mut Parts<S>, packet: &[u64])
         requires starts { Starts parts.old.core.machine }

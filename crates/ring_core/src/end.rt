@@ -1,27 +1,25 @@
 //! One end of a channel: it makes the steps of its calls by its seat, and keeps the lists of what it sent and got.
 ghost use Rattle.std.specs.Prelude.{◌≡◌, ◌≢◌, ℕ, ◌+◌, ◌*◌, ◌/◌, ◌<◌, ◌≤◌, ◌++◌, ◌∷◌, true, false, not, [], length, Option, Some, None, Result, Ok, Err, IfOk, OnOk, IsTrue, ◌↔◌, take, ◌-◌};
-ghost use Rattle.ring_core.specs.Endings.{Leaves, LeavesBy, why_of, send_answer, commit_answer, is_asleep, peer_mark_answer, is_honest_send, want_of, IsWant};
-ghost use Rattle.ring_core.specs.Places.{IsRingSize};
+ghost use Rattle.ring_machine.specs.Endings.{Leaves, LeavesBy, why_of, send_answer, commit_answer, is_asleep, peer_mark_answer, is_honest_send, want_of, IsWant};
+ghost use Rattle.ring_machine.specs.Places.{IsRingSize};
 ghost use Rattle.ring_core.specs.Seen.{SentRoom, Kept};
-ghost use Rattle.ring_core.specs.States.{IsPacket, Gets, entered, resting, past_of, sent_by};
-ghost use Rattle.ring_core.specs.Steps.{machine_new, is_sent, call_by, send_begun, commit_begun, arm_begun, poll_begun, mark_begun, peer_mark_begun};
-ghost use Rattle.ring_core.specs.Taking.{Takes, refused};
+ghost use Rattle.ring_machine.specs.States.{IsPacket, Gets, entered, resting, past_of, sent_by};
+ghost use Rattle.ring_machine.specs.Steps.{machine_new, is_sent, call_by, send_begun, commit_begun, arm_begun, poll_begun, mark_begun, peer_mark_begun};
+ghost use Rattle.ring_core.specs.Taking.{Takes};
+ghost use Rattle.ring_machine.specs.Endings.{refused};
 ghost use Rattle.ring_core.specs.Told.{Ran};
-ghost use Rattle.ring_core.specs.declared.last.SendRefusal.TheVariants.{Stopped as StoppedSend};
-ghost use Rattle.ring_core.specs.declared.machine.Stage.TheVariants.{Idle, Stopped};
-ghost use Rattle.ring_core.specs.declared.state.EndState.{EndState};
+ghost use Rattle.ring_machine.specs.declared.last.SendRefusal.TheVariants.{Stopped as StoppedSend};
+ghost use Rattle.ring_machine.specs.declared.machine.Stage.TheVariants.{Idle, Stopped};
+ghost use Rattle.ring_machine.specs.declared.state.EndState.{EndState};
 
 use crate::driver::{CommitLoops, PlainLoop, SendLoops, TakeLoops};
-use crate::end_core::EndCore;
-use crate::last::{Armed, SendRefusal, Signalled, TakeRefusal};
-use crate::machine::Stage;
 use crate::packets::Packets;
 use crate::parts::Parts;
-use crate::place::Side;
 use crate::room::Room;
 use crate::seat::Seatlike;
 use crate::solo_mem::SoloMem;
 use chan_run::Past;
+use ring_machine::{Armed, EndCore, SendRefusal, Side, Signalled, Stage, TakeRefusal};
 use std::alloc::{AllocError, Global};
 use std::marker::Model;
 use std::mem;
@@ -35,10 +33,10 @@ pub struct End<S: Seatlike> {
 impl<S: Seatlike> Model for End<S> {
     ghost use Rattle.std.specs.Prelude.{◌≡◌, ◌≢◌, false, Some};
     ghost use Rattle.ring_core.specs.Seen.{Seen};
-    ghost use Rattle.ring_core.specs.States.{resting};
-    ghost use Rattle.ring_core.specs.Steps.{is_busy_at};
-    ghost use Rattle.ring_core.specs.declared.machine.Stage.TheVariants.{Stopped};
-    ghost use Rattle.ring_core.specs.declared.state.EndState.{EndState};
+    ghost use Rattle.ring_machine.specs.States.{resting};
+    ghost use Rattle.ring_machine.specs.Steps.{is_busy_at};
+    ghost use Rattle.ring_machine.specs.declared.machine.Stage.TheVariants.{Stopped};
+    ghost use Rattle.ring_machine.specs.declared.state.EndState.{EndState};
 
     ghost Value = { Seen S };
 

@@ -1,23 +1,22 @@
 //! What a call works on, and the call as a whole.
 ghost use Rattle.std.specs.Prelude.{◌≡◌, ◌≢◌, ℕ, ◌+◌, ◌<◌, ◌≤◌, true, false, List, [], ◌∷◌, ◌++◌, length, take, Option, Some, None};
 ghost use Rattle.chan_run.specs.declared.event.Event.{Event};
-ghost use Rattle.ring_core.specs.Endings.{Leaves, LeavesBy};
+ghost use Rattle.ring_machine.specs.Endings.{Leaves, LeavesBy};
 ghost use Rattle.ring_core.specs.Seen.{SentRoom};
-ghost use Rattle.ring_core.specs.Loops.{Starts};
-ghost use Rattle.ring_core.specs.States.{IsPacket, Gets, past_of, after, entered, shown, stored, sent_by, got_by, past_by, Continues};
-ghost use Rattle.ring_core.specs.Steps.{is_busy_at, is_copying_at, next_of, fed, is_sent, is_took, call_at, call_by};
+ghost use Rattle.ring_machine.specs.Loops.{Starts};
+ghost use Rattle.ring_machine.specs.States.{IsPacket, Gets, past_of, after, entered, shown, stored, sent_by, got_by, past_by, Continues};
+ghost use Rattle.ring_machine.specs.Steps.{is_busy_at, is_copying_at, next_of, fed, is_sent, is_took, call_at, call_by};
 ghost use Rattle.ring_core.specs.Told.{Left, Memory, memory_after, answer_of};
-ghost use Rattle.ring_core.specs.declared.machine.Stage.TheVariants.{Stopped};
-ghost use Rattle.ring_core.specs.declared.place.Op.{Op};
-ghost use Rattle.ring_core.specs.declared.state.EndState.{EndState};
+ghost use Rattle.ring_machine.specs.declared.machine.Stage.TheVariants.{Stopped};
+ghost use Rattle.ring_machine.specs.declared.place.Op.{Op};
+ghost use Rattle.ring_machine.specs.declared.state.EndState.{EndState};
 ghost use Rattle.chan_run.specs.declared.event.Event.TheVariants.{Sent as SentEvent, Got as GotEvent};
 
 use crate::driver::Driver;
-use crate::end_core::EndCore;
-use crate::machine::Ending;
 use crate::packets::Packets;
 use crate::seat::Seatlike;
 use chan_run::Past;
+use ring_machine::{EndCore, Ending};
 
 /// The machine, its seat, a buffer for one packet, the lists of the packets that were sent and got, and what the end did.
 #[derive(Drop)]

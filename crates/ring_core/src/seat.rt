@@ -1,15 +1,15 @@
 //! What makes an end's word steps.
-use crate::end_core::EndCore;
+use ring_machine::EndCore;
 
 /// A place from which an end's steps are made: words in memory, a table that two threads share, or a list of changes by a peer.
 pub trait Seatlike {
     ghost use Rattle.std.specs.Prelude.{◌≡◌, ◌≢◌, ℕ, true, Option, Some, None};
     ghost use Rattle.ring_core.specs.Told.{Memory, memory_after, answer_of};
-    ghost use Rattle.ring_core.specs.Steps.{is_busy_at, next_of, fed};
-    ghost use Rattle.ring_core.specs.States.{after, entered, Continues};
-    ghost use Rattle.ring_core.specs.declared.state.EndState.{EndState};
-    ghost use Rattle.ring_core.specs.declared.place.Op.{Op};
-    ghost use Rattle.ring_core.specs.declared.machine.Stage.TheVariants.{Stopped};
+    ghost use Rattle.ring_machine.specs.Steps.{is_busy_at, next_of, fed};
+    ghost use Rattle.ring_machine.specs.States.{after, entered, Continues};
+    ghost use Rattle.ring_machine.specs.declared.state.EndState.{EndState};
+    ghost use Rattle.ring_machine.specs.declared.place.Op.{Op};
+    ghost use Rattle.ring_machine.specs.declared.machine.Stage.TheVariants.{Stopped};
 
     /// The cells of each of the channel's rings.
     ghost cells: { Self → ℕ };

@@ -1,14 +1,12 @@
 //! All words of a channel in memory of its own.
 ghost use Rattle.std.specs.Prelude.{◌≡◌, ℕ, ◌+◌, ◌/◌, [], slice_set, slice_index, IfOk};
-ghost use Rattle.ring_core.specs.Places.{IsRingSize, IsPlaceOf, index_of};
+ghost use Rattle.ring_machine.specs.Places.{IsRingSize, IsPlaceOf, index_of};
 ghost use Rattle.ring_core.specs.Told.{opening};
 
-use crate::end_core::EndCore;
-use crate::place::Place;
-use crate::ring::place_index;
 use crate::seat::Seatlike;
 use crate::told_mem::opening_words;
 use crate::words::{act, look_at, put_at};
+use ring_machine::{EndCore, Place, place_index};
 use std::alloc::{AllocError, Global};
 use std::marker::Model;
 
@@ -22,7 +20,7 @@ pub struct SoloMem {
 
 impl Model for SoloMem {
     ghost use Rattle.std.specs.Prelude.{◌≡◌, [], length};
-    ghost use Rattle.ring_core.specs.Places.{words_of};
+    ghost use Rattle.ring_machine.specs.Places.{words_of};
     ghost use Rattle.ring_core.specs.Told.{Held};
 
     ghost Value = { Held };

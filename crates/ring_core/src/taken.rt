@@ -1,11 +1,12 @@
 //! A take that lends the words of the packet.
 ghost use Rattle.std.specs.Prelude.{◌≡◌, ◌<◌, ◌≤◌, ◌∷◌, [], ◌++◌, IfOk, false, ⊤, length};
-ghost use Rattle.ring_core.specs.States.{IsPacket};
-ghost use Rattle.ring_core.specs.Taking.{Takes, refused};
+ghost use Rattle.ring_machine.specs.States.{IsPacket};
+ghost use Rattle.ring_core.specs.Taking.{Takes};
+ghost use Rattle.ring_machine.specs.Endings.{refused};
 
 use crate::end::End;
-use crate::last::TakeRefusal;
 use crate::seat::Seatlike;
+use ring_machine::TakeRefusal;
 
 /// The words of a packet that was taken.
 #[derive(Drop)]

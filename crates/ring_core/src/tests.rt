@@ -1,21 +1,9 @@
 //! Calls over told and solo memory, beside answers that were worked out by hand.
 ghost use Rattle.std.specs.Prelude.{◌≡◌, ◌<◌, ◌≤◌, ◌*◌, false};
-ghost use Rattle.ring_core.specs.declared.machine.Stage.TheVariants.{Idle};
+ghost use Rattle.ring_machine.specs.declared.machine.Stage.TheVariants.{Idle};
 
-use crate::{Armed, End, Side, SoloMem, raise_on_commit, raise_on_write};
+use crate::{Armed, End, Side, SoloMem};
 use std::test::Fail;
-
-fn raises(pending: u32) -> bool {
-    raise_on_commit(4096, 4000, 0, 96, pending)
-}
-
-#[test]
-fn decisions_of_the_signal(rt: HostRuntime) {
-    assert!(rt; raise_on_write(96, 0, 96));
-    assert!(rt; !raise_on_write(96, 1, 96));
-    assert!(rt; !raise_on_write(96, 0, 0));
-    assert!(rt; !raises(0) && !raises(95) && raises(96) && raises(191) && !raises(192));
-}
 
 // Arms an end, where it may be armed.
 fn arm(e: &mut End<SoloMem>, want: u32) -> Option<Armed>

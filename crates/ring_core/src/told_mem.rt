@@ -1,13 +1,11 @@
 //! A memory that a contract can tell: its words, and the changes that a peer makes, each just before a step.
 ghost use Rattle.std.specs.Prelude.{◌≡◌, ℕ, ◌+◌, ◌/◌, ◌%◌, ◌^◌, [], drop, slice_set, slice_index, IfOk, length, replicate};
-ghost use Rattle.ring_core.specs.Places.{IsRingSize, IsPlaceOf, index_of, words_of};
+ghost use Rattle.ring_machine.specs.Places.{IsRingSize, IsPlaceOf, index_of, words_of};
 ghost use Rattle.ring_core.specs.Told.{changed, later, counted, opening, IsScript};
 
-use crate::end_core::EndCore;
-use crate::place::{Place, Ring};
-use crate::ring::place_index;
 use crate::seat::Seatlike;
 use crate::words::{act, look_at, put_at};
+use ring_machine::{EndCore, Place, Ring, place_index};
 use std::alloc::{AllocError, Global};
 use std::marker::Model;
 
@@ -82,7 +80,7 @@ pub fn opening_words(alloc: Global, cells: u32) -> Result<Vec<u64>, AllocError>
 
 impl Model for ToldMem {
     ghost use Rattle.std.specs.Prelude.{◌≡◌, drop, length};
-    ghost use Rattle.ring_core.specs.Places.{words_of};
+    ghost use Rattle.ring_machine.specs.Places.{words_of};
     ghost use Rattle.ring_core.specs.Told.{Held};
 
     ghost Value = { Held };

@@ -2,8 +2,7 @@
 ghost use Rattle.std.specs.Prelude.{◌≡◌, ℕ, length, slice_set, slice_index};
 ghost use Rattle.ring_core.specs.Told.{written, answer_in};
 
-use crate::place::Op;
-use crate::ring::{mark_index, place_index, signal_index};
+use ring_machine::{Op, mark_index, place_index, signal_index};
 
 // Changes a word. Past the end nothing is changed.
 #[inline(always)]

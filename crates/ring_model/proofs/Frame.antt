@@ -4,15 +4,15 @@ use Rattle.std.specs.List.{All}
 use Rattle.std.proofs.lemmas.List.Elements.{All-head, All-tail}
 use Rattle.chan_run.specs.declared.event.Event.{Event}
 use Rattle.chan_run.specs.Runs.{May, sent_of, got_of, has_marked, has_seen, is_drained}
-use Rattle.ring_core.specs.declared.machine.Stage.{Stage}
-use Rattle.ring_core.specs.declared.machine.Stage.TheVariants.{Idle, Stopped, SendRead, SendCell, SendWrite, TakeFirst, TakeCell}
-use Rattle.ring_core.specs.declared.machine.Ending.{Ending}
-use Rattle.ring_core.specs.declared.machine.Ending.TheVariants.{Full, Empty}
-use Rattle.ring_core.specs.declared.machine.Machine.{Machine}
-use Rattle.ring_core.specs.declared.state.EndState.{EndState}
-use Rattle.ring_core.specs.Places.{free}
-use Rattle.ring_core.specs.Steps.{fed_at}
-use Rattle.ring_core.specs.States.{IsPacket, kept_at, copied_after, sent_after, got_after, past_after, after}
+use Rattle.ring_machine.specs.declared.machine.Stage.{Stage}
+use Rattle.ring_machine.specs.declared.machine.Stage.TheVariants.{Idle, Stopped, SendRead, SendCell, SendWrite, TakeFirst, TakeCell}
+use Rattle.ring_machine.specs.declared.machine.Ending.{Ending}
+use Rattle.ring_machine.specs.declared.machine.Ending.TheVariants.{Full, Empty}
+use Rattle.ring_machine.specs.declared.machine.Machine.{Machine}
+use Rattle.ring_machine.specs.declared.state.EndState.{EndState}
+use Rattle.ring_machine.specs.Places.{free}
+use Rattle.ring_machine.specs.Steps.{fed_at}
+use Rattle.ring_machine.specs.States.{IsPacket, kept_at, copied_after, sent_after, got_after, past_after, after}
 use Rattle.ring_model.specs.Ring.{size, stream, Sending_at, Taking_at, RingOk, PastOk, is_marked}
 use Rattle.ring_model.proofs.Turns.{below}
 

@@ -4,21 +4,21 @@ use Rattle.chan_run.specs.declared.event.Event.{Event}
 use Rattle.chan_run.specs.Runs.{Turn, Guest as GuestTurn, Host as HostTurn, IsRun, May, guest_of, host_of}
 use Rattle.io_edge.specs.declared.side.Side.{Side}
 use Rattle.io_edge.specs.declared.side.Side.TheVariants.{Guest, Host}
-use Rattle.ring_core.specs.declared.machine.Stage.{Stage}
-use Rattle.ring_core.specs.declared.machine.Stage.TheVariants.{Idle, Stopped, TakeFirst, TakeCell, ArmPending, ArmMask}
-use Rattle.ring_core.specs.declared.machine.Ending.{Ending}
-use Rattle.ring_core.specs.declared.machine.Machine.{Machine}
-use Rattle.ring_core.specs.declared.state.EndState.{EndState}
-use Rattle.ring_core.specs.declared.place.Op.{Op}
-use Rattle.ring_core.specs.declared.place.Op.TheVariants.{Load, Store, Raise, TakeSignal, StoreMark}
-use Rattle.ring_core.specs.Places.{out_of, in_of, peer_of, mark_of, words_of}
-use Rattle.ring_core.specs.Steps.{IsSound, fed, is_copying_at, next_at, next_of, is_busy_at, send_begun, take_begun, commit_begun, arm_begun, poll_begun, mark_begun, peer_mark_begun}
-use Rattle.ring_core.specs.States.{after, entered, kept_at, copied_at, copied_after, Begins, BeginsSend, BeginsTake, BeginsCommit, BeginsArm, BeginsPoll, BeginsMark, BeginsPeerMark}
+use Rattle.ring_machine.specs.declared.machine.Stage.{Stage}
+use Rattle.ring_machine.specs.declared.machine.Stage.TheVariants.{Idle, Stopped, TakeFirst, TakeCell, ArmPending, ArmMask}
+use Rattle.ring_machine.specs.declared.machine.Ending.{Ending}
+use Rattle.ring_machine.specs.declared.machine.Machine.{Machine}
+use Rattle.ring_machine.specs.declared.state.EndState.{EndState}
+use Rattle.ring_machine.specs.declared.place.Op.{Op}
+use Rattle.ring_machine.specs.declared.place.Op.TheVariants.{Load, Store, Raise, TakeSignal, StoreMark}
+use Rattle.ring_machine.specs.Places.{out_of, in_of, peer_of, mark_of, words_of}
+use Rattle.ring_machine.specs.Steps.{IsSound, fed, is_copying_at, next_at, next_of, is_busy_at, send_begun, take_begun, commit_begun, arm_begun, poll_begun, mark_begun, peer_mark_begun}
+use Rattle.ring_machine.specs.States.{after, entered, kept_at, copied_at, copied_after, Begins, BeginsSend, BeginsTake, BeginsCommit, BeginsArm, BeginsPoll, BeginsMark, BeginsPeerMark}
 use Rattle.ring_core.specs.Told.{Memory, Pair, pair, step, step_by, run, written, answer_in, Ran}
 use Rattle.ring_model.specs.Ring.{size, RingOk, PastOk, Fits, ChannelOk, Sending_at, Taking_at, ring_in, is_marked, is_marking_at}
 use Rattle.ring_model.proofs.Frame.{Tells, Rests, producer_same, consumer_same, past_kept, no_rest, tells_at, calm_sending, calm_taking, is_calm_at}
-use Rattle.ring_core.proofs.Sound.{fed_sound}
-use Rattle.ring_core.proofs.Tables.{fed_cells}
+use Rattle.ring_machine.proofs.Sound.{fed_sound}
+use Rattle.ring_machine.proofs.Tables.{fed_cells}
 use Rattle.ring_model.proofs.Sides.{fed_side}
 use Rattle.ring_model.proofs.Words.{Kept, step_kept}
 

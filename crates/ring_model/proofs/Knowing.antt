@@ -1,12 +1,12 @@
 -- What an end knows at each of its steps, on a memory that nobody else changes.
 use Rattle.std.proofs.Common.{◌≡◌, ℕ, zero, suc, List, [], length, Option, Some, None, refl, sym, ◌∙◌, subst}
 use Rattle.io_edge.specs.declared.side.Side.{Side}
-use Rattle.ring_core.specs.declared.machine.Machine.{Machine}
-use Rattle.ring_core.specs.declared.state.EndState.{EndState}
-use Rattle.ring_core.specs.declared.place.Op.{Op}
-use Rattle.ring_core.specs.Steps.{fed, next_of}
+use Rattle.ring_machine.specs.declared.machine.Machine.{Machine}
+use Rattle.ring_machine.specs.declared.state.EndState.{EndState}
+use Rattle.ring_machine.specs.declared.place.Op.{Op}
+use Rattle.ring_machine.specs.Steps.{fed, next_of}
 use Rattle.ring_core.specs.Told.{Memory, Pair, pair, step, step_by, run, written, answer_in, Ran}
-use Rattle.ring_core.proofs.Tables.{fed_cells}
+use Rattle.ring_machine.proofs.Tables.{fed_cells}
 use Rattle.ring_model.proofs.Sides.{fed_side}
 
 module _ (n : ℕ) (x : Side) (K : Machine → List ℕ → Type 0)

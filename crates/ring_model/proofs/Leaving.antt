@@ -2,10 +2,10 @@
 use Rattle.std.proofs.Common.{◌≡◌, sym, ap, ◌∙◌, subst, arith, Option}
 use Rattle.io_edge.specs.declared.side.Side.{Side}
 use Rattle.io_edge.specs.declared.side.Side.TheVariants.{Guest, Host}
-use Rattle.ring_core.specs.declared.last.TakeRefusal.{TakeRefusal}
-use Rattle.ring_core.specs.declared.machine.Stage.TheVariants.{Idle}
-use Rattle.ring_core.specs.declared.state.EndState.{EndState}
-use Rattle.ring_core.specs.Endings.{LeavesBy}
+use Rattle.ring_machine.specs.declared.last.TakeRefusal.{TakeRefusal}
+use Rattle.ring_machine.specs.declared.machine.Stage.TheVariants.{Idle}
+use Rattle.ring_machine.specs.declared.state.EndState.{EndState}
+use Rattle.ring_machine.specs.Endings.{LeavesBy}
 use Rattle.ring_core.specs.Seen.{Seen}
 use Rattle.ring_core.specs.Taking.{Takes}
 use Rattle.ring_core.specs.Told.{Held, Memory}

@@ -3,12 +3,12 @@ use Rattle.std.proofs.Common.{◌≡◌, ◌≢◌, ℕ, Bool, true, false, ◌|
 use Rattle.std.proofs.lemmas.Bool.Decides.{nat_tests}
 use Rattle.chan_run.specs.declared.event.Event.TheVariants.{Marked, Saw}
 use Rattle.chan_run.specs.Runs.{sent_of, got_of, has_marked, has_seen, is_drained}
-use Rattle.ring_core.specs.declared.machine.Stage.TheVariants.{ArmMark, MarkStore, MarkRaise, PeerMark}
-use Rattle.ring_core.specs.declared.machine.Ending.TheVariants.{FellAsleep, PeerMarkDown, PeerMarkUp}
-use Rattle.ring_core.specs.declared.machine.Machine.{Machine}
-use Rattle.ring_core.specs.declared.state.EndState.{EndState}
-use Rattle.ring_core.specs.Steps.{ends, undoes, is_busy_at}
-use Rattle.ring_core.specs.States.{after}
+use Rattle.ring_machine.specs.declared.machine.Stage.TheVariants.{ArmMark, MarkStore, MarkRaise, PeerMark}
+use Rattle.ring_machine.specs.declared.machine.Ending.TheVariants.{FellAsleep, PeerMarkDown, PeerMarkUp}
+use Rattle.ring_machine.specs.declared.machine.Machine.{Machine}
+use Rattle.ring_machine.specs.declared.state.EndState.{EndState}
+use Rattle.ring_machine.specs.Steps.{ends, undoes, is_busy_at}
+use Rattle.ring_machine.specs.States.{after}
 use Rattle.ring_model.specs.Ring.{is_marked}
 use Rattle.ring_model.proofs.Frame.{Near, near_refl, Moves, producer_same, consumer_same, ring_ext, no_rest, made}
 use Rattle.ring_model.proofs.Quiet.{Ready, Quiet, quiet, marked_at, wide}

@@ -4,12 +4,12 @@ use Rattle.std.proofs.lemmas.List.{get_or-set_other, get_or-replicate, length-re
 use Rattle.std.proofs.lemmas.List.Elements.{All-nil}
 use Rattle.io_edge.specs.declared.side.Side.{Side}
 use Rattle.io_edge.specs.declared.side.Side.TheVariants.{Guest, Host}
-use Rattle.ring_core.specs.declared.place.Ring.{Ring}
-use Rattle.ring_core.specs.declared.place.Ring.TheVariants.{ToHost, ToGuest}
-use Rattle.ring_core.specs.declared.state.EndState.{EndState}
-use Rattle.ring_core.specs.Places.{mark_of, words_of}
-use Rattle.ring_core.specs.Steps.{IsSound, machine_new}
-use Rattle.ring_core.specs.States.{IsPacket, resting}
+use Rattle.ring_machine.specs.declared.place.Ring.{Ring}
+use Rattle.ring_machine.specs.declared.place.Ring.TheVariants.{ToHost, ToGuest}
+use Rattle.ring_machine.specs.declared.state.EndState.{EndState}
+use Rattle.ring_machine.specs.Places.{mark_of, words_of}
+use Rattle.ring_machine.specs.Steps.{IsSound, machine_new}
+use Rattle.ring_machine.specs.States.{IsPacket, resting}
 use Rattle.ring_core.specs.Told.{opening}
 use Rattle.ring_model.specs.Ring.{RingOk, AtRest, ring_in}
 use Rattle.ring_core.specs.Told.{Held}

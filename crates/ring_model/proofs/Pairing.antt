@@ -2,25 +2,26 @@
 use Rattle.std.proofs.Common.{◌≡◌, ◌≢◌, ℕ, ◌+◌, ◌*◌, ◌<◌, ◌≤◌, Bool, true, false, cond, List, [], ◌∷◌, ◌++◌, length, Option, Some, None, Result, Ok, Err, IfOk, MatchResult, refl, sym, ap, ◌∙◌, subst, arith, inl, inr, ⊎_elim}
 use Rattle.io_edge.specs.declared.side.Side.{Side}
 use Rattle.io_edge.specs.declared.side.Side.TheVariants.{Guest, Host}
-use Rattle.ring_core.specs.declared.machine.Stage.{Stage}
-use Rattle.ring_core.specs.declared.machine.Stage.TheVariants.{Idle, Stopped}
-use Rattle.ring_core.specs.declared.machine.Ending.{Ending}
-use Rattle.ring_core.specs.declared.machine.Ending.TheVariants.{Fresh, SentQuiet, SentRaised, Full, BadPeer, Took, Empty, BadIndex, BadLength, BadOffset, CommittedQuiet, CommittedRaised, FellAsleep, FoundWork, NoSignal, Woke, Marked, PeerMarkDown, PeerMarkUp}
-use Rattle.ring_core.specs.declared.machine.Machine.{Machine}
-use Rattle.ring_core.specs.declared.last.Signalled.{Signalled}
-use Rattle.ring_core.specs.declared.last.SendRefusal.{SendRefusal}
-use Rattle.ring_core.specs.declared.last.SendRefusal.TheVariants.{Full as SendFull}
-use Rattle.ring_core.specs.declared.last.TakeRefusal.{TakeRefusal}
-use Rattle.ring_core.specs.declared.last.TakeRefusal.TheVariants.{Empty as TakeEmpty}
-use Rattle.ring_core.specs.declared.state.EndState.{EndState}
-use Rattle.ring_core.specs.Places.{peer_of, free}
-use Rattle.ring_core.specs.Steps.{IsSound, is_copying_at, is_broken, is_sent, is_took, call_by, send_begun, take_begun, commit_begun}
-use Rattle.ring_core.specs.States.{IsPacket, IsAwake, entered, sent_by, Begins, BeginsSend, BeginsTake, BeginsCommit, BeginsArm, BeginsPoll, BeginsMark, BeginsPeerMark}
-use Rattle.ring_core.specs.Endings.{Leaves, LeavesBy, send_answer, take_refusal}
+use Rattle.ring_machine.specs.declared.machine.Stage.{Stage}
+use Rattle.ring_machine.specs.declared.machine.Stage.TheVariants.{Idle, Stopped}
+use Rattle.ring_machine.specs.declared.machine.Ending.{Ending}
+use Rattle.ring_machine.specs.declared.machine.Ending.TheVariants.{Fresh, SentQuiet, SentRaised, Full, BadPeer, Took, Empty, BadIndex, BadLength, BadOffset, CommittedQuiet, CommittedRaised, FellAsleep, FoundWork, NoSignal, Woke, Marked, PeerMarkDown, PeerMarkUp}
+use Rattle.ring_machine.specs.declared.machine.Machine.{Machine}
+use Rattle.ring_machine.specs.declared.last.Signalled.{Signalled}
+use Rattle.ring_machine.specs.declared.last.SendRefusal.{SendRefusal}
+use Rattle.ring_machine.specs.declared.last.SendRefusal.TheVariants.{Full as SendFull}
+use Rattle.ring_machine.specs.declared.last.TakeRefusal.{TakeRefusal}
+use Rattle.ring_machine.specs.declared.last.TakeRefusal.TheVariants.{Empty as TakeEmpty}
+use Rattle.ring_machine.specs.declared.state.EndState.{EndState}
+use Rattle.ring_machine.specs.Places.{peer_of, free}
+use Rattle.ring_machine.specs.Steps.{IsSound, is_copying_at, is_broken, is_sent, is_took, call_by, send_begun, take_begun, commit_begun}
+use Rattle.ring_machine.specs.States.{IsPacket, IsAwake, entered, sent_by, Begins, BeginsSend, BeginsTake, BeginsCommit, BeginsArm, BeginsPoll, BeginsMark, BeginsPeerMark}
+use Rattle.ring_machine.specs.Endings.{Leaves, LeavesBy, send_answer, take_refusal}
 use Rattle.ring_core.specs.Told.{Memory, Held, Ran}
 use Rattle.ring_core.specs.Seen.{Seen, Kept}
-use Rattle.ring_core.specs.Taking.{TakesIdle, refused}
-use Rattle.ring_core.proofs.Sound.{send_sound, take_sound, commit_sound, arm_sound, poll_sound, mark_sound, peer_mark_sound}
+use Rattle.ring_core.specs.Taking.{TakesIdle}
+use Rattle.ring_machine.specs.Endings.{refused}
+use Rattle.ring_machine.proofs.Sound.{send_sound, take_sound, commit_sound, arm_sound, poll_sound, mark_sound, peer_mark_sound}
 use Rattle.ring_model.specs.declared.solo_pair.SoloPair.{SoloPair}
 use Rattle.ring_model.specs.Ring.{Resting, AtRest}
 use Rattle.ring_model.specs.Pair.{Stays, end_of, with_end, handed_from, handed, memory_of, cells_of, IsPair}

@@ -1,12 +1,12 @@
 -- The steps of an end that change neither a list nor an index: those of a signal, a mask, a room, and the looks.
 use Rattle.std.proofs.Common.{◌≡◌, ℕ, ◌*◌, ◌%◌, ◌<◌, Bool, true, false, ◌||◌, cond, eqb, refl, sym, ap, ◌∙◌, subst, arith, inl}
-use Rattle.ring_core.specs.declared.machine.Stage.{Stage}
-use Rattle.ring_core.specs.declared.machine.Stage.TheVariants.{SendMask, SendLook, SendRaise, CommitFeature, CommitPending, CommitWrite, CommitRaise, ArmPending, ArmMask, ArmWrite, ArmRead, ArmUndoMask, ArmUndoPending, PollSignal, PollMask, PollPending, MarkRaise}
-use Rattle.ring_core.specs.declared.machine.Machine.{Machine}
-use Rattle.ring_core.specs.declared.state.EndState.{EndState}
-use Rattle.ring_core.specs.Places.{low}
-use Rattle.ring_core.specs.Steps.{IsSound, fed_at, makes_room, finds_room}
-use Rattle.ring_core.specs.States.{sent_after, got_after, past_after, after}
+use Rattle.ring_machine.specs.declared.machine.Stage.{Stage}
+use Rattle.ring_machine.specs.declared.machine.Stage.TheVariants.{SendMask, SendLook, SendRaise, CommitFeature, CommitPending, CommitWrite, CommitRaise, ArmPending, ArmMask, ArmWrite, ArmRead, ArmUndoMask, ArmUndoPending, PollSignal, PollMask, PollPending, MarkRaise}
+use Rattle.ring_machine.specs.declared.machine.Machine.{Machine}
+use Rattle.ring_machine.specs.declared.state.EndState.{EndState}
+use Rattle.ring_machine.specs.Places.{low}
+use Rattle.ring_machine.specs.Steps.{IsSound, fed_at, makes_room, finds_room}
+use Rattle.ring_machine.specs.States.{sent_after, got_after, past_after, after}
 use Rattle.ring_model.specs.Ring.{size, RingOk, PastOk, is_marked, is_marking_at}
 use Rattle.ring_model.proofs.Frame.{Near, Moves, producer_same, consumer_same, ring_ext, calm_sending, calm_taking, calm_goes, no_rest, past_kept, made, after_by, is_calm_at, tells_at}
 

@@ -3,19 +3,19 @@ use Rattle.std.proofs.Common.{◌≡◌, ◌≢◌, ℕ, ◌+◌, ◌*◌, ◌%�
 use Rattle.std.proofs.lemmas.List.{get_or-set_other}
 use Rattle.io_edge.specs.declared.side.Side.{Side}
 use Rattle.io_edge.specs.declared.side.Side.TheVariants.{Guest, Host}
-use Rattle.ring_core.specs.declared.machine.Stage.{Stage}
-use Rattle.ring_core.specs.declared.machine.Stage.TheVariants.{Idle, Stopped, SendRead, SendCell, SendWrite, SendMask, SendLook, SendRaise, CommitRead, CommitFeature, CommitPending, CommitWrite, CommitRaise}
-use Rattle.ring_core.specs.declared.machine.Ending.{Ending}
-use Rattle.ring_core.specs.declared.machine.Ending.TheVariants.{SentQuiet, SentRaised, Full, BadPeer, CommittedQuiet, CommittedRaised}
-use Rattle.ring_core.specs.declared.machine.Machine.{Machine}
-use Rattle.ring_core.specs.declared.place.Ring.{Ring}
-use Rattle.ring_core.specs.declared.place.Ring.TheVariants.{ToHost, ToGuest}
-use Rattle.ring_core.specs.declared.place.Place.TheVariants.{Write, Read, Mask, Pending, Feature, Cell}
-use Rattle.ring_core.specs.declared.place.Op.{Op}
-use Rattle.ring_core.specs.declared.place.Op.TheVariants.{Load, Store, Raise}
-use Rattle.ring_core.specs.Places.{in_of, out_of, peer_of, base_of, signal_of, low, is_index, cell_of, free, ahead, trailer, raises_on_commit}
-use Rattle.ring_core.specs.Steps.{fed, fed_at, next_at, next_of, makes_room}
-use Rattle.ring_core.specs.Endings.{commit_answer, send_answer}
+use Rattle.ring_machine.specs.declared.machine.Stage.{Stage}
+use Rattle.ring_machine.specs.declared.machine.Stage.TheVariants.{Idle, Stopped, SendRead, SendCell, SendWrite, SendMask, SendLook, SendRaise, CommitRead, CommitFeature, CommitPending, CommitWrite, CommitRaise}
+use Rattle.ring_machine.specs.declared.machine.Ending.{Ending}
+use Rattle.ring_machine.specs.declared.machine.Ending.TheVariants.{SentQuiet, SentRaised, Full, BadPeer, CommittedQuiet, CommittedRaised}
+use Rattle.ring_machine.specs.declared.machine.Machine.{Machine}
+use Rattle.ring_machine.specs.declared.place.Ring.{Ring}
+use Rattle.ring_machine.specs.declared.place.Ring.TheVariants.{ToHost, ToGuest}
+use Rattle.ring_machine.specs.declared.place.Place.TheVariants.{Write, Read, Mask, Pending, Feature, Cell}
+use Rattle.ring_machine.specs.declared.place.Op.{Op}
+use Rattle.ring_machine.specs.declared.place.Op.TheVariants.{Load, Store, Raise}
+use Rattle.ring_machine.specs.Places.{in_of, out_of, peer_of, base_of, signal_of, low, is_index, cell_of, free, ahead, trailer, raises_on_commit}
+use Rattle.ring_machine.specs.Steps.{fed, fed_at, next_at, next_of, makes_room}
+use Rattle.ring_machine.specs.Endings.{commit_answer, send_answer}
 use Rattle.ring_core.specs.Told.{written, answer_in}
 use Rattle.ring_model.specs.Signals.{word_at, header, send_raises, commit_raises, words_given, words_committed, signalled}
 use Rattle.ring_model.proofs.Quiet.{at_cond}

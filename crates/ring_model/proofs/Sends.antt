@@ -7,14 +7,14 @@ use Rattle.std.proofs.lemmas.List.Elements.{All-append, All-cons, All-nil}
 use Rattle.std.proofs.Math.Seq.{get_or-append_seam}
 use Rattle.std.proofs.lemmas.Bool.Decides.{nat_tests}
 use Rattle.chan_run.specs.declared.event.Event.TheVariants.{Sent}
-use Rattle.ring_core.specs.declared.machine.Stage.{Stage}
-use Rattle.ring_core.specs.declared.machine.Stage.TheVariants.{SendRead, SendCell, SendWrite, SendMask}
-use Rattle.ring_core.specs.declared.machine.Ending.TheVariants.{Full}
-use Rattle.ring_core.specs.declared.machine.Machine.{Machine}
-use Rattle.ring_core.specs.declared.state.EndState.{EndState}
-use Rattle.ring_core.specs.Places.{ahead, free, trailer, is_index, cell_of}
-use Rattle.ring_core.specs.Steps.{fed_at, ends, is_busy_at}
-use Rattle.ring_core.specs.States.{IsPacket, after}
+use Rattle.ring_machine.specs.declared.machine.Stage.{Stage}
+use Rattle.ring_machine.specs.declared.machine.Stage.TheVariants.{SendRead, SendCell, SendWrite, SendMask}
+use Rattle.ring_machine.specs.declared.machine.Ending.TheVariants.{Full}
+use Rattle.ring_machine.specs.declared.machine.Machine.{Machine}
+use Rattle.ring_machine.specs.declared.state.EndState.{EndState}
+use Rattle.ring_machine.specs.Places.{ahead, free, trailer, is_index, cell_of}
+use Rattle.ring_machine.specs.Steps.{fed_at, ends, is_busy_at}
+use Rattle.ring_machine.specs.States.{IsPacket, after}
 use Rattle.ring_model.specs.Ring.{size, stream, Sending, Sending_at, RingOk}
 use Rattle.ring_model.proofs.Turns.{below, ahead_mod, free_mod, apart, index_here, cell_here}
 use Rattle.ring_model.proofs.Streams.{size-append, size-one, stream_before, stream_in}

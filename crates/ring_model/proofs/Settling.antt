@@ -3,7 +3,7 @@ use Rattle.std.proofs.Common.{◌≡◌, ℕ, true, List, sym, ap, ◌∙◌}
 use Rattle.chan_run.specs.Runs.{IsFront, sent_of, got_of, is_drained}
 use Rattle.chan_run.specs.Laws.{AreOfOneRun}
 use Rattle.chan_run.proofs.RunLaws.{drains_all}
-use Rattle.ring_core.specs.declared.state.EndState.{EndState}
+use Rattle.ring_machine.specs.declared.state.EndState.{EndState}
 use Rattle.ring_model.specs.Ring.{ChannelOk}
 
 module _ (n : ℕ) (ws : List ℕ) (g h : EndState) (c : ChannelOk n ws g h) where

@@ -2,14 +2,14 @@
 use Rattle.std.proofs.Common.{◌≡◌, ℕ, ◌+◌, List, [], length, get_or, Some, None, Result, IfOk, refl, sym, ap, ◌∙◌, subst}
 use Rattle.io_edge.specs.declared.side.Side.{Side}
 use Rattle.io_edge.specs.declared.side.Side.TheVariants.{Guest, Host}
-use Rattle.ring_core.specs.declared.last.Signalled.{Signalled}
-use Rattle.ring_core.specs.declared.last.SendRefusal.{SendRefusal}
-use Rattle.ring_core.specs.declared.machine.Stage.TheVariants.{Idle}
-use Rattle.ring_core.specs.declared.state.EndState.{EndState}
-use Rattle.ring_core.specs.Places.{base_of, out_of}
-use Rattle.ring_core.specs.States.{entered}
-use Rattle.ring_core.specs.Steps.{send_begun, commit_begun}
-use Rattle.ring_core.specs.Endings.{send_answer, commit_answer}
+use Rattle.ring_machine.specs.declared.last.Signalled.{Signalled}
+use Rattle.ring_machine.specs.declared.last.SendRefusal.{SendRefusal}
+use Rattle.ring_machine.specs.declared.machine.Stage.TheVariants.{Idle}
+use Rattle.ring_machine.specs.declared.state.EndState.{EndState}
+use Rattle.ring_machine.specs.Places.{base_of, out_of}
+use Rattle.ring_machine.specs.States.{entered}
+use Rattle.ring_machine.specs.Steps.{send_begun, commit_begun}
+use Rattle.ring_machine.specs.Endings.{send_answer, commit_answer}
 use Rattle.ring_core.specs.Seen.{Seen}
 use Rattle.ring_core.specs.Told.{Held, Memory, Ran}
 use Rattle.ring_model.specs.declared.solo_pair.SoloPair.{SoloPair}

@@ -2,9 +2,9 @@
 use Rattle.std.proofs.Common.{◌≡◌, ℕ, ◌+◌, ◌-◌, ◌*◌, ◌%◌, ◌<◌, ◌≤◌, List, [], ◌∷◌, ◌++◌, length, get_or, sym, ap, ◌∙◌, subst, arith, append_assoc, append-nil, add-zero}
 use Rattle.std.proofs.lemmas.Bool.Decides.{nat_tests}
 use Rattle.std.proofs.Math.Seq.{get_or-append_seam}
-use Rattle.ring_core.specs.declared.place.Ring.{Ring}
-use Rattle.ring_core.specs.declared.state.EndState.{EndState}
-use Rattle.ring_core.specs.Places.{ahead, used, trailer, base_of}
+use Rattle.ring_machine.specs.declared.place.Ring.{Ring}
+use Rattle.ring_machine.specs.declared.state.EndState.{EndState}
+use Rattle.ring_machine.specs.Places.{ahead, used, trailer, base_of}
 use Rattle.ring_model.specs.Ring.{size, stream, RingOk, ring_in}
 use Rattle.ring_model.specs.Spelled.{Spells, cell_in, StandsFor}
 use Rattle.ring_model.proofs.Turns.{ahead_mod, used_mod}

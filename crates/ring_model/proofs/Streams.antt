@@ -1,7 +1,7 @@
 -- Packets one behind the other.
 use Rattle.std.proofs.Common.{◌≡◌, ℕ, ◌+◌, ◌%◌, ◌<◌, List, [], ◌∷◌, ◌++◌, length, get_or, refl, sym, ap, ◌∙◌, arith, length-append, append_assoc}
 use Rattle.std.proofs.lemmas.List.{get_or-append-add, get_or_append_left}
-use Rattle.ring_core.specs.Places.{trailer}
+use Rattle.ring_machine.specs.Places.{trailer}
 use Rattle.ring_model.specs.Ring.{size, stream}
 
 pub size-append : (xs ys : List (List ℕ)) → size (xs ++ ys) ≡ size xs + size ys

@@ -6,14 +6,14 @@ use Rattle.std.proofs.Math.Seq.{take-length}
 use Rattle.std.proofs.lemmas.Bool.Decides.{nat_tests}
 use Rattle.chan_run.specs.declared.event.Event.TheVariants.{Got, Empty as EmptyEvent}
 use Rattle.chan_run.specs.Runs.{sent_of, got_of, has_marked, has_seen, is_drained}
-use Rattle.ring_core.specs.declared.machine.Stage.{Stage}
-use Rattle.ring_core.specs.declared.machine.Stage.TheVariants.{TakeWrite, TakeFirst, TakeCell, CommitRead, CommitFeature}
-use Rattle.ring_core.specs.declared.machine.Ending.TheVariants.{Took, Empty}
-use Rattle.ring_core.specs.declared.machine.Machine.{Machine}
-use Rattle.ring_core.specs.declared.state.EndState.{EndState}
-use Rattle.ring_core.specs.Places.{ahead, used, is_index, cell_of, len8_of, offset8_of}
-use Rattle.ring_core.specs.Steps.{ends}
-use Rattle.ring_core.specs.States.{IsPacket, after}
+use Rattle.ring_machine.specs.declared.machine.Stage.{Stage}
+use Rattle.ring_machine.specs.declared.machine.Stage.TheVariants.{TakeWrite, TakeFirst, TakeCell, CommitRead, CommitFeature}
+use Rattle.ring_machine.specs.declared.machine.Ending.TheVariants.{Took, Empty}
+use Rattle.ring_machine.specs.declared.machine.Machine.{Machine}
+use Rattle.ring_machine.specs.declared.state.EndState.{EndState}
+use Rattle.ring_machine.specs.Places.{ahead, used, is_index, cell_of, len8_of, offset8_of}
+use Rattle.ring_machine.specs.Steps.{ends}
+use Rattle.ring_machine.specs.States.{IsPacket, after}
 use Rattle.ring_model.specs.Ring.{size, stream, Seeing, Copying, Taking_at}
 use Rattle.ring_model.proofs.Turns.{below, ahead_mod, used_mod, index_here, cell_here}
 use Rattle.ring_model.proofs.Streams.{size-append, size-one, word_in}

@@ -3,15 +3,15 @@ use Rattle.std.proofs.Common.{◌≡◌, ◌≢◌, ℕ, ◌+◌, ◌*◌, ◌/�
 use Rattle.std.proofs.lemmas.List.{get_or-set_same, get_or-set_other}
 use Rattle.io_edge.specs.declared.side.Side.{Side}
 use Rattle.io_edge.specs.declared.side.Side.TheVariants.{Guest, Host}
-use Rattle.ring_core.specs.declared.machine.Stage.{Stage}
-use Rattle.ring_core.specs.declared.machine.Stage.TheVariants.{Idle, Stopped, SendRead, SendCell, SendWrite, SendMask, SendLook, SendRaise, TakeWrite, TakeFirst, TakeCell, CommitRead, CommitFeature, CommitPending, CommitWrite, CommitRaise, ArmPending, ArmMask, ArmWrite, ArmRead, ArmMark, ArmUndoMask, ArmUndoPending, PollSignal, PollMask, PollPending, MarkStore, MarkRaise, PeerMark}
-use Rattle.ring_core.specs.declared.state.EndState.{EndState}
-use Rattle.ring_core.specs.declared.place.Ring.{Ring}
-use Rattle.ring_core.specs.declared.place.Ring.TheVariants.{ToHost, ToGuest}
-use Rattle.ring_core.specs.declared.place.Op.{Op}
-use Rattle.ring_core.specs.Places.{out_of, in_of, peer_of, base_of, signal_of, mark_of, words_of, ahead, trailer}
-use Rattle.ring_core.specs.Steps.{fed_at, next_at, next_of}
-use Rattle.ring_core.specs.States.{after}
+use Rattle.ring_machine.specs.declared.machine.Stage.{Stage}
+use Rattle.ring_machine.specs.declared.machine.Stage.TheVariants.{Idle, Stopped, SendRead, SendCell, SendWrite, SendMask, SendLook, SendRaise, TakeWrite, TakeFirst, TakeCell, CommitRead, CommitFeature, CommitPending, CommitWrite, CommitRaise, ArmPending, ArmMask, ArmWrite, ArmRead, ArmMark, ArmUndoMask, ArmUndoPending, PollSignal, PollMask, PollPending, MarkStore, MarkRaise, PeerMark}
+use Rattle.ring_machine.specs.declared.state.EndState.{EndState}
+use Rattle.ring_machine.specs.declared.place.Ring.{Ring}
+use Rattle.ring_machine.specs.declared.place.Ring.TheVariants.{ToHost, ToGuest}
+use Rattle.ring_machine.specs.declared.place.Op.{Op}
+use Rattle.ring_machine.specs.Places.{out_of, in_of, peer_of, base_of, signal_of, mark_of, words_of, ahead, trailer}
+use Rattle.ring_machine.specs.Steps.{fed_at, next_at, next_of}
+use Rattle.ring_machine.specs.States.{after}
 use Rattle.ring_core.specs.Told.{written, answer_in}
 use Rattle.ring_model.specs.Ring.{ring_in}
 use Rattle.ring_model.proofs.Turns.{ahead_below}

@@ -4,9 +4,9 @@ use Rattle.std.specs.Borrow.{Lends, MutBor, Fml}
 use Rattle.io_edge.specs.declared.side.Side.{Side}
 use Rattle.io_edge.specs.declared.side.Side.TheVariants.{Guest, Host}
 use Rattle.ring_core.specs.declared.seat.Seatlike.{Ghosts}
-use Rattle.ring_core.specs.declared.machine.Machine.{Machine}
-use Rattle.ring_core.specs.Endings.{Leaves}
-use Rattle.ring_core.specs.States.{entered, Begins}
+use Rattle.ring_machine.specs.declared.machine.Machine.{Machine}
+use Rattle.ring_machine.specs.Endings.{Leaves}
+use Rattle.ring_machine.specs.States.{entered, Begins}
 use Rattle.ring_core.specs.Told.{Memory, Held, Ran}
 use Rattle.ring_core.specs.Seen.{Seen}
 use Rattle.ring_core.specs.contracts.end.End.{the_row as end_row}

@@ -1,12 +1,12 @@
 -- What one end can send, and what waits for it.
 use Rattle.std.specs.Prelude.{◌≡◌, ℕ, ◌+◌, ◌*◌, ◌<◌, ◌≤◌, List, [], ◌∷◌, ◌++◌, length, drop, Result, MatchResult}
-use Rattle.ring_core.specs.declared.last.Signalled.{Signalled}
-use Rattle.ring_core.specs.declared.last.SendRefusal.{SendRefusal}
-use Rattle.ring_core.specs.declared.last.SendRefusal.TheVariants.{Full}
-use Rattle.ring_core.specs.declared.last.TakeRefusal.{TakeRefusal}
-use Rattle.ring_core.specs.declared.last.TakeRefusal.TheVariants.{Empty}
-use Rattle.ring_core.specs.declared.state.EndState.{EndState}
-use Rattle.ring_core.specs.Places.{free}
+use Rattle.ring_machine.specs.declared.last.Signalled.{Signalled}
+use Rattle.ring_machine.specs.declared.last.SendRefusal.{SendRefusal}
+use Rattle.ring_machine.specs.declared.last.SendRefusal.TheVariants.{Full}
+use Rattle.ring_machine.specs.declared.last.TakeRefusal.{TakeRefusal}
+use Rattle.ring_machine.specs.declared.last.TakeRefusal.TheVariants.{Empty}
+use Rattle.ring_machine.specs.declared.state.EndState.{EndState}
+use Rattle.ring_machine.specs.Places.{free}
 
 -- the packets that the end p sent and the end e hasn't got yet
 abbrev pub waiting_for : EndState → EndState → List (List ℕ)

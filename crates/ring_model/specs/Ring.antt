@@ -4,14 +4,14 @@ use Rattle.std.specs.List.{All}
 use Rattle.chan_run.specs.Runs.{Turn, IsRun, guest_of, host_of, sent_of, got_of, has_marked, has_seen, is_drained}
 use Rattle.io_edge.specs.declared.side.Side.{Side}
 use Rattle.io_edge.specs.declared.side.Side.TheVariants.{Guest, Host}
-use Rattle.ring_core.specs.declared.machine.Stage.{Stage}
-use Rattle.ring_core.specs.declared.machine.Stage.TheVariants.{Idle, SendRead, SendCell, SendWrite, TakeFirst, TakeCell, MarkRaise}
-use Rattle.ring_core.specs.declared.state.EndState.{EndState}
-use Rattle.ring_core.specs.declared.place.Ring.{Ring}
-use Rattle.ring_core.specs.declared.place.Ring.TheVariants.{ToHost, ToGuest}
-use Rattle.ring_core.specs.Places.{trailer, base_of, mark_of, words_of}
-use Rattle.ring_core.specs.Steps.{IsSound}
-use Rattle.ring_core.specs.States.{IsPacket}
+use Rattle.ring_machine.specs.declared.machine.Stage.{Stage}
+use Rattle.ring_machine.specs.declared.machine.Stage.TheVariants.{Idle, SendRead, SendCell, SendWrite, TakeFirst, TakeCell, MarkRaise}
+use Rattle.ring_machine.specs.declared.state.EndState.{EndState}
+use Rattle.ring_machine.specs.declared.place.Ring.{Ring}
+use Rattle.ring_machine.specs.declared.place.Ring.TheVariants.{ToHost, ToGuest}
+use Rattle.ring_machine.specs.Places.{trailer, base_of, mark_of, words_of}
+use Rattle.ring_machine.specs.Steps.{IsSound}
+use Rattle.ring_machine.specs.States.{IsPacket}
 
 -- the cells that packets take, each with its trailer
 abbrev pub size : List (List ℕ) → ℕ

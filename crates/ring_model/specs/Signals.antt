@@ -1,11 +1,11 @@
 -- Where a send and a commit raise the peer's signal, by the words of the channel before the call. Indices of an end are in cells here.
 use Rattle.std.specs.Prelude.{ℕ, ◌*◌, ◌%◌, Bool, true, false, ◌==◌, ◌&&◌, not, cond, List, slice_index, slice_set}
 use Rattle.io_edge.specs.declared.side.Side.{Side}
-use Rattle.ring_core.specs.declared.last.Signalled.{Signalled}
-use Rattle.ring_core.specs.declared.last.Signalled.TheVariants.{Raised, Quiet}
-use Rattle.ring_core.specs.declared.place.Place.{Place}
-use Rattle.ring_core.specs.declared.place.Place.TheVariants.{Write, Read, Mask, Pending, Feature}
-use Rattle.ring_core.specs.Places.{index_of, low, is_index, out_of, in_of, peer_of, signal_of, raises_on_write, raises_on_commit}
+use Rattle.ring_machine.specs.declared.last.Signalled.{Signalled}
+use Rattle.ring_machine.specs.declared.last.Signalled.TheVariants.{Raised, Quiet}
+use Rattle.ring_machine.specs.declared.place.Place.{Place}
+use Rattle.ring_machine.specs.declared.place.Place.TheVariants.{Write, Read, Mask, Pending, Feature}
+use Rattle.ring_machine.specs.Places.{index_of, low, is_index, out_of, in_of, peer_of, signal_of, raises_on_write, raises_on_commit}
 
 -- the word at this place of a channel
 abbrev pub word_at : ℕ → List ℕ → Place → ℕ

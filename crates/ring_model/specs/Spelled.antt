@@ -1,9 +1,9 @@
 -- What the cells of a ring spell, and what lists a ring at rest stands for. Offsets and indices are in bytes here. Source: Linux drivers/hv/ring_buffer.c, hv_ringbuffer_write.
 use Rattle.std.specs.Prelude.{◌≡◌, ℕ, ◌+◌, ◌*◌, ◌^◌, ◌<◌, List, [], ◌∷◌, ◌++◌, length, slice_index}
-use Rattle.ring_core.specs.declared.place.Ring.{Ring}
-use Rattle.ring_core.specs.declared.place.Place.TheVariants.{Write, Read, Cell}
-use Rattle.ring_core.specs.declared.state.EndState.{EndState}
-use Rattle.ring_core.specs.Places.{index_of, ahead, used}
+use Rattle.ring_machine.specs.declared.place.Ring.{Ring}
+use Rattle.ring_machine.specs.declared.place.Place.TheVariants.{Write, Read, Cell}
+use Rattle.ring_machine.specs.declared.state.EndState.{EndState}
+use Rattle.ring_machine.specs.Places.{index_of, ahead, used}
 use Rattle.ring_model.specs.Ring.{size}
 
 -- The cells of a ring of d bytes spell these packets from the index a to b: there are none and a is b, or the first packet's words stand at a and on,

@@ -1,5 +1,5 @@
 //! Laws of a pair: each function does nothing, and its contract is a law.
-ghost use Rattle.ring_core.specs.declared.place.Ring.TheVariants.{ToHost, ToGuest};
+ghost use Rattle.ring_machine.specs.declared.place.Ring.TheVariants.{ToHost, ToGuest};
 ghost use Rattle.ring_model.specs.Pair.{IsPair, KeepsPair, cells_of, memory_of};
 ghost use Rattle.ring_model.specs.Spelled.{StandsFor};
 

@@ -2,10 +2,10 @@
 ghost use Rattle.std.specs.Prelude.{◌≡◌, ◌+◌, ◌/◌, ◌<◌, ◌≤◌, false, [], ◌∷◌, ◌++◌, IfOk, OnOk, MatchResult, ⊤, length};
 ghost use Rattle.std.specs.Borrow.{sem};
 ghost use Rattle.io_edge.specs.declared.side.Side.TheVariants.{Guest, Host};
-ghost use Rattle.ring_core.specs.Places.{IsRingSize, peer_of};
-ghost use Rattle.ring_core.specs.States.{IsPacket, resting};
+ghost use Rattle.ring_machine.specs.Places.{IsRingSize, peer_of};
+ghost use Rattle.ring_machine.specs.States.{IsPacket, resting};
 ghost use Rattle.ring_core.specs.Seen.{Kept};
-ghost use Rattle.ring_core.specs.Steps.{machine_new};
+ghost use Rattle.ring_machine.specs.Steps.{machine_new};
 
 use ring_core::{End, Room, Seatlike, SendRefusal, Side, Signalled, SoloMem, TakeRefusal, Taken};
 use std::alloc::{AllocError, Global};

@@ -1,6 +1,6 @@
 //! Both ends of a channel over one memory, by turns.
 ghost use Rattle.std.specs.Prelude.{IsTrue, IfOk};
-ghost use Rattle.ring_core.specs.States.{IsPacket};
+ghost use Rattle.ring_machine.specs.States.{IsPacket};
 ghost use Rattle.ring_model.specs.Pair.{IsPair};
 
 use crate::{Settled, SoloPair, finish};

@@ -1,6 +1,6 @@
 //! Whether an end may make a call, by what it can read of itself.
 ghost use Rattle.std.specs.Prelude.{◌≡◌, ◌<◌, ◌≤◌, ◌+◌, IsTrue, false, length};
-ghost use Rattle.ring_core.specs.States.{IsPacket};
+ghost use Rattle.ring_machine.specs.States.{IsPacket};
 
 use ring_core::{End, Seatlike};
 

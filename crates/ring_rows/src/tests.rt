@@ -1,6 +1,6 @@
 //! Calls of ends over told and solo memory, beside answers and numbers of steps that were worked out by hand.
 ghost use Rattle.std.specs.Prelude.{◌≡◌, ◌∷◌, [], IfOk};
-ghost use Rattle.ring_core.specs.Places.{IsPlaceOf};
+ghost use Rattle.ring_machine.specs.Places.{IsPlaceOf};
 
 use crate::{may_begin, may_send, may_take};
 use ring_core::{

@@ -1,13 +1,13 @@
 -- Each step of an end keeps what its own looks have found.
 use Rattle.std.proofs.Common.{◌≡◌, ◌≢◌, ◌⊎◌, ℕ, ◌*◌, ◌≤◌, Bool, true, false, ◌||◌, not, cond, ltb, eqb, refl, sym, ap, ◌∙◌, subst, arith, inl, inr}
 use Rattle.std.proofs.lemmas.Bool.Decides.{nat_tests}
-use Rattle.ring_core.specs.declared.machine.Stage.{Stage}
-use Rattle.ring_core.specs.declared.machine.Stage.TheVariants.{Idle, Stopped, SendRead, SendCell, SendWrite, SendMask, SendLook, SendRaise, TakeWrite, TakeFirst, TakeCell, CommitRead, CommitFeature, CommitPending, CommitWrite, CommitRaise, ArmPending, ArmMask, ArmWrite, ArmRead, ArmMark, ArmUndoMask, ArmUndoPending, PollSignal, PollMask, PollPending, MarkStore, MarkRaise, PeerMark}
-use Rattle.ring_core.specs.declared.machine.Ending.TheVariants.{NoSignal}
-use Rattle.ring_core.specs.declared.machine.Machine.{Machine}
-use Rattle.ring_core.specs.Places.{low, is_index, cell_of, free}
-use Rattle.ring_core.specs.Steps.{IsSound, fed, fed_at, finds_room, sleeps_at}
-use Rattle.ring_core.proofs.Sound.{at_cond}
+use Rattle.ring_machine.specs.declared.machine.Stage.{Stage}
+use Rattle.ring_machine.specs.declared.machine.Stage.TheVariants.{Idle, Stopped, SendRead, SendCell, SendWrite, SendMask, SendLook, SendRaise, TakeWrite, TakeFirst, TakeCell, CommitRead, CommitFeature, CommitPending, CommitWrite, CommitRaise, ArmPending, ArmMask, ArmWrite, ArmRead, ArmMark, ArmUndoMask, ArmUndoPending, PollSignal, PollMask, PollPending, MarkStore, MarkRaise, PeerMark}
+use Rattle.ring_machine.specs.declared.machine.Ending.TheVariants.{NoSignal}
+use Rattle.ring_machine.specs.declared.machine.Machine.{Machine}
+use Rattle.ring_machine.specs.Places.{low, is_index, cell_of, free}
+use Rattle.ring_machine.specs.Steps.{IsSound, fed, fed_at, finds_room, sleeps_at}
+use Rattle.ring_machine.proofs.Sound.{at_cond}
 use Rattle.ring_model.specs.Ring.{is_marking_at}
 use Rattle.ring_model.proofs.Turns.{low_is, cell_here}
 use Rattle.ring_seat.specs.Points.{AtPoint, pending_of}

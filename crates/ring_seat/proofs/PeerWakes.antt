@@ -1,13 +1,13 @@
 -- Each step of an end keeps what its peer's looks have found: it raises the peer's signal where the peer may wait for what the step did.
 use Rattle.std.proofs.Common.{◌≡◌, ◌≢◌, ◌⊎◌, ℕ, ◌*◌, ◌%◌, ◌<◌, ◌≤◌, Bool, true, false, ◌||◌, ◌&&◌, not, cond, eqb, refl, sym, ap, ◌∙◌, subst, arith, inl, inr}
 use Rattle.std.proofs.lemmas.Bool.Decides.{nat_tests}
-use Rattle.ring_core.specs.declared.machine.Stage.{Stage}
-use Rattle.ring_core.specs.declared.machine.Stage.TheVariants.{Idle, Stopped, SendRead, SendCell, SendWrite, SendMask, SendLook, SendRaise, TakeWrite, TakeFirst, TakeCell, CommitRead, CommitFeature, CommitPending, CommitWrite, CommitRaise, ArmPending, ArmMask, ArmWrite, ArmRead, ArmMark, ArmUndoMask, ArmUndoPending, PollSignal, PollMask, PollPending, MarkStore, MarkRaise, PeerMark}
-use Rattle.ring_core.specs.declared.machine.Machine.{Machine}
-use Rattle.ring_core.specs.Places.{low, is_index, free, raises_on_commit}
-use Rattle.ring_core.specs.Steps.{IsSound, fed, fed_at, makes_room, sleeps_at, is_arming_at}
-use Rattle.ring_core.specs.Loops.{is_given_at}
-use Rattle.ring_core.proofs.Sound.{at_cond}
+use Rattle.ring_machine.specs.declared.machine.Stage.{Stage}
+use Rattle.ring_machine.specs.declared.machine.Stage.TheVariants.{Idle, Stopped, SendRead, SendCell, SendWrite, SendMask, SendLook, SendRaise, TakeWrite, TakeFirst, TakeCell, CommitRead, CommitFeature, CommitPending, CommitWrite, CommitRaise, ArmPending, ArmMask, ArmWrite, ArmRead, ArmMark, ArmUndoMask, ArmUndoPending, PollSignal, PollMask, PollPending, MarkStore, MarkRaise, PeerMark}
+use Rattle.ring_machine.specs.declared.machine.Machine.{Machine}
+use Rattle.ring_machine.specs.Places.{low, is_index, free, raises_on_commit}
+use Rattle.ring_machine.specs.Steps.{IsSound, fed, fed_at, makes_room, sleeps_at, is_arming_at}
+use Rattle.ring_machine.specs.Loops.{is_given_at}
+use Rattle.ring_machine.proofs.Sound.{at_cond}
 use Rattle.ring_model.specs.Ring.{is_marking_at}
 use Rattle.ring_model.proofs.Turns.{low_is, index_here}
 use Rattle.ring_seat.specs.Points.{AtPoint, is_unmasked_at, pending_at, pending_of}

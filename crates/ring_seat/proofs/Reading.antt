@@ -4,14 +4,14 @@ use Rattle.chan_run.specs.Runs.{has_marked, has_seen}
 use Rattle.chan_run.proofs.RunLaws.{sees_marks}
 use Rattle.io_edge.specs.declared.side.Side.{Side}
 use Rattle.io_edge.specs.declared.side.Side.TheVariants.{Guest, Host}
-use Rattle.ring_core.specs.declared.machine.Stage.{Stage}
-use Rattle.ring_core.specs.declared.machine.Stage.TheVariants.{ArmPending, ArmWrite, ArmRead, ArmMark, ArmUndoMask, PollMask}
-use Rattle.ring_core.specs.declared.machine.Machine.{Machine}
-use Rattle.ring_core.specs.declared.state.EndState.{EndState}
-use Rattle.ring_core.specs.declared.place.Op.{Op}
-use Rattle.ring_core.specs.Places.{out_of, in_of, peer_of, mark_of}
-use Rattle.ring_core.specs.Steps.{IsSound, next_of, is_arming_at, is_waking_at, sleeps_at}
-use Rattle.ring_core.specs.States.{after, entered, Begins}
+use Rattle.ring_machine.specs.declared.machine.Stage.{Stage}
+use Rattle.ring_machine.specs.declared.machine.Stage.TheVariants.{ArmPending, ArmWrite, ArmRead, ArmMark, ArmUndoMask, PollMask}
+use Rattle.ring_machine.specs.declared.machine.Machine.{Machine}
+use Rattle.ring_machine.specs.declared.state.EndState.{EndState}
+use Rattle.ring_machine.specs.declared.place.Op.{Op}
+use Rattle.ring_machine.specs.Places.{out_of, in_of, peer_of, mark_of}
+use Rattle.ring_machine.specs.Steps.{IsSound, next_of, is_arming_at, is_waking_at, sleeps_at}
+use Rattle.ring_machine.specs.States.{after, entered, Begins}
 use Rattle.ring_core.specs.Told.{written, answer_in}
 use Rattle.ring_model.specs.Ring.{ring_in}
 use Rattle.ring_model.proofs.Settling.{guest_drained, host_drained}

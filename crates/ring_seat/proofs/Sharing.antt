@@ -7,9 +7,9 @@ use Rattle.atomic_table.specs.Table.{State, Me, keeps, opening, Allows, Splits, 
 use Rattle.atomic_table.proofs.Lists.{at_set, set_again}
 use Rattle.io_edge.specs.declared.side.Side.{Side}
 use Rattle.io_edge.specs.declared.side.Side.TheVariants.{Guest, Host}
-use Rattle.ring_core.specs.declared.state.EndState.{EndState}
-use Rattle.ring_core.specs.Places.{signal_of, words_of}
-use Rattle.ring_core.specs.Steps.{machine_new}
+use Rattle.ring_machine.specs.declared.state.EndState.{EndState}
+use Rattle.ring_machine.specs.Places.{signal_of, words_of}
+use Rattle.ring_machine.specs.Steps.{machine_new}
 use Rattle.ring_core.specs.Told.{opening as opening_words}
 use Rattle.ring_model.specs.Ring.{ChannelOk}
 use Rattle.ring_model.proofs.Opening.{still, new_channel}

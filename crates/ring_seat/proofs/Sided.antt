@@ -2,12 +2,12 @@
 use Rattle.std.proofs.Common.{◌≡◌, ℕ, List, get_or, Some, refl, sym, subst, ⊎_elim}
 use Rattle.io_edge.specs.declared.side.Side.{Side}
 use Rattle.io_edge.specs.declared.side.Side.TheVariants.{Guest, Host}
-use Rattle.ring_core.specs.declared.machine.Machine.{Machine}
-use Rattle.ring_core.specs.declared.state.EndState.{EndState}
-use Rattle.ring_core.specs.declared.place.Op.{Op}
-use Rattle.ring_core.specs.Places.{peer_of, signal_of}
-use Rattle.ring_core.specs.Steps.{fed, next_of}
-use Rattle.ring_core.specs.States.{after, entered, Begins, Continues}
+use Rattle.ring_machine.specs.declared.machine.Machine.{Machine}
+use Rattle.ring_machine.specs.declared.state.EndState.{EndState}
+use Rattle.ring_machine.specs.declared.place.Op.{Op}
+use Rattle.ring_machine.specs.Places.{peer_of, signal_of}
+use Rattle.ring_machine.specs.Steps.{fed, next_of}
+use Rattle.ring_machine.specs.States.{after, entered, Begins, Continues}
 use Rattle.ring_core.specs.Told.{written, answer_in}
 use Rattle.ring_model.proofs.Keeping.{Both, Goes, both_of, channel_of, step_both, call_began}
 use Rattle.ring_model.proofs.Pairing.{begins_sound}

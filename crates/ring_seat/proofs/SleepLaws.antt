@@ -1,11 +1,11 @@
 -- A poll of an end that is asleep.
 use Rattle.std.proofs.Common.{◌≡◌, ℕ, Bool, List, [], refl, ◌∙◌, arith}
 use Rattle.chan_run.specs.declared.event.Event.{Event}
-use Rattle.ring_core.specs.declared.machine.Ending.{Ending}
-use Rattle.ring_core.specs.declared.machine.Ending.TheVariants.{NoSignal, Woke}
-use Rattle.ring_core.specs.Steps.{call_by}
-use Rattle.ring_core.specs.States.{past_of}
-use Rattle.ring_core.specs.Endings.{Leaves, LeavesBy}
+use Rattle.ring_machine.specs.declared.machine.Ending.{Ending}
+use Rattle.ring_machine.specs.declared.machine.Ending.TheVariants.{NoSignal, Woke}
+use Rattle.ring_machine.specs.Steps.{call_by}
+use Rattle.ring_machine.specs.States.{past_of}
+use Rattle.ring_machine.specs.Endings.{Leaves, LeavesBy}
 use Rattle.ring_core.specs.Seen.{Seen, Kept}
 use Rattle.ring_seat.specs.declared.table_seat.TableSeat.{TableSeat}
 use Rattle.ring_seat.specs.Sleeping.{Sleeps}

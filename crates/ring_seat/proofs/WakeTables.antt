@@ -1,12 +1,12 @@
 -- What each step leaves of an end's indices, its mark and its looks.
 use Rattle.std.proofs.Common.{◌≡◌, ◌≢◌, ℕ, ◌+◌, ◌*◌, ◌%◌, Bool, true, false, ◌||◌, ◌&&◌, leb, ltb, eqb, refl, sym, ap, ◌∙◌}
-use Rattle.ring_core.specs.declared.machine.Stage.{Stage}
-use Rattle.ring_core.specs.declared.machine.Stage.TheVariants.{Idle, Stopped, SendRead, SendCell, SendWrite, SendMask, SendLook, SendRaise, TakeWrite, TakeFirst, TakeCell, CommitRead, CommitFeature, CommitPending, CommitWrite, CommitRaise, ArmPending, ArmMask, ArmWrite, ArmRead, ArmMark, ArmUndoMask, ArmUndoPending, PollSignal, PollMask, PollPending, MarkStore, MarkRaise, PeerMark}
-use Rattle.ring_core.specs.declared.machine.Machine.{Machine}
-use Rattle.ring_core.specs.Places.{low, is_index, cell_of, used, free, len8_of, offset8_of}
-use Rattle.ring_core.specs.Steps.{fed, fed_at, makes_room, finds_room}
-use Rattle.ring_core.specs.Loops.{is_given_at}
-use Rattle.ring_core.proofs.Sound.{at_cond}
+use Rattle.ring_machine.specs.declared.machine.Stage.{Stage}
+use Rattle.ring_machine.specs.declared.machine.Stage.TheVariants.{Idle, Stopped, SendRead, SendCell, SendWrite, SendMask, SendLook, SendRaise, TakeWrite, TakeFirst, TakeCell, CommitRead, CommitFeature, CommitPending, CommitWrite, CommitRaise, ArmPending, ArmMask, ArmWrite, ArmRead, ArmMark, ArmUndoMask, ArmUndoPending, PollSignal, PollMask, PollPending, MarkStore, MarkRaise, PeerMark}
+use Rattle.ring_machine.specs.declared.machine.Machine.{Machine}
+use Rattle.ring_machine.specs.Places.{low, is_index, cell_of, used, free, len8_of, offset8_of}
+use Rattle.ring_machine.specs.Steps.{fed, fed_at, makes_room, finds_room}
+use Rattle.ring_machine.specs.Loops.{is_given_at}
+use Rattle.ring_machine.proofs.Sound.{at_cond}
 use Rattle.ring_model.specs.Ring.{is_marking_at}
 use Rattle.ring_seat.specs.Waking.{packets_looked_at}
 

@@ -2,18 +2,18 @@
 use Rattle.std.proofs.Common.{◌≡◌, ◌⊎◌, ℕ, ◌*◌, ◌<◌, ◌≤◌, Bool, true, false, ◌||◌, cond, eqb, List, get_or, Some, refl, sym, ap, ◌∙◌, subst, arith, inl, inr, ⊎_elim, add-zero}
 use Rattle.io_edge.specs.declared.side.Side.{Side}
 use Rattle.io_edge.specs.declared.side.Side.TheVariants.{Guest, Host}
-use Rattle.ring_core.specs.declared.machine.Stage.{Stage}
-use Rattle.ring_core.specs.declared.machine.Stage.TheVariants.{Idle, SendMask, SendLook, CommitFeature, CommitPending, CommitWrite, ArmPending, ArmMask, ArmWrite, ArmRead, ArmMark, PollSignal, MarkRaise}
-use Rattle.ring_core.specs.declared.machine.Machine.{Machine}
-use Rattle.ring_core.specs.declared.state.EndState.{EndState}
-use Rattle.ring_core.specs.declared.place.Op.{Op}
-use Rattle.ring_core.specs.declared.place.Op.TheVariants.{Load, TakeSignal}
-use Rattle.ring_core.specs.declared.place.Place.TheVariants.{Write, Read, Mask, Pending, Feature, Mark as MarkPlace}
-use Rattle.ring_core.specs.Places.{out_of, in_of, peer_of, base_of, signal_of, mark_of, free, cell_of}
-use Rattle.ring_core.specs.Steps.{next_at, next_of, poll_begun}
-use Rattle.ring_core.specs.States.{Begins, BeginsSend, BeginsTake, BeginsCommit, BeginsArm, BeginsPoll, BeginsMark, BeginsPeerMark}
+use Rattle.ring_machine.specs.declared.machine.Stage.{Stage}
+use Rattle.ring_machine.specs.declared.machine.Stage.TheVariants.{Idle, SendMask, SendLook, CommitFeature, CommitPending, CommitWrite, ArmPending, ArmMask, ArmWrite, ArmRead, ArmMark, PollSignal, MarkRaise}
+use Rattle.ring_machine.specs.declared.machine.Machine.{Machine}
+use Rattle.ring_machine.specs.declared.state.EndState.{EndState}
+use Rattle.ring_machine.specs.declared.place.Op.{Op}
+use Rattle.ring_machine.specs.declared.place.Op.TheVariants.{Load, TakeSignal}
+use Rattle.ring_machine.specs.declared.place.Place.TheVariants.{Write, Read, Mask, Pending, Feature, Mark as MarkPlace}
+use Rattle.ring_machine.specs.Places.{out_of, in_of, peer_of, base_of, signal_of, mark_of, free, cell_of}
+use Rattle.ring_machine.specs.Steps.{next_at, next_of, poll_begun}
+use Rattle.ring_machine.specs.States.{Begins, BeginsSend, BeginsTake, BeginsCommit, BeginsArm, BeginsPoll, BeginsMark, BeginsPeerMark}
 use Rattle.ring_core.specs.Told.{answer_in}
-use Rattle.ring_core.specs.Loops.{is_given_at}
+use Rattle.ring_machine.specs.Loops.{is_given_at}
 use Rattle.ring_model.specs.Ring.{ring_in, is_marking_at}
 use Rattle.ring_model.proofs.Turns.{cell_here}
 use Rattle.ring_model.proofs.Keeping.{Both}

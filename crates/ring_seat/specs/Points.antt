@@ -1,9 +1,9 @@
 -- The mask and the wanted room that an end last stored, by the point where it is.
 use Rattle.std.specs.Prelude.{◌≡◌, ℕ, Bool, true, false, ◌||◌, not}
-use Rattle.ring_core.specs.declared.machine.Stage.{Stage}
-use Rattle.ring_core.specs.declared.machine.Stage.TheVariants.{ArmPending, PollSignal, PollMask}
-use Rattle.ring_core.specs.declared.machine.Machine.{Machine}
-use Rattle.ring_core.specs.Steps.{is_arming_at, is_looking_at, is_waking_at}
+use Rattle.ring_machine.specs.declared.machine.Stage.{Stage}
+use Rattle.ring_machine.specs.declared.machine.Stage.TheVariants.{ArmPending, PollSignal, PollMask}
+use Rattle.ring_machine.specs.declared.machine.Machine.{Machine}
+use Rattle.ring_machine.specs.Steps.{is_arming_at, is_looking_at, is_waking_at}
 
 -- mask 0 is stored, and mask 1 isn't stored since
 abbrev pub is_unmasked_at : Stage → Bool

@@ -2,11 +2,11 @@
 use Rattle.std.specs.Prelude.{◌≡◌, ◌≢◌, ℕ, ◌<◌, true, cond, List, slice_index}
 use Rattle.io_edge.specs.declared.side.Side.{Side}
 use Rattle.io_edge.specs.declared.side.Side.TheVariants.{Guest, Host}
-use Rattle.ring_core.specs.declared.machine.Machine.{Machine}
-use Rattle.ring_core.specs.declared.machine.Stage.TheVariants.{Stopped}
-use Rattle.ring_core.specs.declared.state.EndState.{EndState}
-use Rattle.ring_core.specs.Places.{out_of, in_of, peer_of, signal_of}
-use Rattle.ring_core.specs.Loops.{is_given_at}
+use Rattle.ring_machine.specs.declared.machine.Machine.{Machine}
+use Rattle.ring_machine.specs.declared.machine.Stage.TheVariants.{Stopped}
+use Rattle.ring_machine.specs.declared.state.EndState.{EndState}
+use Rattle.ring_machine.specs.Places.{out_of, in_of, peer_of, signal_of}
+use Rattle.ring_machine.specs.Loops.{is_given_at}
 use Rattle.ring_model.specs.Ring.{ChannelOk, ring_in}
 use Rattle.ring_seat.specs.Points.{AtPoint, pending_of}
 use Rattle.ring_seat.specs.Waking.{WakePending}

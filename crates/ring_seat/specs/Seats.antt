@@ -5,13 +5,13 @@ use lib.ListN.{get_elem?}
 use Rattle.atomic_table.specs.Table.{State, Me, Step}
 use Rattle.io_edge.specs.declared.side.Side.{Side}
 use Rattle.io_edge.specs.declared.side.Side.TheVariants.{Guest, Host}
-use Rattle.ring_core.specs.declared.machine.Stage.TheVariants.{Stopped}
-use Rattle.ring_core.specs.declared.state.EndState.{EndState}
-use Rattle.ring_core.specs.declared.place.Op.{Op}
-use Rattle.ring_core.specs.declared.place.Op.TheVariants.{Load, Store, Raise, TakeSignal, StoreMark}
-use Rattle.ring_core.specs.Places.{index_of, signal_of, mark_of}
-use Rattle.ring_core.specs.Steps.{machine_new, fed, next_of}
-use Rattle.ring_core.specs.States.{resting, after}
+use Rattle.ring_machine.specs.declared.machine.Stage.TheVariants.{Stopped}
+use Rattle.ring_machine.specs.declared.state.EndState.{EndState}
+use Rattle.ring_machine.specs.declared.place.Op.{Op}
+use Rattle.ring_machine.specs.declared.place.Op.TheVariants.{Load, Store, Raise, TakeSignal, StoreMark}
+use Rattle.ring_machine.specs.Places.{index_of, signal_of, mark_of}
+use Rattle.ring_machine.specs.Steps.{machine_new, fed, next_of}
+use Rattle.ring_machine.specs.States.{resting, after}
 use Rattle.ring_seat.specs.declared.view.View.{View}
 use Rattle.ring_seat.specs.declared.view.View.TheVariants.{Both, One, Spent}
 use Rattle.ring_seat.specs.Rule.{ChannelInvariant}

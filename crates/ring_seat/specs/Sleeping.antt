@@ -1,6 +1,6 @@
 -- What an end keeps while it sleeps.
 use Rattle.std.specs.Prelude.{◌≡◌}
-use Rattle.ring_core.specs.declared.machine.Stage.TheVariants.{Idle}
+use Rattle.ring_machine.specs.declared.machine.Stage.TheVariants.{Idle}
 use Rattle.ring_core.specs.Seen.{Seen, Kept}
 use Rattle.ring_seat.specs.declared.table_seat.TableSeat.{TableSeat}
 

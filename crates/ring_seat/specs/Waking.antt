@@ -1,11 +1,11 @@
 -- No lost wake-up: while an end sleeps there is nothing for it, or its signal is up, or its peer is still inside the call that raises it.
 use Rattle.std.specs.Prelude.{◌≡◌, ◌≢◌, ◌⊎◌, ℕ, ◌*◌, ◌≤◌, Bool, true, false, ◌||◌, List, slice_index}
 use Rattle.io_edge.specs.declared.side.Side.{Side}
-use Rattle.ring_core.specs.declared.machine.Stage.{Stage}
-use Rattle.ring_core.specs.declared.machine.Stage.TheVariants.{SendMask, SendLook, SendRaise, CommitWrite, CommitRaise, ArmRead, ArmMark, MarkRaise}
-use Rattle.ring_core.specs.declared.machine.Machine.{Machine}
-use Rattle.ring_core.specs.Places.{out_of, in_of, peer_of, signal_of, mark_of, free, cell_of}
-use Rattle.ring_core.specs.Loops.{is_given_at}
+use Rattle.ring_machine.specs.declared.machine.Stage.{Stage}
+use Rattle.ring_machine.specs.declared.machine.Stage.TheVariants.{SendMask, SendLook, SendRaise, CommitWrite, CommitRaise, ArmRead, ArmMark, MarkRaise}
+use Rattle.ring_machine.specs.declared.machine.Machine.{Machine}
+use Rattle.ring_machine.specs.Places.{out_of, in_of, peer_of, signal_of, mark_of, free, cell_of}
+use Rattle.ring_machine.specs.Loops.{is_given_at}
 use Rattle.ring_model.specs.Ring.{ring_in}
 
 -- An arm looks for packets, then for room, then for the peer's mark. A look that found nothing is in force until a later one finds something, or

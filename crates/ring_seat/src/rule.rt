@@ -20,7 +20,7 @@ pub(crate) type Board = Shared<(), View, u32, ChannelRule>;
 
 /// The state from which a step is made. A call at `Brand` picks it.
 pub trait Intent {
-    ghost use Rattle.ring_core.specs.declared.state.EndState.{EndState};
+    ghost use Rattle.ring_machine.specs.declared.state.EndState.{EndState};
 
     ghost base: { EndState };
 }

@@ -1,6 +1,6 @@
 //! Sleeping until the peer raises the signal.
 ghost use Rattle.std.specs.Prelude.{◌≡◌, true, false, not};
-ghost use Rattle.ring_core.specs.declared.machine.Stage.TheVariants.{Idle};
+ghost use Rattle.ring_machine.specs.declared.machine.Stage.TheVariants.{Idle};
 ghost use Rattle.ring_seat.specs.Sleeping.{Sleeps};
 
 use crate::table_seat::TableSeat;
@@ -15,7 +15,7 @@ const SPINS: u32 = 64;
 pub trait Sleeper {
     ghost use Rattle.std.specs.Prelude.{◌≡◌, true, false};
     ghost use Rattle.ring_core.specs.Seen.{Seen};
-    ghost use Rattle.ring_core.specs.declared.machine.Stage.TheVariants.{Idle};
+    ghost use Rattle.ring_machine.specs.declared.machine.Stage.TheVariants.{Idle};
     ghost use Rattle.ring_seat.specs.Sleeping.{Sleeps};
     ghost use Rattle.ring_seat.specs.declared.table_seat.TableSeat.{TableSeat};
 

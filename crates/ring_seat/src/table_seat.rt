@@ -1,10 +1,10 @@
 //! A seat at the table of a channel's words.
 ghost use Rattle.std.specs.Prelude.{◌≡◌, ◌≢◌, ℕ, ◌+◌, ◌<◌, ◌≤◌, true, [], Some, None};
 ghost use Rattle.std.specs.Arc.{arc_value};
-ghost use Rattle.ring_core.specs.Places.{words_of, signal_of};
-ghost use Rattle.ring_core.specs.Steps.{is_busy_at, fed};
-ghost use Rattle.ring_core.specs.States.{after, entered, Continues};
-ghost use Rattle.ring_core.specs.declared.machine.Stage.TheVariants.{Stopped};
+ghost use Rattle.ring_machine.specs.Places.{words_of, signal_of};
+ghost use Rattle.ring_machine.specs.Steps.{is_busy_at, fed};
+ghost use Rattle.ring_machine.specs.States.{after, entered, Continues};
+ghost use Rattle.ring_machine.specs.declared.machine.Stage.TheVariants.{Stopped};
 ghost use Rattle.ring_seat.specs.Seats.{state_in, is_one, Tells};
 ghost use Rattle.ring_seat.specs.declared.view.View.TheVariants.{One};
 

@@ -1,6 +1,6 @@
 //! Both ends of a channel, on one thread and on two.
 ghost use Rattle.std.specs.Prelude.{◌≡◌, IfOk, true, false};
-ghost use Rattle.ring_core.specs.declared.machine.Stage.TheVariants.{Idle};
+ghost use Rattle.ring_machine.specs.declared.machine.Stage.TheVariants.{Idle};
 ghost use Rattle.ring_seat.specs.Settling.{AreOfOneChannel, IsSameEnd};
 
 use crate::{ChannelMem, GuestEnd, HostEnd, Settled, Sleeper, TableSeat, finish};

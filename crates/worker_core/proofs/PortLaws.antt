@@ -2,13 +2,13 @@
 use Rattle.std.proofs.Common.{◌≡◌, ◌≤◌, ◌+◌, ℕ, zero, suc, List, [], ◌∷◌, ◌++◌, length, Some, Bool, true, false, refl, sym, ap, ◌∙◌, subst, arith, length-append}
 use Rattle.std.specs.Prelude.{slice_get, not}
 use Rattle.chan_run.specs.Runs.{got_of, has_marked}
-use Rattle.ring_core.specs.declared.last.Armed.{Armed}
-use Rattle.ring_core.specs.declared.last.Armed.TheVariants.{Asleep, Work}
-use Rattle.ring_core.specs.declared.machine.Ending.{Ending}
-use Rattle.ring_core.specs.declared.machine.Ending.TheVariants.{FellAsleep, FoundWork, NoSignal, Woke}
-use Rattle.ring_core.specs.Endings.{is_asleep, is_dozed}
+use Rattle.ring_machine.specs.declared.last.Armed.{Armed}
+use Rattle.ring_machine.specs.declared.last.Armed.TheVariants.{Asleep, Work}
+use Rattle.ring_machine.specs.declared.machine.Ending.{Ending}
+use Rattle.ring_machine.specs.declared.machine.Ending.TheVariants.{FellAsleep, FoundWork, NoSignal, Woke}
+use Rattle.ring_machine.specs.Endings.{is_asleep, is_dozed}
 use Rattle.ring_core.specs.Seen.{Seen}
-use Rattle.ring_core.specs.Steps.{call_by}
+use Rattle.ring_machine.specs.Steps.{call_by}
 use Rattle.ring_seat.specs.declared.table_seat.TableSeat.{TableSeat}
 use Rattle.ring_seat.specs.Sleeping.{Sleeps}
 use Rattle.worker_core.specs.Line.{IsLine, armed_by, look_of, polled_by}

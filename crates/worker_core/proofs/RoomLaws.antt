@@ -6,7 +6,7 @@ use Rattle.chan_run.specs.declared.event.Event.{Event}
 use Rattle.chan_run.specs.declared.event.Event.TheVariants.{Sent, Marked as EventMarked}
 use Rattle.chan_run.specs.Runs.{IsFront, sent_of, got_of, guest_of}
 use Rattle.ring_core.specs.Seen.{Seen}
-use Rattle.ring_core.specs.Taking.{refused}
+use Rattle.ring_machine.specs.Endings.{refused}
 use Rattle.ring_core.specs.declared.room.Room.{Room}
 use Rattle.ring_seat.specs.declared.table_seat.TableSeat.{TableSeat}
 use Rattle.work_model.specs.Speech.{Speech}

@@ -2,9 +2,9 @@
 use Rattle.std.specs.Prelude.{ℕ, ◌≡◌, ◌+◌, ◌⊎◌, true, false, List, ◌∷◌}
 use Rattle.chan_run.specs.declared.event.Event.{Event}
 use Rattle.chan_run.specs.declared.event.Event.TheVariants.{Sent, Got, Empty, Saw}
-use Rattle.ring_core.specs.declared.machine.Ending.{Ending}
-use Rattle.ring_core.specs.declared.machine.Ending.TheVariants.{FellAsleep as ArmFellAsleep, FoundWork as ArmFoundWork, NoSignal, Woke}
-use Rattle.ring_core.specs.Endings.{is_dozed}
+use Rattle.ring_machine.specs.declared.machine.Ending.{Ending}
+use Rattle.ring_machine.specs.declared.machine.Ending.TheVariants.{FellAsleep as ArmFellAsleep, FoundWork as ArmFoundWork, NoSignal, Woke}
+use Rattle.ring_machine.specs.Endings.{is_dozed}
 use Rattle.ring_core.specs.Seen.{Seen}
 use Rattle.ring_seat.specs.declared.table_seat.TableSeat.{TableSeat}
 use Rattle.worker_core.specs.Line.{PolledOnce}

@@ -3,16 +3,16 @@ use Rattle.std.specs.Prelude.{ℕ, ◌≡◌, ◌<◌, ◌≤◌, ◌⊎◌, Boo
 use Rattle.chan_run.specs.declared.event.Event.{Event}
 use Rattle.chan_run.specs.declared.event.Event.TheVariants.{Got, Empty, Saw}
 use Rattle.chan_run.specs.Runs.{got_of, has_marked}
-use Rattle.ring_core.specs.declared.machine.Stage.TheVariants.{Idle}
-use Rattle.ring_core.specs.declared.last.Armed.{Armed}
-use Rattle.ring_core.specs.declared.last.Armed.TheVariants.{Asleep, Work as ArmedWork}
-use Rattle.ring_core.specs.declared.machine.Ending.{Ending}
-use Rattle.ring_core.specs.declared.machine.Ending.TheVariants.{FellAsleep, FoundWork, NoSignal, Woke}
-use Rattle.ring_core.specs.declared.state.EndState.{EndState}
-use Rattle.ring_core.specs.Endings.{want_of}
+use Rattle.ring_machine.specs.declared.machine.Stage.TheVariants.{Idle}
+use Rattle.ring_machine.specs.declared.last.Armed.{Armed}
+use Rattle.ring_machine.specs.declared.last.Armed.TheVariants.{Asleep, Work as ArmedWork}
+use Rattle.ring_machine.specs.declared.machine.Ending.{Ending}
+use Rattle.ring_machine.specs.declared.machine.Ending.TheVariants.{FellAsleep, FoundWork, NoSignal, Woke}
+use Rattle.ring_machine.specs.declared.state.EndState.{EndState}
+use Rattle.ring_machine.specs.Endings.{want_of}
 use Rattle.ring_core.specs.Seen.{Seen}
-use Rattle.ring_core.specs.States.{IsPacket, entered}
-use Rattle.ring_core.specs.Steps.{arm_begun, poll_begun}
+use Rattle.ring_machine.specs.States.{IsPacket, entered}
+use Rattle.ring_machine.specs.Steps.{arm_begun, poll_begun}
 use Rattle.ring_core.specs.Told.{Ran}
 use Rattle.ring_seat.specs.Seats.{state_in}
 use Rattle.ring_seat.specs.Settling.{IsSameEnd}

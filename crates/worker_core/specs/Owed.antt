@@ -1,6 +1,6 @@
 -- What is owed.
 use Rattle.std.specs.Prelude.{ℕ, ◌≡◌, ◌<◌, ◌≤◌, ◌+◌, ◌*◌, ◌⊎◌, Bool, true, false, List, [], ◌∷◌, length, take, Option, Some, None}
-use Rattle.ring_core.specs.States.{IsPacket}
+use Rattle.ring_machine.specs.States.{IsPacket}
 use Rattle.ring_core.specs.Seen.{Seen}
 use Rattle.ring_seat.specs.declared.table_seat.TableSeat.{TableSeat}
 use Rattle.work_model.specs.Speech.{Speech}

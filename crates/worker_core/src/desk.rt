@@ -1,6 +1,6 @@
 //! Where the serving end serves one packet after another.
 ghost use Rattle.std.specs.Prelude.{◌≡◌, ◌<◌, ◌≤◌, [], ◌∷◌, drop, length, Some, None, true, false, IfOk, map, ◌&&◌, ◌==◌, ℕ, suc};
-ghost use Rattle.ring_core.specs.States.{IsPacket};
+ghost use Rattle.ring_machine.specs.States.{IsPacket};
 ghost use Rattle.worker_core.specs.Owed.{is_nil, need_of, IsNeed};
 ghost use Rattle.worker_core.specs.Serving.{ServesPacket, has_served};
 

@@ -1,6 +1,6 @@
 //! What the serving end owes for one packet.
 ghost use Rattle.std.specs.Prelude.{◌≡◌, ◌≤◌, [], ◌∷◌, MatchOption, drop, length, IfOk, true, false};
-ghost use Rattle.ring_core.specs.States.{IsPacket};
+ghost use Rattle.ring_machine.specs.States.{IsPacket};
 ghost use Rattle.worker_core.specs.Owed.{is_nil, FitsReply};
 
 use crate::sheet::Sheet;

@@ -2,7 +2,7 @@
 ghost use Rattle.std.specs.Prelude.{◌≡◌, ◌<◌, ◌≤◌, ◌+◌, ◌*◌, ◌++◌, [], ◌∷◌, ℕ, List, true, false, not, length, slice_get, Some, OnOk, MatchOption, if◌then◌else◌};
 ghost use Rattle.chan_run.specs.declared.event.Event.TheVariants.{Sent, Marked};
 ghost use Rattle.chan_run.specs.Runs.{got_of, has_marked};
-ghost use Rattle.ring_core.specs.States.{IsPacket};
+ghost use Rattle.ring_machine.specs.States.{IsPacket};
 ghost use Rattle.ring_seat.specs.Seats.{new_end};
 ghost use Rattle.worker_core.specs.Owed.{IsNeed};
 ghost use Rattle.worker_core.specs.Rooms.{GotInto, SentInto};

@@ -1,6 +1,6 @@
 //! An answer, and the request that it closes.
 ghost use Rattle.std.specs.Prelude.{◌≡◌, ◌+◌, ◌≤◌, ◌<◌, ◌++◌, ◌==◌, ℕ, length, count_by, is_some, vec_len, vec_capacity, Some, None, if◌then◌else◌};
-ghost use Rattle.ring_core.specs.States.{IsPacket};
+ghost use Rattle.ring_machine.specs.States.{IsPacket};
 ghost use Rattle.txn_table.specs.Open.{request_of};
 ghost use Rattle.worker_core.specs.Asking.{answer_of, asked_in};
 

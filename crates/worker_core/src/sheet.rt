@@ -1,7 +1,7 @@
 //! A sheet on which a packet is written.
 ghost use Rattle.std.specs.Prelude.{◌≡◌, ◌<◌, ◌≤◌, ◌+◌, ◌*◌, [], ℕ, length, slice_get, Some, IfOk, true, ◌⊎◌};
 ghost use Rattle.chan_talk.specs.Listed.{listed_packet};
-ghost use Rattle.ring_core.specs.States.{IsPacket};
+ghost use Rattle.ring_machine.specs.States.{IsPacket};
 ghost use Rattle.worker_core.specs.Owed.{is_nil, FitsReply};
 
 use chan_talk::Talk;

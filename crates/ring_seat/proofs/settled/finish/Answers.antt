@@ -1,6 +1,6 @@
 use Rattle.std.proofs.Common.{List, ℕ, refl, sym, ap, ◌∙◌, subst}
 use Rattle.chan_run.specs.Runs.{IsFront}
-use Rattle.ring_core.specs.declared.state.EndState.{EndState}
+use Rattle.ring_machine.specs.declared.state.EndState.{EndState}
 use Rattle.ring_seat.specs.Seats.{state_in}
 use Rattle.ring_seat.specs.Settling.{AreSettled}
 use Rattle.ring_seat.proofs.settled.finish.Goals as goal

@@ -1,7 +1,7 @@
 use Rattle.std.proofs.Common.{◌≡◌, ◌∙◌, Some, sym, ap}
-use Rattle.ring_core.specs.declared.place.Op.{Op}
-use Rattle.ring_core.specs.declared.place.Op.TheVariants.{Load, Store, Raise, TakeSignal, StoreMark}
-use Rattle.ring_core.specs.Steps.{next_of}
+use Rattle.ring_machine.specs.declared.place.Op.{Op}
+use Rattle.ring_machine.specs.declared.place.Op.TheVariants.{Load, Store, Raise, TakeSignal, StoreMark}
+use Rattle.ring_machine.specs.Steps.{next_of}
 use Rattle.ring_seat.proofs.Allowed.{asks, word_small}
 use Rattle.ring_seat.proofs.table_seat.perform_as.Goals as goal
 

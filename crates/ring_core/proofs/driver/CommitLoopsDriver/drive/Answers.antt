@@ -1,9 +1,9 @@
 use Rattle.std.proofs.Common.{◌∙◌, refl, sym, ap}
-use Rattle.ring_core.specs.declared.machine.Machine.{Machine}
+use Rattle.ring_machine.specs.declared.machine.Machine.{Machine}
 use Rattle.ring_core.proofs.Driving.{going_first, going_on, going_asks, going_calls, going_leaves, going_took, going_ran, going_honest, giving_busy, feature_busy, pending_busy}
-use Rattle.ring_core.proofs.Kept.{commit_kept, commit_kept_on, giving_keeps, feature_keeps, pending_keeps}
-use Rattle.ring_core.proofs.Sound.{fed_nearer}
-use Rattle.ring_core.proofs.Tables.{fed_cells}
+use Rattle.ring_machine.proofs.Kept.{commit_kept, commit_kept_on, giving_keeps, feature_keeps, pending_keeps}
+use Rattle.ring_machine.proofs.Sound.{fed_nearer}
+use Rattle.ring_machine.proofs.Tables.{fed_cells}
 use Rattle.ring_core.proofs.driver.CommitLoopsDriver.drive.Goals as goal
 
 pub loop-parts-init : goal.loop-parts-init

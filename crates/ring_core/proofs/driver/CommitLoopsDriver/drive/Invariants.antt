@@ -1,9 +1,9 @@
 use Rattle.std.proofs.Common.{◌≡◌, List, ℕ}
-use Rattle.ring_core.specs.States.{shown}
-use Rattle.ring_core.specs.Steps.{steps_left}
-use Rattle.ring_core.specs.Loops.{CommitKeeps}
+use Rattle.ring_machine.specs.States.{shown}
+use Rattle.ring_machine.specs.Steps.{steps_left}
+use Rattle.ring_machine.specs.Loops.{CommitKeeps}
 use Rattle.ring_core.specs.declared.parts.Parts.{Parts}
-use Rattle.ring_core.specs.declared.end_core.EndCore.{EndCore}
+use Rattle.ring_machine.specs.declared.end_core.EndCore.{EndCore}
 use Rattle.ring_core.proofs.Driving.{Going}
 use Rattle.ring_core.proofs.driver.CommitLoopsDriver.drive.Given as goal
 

@@ -1,9 +1,9 @@
 use Rattle.std.proofs.Common.{◌∙◌, refl, sym, ap}
-use Rattle.ring_core.specs.declared.machine.Machine.{Machine}
+use Rattle.ring_machine.specs.declared.machine.Machine.{Machine}
 use Rattle.ring_core.proofs.Driving.{going_first, going_on, going_asks, going_calls, going_leaves, going_took, going_ran, going_honest, seeking_busy, first_busy, loading_busy}
-use Rattle.ring_core.proofs.Kept.{take_kept, take_kept_on, seeking_keeps, first_keeps, loading_keeps}
-use Rattle.ring_core.proofs.Sound.{fed_nearer}
-use Rattle.ring_core.proofs.Tables.{fed_cells}
+use Rattle.ring_machine.proofs.Kept.{take_kept, take_kept_on, seeking_keeps, first_keeps, loading_keeps}
+use Rattle.ring_machine.proofs.Sound.{fed_nearer}
+use Rattle.ring_machine.proofs.Tables.{fed_cells}
 use Rattle.ring_core.proofs.driver.TakeLoopsDriver.drive.Goals as goal
 
 pub loop-parts-init : goal.loop-parts-init

@@ -1,5 +1,5 @@
 use Rattle.std.proofs.Common.{subst, sym}
-use Rattle.ring_core.specs.Places.{peer_of}
+use Rattle.ring_machine.specs.Places.{peer_of}
 use Rattle.ring_model.specs.Pair.{end_of, handed}
 use Rattle.ring_model.specs.Results.{SendMeets}
 use Rattle.ring_model.proofs.Pairing.{send_on, lent_is, stays}

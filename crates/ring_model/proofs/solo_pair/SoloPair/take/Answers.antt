@@ -1,7 +1,7 @@
 use Rattle.std.proofs.Common.{ap, ◌∙◌, refl}
 use Rattle.ring_core.specs.Told.{Held}
 use Rattle.ring_core.specs.Seen.{Seen}
-use Rattle.ring_core.specs.Taking.{refused}
+use Rattle.ring_machine.specs.Endings.{refused}
 use Rattle.ring_model.proofs.Pairing.{take_on, take_match, handed_state, stays}
 use Rattle.ring_model.proofs.Leaving.{take_keeps}
 use Rattle.ring_model.proofs.solo_pair.SoloPair.take.Goals as goal

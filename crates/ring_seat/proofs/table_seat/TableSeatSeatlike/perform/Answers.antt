@@ -1,8 +1,8 @@
 use Rattle.std.proofs.Common.{◌≡◌, ◌∙◌, refl, sym, ap}
 use Rattle.std.specs.Arc.{arc_value}
 use Rattle.atomic_table.specs.Table.{Me}
-use Rattle.ring_core.specs.Places.{signal_of}
-use Rattle.ring_core.proofs.Tables.{fed_cells}
+use Rattle.ring_machine.specs.Places.{signal_of}
+use Rattle.ring_machine.proofs.Tables.{fed_cells}
 use Rattle.ring_model.proofs.Sides.{fed_side}
 use Rattle.ring_seat.specs.declared.view.View.{View}
 use Rattle.ring_seat.specs.Seats.{state_in, is_one}

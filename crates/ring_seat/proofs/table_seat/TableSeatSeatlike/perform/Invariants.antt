@@ -1,4 +1,4 @@
-use Rattle.ring_core.specs.States.{entered}
+use Rattle.ring_machine.specs.States.{entered}
 use Rattle.ring_seat.specs.Seats.{state_in}
 use Rattle.ring_seat.proofs.table_seat.TableSeatSeatlike.perform.Given as goal
 

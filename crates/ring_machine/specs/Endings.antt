@@ -1,29 +1,29 @@
 -- What the calls of an end answer, by the machine that they leave.
 use Rattle.std.specs.Prelude.{◌≡◌, ℕ, ◌+◌, ◌*◌, ◌/◌, ◌%◌, ◌<◌, ◌≤◌, cond, Bool, true, false, Option, Some, None, Result, Ok, Err}
-use Rattle.ring_core.specs.declared.machine.Stage.{Stage}
-use Rattle.ring_core.specs.declared.machine.Stage.TheVariants.{Idle, Stopped, PollMask, PollPending}
-use Rattle.ring_core.specs.declared.last.Mode.{Mode}
-use Rattle.ring_core.specs.declared.last.Mode.TheVariants.{Awake, Asleep as ModeAsleep, Marked as ModeMarked, Stopped as ModeStopped}
-use Rattle.ring_core.specs.declared.last.Indices.{Indices}
-use Rattle.ring_core.specs.declared.machine.Ending.{Ending}
-use Rattle.ring_core.specs.declared.machine.Ending.TheVariants.{Fresh, SentQuiet, SentRaised, Full, BadPeer, Took, Empty, BadIndex, BadLength, BadOffset, CommittedQuiet, CommittedRaised, FellAsleep, FoundWork, NoSignal, Woke, Marked, PeerMarkDown, PeerMarkUp}
-use Rattle.ring_core.specs.declared.machine.Machine.{Machine}
-use Rattle.ring_core.specs.declared.last.Signalled.{Signalled}
-use Rattle.ring_core.specs.declared.last.Signalled.TheVariants.{Raised, Quiet}
-use Rattle.ring_core.specs.declared.last.Armed.{Armed as ArmedIs}
-use Rattle.ring_core.specs.declared.last.Armed.TheVariants.{Asleep as ArmedAsleep, Work}
-use Rattle.ring_core.specs.declared.last.Bad.{Bad}
-use Rattle.ring_core.specs.declared.last.Bad.TheVariants.{Index, Length, Offset}
-use Rattle.ring_core.specs.declared.last.Why.{Why}
-use Rattle.ring_core.specs.declared.last.Why.TheVariants.{BadPeer as WhyBadPeer, Malformed}
-use Rattle.ring_core.specs.declared.last.Last.{Last}
-use Rattle.ring_core.specs.declared.last.Last.TheVariants.{Fresh as LastFresh, Sent, Full as LastFull, Took as LastTook, Empty as LastEmpty, Broke, Committed, Armed, Polled, Marked as LastMarked, PeerMark}
-use Rattle.ring_core.specs.declared.last.SendRefusal.{SendRefusal}
-use Rattle.ring_core.specs.declared.last.SendRefusal.TheVariants.{Full as SendFull, BadPeer as SendBadPeer}
-use Rattle.ring_core.specs.declared.last.TakeRefusal.{TakeRefusal}
-use Rattle.ring_core.specs.declared.last.TakeRefusal.TheVariants.{Empty as TakeEmpty, Malformed as TakeMalformed}
-use Rattle.ring_core.specs.Places.{free, used, ahead}
-use Rattle.ring_core.specs.Steps.{is_sent, is_took, is_broken}
+use Rattle.ring_machine.specs.declared.machine.Stage.{Stage}
+use Rattle.ring_machine.specs.declared.machine.Stage.TheVariants.{Idle, Stopped, PollMask, PollPending}
+use Rattle.ring_machine.specs.declared.last.Mode.{Mode}
+use Rattle.ring_machine.specs.declared.last.Mode.TheVariants.{Awake, Asleep as ModeAsleep, Marked as ModeMarked, Stopped as ModeStopped}
+use Rattle.ring_machine.specs.declared.last.Indices.{Indices}
+use Rattle.ring_machine.specs.declared.machine.Ending.{Ending}
+use Rattle.ring_machine.specs.declared.machine.Ending.TheVariants.{Fresh, SentQuiet, SentRaised, Full, BadPeer, Took, Empty, BadIndex, BadLength, BadOffset, CommittedQuiet, CommittedRaised, FellAsleep, FoundWork, NoSignal, Woke, Marked, PeerMarkDown, PeerMarkUp}
+use Rattle.ring_machine.specs.declared.machine.Machine.{Machine}
+use Rattle.ring_machine.specs.declared.last.Signalled.{Signalled}
+use Rattle.ring_machine.specs.declared.last.Signalled.TheVariants.{Raised, Quiet}
+use Rattle.ring_machine.specs.declared.last.Armed.{Armed as ArmedIs}
+use Rattle.ring_machine.specs.declared.last.Armed.TheVariants.{Asleep as ArmedAsleep, Work}
+use Rattle.ring_machine.specs.declared.last.Bad.{Bad}
+use Rattle.ring_machine.specs.declared.last.Bad.TheVariants.{Index, Length, Offset}
+use Rattle.ring_machine.specs.declared.last.Why.{Why}
+use Rattle.ring_machine.specs.declared.last.Why.TheVariants.{BadPeer as WhyBadPeer, Malformed}
+use Rattle.ring_machine.specs.declared.last.Last.{Last}
+use Rattle.ring_machine.specs.declared.last.Last.TheVariants.{Fresh as LastFresh, Sent, Full as LastFull, Took as LastTook, Empty as LastEmpty, Broke, Committed, Armed, Polled, Marked as LastMarked, PeerMark}
+use Rattle.ring_machine.specs.declared.last.SendRefusal.{SendRefusal}
+use Rattle.ring_machine.specs.declared.last.SendRefusal.TheVariants.{Full as SendFull, BadPeer as SendBadPeer}
+use Rattle.ring_machine.specs.declared.last.TakeRefusal.{TakeRefusal}
+use Rattle.ring_machine.specs.declared.last.TakeRefusal.TheVariants.{Empty as TakeEmpty, Malformed as TakeMalformed}
+use Rattle.ring_machine.specs.Places.{free, used, ahead}
+use Rattle.ring_machine.specs.Steps.{is_sent, is_took, is_broken}
 
 -- what is wrong with the packet that the machine stopped at, or with the index
 abbrev pub bad_by : Ending → Machine → Bad
@@ -132,6 +132,11 @@ send_answer _ m = Err (SendBadPeer m.value)
 abbrev pub take_refusal : Ending → Machine → TakeRefusal
 take_refusal Empty m = TakeEmpty (8 * m.read)
 take_refusal how m = TakeMalformed (bad_by how m)
+
+-- the refusal, where there is one
+abbrev pub refused : {T E : Type 0} → Result T E → Option E
+refused (Ok _) = None
+refused (Err e) = Some e
 
 abbrev pub commit_answer : Ending → Signalled
 commit_answer CommittedRaised = Raised

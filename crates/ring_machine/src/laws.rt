@@ -1,8 +1,8 @@
 //! Laws of ends: each function does nothing, and its contract is a law.
 ghost use Rattle.std.specs.Prelude.{◌≡◌, ℕ, ◌*◌, ◌<◌};
-ghost use Rattle.ring_core.specs.Inside.{IsInside, ChangesOnly};
-ghost use Rattle.ring_core.specs.Places.{free, used, ahead};
-ghost use Rattle.ring_core.specs.Steps.{next_of, call_at};
+ghost use Rattle.ring_machine.specs.Inside.{IsInside, ChangesOnly};
+ghost use Rattle.ring_machine.specs.Places.{free, used, ahead};
+ghost use Rattle.ring_machine.specs.Steps.{next_of, call_at};
 
 use crate::end_core::EndCore;
 

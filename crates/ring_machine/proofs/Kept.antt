@@ -1,12 +1,12 @@
 -- Which fields the frequent steps of a send, a take and a commit leave as they were.
 use Rattle.std.proofs.Common.{◌≡◌, ℕ, ◌+◌, ◌%◌, true, refl, ◌∙◌, leb, ltb, eqb, ◌&&◌}
-use Rattle.ring_core.specs.declared.machine.Stage.{Stage}
-use Rattle.ring_core.specs.declared.machine.Stage.TheVariants.{SendRead, SendCell, SendWrite, SendMask, TakeWrite, TakeFirst, TakeCell, CommitRead, CommitFeature, CommitPending}
-use Rattle.ring_core.specs.declared.machine.Machine.{Machine}
-use Rattle.ring_core.specs.Places.{low, is_index, cell_of, used, free, len8_of, offset8_of}
-use Rattle.ring_core.specs.Steps.{fed_at}
-use Rattle.ring_core.specs.Loops.{SendKeeps, TakeKeeps, CommitKeeps, is_storing_at, is_writing_at, is_masking_at, is_first_at, is_loading_at, is_asking_at, is_seeking_at, is_giving_at, is_feature_at, is_pending_at}
-use Rattle.ring_core.proofs.Sound.{at_cond}
+use Rattle.ring_machine.specs.declared.machine.Stage.{Stage}
+use Rattle.ring_machine.specs.declared.machine.Stage.TheVariants.{SendRead, SendCell, SendWrite, SendMask, TakeWrite, TakeFirst, TakeCell, CommitRead, CommitFeature, CommitPending}
+use Rattle.ring_machine.specs.declared.machine.Machine.{Machine}
+use Rattle.ring_machine.specs.Places.{low, is_index, cell_of, used, free, len8_of, offset8_of}
+use Rattle.ring_machine.specs.Steps.{fed_at}
+use Rattle.ring_machine.specs.Loops.{SendKeeps, TakeKeeps, CommitKeeps, is_storing_at, is_writing_at, is_masking_at, is_first_at, is_loading_at, is_asking_at, is_seeking_at, is_giving_at, is_feature_at, is_pending_at}
+use Rattle.ring_machine.proofs.Sound.{at_cond}
 
 pub send_kept : (m : Machine) → SendKeeps m m
 send_kept m = record { cells = refl; read = refl; start = refl; len = refl; want = refl; side = refl; masked = refl; asleep = refl; marked = refl; peer_marked = refl; drained = refl; saw = refl }

@@ -1,10 +1,10 @@
 //! What the answer of a step makes of the machine: one function a stage.
 ghost use Rattle.std.specs.Prelude.{◌≡◌, ℕ, ◌+◌, ◌*◌, ◌/◌, ◌%◌, ◌<◌, ◌^◌, true, false};
-ghost use Rattle.ring_core.specs.Steps.{IsSound, fed, fed_at, ends, breaks, undoes, makes_room, finds_room};
-ghost use Rattle.ring_core.specs.declared.machine.Stage.TheVariants.{SendRead, SendCell, SendWrite, SendMask, SendLook, TakeWrite, TakeFirst, TakeCell};
-ghost use Rattle.ring_core.specs.declared.machine.Stage.TheVariants.{CommitRead, CommitFeature, CommitPending, CommitWrite};
-ghost use Rattle.ring_core.specs.declared.machine.Stage.TheVariants.{ArmMask, ArmWrite, ArmRead, ArmMark, ArmUndoMask, ArmUndoPending};
-ghost use Rattle.ring_core.specs.declared.machine.Stage.TheVariants.{PollSignal, PollMask, PollPending, MarkRaise, PeerMark};
+ghost use Rattle.ring_machine.specs.Steps.{IsSound, fed, fed_at, ends, breaks, undoes, makes_room, finds_room};
+ghost use Rattle.ring_machine.specs.declared.machine.Stage.TheVariants.{SendRead, SendCell, SendWrite, SendMask, SendLook, TakeWrite, TakeFirst, TakeCell};
+ghost use Rattle.ring_machine.specs.declared.machine.Stage.TheVariants.{CommitRead, CommitFeature, CommitPending, CommitWrite};
+ghost use Rattle.ring_machine.specs.declared.machine.Stage.TheVariants.{ArmMask, ArmWrite, ArmRead, ArmMark, ArmUndoMask, ArmUndoPending};
+ghost use Rattle.ring_machine.specs.declared.machine.Stage.TheVariants.{PollSignal, PollMask, PollPending, MarkRaise, PeerMark};
 
 use crate::machine::{Ending, Machine, Stage};
 use crate::ring::{

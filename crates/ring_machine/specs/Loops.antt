@@ -1,8 +1,8 @@
 -- What the driver asks of a machine: the stages that have a loop of their own, for speed, and a machine that starts.
 use Rattle.std.specs.Prelude.{◌≡◌, Bool, true, false}
-use Rattle.ring_core.specs.declared.machine.Stage.{Stage}
-use Rattle.ring_core.specs.declared.machine.Stage.TheVariants.{SendRead, SendCell, SendWrite, SendMask, TakeWrite, TakeFirst, TakeCell, CommitRead, CommitFeature, CommitPending, CommitWrite, CommitRaise, ArmPending, ArmMask, ArmWrite, ArmRead, ArmMark, PollSignal, MarkStore, PeerMark}
-use Rattle.ring_core.specs.declared.machine.Machine.{Machine}
+use Rattle.ring_machine.specs.declared.machine.Stage.{Stage}
+use Rattle.ring_machine.specs.declared.machine.Stage.TheVariants.{SendRead, SendCell, SendWrite, SendMask, TakeWrite, TakeFirst, TakeCell, CommitRead, CommitFeature, CommitPending, CommitWrite, CommitRaise, ArmPending, ArmMask, ArmWrite, ArmRead, ArmMark, PollSignal, MarkStore, PeerMark}
+use Rattle.ring_machine.specs.declared.machine.Machine.{Machine}
 
 -- the next step stores a cell of the packet, or its trailer
 abbrev pub is_storing_at : Stage → Bool

@@ -1,13 +1,13 @@
 -- A send keeps the length of its packet.
 use Rattle.std.proofs.Common.{◌≡◌, ℕ, ◌+◌, ◌*◌, List, [], ◌∷◌, sym, subst, leb, ltb, eqb}
-use Rattle.ring_core.specs.declared.machine.Stage.{Stage}
-use Rattle.ring_core.specs.declared.machine.Stage.TheVariants.{Idle, Stopped, SendRead, SendCell, SendWrite, SendMask, SendLook, SendRaise}
-use Rattle.ring_core.specs.declared.machine.Machine.{Machine}
-use Rattle.ring_core.specs.declared.state.EndState.{EndState}
-use Rattle.ring_core.specs.Places.{low, is_index, cell_of, free}
-use Rattle.ring_core.specs.Steps.{fed_at}
-use Rattle.ring_core.specs.States.{afters}
-use Rattle.ring_core.proofs.Sound.{at_cond}
+use Rattle.ring_machine.specs.declared.machine.Stage.{Stage}
+use Rattle.ring_machine.specs.declared.machine.Stage.TheVariants.{Idle, Stopped, SendRead, SendCell, SendWrite, SendMask, SendLook, SendRaise}
+use Rattle.ring_machine.specs.declared.machine.Machine.{Machine}
+use Rattle.ring_machine.specs.declared.state.EndState.{EndState}
+use Rattle.ring_machine.specs.Places.{low, is_index, cell_of, free}
+use Rattle.ring_machine.specs.Steps.{fed_at}
+use Rattle.ring_machine.specs.States.{afters}
+use Rattle.ring_machine.proofs.Sound.{at_cond}
 
 -- a send under way, or one that has ended, is of n words
 abbrev Sends : ℕ → Stage → ℕ → Type 0

@@ -1,13 +1,13 @@
 -- A step keeps a machine sound, brings its call nearer to its end, and is counted.
 use Rattle.std.proofs.Common.{◌≡◌, ℕ, ◌+◌, ◌-◌, ◌*◌, ◌/◌, ◌%◌, ◌^◌, ◌<◌, ◌≤◌, Bool, true, false, ◌&&◌, cond, leb, ltb, eqb, refl, sym, ap, ◌∙◌, subst, arith}
 use Rattle.std.proofs.lemmas.Bool.Decides.{nat_tests}
-use Rattle.ring_core.specs.declared.machine.Stage.{Stage}
-use Rattle.ring_core.specs.declared.machine.Stage.TheVariants.{Idle, Stopped, SendRead, SendCell, SendWrite, SendMask, SendLook, SendRaise, TakeWrite, TakeFirst, TakeCell, CommitRead, CommitFeature, CommitPending, CommitWrite, CommitRaise, ArmPending, ArmMask, ArmWrite, ArmRead, ArmMark, ArmUndoMask, ArmUndoPending, PollSignal, PollMask, PollPending, MarkStore, MarkRaise, PeerMark}
-use Rattle.ring_core.specs.declared.machine.Ending.{Ending}
-use Rattle.ring_core.specs.declared.machine.Ending.TheVariants.{SentQuiet, SentRaised, BadPeer, BadIndex, BadLength, BadOffset, CommittedQuiet, CommittedRaised, PeerMarkDown}
-use Rattle.ring_core.specs.declared.machine.Machine.{Machine}
-use Rattle.ring_core.specs.Places.{ahead, used, free, low, is_index, cell_of, len8_of, offset8_of}
-use Rattle.ring_core.specs.Steps.{IsSound, fed, fed_at, ends, breaks, left_at, steps_left, made_at, is_busy_at, is_arming_at, is_looking_at, is_broken, sleeps_at, makes_room, finds_room, send_begun, take_begun, commit_begun, arm_begun, poll_begun, mark_begun, peer_mark_begun}
+use Rattle.ring_machine.specs.declared.machine.Stage.{Stage}
+use Rattle.ring_machine.specs.declared.machine.Stage.TheVariants.{Idle, Stopped, SendRead, SendCell, SendWrite, SendMask, SendLook, SendRaise, TakeWrite, TakeFirst, TakeCell, CommitRead, CommitFeature, CommitPending, CommitWrite, CommitRaise, ArmPending, ArmMask, ArmWrite, ArmRead, ArmMark, ArmUndoMask, ArmUndoPending, PollSignal, PollMask, PollPending, MarkStore, MarkRaise, PeerMark}
+use Rattle.ring_machine.specs.declared.machine.Ending.{Ending}
+use Rattle.ring_machine.specs.declared.machine.Ending.TheVariants.{SentQuiet, SentRaised, BadPeer, BadIndex, BadLength, BadOffset, CommittedQuiet, CommittedRaised, PeerMarkDown}
+use Rattle.ring_machine.specs.declared.machine.Machine.{Machine}
+use Rattle.ring_machine.specs.Places.{ahead, used, free, low, is_index, cell_of, len8_of, offset8_of}
+use Rattle.ring_machine.specs.Steps.{IsSound, fed, fed_at, ends, breaks, left_at, steps_left, made_at, is_busy_at, is_arming_at, is_looking_at, is_broken, sleeps_at, makes_room, finds_room, send_begun, take_begun, commit_begun, arm_begun, poll_begun, mark_begun, peer_mark_begun}
 
 pub at_cond : {A : Type 0} (P : A → Type 0) (b : Bool) (x y : A) → (b ≡ true → P x) → (b ≡ false → P y) → P (cond b x y)
 at_cond P true x y t f = t refl

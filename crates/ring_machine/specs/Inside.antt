@@ -1,11 +1,11 @@
 -- Steps inside a channel, and the calls that store to a place.
 use Rattle.std.specs.Prelude.{◌≡◌, ◌⊎◌, ℕ, Option, Some, None}
 use Rattle.io_edge.specs.declared.side.Side.{Side}
-use Rattle.ring_core.specs.declared.place.Place.{Place}
-use Rattle.ring_core.specs.declared.place.Place.TheVariants.{Write, Read, Mask, Pending, Feature, Cell, Signal, Mark}
-use Rattle.ring_core.specs.declared.place.Op.{Op}
-use Rattle.ring_core.specs.declared.place.Op.TheVariants.{Load, Store, Raise, TakeSignal, StoreMark}
-use Rattle.ring_core.specs.Places.{IsPlaceOf, out_of, in_of, peer_of}
+use Rattle.ring_machine.specs.declared.place.Place.{Place}
+use Rattle.ring_machine.specs.declared.place.Place.TheVariants.{Write, Read, Mask, Pending, Feature, Cell, Signal, Mark}
+use Rattle.ring_machine.specs.declared.place.Op.{Op}
+use Rattle.ring_machine.specs.declared.place.Op.TheVariants.{Load, Store, Raise, TakeSignal, StoreMark}
+use Rattle.ring_machine.specs.Places.{IsPlaceOf, out_of, in_of, peer_of}
 
 -- a step on a place of a channel whose rings have n cells
 abbrev pub IsOpOf : ℕ → Op → Type 0

@@ -5,18 +5,18 @@ use Rattle.std.proofs.Math.Seq.{take-suc-set}
 use Rattle.std.proofs.lemmas.Bool.Decides.{nat_tests}
 use Rattle.chan_run.specs.declared.event.Event.{Event}
 use Rattle.chan_run.specs.declared.event.Event.TheVariants.{Sent as SentEvent, Got as GotEvent, Marked as MarkedEvent, Saw as SawEvent}
-use Rattle.ring_core.specs.declared.machine.Stage.{Stage}
-use Rattle.ring_core.specs.declared.machine.Stage.TheVariants.{Idle, Stopped, SendRead, SendCell, SendWrite, SendMask, SendLook, SendRaise, TakeWrite, TakeFirst, TakeCell, CommitRead, CommitFeature, CommitPending, CommitWrite, CommitRaise, ArmPending, ArmMask, ArmWrite, ArmRead, ArmMark, ArmUndoMask, ArmUndoPending, PollSignal, PollMask, PollPending, MarkStore, MarkRaise, PeerMark}
-use Rattle.ring_core.specs.declared.machine.Ending.{Ending}
-use Rattle.ring_core.specs.declared.machine.Ending.TheVariants.{Took}
-use Rattle.ring_core.specs.declared.machine.Machine.{Machine}
-use Rattle.ring_core.specs.declared.place.Op.{Op}
-use Rattle.ring_core.specs.Places.{ahead, used, free, low, is_index, cell_of, len8_of, offset8_of}
-use Rattle.ring_core.specs.Steps.{IsSound, fed_at, next_at, ends, is_busy_at, is_copying_at, is_sent, is_took, call_at, call_by, makes_room, finds_room}
-use Rattle.ring_core.specs.Loops.{is_unseen_at, is_polling_at, is_given_at}
-use Rattle.ring_core.specs.States.{copied_at, copied_after, sent_after, sent_while, got_after, past_after, past_while, past_by, sent_by, got_by, stored}
-use Rattle.ring_core.specs.Endings.{is_committed, is_dozed, is_marked}
-use Rattle.ring_core.proofs.Sound.{at_cond, at_both, and_left, and_right, no_true}
+use Rattle.ring_machine.specs.declared.machine.Stage.{Stage}
+use Rattle.ring_machine.specs.declared.machine.Stage.TheVariants.{Idle, Stopped, SendRead, SendCell, SendWrite, SendMask, SendLook, SendRaise, TakeWrite, TakeFirst, TakeCell, CommitRead, CommitFeature, CommitPending, CommitWrite, CommitRaise, ArmPending, ArmMask, ArmWrite, ArmRead, ArmMark, ArmUndoMask, ArmUndoPending, PollSignal, PollMask, PollPending, MarkStore, MarkRaise, PeerMark}
+use Rattle.ring_machine.specs.declared.machine.Ending.{Ending}
+use Rattle.ring_machine.specs.declared.machine.Ending.TheVariants.{Took}
+use Rattle.ring_machine.specs.declared.machine.Machine.{Machine}
+use Rattle.ring_machine.specs.declared.place.Op.{Op}
+use Rattle.ring_machine.specs.Places.{ahead, used, free, low, is_index, cell_of, len8_of, offset8_of}
+use Rattle.ring_machine.specs.Steps.{IsSound, fed_at, next_at, ends, is_busy_at, is_copying_at, is_sent, is_took, call_at, call_by, makes_room, finds_room}
+use Rattle.ring_machine.specs.Loops.{is_unseen_at, is_polling_at, is_given_at}
+use Rattle.ring_machine.specs.States.{copied_at, copied_after, sent_after, sent_while, got_after, past_after, past_while, past_by, sent_by, got_by, stored}
+use Rattle.ring_machine.specs.Endings.{is_committed, is_dozed, is_marked}
+use Rattle.ring_machine.proofs.Sound.{at_cond, at_both, and_left, and_right, no_true}
 
 -- a step that isn't a load of a take leaves no take's loop
 none_copied : (m : Machine) (v : ℕ) (buf : List ℕ) (st : Stage) → m.stage ≡ st → is_copying_at st ≡ false → [] ≡ copied_at (fed_at st m v).stage (take (fed_at st m v).done buf)

@@ -1,7 +1,7 @@
 //! The step that a machine names.
 ghost use Rattle.std.specs.Prelude.{◌≡◌, ℕ, Some};
-ghost use Rattle.ring_core.specs.Steps.{IsSound, next_at, next_of};
-ghost use Rattle.ring_core.specs.declared.machine.Stage.TheVariants.{SendCell, SendWrite, TakeCell};
+ghost use Rattle.ring_machine.specs.Steps.{IsSound, next_at, next_of};
+ghost use Rattle.ring_machine.specs.declared.machine.Stage.TheVariants.{SendCell, SendWrite, TakeCell};
 
 use crate::machine::{Machine, Stage};
 use crate::place::{Op, Place};

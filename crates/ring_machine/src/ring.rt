@@ -1,8 +1,8 @@
 //! The arithmetic round a ring, and where a channel's places stand in the list of its words.
 ghost use Rattle.std.specs.Prelude.{◌≡◌, ℕ, ◌+◌, ◌*◌, ◌<◌, ◌≤◌, ◌^◌};
-ghost use Rattle.ring_core.specs.Places.{IsRingSize, IsIndex, out_of, in_of, peer_of, base_of, signal_of, mark_of, index_of};
-ghost use Rattle.ring_core.specs.Places.{ahead, used, free, gone, low, is_index, cell_of, len8_of, offset8_of};
-ghost use Rattle.ring_core.specs.Places.{raises_on_write, raises_for_room, raises_on_commit};
+ghost use Rattle.ring_machine.specs.Places.{IsRingSize, IsIndex, out_of, in_of, peer_of, base_of, signal_of, mark_of, index_of};
+ghost use Rattle.ring_machine.specs.Places.{ahead, used, free, gone, low, is_index, cell_of, len8_of, offset8_of};
+ghost use Rattle.ring_machine.specs.Places.{raises_on_write, raises_for_room, raises_on_commit};
 
 use crate::place::{Place, Ring, Side};
 

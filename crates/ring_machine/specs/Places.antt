@@ -2,10 +2,10 @@
 use Rattle.std.specs.Prelude.{◌≡◌, ℕ, ◌+◌, ◌-◌, ◌*◌, ◌/◌, ◌%◌, ◌^◌, ◌<◌, ◌≤◌, Bool, ◌==◌, ◌&&◌, cond, leb, ltb}
 use Rattle.io_edge.specs.declared.side.Side.{Side}
 use Rattle.io_edge.specs.declared.side.Side.TheVariants.{Guest, Host}
-use Rattle.ring_core.specs.declared.place.Ring.{Ring}
-use Rattle.ring_core.specs.declared.place.Ring.TheVariants.{ToHost, ToGuest}
-use Rattle.ring_core.specs.declared.place.Place.{Place}
-use Rattle.ring_core.specs.declared.place.Place.TheVariants.{Write, Read, Mask, Pending, Feature, Cell, Signal, Mark}
+use Rattle.ring_machine.specs.declared.place.Ring.{Ring}
+use Rattle.ring_machine.specs.declared.place.Ring.TheVariants.{ToHost, ToGuest}
+use Rattle.ring_machine.specs.declared.place.Place.{Place}
+use Rattle.ring_machine.specs.declared.place.Place.TheVariants.{Write, Read, Mask, Pending, Feature, Cell, Signal, Mark}
 
 -- a ring has 1 to 16 pages of data
 pub record IsRingSize (d : ℕ) : Type 0 where

@@ -1,12 +1,12 @@
 //! One end as a pure machine: it names its next step, and is fed what the step gave.
 ghost use Rattle.std.specs.Prelude.{◌≡◌, ◌≢◌, ℕ, ◌+◌, ◌/◌, ◌<◌, ◌≤◌, true, false, cond, Some, None};
-ghost use Rattle.ring_core.specs.Places.{IsRingSize};
-ghost use Rattle.ring_core.specs.Steps.{IsSound, machine_new, is_busy_at, is_copying_at, is_took, next_of, fed};
-ghost use Rattle.ring_core.specs.Steps.{send_begun, take_begun, commit_begun, arm_begun, poll_begun, mark_begun, peer_mark_begun};
-ghost use Rattle.ring_core.specs.Loops.{is_storing_at, is_writing_at, is_masking_at, is_first_at, is_loading_at, is_asking_at, is_seeking_at, is_giving_at, is_feature_at, is_pending_at};
-ghost use Rattle.ring_core.specs.Endings.{last_of, why_of, mode_of, indices_of, want_of, IsWant, free_bytes, need_bytes, bad_by, send_answer, take_refusal, commit_answer, is_asleep, peer_mark_answer};
-ghost use Rattle.ring_core.specs.declared.machine.Stage.TheVariants.{Idle, Stopped};
-ghost use Rattle.ring_core.specs.Taking.{refused};
+ghost use Rattle.ring_machine.specs.Places.{IsRingSize};
+ghost use Rattle.ring_machine.specs.Steps.{IsSound, machine_new, is_busy_at, is_copying_at, is_took, next_of, fed};
+ghost use Rattle.ring_machine.specs.Steps.{send_begun, take_begun, commit_begun, arm_begun, poll_begun, mark_begun, peer_mark_begun};
+ghost use Rattle.ring_machine.specs.Loops.{is_storing_at, is_writing_at, is_masking_at, is_first_at, is_loading_at, is_asking_at, is_seeking_at, is_giving_at, is_feature_at, is_pending_at};
+ghost use Rattle.ring_machine.specs.Endings.{last_of, why_of, mode_of, indices_of, want_of, IsWant, free_bytes, need_bytes, bad_by, send_answer, take_refusal, commit_answer, is_asleep, peer_mark_answer};
+ghost use Rattle.ring_machine.specs.declared.machine.Stage.TheVariants.{Idle, Stopped};
+ghost use Rattle.ring_machine.specs.Endings.{refused};
 
 use crate::fed::feed_machine;
 use crate::last::{Armed, Bad, Indices, Last, Mode, SendRefusal, Signalled, TakeRefusal, Why};
@@ -273,8 +273,8 @@ impl EndCore {
         }
     }
 
-    // What the end refused.
-    pub(crate) fn why(&self) -> Why
+    /// What the end refused.
+    pub fn why(&self) -> Why
         ensures { result ≡ why_of self.now.machine }
     {
         match self.machine.ended {
@@ -299,7 +299,7 @@ impl EndCore {
 
     /// The next step loads a word of a packet.
     #[inline(always)]
-    pub(crate) fn is_copying(&self) -> bool
+    pub fn is_copying(&self) -> bool
         ensures { result ≡ is_copying_at self.now.machine.stage }
     {
         match self.machine.stage {
@@ -309,9 +309,9 @@ impl EndCore {
         }
     }
 
-    // A send loads read next.
+    /// A send loads read next.
     #[inline(always)]
-    pub(crate) fn is_asking(&self) -> bool
+    pub fn is_asking(&self) -> bool
         ensures { result ≡ is_asking_at self.now.machine.stage }
     {
         match self.machine.stage {
@@ -320,9 +320,9 @@ impl EndCore {
         }
     }
 
-    // A take loads write next.
+    /// A take loads write next.
     #[inline(always)]
-    pub(crate) fn is_seeking(&self) -> bool
+    pub fn is_seeking(&self) -> bool
         ensures { result ≡ is_seeking_at self.now.machine.stage }
     {
         match self.machine.stage {
@@ -331,9 +331,9 @@ impl EndCore {
         }
     }
 
-    // A commit stores read next.
+    /// A commit stores read next.
     #[inline(always)]
-    pub(crate) fn is_giving(&self) -> bool
+    pub fn is_giving(&self) -> bool
         ensures { result ≡ is_giving_at self.now.machine.stage }
     {
         match self.machine.stage {
@@ -342,9 +342,9 @@ impl EndCore {
         }
     }
 
-    // A commit loads feature next.
+    /// A commit loads feature next.
     #[inline(always)]
-    pub(crate) fn is_feature(&self) -> bool
+    pub fn is_feature(&self) -> bool
         ensures { result ≡ is_feature_at self.now.machine.stage }
     {
         match self.machine.stage {
@@ -353,9 +353,9 @@ impl EndCore {
         }
     }
 
-    // A commit loads pending next.
+    /// A commit loads pending next.
     #[inline(always)]
-    pub(crate) fn is_pending(&self) -> bool
+    pub fn is_pending(&self) -> bool
         ensures { result ≡ is_pending_at self.now.machine.stage }
     {
         match self.machine.stage {
@@ -364,9 +364,9 @@ impl EndCore {
         }
     }
 
-    // A take loads the first cell of a packet next.
+    /// A take loads the first cell of a packet next.
     #[inline(always)]
-    pub(crate) fn is_first(&self) -> bool
+    pub fn is_first(&self) -> bool
         ensures { result ≡ is_first_at self.now.machine.stage }
     {
         match self.machine.stage {
@@ -375,9 +375,9 @@ impl EndCore {
         }
     }
 
-    // A take loads a further cell next.
+    /// A take loads a further cell next.
     #[inline(always)]
-    pub(crate) fn is_loading(&self) -> bool
+    pub fn is_loading(&self) -> bool
         ensures { result ≡ is_loading_at self.now.machine.stage }
     {
         match self.machine.stage {
@@ -386,9 +386,9 @@ impl EndCore {
         }
     }
 
-    // A send stores a cell next.
+    /// A send stores a cell next.
     #[inline(always)]
-    pub(crate) fn is_storing(&self) -> bool
+    pub fn is_storing(&self) -> bool
         ensures { result ≡ is_storing_at self.now.machine.stage }
     {
         match self.machine.stage {
@@ -397,9 +397,9 @@ impl EndCore {
         }
     }
 
-    // A send stores write next.
+    /// A send stores write next.
     #[inline(always)]
-    pub(crate) fn is_writing(&self) -> bool
+    pub fn is_writing(&self) -> bool
         ensures { result ≡ is_writing_at self.now.machine.stage }
     {
         match self.machine.stage {
@@ -408,9 +408,9 @@ impl EndCore {
         }
     }
 
-    // A send loads mask next.
+    /// A send loads mask next.
     #[inline(always)]
-    pub(crate) fn is_masking(&self) -> bool
+    pub fn is_masking(&self) -> bool
         ensures { result ≡ is_masking_at self.now.machine.stage }
     {
         match self.machine.stage {
@@ -421,9 +421,9 @@ impl EndCore {
 }
 
 impl EndCore {
-    // Whether the end refused before.
+    /// Whether the end refused before.
     #[inline(always)]
-    pub(crate) fn is_stopped(&self) -> bool
+    pub fn is_stopped(&self) -> bool
         ensures stopped { result ≡ true → self.now.machine.stage ≡ Stopped }
         ensures not { result ≡ false → self.now.machine.stage ≢ Stopped }
     {
@@ -433,9 +433,9 @@ impl EndCore {
         }
     }
 
-    // What a send that ended so answers: it was sent, or refused for want of room or by a read index in no form.
+    /// What a send that ended so answers: it was sent, or refused for want of room or by a read index in no form.
     #[inline(always)]
-    pub(crate) fn send_answered(&self) -> Result<Signalled, SendRefusal>
+    pub fn send_answered(&self) -> Result<Signalled, SendRefusal>
         ensures { result ≡ send_answer self.now.machine.ended self.now.machine }
     {
         match self.machine.ended {
@@ -451,9 +451,9 @@ impl EndCore {
         }
     }
 
-    // What a take that ended so answers: it took a packet, found none, or refused what it loaded.
+    /// What a take that ended so answers: it took a packet, found none, or refused what it loaded.
     #[inline(always)]
-    pub(crate) fn take_answered(&self) -> Result<(), TakeRefusal>
+    pub fn take_answered(&self) -> Result<(), TakeRefusal>
         ensures { refused result ≡ cond (is_took self.now.machine.ended) None (Some (take_refusal self.now.machine.ended self.now.machine)) }
     {
         match self.machine.ended {
@@ -465,9 +465,9 @@ impl EndCore {
         }
     }
 
-    // What a commit that ended so answers.
+    /// What a commit that ended so answers.
     #[inline(always)]
-    pub(crate) fn commit_answered(&self) -> Signalled
+    pub fn commit_answered(&self) -> Signalled
         ensures { result ≡ commit_answer self.now.machine.ended }
     {
         match self.machine.ended {
@@ -476,9 +476,9 @@ impl EndCore {
         }
     }
 
-    // What an arm answers: the end is asleep, or a look found something.
+    /// What an arm answers: the end is asleep, or a look found something.
     #[inline(always)]
-    pub(crate) fn arm_answered(&self) -> Armed
+    pub fn arm_answered(&self) -> Armed
         ensures { is_asleep result ≡ self.now.machine.asleep }
     {
         if self.machine.asleep {
@@ -488,9 +488,9 @@ impl EndCore {
         }
     }
 
-    // What a look for the peer's mark answers.
+    /// What a look for the peer's mark answers.
     #[inline(always)]
-    pub(crate) fn peer_mark_answered(&self) -> bool
+    pub fn peer_mark_answered(&self) -> bool
         ensures { result ≡ peer_mark_answer self.now.machine.ended }
     {
         match self.machine.ended {

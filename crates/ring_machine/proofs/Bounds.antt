@@ -1,13 +1,13 @@
 -- Steps stay inside the channel; bytes and cells count alike.
 use Rattle.std.proofs.Common.{◌≡◌, ℕ, ◌*◌, ◌%◌, ◌<◌, List, refl, inl, inr, arith}
 use Rattle.std.proofs.lemmas.Bool.Decides.{nat_tests}
-use Rattle.ring_core.specs.declared.machine.Stage.{Stage}
-use Rattle.ring_core.specs.declared.machine.Stage.TheVariants.{Idle, Stopped, SendRead, SendCell, SendWrite, SendMask, SendLook, SendRaise, TakeWrite, TakeFirst, TakeCell, CommitRead, CommitFeature, CommitPending, CommitWrite, CommitRaise, ArmPending, ArmMask, ArmWrite, ArmRead, ArmMark, ArmUndoMask, ArmUndoPending, PollSignal, PollMask, PollPending, MarkStore, MarkRaise, PeerMark}
-use Rattle.ring_core.specs.declared.machine.Machine.{Machine}
-use Rattle.ring_core.specs.Inside.{IsInside, ChangesOnly}
-use Rattle.ring_core.specs.Places.{free, used, ahead}
-use Rattle.ring_core.specs.Steps.{IsSound, next_at, call_at}
-use Rattle.ring_core.proofs.Sound.{ahead_below}
+use Rattle.ring_machine.specs.declared.machine.Stage.{Stage}
+use Rattle.ring_machine.specs.declared.machine.Stage.TheVariants.{Idle, Stopped, SendRead, SendCell, SendWrite, SendMask, SendLook, SendRaise, TakeWrite, TakeFirst, TakeCell, CommitRead, CommitFeature, CommitPending, CommitWrite, CommitRaise, ArmPending, ArmMask, ArmWrite, ArmRead, ArmMark, ArmUndoMask, ArmUndoPending, PollSignal, PollMask, PollPending, MarkStore, MarkRaise, PeerMark}
+use Rattle.ring_machine.specs.declared.machine.Machine.{Machine}
+use Rattle.ring_machine.specs.Inside.{IsInside, ChangesOnly}
+use Rattle.ring_machine.specs.Places.{free, used, ahead}
+use Rattle.ring_machine.specs.Steps.{IsSound, next_at, call_at}
+use Rattle.ring_machine.proofs.Sound.{ahead_below}
 
 cell_inside : (n k : ℕ) → k < n → (8 * k % 8 ≡ 0) × (8 * k < 8 * n)
 cell_inside n k h = (omega arith, omega (arith, h))

@@ -2,14 +2,14 @@
 use Rattle.std.specs.Prelude.{◌≡◌, ◌⊎◌, ℕ, ◌+◌, ◌*◌, ◌<◌, ◌≤◌, ◌==◌, cond, ltb, Bool, true, false, List, [], ◌∷◌, ◌++◌, length, slice_index, slice_set, take}
 use Rattle.chan_run.specs.declared.event.Event.{Event}
 use Rattle.chan_run.specs.declared.event.Event.TheVariants.{Sent as SentEvent, Got as GotEvent, Empty as EmptyEvent, Marked as MarkedEvent, Saw as SawEvent}
-use Rattle.ring_core.specs.declared.machine.Stage.{Stage}
-use Rattle.ring_core.specs.declared.machine.Stage.TheVariants.{Idle, SendWrite, SendMask, SendLook, SendRaise, TakeWrite, TakeFirst, TakeCell, ArmMark, ArmUndoMask, ArmUndoPending, MarkStore, MarkRaise, PeerMark}
-use Rattle.ring_core.specs.declared.machine.Ending.{Ending}
-use Rattle.ring_core.specs.declared.machine.Ending.TheVariants.{SentQuiet, SentRaised, Took, Empty, FoundWork, Marked, PeerMarkUp}
-use Rattle.ring_core.specs.declared.machine.Machine.{Machine}
-use Rattle.ring_core.specs.declared.state.EndState.{EndState}
-use Rattle.ring_core.specs.Places.{len8_of, offset8_of, is_index, cell_of}
-use Rattle.ring_core.specs.Steps.{fed, is_busy_at, is_sent, is_took, send_begun, take_begun, commit_begun, arm_begun, poll_begun, mark_begun, peer_mark_begun}
+use Rattle.ring_machine.specs.declared.machine.Stage.{Stage}
+use Rattle.ring_machine.specs.declared.machine.Stage.TheVariants.{Idle, SendWrite, SendMask, SendLook, SendRaise, TakeWrite, TakeFirst, TakeCell, ArmMark, ArmUndoMask, ArmUndoPending, MarkStore, MarkRaise, PeerMark}
+use Rattle.ring_machine.specs.declared.machine.Ending.{Ending}
+use Rattle.ring_machine.specs.declared.machine.Ending.TheVariants.{SentQuiet, SentRaised, Took, Empty, FoundWork, Marked, PeerMarkUp}
+use Rattle.ring_machine.specs.declared.machine.Machine.{Machine}
+use Rattle.ring_machine.specs.declared.state.EndState.{EndState}
+use Rattle.ring_machine.specs.Places.{len8_of, offset8_of, is_index, cell_of}
+use Rattle.ring_machine.specs.Steps.{fed, is_busy_at, is_sent, is_took, send_begun, take_begun, commit_begun, arm_begun, poll_begun, mark_begun, peer_mark_begun}
 
 -- A packet: at least two words, whose first one gives the packet's length, and an offset of its payload in it. Source: struct vmpacket_descriptor
 pub record IsPacket (p : List ℕ) : Type 0 where

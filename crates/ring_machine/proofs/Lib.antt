@@ -1,0 +1,5 @@
+pub mod Sound
+pub mod Tables
+pub mod Bounds
+pub mod Lengths
+pub mod Kept

@@ -1,0 +1,6 @@
+pub mod Places
+pub mod Steps
+pub mod States
+pub mod Loops
+pub mod Endings
+pub mod Inside

@@ -1,0 +1,25 @@
+//! One end of a channel's rings as a pure machine: it names its next word step, and is fed what the step gave.
+#![tactic(auto)]
+
+mod end_core;
+mod fed;
+mod last;
+mod laws;
+mod machine;
+mod next;
+mod place;
+mod ring;
+mod state;
+#[cfg(test)]
+mod tests;
+
+pub use end_core::EndCore;
+pub use last::{Armed, Bad, Indices, Last, Mode, SendRefusal, Signalled, TakeRefusal, Why};
+pub use laws::{counts_bytes, stays_inside, stores_by_call};
+pub use machine::{Ending, Machine, Stage};
+pub use place::{Op, Place, Ring, Side};
+pub use ring::{
+    incoming, mark_index, outgoing, peer, place_index, raise_on_commit, raise_on_write,
+    signal_index,
+};
+pub use state::EndState;
