@@ -1,7 +1,7 @@
 -- What is sent on a channel arrives, and is served.
 use Rattle.std.proofs.Common.{◌≡◌, List, length, refl, ap, sym, ◌∙◌}
 use Rattle.std.proofs.lemmas.List.{length-map}
-use Rattle.bus_script.specs.declared.line.Ask.{Ask}
+use Rattle.script_lines.specs.declared.line.Ask.{Ask}
 use Rattle.contact.specs.declared.kind.Kind.{Kind}
 use Rattle.io_edge.specs.declared.side.Side.{Side}
 use Rattle.io_edge.specs.declared.side.Side.TheVariants.{Guest, Host}

@@ -4,12 +4,12 @@ use Rattle.std.specs.Prelude.{map, filter}
 use Rattle.std.specs.List.{slice_split, onto_first}
 use Rattle.std.proofs.lemmas.List.{length-map}
 use Rattle.std.proofs.lemmas.List.Sums.{length-filter}
-use Rattle.bus_script.specs.declared.line.Line.{Line}
-use Rattle.bus_script.specs.declared.line.What.{What}
-use Rattle.bus_script.specs.declared.line.What.TheVariants.{Contact as IsContact, Offer as IsOffer, RingSize as IsRingSize, Window as IsWindow, Bad as IsBad, Ask as IsAsk, Shut as IsShut, Phase as IsPhase}
-use Rattle.bus_script.specs.declared.line.DeviceSpec.{DeviceSpec}
+use Rattle.script_lines.specs.declared.line.Line.{Line}
+use Rattle.script_lines.specs.declared.line.What.{What}
+use Rattle.script_lines.specs.declared.line.What.TheVariants.{Contact as IsContact, Offer as IsOffer, RingSize as IsRingSize, Window as IsWindow, Bad as IsBad, Ask as IsAsk, Shut as IsShut, Phase as IsPhase}
+use Rattle.script_lines.specs.declared.line.DeviceSpec.{DeviceSpec}
 use Rattle.bus_script.specs.declared.outcome.LineResult.{LineResult}
-use Rattle.bus_script.specs.Parts.{is_phase, ends_part, parts}
+use Rattle.script_lines.specs.Parts.{is_phase, ends_part, parts}
 use Rattle.bus_script.specs.Report.{prints, tells}
 use Rattle.bus_model.specs.Dests.{Dest, dest_in, dests, addresses_from}
 use Rattle.bus_model.specs.Logs.{Recorded}

@@ -14,18 +14,18 @@ use Rattle.scsi_disk.proofs.OneByteLaws.{IsOneByte, new_plain}
 use Rattle.scsi_disk.proofs.RoomLaws.{by_test}
 use Rattle.util_ic.specs.declared.ic.IcAsk.{IcAsk}
 use Rattle.util_ic.specs.declared.ic.IcAnswer.{IcAnswer}
-use Rattle.bus_script.specs.declared.line.Line.{Line}
-use Rattle.bus_script.specs.declared.line.What.{What}
-use Rattle.bus_script.specs.declared.line.What.TheVariants.{Contact as IsContact, Offer as IsOffer, Bad as IsBad, RingSize as IsRingSize, Window as IsWindow, Ask as IsAsk, Shut as IsShut, Phase as IsPhase}
-use Rattle.bus_script.specs.declared.line.Ask.{Ask}
-use Rattle.bus_script.specs.declared.line.DeviceSpec.{DeviceSpec}
-use Rattle.bus_script.specs.declared.line.DeviceSpec.TheVariants.{Beat, Down, Disk}
+use Rattle.script_lines.specs.declared.line.Line.{Line}
+use Rattle.script_lines.specs.declared.line.What.{What}
+use Rattle.script_lines.specs.declared.line.What.TheVariants.{Contact as IsContact, Offer as IsOffer, Bad as IsBad, RingSize as IsRingSize, Window as IsWindow, Ask as IsAsk, Shut as IsShut, Phase as IsPhase}
+use Rattle.script_lines.specs.declared.line.Ask.{Ask}
+use Rattle.script_lines.specs.declared.line.DeviceSpec.{DeviceSpec}
+use Rattle.script_lines.specs.declared.line.DeviceSpec.TheVariants.{Beat, Down, Disk}
 use Rattle.bus_script.specs.declared.outcome.Reply.{Reply}
 use Rattle.bus_script.specs.declared.outcome.LineResult.{LineResult}
 use Rattle.bus_script.specs.declared.outcome.LineResult.TheVariants.{Closed}
-use Rattle.bus_script.specs.Parts.{ends_part, parts, shuts, offered, bads_of}
+use Rattle.script_lines.specs.Parts.{ends_part, parts, shuts, offered, bads_of}
 use Rattle.bus_script.specs.Report.{prints, disk_runs, reply_runs, result_runs, runs_back}
-use Rattle.bus_script.proofs.Plain.{PlainAsk, PlainWhat, PlainLine, script_plain}
+use Rattle.script_lines.proofs.Plain.{PlainAsk, PlainWhat, PlainLine, script_plain}
 use Rattle.bus_model.specs.Served.{Served, done_of}
 use Rattle.bus_model.specs.Dests.{Dest, ToChannel, Known, dest_of, dest_in, dests, asked_in, asks_to, Address, At, Fixed, address_of, addresses_from}
 use Rattle.bus_model.specs.Logs.{Recorded, ic_log, disk_log, log_of, IsHistory, EachHistory}

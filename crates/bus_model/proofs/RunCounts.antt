@@ -4,8 +4,8 @@ use Rattle.std.specs.Prelude.{replicate}
 use Rattle.std.specs.List.{flat_map, range_with_len}
 use Rattle.std.proofs.lemmas.Bool.Decides.{nat_tests}
 use Rattle.scsi_disk.proofs.OneByteLaws.{IsOneByte}
-use Rattle.bus_script.specs.declared.run.Run.{Run}
-use Rattle.bus_script.specs.Runs.{run, onto_runs, runs_of}
+use Rattle.script_text.specs.declared.run.Run.{Run}
+use Rattle.script_text.specs.Runs.{run, onto_runs, runs_of}
 
 either_length : (c : Bool) (x y r : Run) (rs : List Run) → length (cond c (x ∷ rs) (y ∷ r ∷ rs)) ≤ length rs + 2
 either_length true x y r rs = omega arith

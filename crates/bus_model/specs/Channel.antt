@@ -1,6 +1,6 @@
 -- The run of one channel in one phase.
 use Rattle.std.specs.Prelude.{ℕ, ◌≡◌, List, map, None}
-use Rattle.bus_script.specs.declared.line.Ask.{Ask}
+use Rattle.script_lines.specs.declared.line.Ask.{Ask}
 use Rattle.bus_speech.specs.Wants.{startup}
 use Rattle.bus_speech.specs.declared.want.Want.{Want}
 use Rattle.bus_speech.specs.declared.want.Want.TheVariants.{Script}

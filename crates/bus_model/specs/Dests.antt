@@ -2,13 +2,13 @@
 use Rattle.std.specs.Prelude.{ℕ, ◌==◌, Bool, false, ◌&&◌, is_none, List, [], ◌∷◌, ◌++◌, length, Option, Some, None, if◌then◌else◌}
 use Rattle.std.specs.List.{flat_map, list_any}
 use Rattle.contact.specs.Versions.{versions_tried}
-use Rattle.bus_script.specs.declared.line.Line.{Line}
-use Rattle.bus_script.specs.declared.line.What.{What}
-use Rattle.bus_script.specs.declared.line.What.TheVariants.{Contact as IsContact, Offer as IsOffer, RingSize as IsRingSize, Window as IsWindow, Bad as IsBad, Ask as IsAsk, Shut as IsShut, Phase as IsPhase}
-use Rattle.bus_script.specs.declared.line.Ask.{Ask}
+use Rattle.script_lines.specs.declared.line.Line.{Line}
+use Rattle.script_lines.specs.declared.line.What.{What}
+use Rattle.script_lines.specs.declared.line.What.TheVariants.{Contact as IsContact, Offer as IsOffer, RingSize as IsRingSize, Window as IsWindow, Bad as IsBad, Ask as IsAsk, Shut as IsShut, Phase as IsPhase}
+use Rattle.script_lines.specs.declared.line.Ask.{Ask}
 use Rattle.bus_script.specs.declared.outcome.LineResult.{LineResult}
 use Rattle.bus_script.specs.declared.outcome.LineResult.TheVariants.{Version as Agreed, Closed}
-use Rattle.bus_script.specs.Parts.{shuts}
+use Rattle.script_lines.specs.Parts.{shuts}
 
 -- the outcome that an earlier phase leaves for all requests of a device: none while the device is still served
 abbrev pub ended_by : ℕ → List Line → Option LineResult

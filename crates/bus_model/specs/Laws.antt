@@ -1,9 +1,9 @@
 -- Laws of runs.
 use Rattle.std.specs.Prelude.{ℕ, ◌≡◌, ◌≤◌, ◌+◌, ◌*◌, List, length, count_by, Ok}
-use Rattle.bus_script.specs.Grammar.{script_of}
-use Rattle.bus_script.specs.WellFormed.{IsScript}
-use Rattle.bus_script.specs.declared.line.Line.{Line}
-use Rattle.bus_script.specs.declared.line.Ask.{Ask}
+use Rattle.script_lines.specs.Grammar.{script_of}
+use Rattle.script_lines.specs.WellFormed.{IsScript}
+use Rattle.script_lines.specs.declared.line.Line.{Line}
+use Rattle.script_lines.specs.declared.line.Ask.{Ask}
 use Rattle.bus_script.specs.declared.outcome.LineResult.{LineResult}
 use Rattle.bus_script.specs.Report.{prints, runs_back}
 use Rattle.contact.specs.declared.kind.Kind.{Kind}

@@ -1,13 +1,13 @@
 -- A run of the bus, phase by phase: what each channel carried, each device's history, and the outcomes of the lines.
 use Rattle.std.specs.Prelude.{ℕ, ◌≡◌, ◌+◌, ◌==◌, Bool, true, false, List, [], ◌∷◌, ◌++◌, map, filter, Option, Some, slice_get, slice_index_or}
 use Rattle.std.specs.List.{flat_map}
-use Rattle.bus_script.specs.declared.line.Line.{Line}
-use Rattle.bus_script.specs.declared.line.Ask.{Ask}
-use Rattle.bus_script.specs.declared.line.DeviceSpec.{DeviceSpec}
+use Rattle.script_lines.specs.declared.line.Line.{Line}
+use Rattle.script_lines.specs.declared.line.Ask.{Ask}
+use Rattle.script_lines.specs.declared.line.DeviceSpec.{DeviceSpec}
 use Rattle.bus_script.specs.declared.outcome.LineResult.{LineResult}
 use Rattle.bus_model.specs.Served.{Served, done_of}
 use Rattle.bus_model.specs.Channel.{IsChannelRun}
-use Rattle.bus_script.specs.Parts.{parts, offered, kind_of}
+use Rattle.script_lines.specs.Parts.{parts, offered, kind_of}
 use Rattle.bus_model.specs.Dests.{Address, At, Fixed, dests, asks_to, addresses, is_opened}
 use Rattle.bus_model.specs.Logs.{Recorded, Grows, EachHistory, log_of}
 use Rattle.bus_model.specs.declared.channel_run.ChannelRun.{ChannelRun}

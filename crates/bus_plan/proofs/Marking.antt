@@ -6,7 +6,7 @@ use Rattle.std.proofs.Math.ListN.{length-set}
 use Rattle.std.proofs.lemmas.List.{get_or-set_same, get_or-set_other, get_or-replicate, length-replicate, take_more}
 use Rattle.std.proofs.lemmas.Bool.{cases_eq}
 use Rattle.std.proofs.lemmas.Bool.Decides.{nat_tests}
-use Rattle.bus_script.specs.declared.line.Line.{Line}
+use Rattle.script_lines.specs.declared.line.Line.{Line}
 use Rattle.bus_script.specs.declared.outcome.LineResult.TheVariants.{Closed}
 use Rattle.bus_model.specs.Dests.{ended_by}
 use Rattle.bus_plan.specs.Flags.{Marks, AreMarked, IsBelow, AllBelow, closed_by}

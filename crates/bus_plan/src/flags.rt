@@ -1,7 +1,7 @@
 //! What the lines of a phase want of the devices: a flag for each.
 ghost use Rattle.std.specs.Prelude.{◌≡◌, ◌<◌, ◌||◌, ℕ, Bool, List, length, false, slice_index_or};
 ghost use Rattle.std.specs.List.{list_any};
-ghost use Rattle.bus_script.specs.Parts.{shuts};
+ghost use Rattle.script_lines.specs.Parts.{shuts};
 ghost use Rattle.bus_model.specs.Dests.{wants_open};
 ghost use Rattle.bus_plan.specs.Flags.{Marks, IsBelow, AllBelow};
 

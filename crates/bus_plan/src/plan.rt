@@ -1,6 +1,6 @@
 //! Which channel each request of a phase goes to.
 ghost use Rattle.std.specs.Prelude.{◌≡◌, ◌<◌, ◌++◌, ◌∷◌, [], ℕ, List, length, IfOk, OnOk};
-ghost use Rattle.bus_script.specs.declared.line.Line.{Line as OneLine};
+ghost use Rattle.script_lines.specs.declared.line.Line.{Line as OneLine};
 ghost use Rattle.bus_model.specs.Dests.{Dest, Address as Place, dest_in, dest_of, ended_by};
 ghost use Rattle.bus_plan.specs.Flags.{IsBelow, AllBelow, AreMarked, closed_by};
 ghost use Rattle.bus_plan.specs.Plans.{IsPlanned, IsPlan};

@@ -1,6 +1,6 @@
 //! Cutting a script into phases.
 ghost use Rattle.std.specs.Prelude.{◌≡◌, ◌≤◌, ◌∷◌, [], ℕ, length, take, drop, MatchOption, ⊤};
-ghost use Rattle.bus_script.specs.Parts.{is_phase, parts};
+ghost use Rattle.script_lines.specs.Parts.{is_phase, parts};
 
 use bus_script::{Line, What};
 

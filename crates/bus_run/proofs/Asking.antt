@@ -8,16 +8,16 @@ use Rattle.std.proofs.lemmas.Grind.{flat_map-append}
 use Rattle.std.proofs.lemmas.Option.{slice_get_within, get_or_from_slice_get}
 use Rattle.std.proofs.lemmas.Bool.Decides.{nat_tests}
 use Rattle.contact.specs.declared.kind.Kind.{Kind}
-use Rattle.bus_script.specs.declared.line.Line.{Line}
-use Rattle.bus_script.specs.declared.line.What.{What}
-use Rattle.bus_script.specs.declared.line.What.TheVariants.{Contact as IsContact, Offer as IsOffer, Bad as IsBad, RingSize as IsRingSize, Window as IsWindow, Ask as IsAsk, Shut as IsShut, Phase as IsPhase}
-use Rattle.bus_script.specs.declared.line.Ask.{Ask}
-use Rattle.bus_script.specs.declared.line.DeviceSpec.{DeviceSpec}
-use Rattle.bus_script.specs.declared.line.DeviceSpec.TheVariants.{Beat}
+use Rattle.script_lines.specs.declared.line.Line.{Line}
+use Rattle.script_lines.specs.declared.line.What.{What}
+use Rattle.script_lines.specs.declared.line.What.TheVariants.{Contact as IsContact, Offer as IsOffer, Bad as IsBad, RingSize as IsRingSize, Window as IsWindow, Ask as IsAsk, Shut as IsShut, Phase as IsPhase}
+use Rattle.script_lines.specs.declared.line.Ask.{Ask}
+use Rattle.script_lines.specs.declared.line.DeviceSpec.{DeviceSpec}
+use Rattle.script_lines.specs.declared.line.DeviceSpec.TheVariants.{Beat}
 use Rattle.bus_script.specs.declared.outcome.LineResult.{LineResult}
 use Rattle.bus_script.specs.declared.outcome.LineResult.TheVariants.{Closed}
-use Rattle.bus_script.specs.Parts.{is_ask, asks_in, kind_of, kind_asked}
-use Rattle.bus_script.specs.WellFormed.{IsRight, AllRight, CanGo, AskGoes, AllGo}
+use Rattle.script_lines.specs.Parts.{is_ask, asks_in, kind_of, kind_asked}
+use Rattle.script_lines.specs.WellFormed.{IsRight, AllRight, CanGo, AskGoes, AllGo}
 use Rattle.bus_model.specs.Dests.{Dest, ToChannel, Known, ended_by, dest_of, dest_in, dests, asked_in, asks_to, wants_open, is_opened, address_of, addresses_from}
 use Rattle.bus_plan.specs.Flags.{IsBelow, AllBelow, AreMarked, closed_by}
 use Rattle.bus_plan.specs.Plans.{LeadsBelow, AllLeadBelow, IsThere, AllThere}

@@ -6,12 +6,12 @@ use Rattle.std.proofs.lemmas.List.{take_more, drop_more, append-nil, take-append
 use Rattle.std.proofs.lemmas.List.Elements.{All-append, All-nil, All-cons}
 use Rattle.std.proofs.lemmas.Grind.{flat_map-append}
 use Rattle.std.proofs.lemmas.Bool.Decides.{nat_tests}
-use Rattle.bus_script.specs.declared.line.Line.{Line}
-use Rattle.bus_script.specs.declared.line.What.{What}
-use Rattle.bus_script.specs.declared.line.What.TheVariants.{Contact as IsContact, Offer as IsOffer, Bad as IsBad, RingSize as IsRingSize, Window as IsWindow, Ask as IsAsk, Shut as IsShut, Phase as IsPhase}
-use Rattle.bus_script.specs.declared.line.DeviceSpec.{DeviceSpec}
-use Rattle.bus_script.specs.Parts.{offered, offered_by, blocks_of, blocks_at, bads_by, bads_of}
-use Rattle.bus_script.specs.WellFormed.{IsRight, AllRight}
+use Rattle.script_lines.specs.declared.line.Line.{Line}
+use Rattle.script_lines.specs.declared.line.What.{What}
+use Rattle.script_lines.specs.declared.line.What.TheVariants.{Contact as IsContact, Offer as IsOffer, Bad as IsBad, RingSize as IsRingSize, Window as IsWindow, Ask as IsAsk, Shut as IsShut, Phase as IsPhase}
+use Rattle.script_lines.specs.declared.line.DeviceSpec.{DeviceSpec}
+use Rattle.script_lines.specs.Parts.{offered, offered_by, blocks_of, blocks_at, bads_by, bads_of}
+use Rattle.script_lines.specs.WellFormed.{IsRight, AllRight}
 use Rattle.bus_run.specs.Desk.{spec_of}
 use Rattle.bus_run.specs.Whole.{AreFresh, CanMake}
 use Rattle.bus_run.specs.declared.desk.Desk.{Desk}

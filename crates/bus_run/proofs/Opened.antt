@@ -1,10 +1,10 @@
 -- The devices of a phase whose channels are opened.
 use Rattle.std.proofs.Common.{◌≡◌, ℕ, zero, suc, ◌+◌, ◌<◌, ◌≤◌, Bool, true, false, List, [], ◌∷◌, ◌++◌, length, length-append, append_assoc, take, drop, get_or, refl, ap, sym, ◌∙◌, subst, arith, slice_set}
 use Rattle.std.proofs.Math.ListN.{length-set}
-use Rattle.bus_script.specs.declared.line.DeviceSpec.TheVariants.{Beat}
+use Rattle.script_lines.specs.declared.line.DeviceSpec.TheVariants.{Beat}
 use Rattle.std.proofs.lemmas.List.{get_or-map, take_more, take_more_set, drop_more, drop-set-lt, append-nil, take_all}
-use Rattle.bus_script.specs.Parts.{kind_of}
-use Rattle.bus_script.specs.declared.line.Ask.{Ask}
+use Rattle.script_lines.specs.Parts.{kind_of}
+use Rattle.script_lines.specs.declared.line.Ask.{Ask}
 use Rattle.end_work.specs.Plans.{AllCarried}
 use Rattle.phase_run.specs.Pairs.{Pairing, EachRuns, RunsPair}
 use Rattle.end_work.specs.Seats.{kind_at, served_at, left_at}

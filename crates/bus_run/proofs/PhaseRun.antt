@@ -5,13 +5,13 @@ use Rattle.std.specs.List.{flat_map, list_any}
 use Rattle.std.proofs.lemmas.List.{length-map}
 use Rattle.std.proofs.lemmas.List.Elements.{filter-append}
 use Rattle.std.proofs.lemmas.Bool.Decides.{nat_tests}
-use Rattle.bus_script.specs.declared.line.Line.{Line}
-use Rattle.bus_script.specs.declared.line.Ask.{Ask}
-use Rattle.bus_script.specs.declared.line.DeviceSpec.{DeviceSpec}
-use Rattle.bus_script.specs.declared.line.DeviceSpec.TheVariants.{Beat}
+use Rattle.script_lines.specs.declared.line.Line.{Line}
+use Rattle.script_lines.specs.declared.line.Ask.{Ask}
+use Rattle.script_lines.specs.declared.line.DeviceSpec.{DeviceSpec}
+use Rattle.script_lines.specs.declared.line.DeviceSpec.TheVariants.{Beat}
 use Rattle.bus_script.specs.declared.outcome.LineResult.{LineResult}
-use Rattle.bus_script.specs.Parts.{asks_in, shuts, kind_of}
-use Rattle.bus_script.specs.WellFormed.{AllRight, AllGo}
+use Rattle.script_lines.specs.Parts.{asks_in, shuts, kind_of}
+use Rattle.script_lines.specs.WellFormed.{AllRight, AllGo}
 use Rattle.end_work.specs.Plans.{AllCarried}
 use Rattle.bus_model.specs.Served.{Served, done_of}
 use Rattle.bus_model.specs.Dests.{Address, dests, asks_to, addresses, is_opened}

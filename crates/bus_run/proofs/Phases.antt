@@ -8,11 +8,11 @@ use Rattle.std.proofs.Math.ListN.{length-set}
 use Rattle.std.proofs.lemmas.List.{take_more, drop_more, take_all, append-nil, map-append, length-map, drop-set-lt, drop-drop, drop_all, length-drop, length-replicate, get_or-replicate}
 use Rattle.std.proofs.lemmas.List.Elements.{All-push}
 use Rattle.std.proofs.lemmas.Grind.{flat_map-append}
-use Rattle.bus_script.specs.declared.line.Line.{Line}
-use Rattle.bus_script.specs.declared.line.DeviceSpec.{DeviceSpec}
+use Rattle.script_lines.specs.declared.line.Line.{Line}
+use Rattle.script_lines.specs.declared.line.DeviceSpec.{DeviceSpec}
 use Rattle.bus_script.specs.declared.outcome.LineResult.{LineResult}
-use Rattle.bus_script.specs.Parts.{parts, ends_part, offered, offered_by, bads_of}
-use Rattle.bus_script.specs.WellFormed.{AllRight, AllGo}
+use Rattle.script_lines.specs.Parts.{parts, ends_part, offered, offered_by, bads_of}
+use Rattle.script_lines.specs.WellFormed.{AllRight, AllGo}
 use Rattle.bus_model.specs.Logs.{EachHistory, IsHistory, log_of}
 use Rattle.bus_model.specs.Run.{PhaseRuns, RunFrom, IsBusRun}
 use Rattle.bus_model.specs.declared.channel_run.ChannelRun.{ChannelRun}

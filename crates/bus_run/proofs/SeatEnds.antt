@@ -6,8 +6,8 @@ use Rattle.bus_model.specs.Served.{Served, done_of}
 use Rattle.bus_script.specs.declared.outcome.LineResult.{LineResult}
 use Rattle.bus_script.specs.declared.outcome.LineResult.TheVariants.{Done}
 use Rattle.bus_script.specs.declared.outcome.Reply.{Reply}
-use Rattle.bus_script.specs.declared.line.Ask.TheVariants.{Ic as AskIc, Disk as AskDisk}
-use Rattle.bus_script.specs.declared.line.DeviceSpec.TheVariants.{Disk}
+use Rattle.script_lines.specs.declared.line.Ask.TheVariants.{Ic as AskIc, Disk as AskDisk}
+use Rattle.script_lines.specs.declared.line.DeviceSpec.TheVariants.{Disk}
 use Rattle.bus_script.specs.declared.outcome.Reply.TheVariants.{Ic as ReplyIc, Disk as ReplyDisk}
 use Rattle.hist_lock.specs.Calls.{Closes}
 use Rattle.hist_lock.specs.History.{entries_of}

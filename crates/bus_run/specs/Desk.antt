@@ -6,10 +6,10 @@ use Rattle.bus_model.specs.Channel.{IsChannelRun}
 use Rattle.bus_model.specs.Logs.{Recorded, Grows, ic_log, disk_log}
 use Rattle.bus_model.specs.Run.{ChannelPhase, DevicePhase, CarriesIfOpened, outcomes_of}
 use Rattle.bus_model.specs.declared.channel_run.ChannelRun.{ChannelRun}
-use Rattle.bus_script.specs.Parts.{kind_of}
-use Rattle.bus_script.specs.declared.line.Ask.{Ask}
-use Rattle.bus_script.specs.declared.line.DeviceSpec.{DeviceSpec}
-use Rattle.bus_script.specs.declared.line.DeviceSpec.TheVariants.{Beat, Down, Disk}
+use Rattle.script_lines.specs.Parts.{kind_of}
+use Rattle.script_lines.specs.declared.line.Ask.{Ask}
+use Rattle.script_lines.specs.declared.line.DeviceSpec.{DeviceSpec}
+use Rattle.script_lines.specs.declared.line.DeviceSpec.TheVariants.{Beat, Down, Disk}
 use Rattle.bus_script.specs.declared.outcome.LineResult.{LineResult}
 use Rattle.hist_lock.specs.History.{entries_of}
 use Rattle.hist_lock.specs.Legal.{Leaves}

@@ -1,7 +1,7 @@
 -- The devices of a phase while their channels have them.
 use Rattle.std.specs.Prelude.{ℕ, ◌≡◌, ◌+◌, Bool, true, false, List, [], ◌∷◌, ◌++◌, length}
-use Rattle.bus_script.specs.Parts.{kind_of}
-use Rattle.bus_script.specs.declared.line.Ask.{Ask}
+use Rattle.script_lines.specs.Parts.{kind_of}
+use Rattle.script_lines.specs.declared.line.Ask.{Ask}
 use Rattle.hist_lock.specs.History.{entries_of}
 use Rattle.hist_lock.specs.Seat.{Seat}
 use Rattle.hist_lock.specs.declared.history.Entry.{Entry}

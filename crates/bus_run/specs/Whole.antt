@@ -1,12 +1,12 @@
 -- A phase, and the phases that are left.
 use Rattle.std.specs.Prelude.{ℕ, ◌≡◌, ◌+◌, ◌*◌, ◌<◌, ◌≤◌, List, [], ◌∷◌, ◌++◌, length, map, drop, All, Option, Some, None, slice_index_or}
-use Rattle.bus_script.specs.declared.line.Line.{Line}
-use Rattle.bus_script.specs.declared.line.What.{What}
-use Rattle.bus_script.specs.declared.line.What.TheVariants.{Contact as IsContact, Offer as IsOffer, Bad as IsBad, RingSize as IsRingSize, Window as IsWindow, Ask as IsAsk, Shut as IsShut, Phase as IsPhase}
-use Rattle.bus_script.specs.declared.line.DeviceSpec.{DeviceSpec}
+use Rattle.script_lines.specs.declared.line.Line.{Line}
+use Rattle.script_lines.specs.declared.line.What.{What}
+use Rattle.script_lines.specs.declared.line.What.TheVariants.{Contact as IsContact, Offer as IsOffer, Bad as IsBad, RingSize as IsRingSize, Window as IsWindow, Ask as IsAsk, Shut as IsShut, Phase as IsPhase}
+use Rattle.script_lines.specs.declared.line.DeviceSpec.{DeviceSpec}
 use Rattle.bus_script.specs.declared.outcome.LineResult.{LineResult}
-use Rattle.bus_script.specs.Parts.{parts, offered, ring_pages_of, blocks_of, bads_of}
-use Rattle.bus_script.specs.WellFormed.{IsDevice}
+use Rattle.script_lines.specs.Parts.{parts, offered, ring_pages_of, blocks_of, bads_of}
+use Rattle.script_lines.specs.WellFormed.{IsDevice}
 use Rattle.bus_model.specs.Logs.{Recorded}
 use Rattle.bus_model.specs.Run.{PhaseRuns, RunFrom}
 use Rattle.bus_model.specs.declared.channel_run.ChannelRun.{ChannelRun}

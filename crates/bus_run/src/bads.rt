@@ -1,6 +1,6 @@
 //! Which places of a script's disks can't be read.
 ghost use Rattle.std.specs.Prelude.{◌≡◌, [], ◌∷◌, MatchOption, IfOk};
-ghost use Rattle.bus_script.specs.Parts.{bads_by, bads_of};
+ghost use Rattle.script_lines.specs.Parts.{bads_by, bads_of};
 
 use bus_script::{Line, What};
 use std::alloc::{AllocError, Global};

@@ -2,7 +2,7 @@
 ghost use Rattle.std.specs.Prelude.{◌≡◌, ◌+◌, ◌<◌, ◌^◌, ◌++◌, ℕ, List, length, map, IfOk, OnOk};
 ghost use Rattle.std.specs.Vec.Iter.{into_iter_items};
 ghost use Rattle.bus_model.specs.Served.{Served, done_of};
-ghost use Rattle.bus_script.specs.declared.line.Ask.{Ask as OneAsk};
+ghost use Rattle.script_lines.specs.declared.line.Ask.{Ask as OneAsk};
 ghost use Rattle.end_work.specs.Seats.{served_at, IsSameSeat};
 ghost use Rattle.phase_run.specs.declared.pair.PairDone.{PairDone as OneDone};
 ghost use Rattle.end_work.specs.declared.device_seat.DeviceSeat.{DeviceSeat as OneSeat};

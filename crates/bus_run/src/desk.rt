@@ -1,9 +1,9 @@
 //! A device between phases.
 ghost use Rattle.std.specs.Prelude.{◌≡◌, ◌<◌, ◌≤◌, [], ◌∷◌, ℕ, List, All, IfOk};
 ghost use Rattle.bus_model.specs.Logs.{log_of, IsHistory};
-ghost use Rattle.bus_script.specs.Parts.{blocks_of, kind_of};
-ghost use Rattle.bus_script.specs.WellFormed.{IsDevice};
-ghost use Rattle.bus_script.specs.declared.line.DeviceSpec.{DeviceSpec as OneSpec};
+ghost use Rattle.script_lines.specs.Parts.{blocks_of, kind_of};
+ghost use Rattle.script_lines.specs.WellFormed.{IsDevice};
+ghost use Rattle.script_lines.specs.declared.line.DeviceSpec.{DeviceSpec as OneSpec};
 ghost use Rattle.hist_lock.specs.History.{entries_of};
 ghost use Rattle.bus_run.specs.Desk.{IsFresh, IsKept, spec_of, subs_of, setup_of, setup_for, desk_log};
 

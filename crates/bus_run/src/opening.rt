@@ -1,6 +1,6 @@
 //! A device's channel is opened.
 ghost use Rattle.std.specs.Prelude.{◌≡◌, ◌+◌, ◌<◌, ◌≤◌, ◌^◌, ◌++◌, List, length, IfOk, OnOk};
-ghost use Rattle.bus_script.specs.Parts.{kind_of};
+ghost use Rattle.script_lines.specs.Parts.{kind_of};
 ghost use Rattle.end_work.specs.Plans.{AllCarried};
 ghost use Rattle.phase_run.specs.Pairs.{Pairing};
 ghost use Rattle.bus_run.specs.Desk.{spec_of, desk_log, IsKept};

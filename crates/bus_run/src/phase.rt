@@ -1,8 +1,8 @@
 //! One phase of a script.
 ghost use Rattle.std.specs.Prelude.{◌≡◌, ◌+◌, ◌*◌, ◌≤◌, ◌++◌, List, length, map, All, OnOk};
-ghost use Rattle.bus_script.specs.declared.line.Line.{Line as OneLine};
-ghost use Rattle.bus_script.specs.Parts.{asks_in};
-ghost use Rattle.bus_script.specs.WellFormed.{AllRight, AllGo};
+ghost use Rattle.script_lines.specs.declared.line.Line.{Line as OneLine};
+ghost use Rattle.script_lines.specs.Parts.{asks_in};
+ghost use Rattle.script_lines.specs.WellFormed.{AllRight, AllGo};
 ghost use Rattle.bus_plan.specs.Flags.{AreMarked, closed_by};
 ghost use Rattle.bus_run.specs.Desk.{spec_of, IsReady, AreRings};
 ghost use Rattle.bus_run.specs.Whole.{PhaseRan};

@@ -1,6 +1,6 @@
 //! How big the rings of a script's devices are.
 ghost use Rattle.std.specs.Prelude.{◌≡◌, ◌≤◌, ◌<◌, [], length, Option, MatchOption, IfOk, ◌∷◌};
-ghost use Rattle.bus_script.specs.Parts.{pages_by, ring_pages_of};
+ghost use Rattle.script_lines.specs.Parts.{pages_by, ring_pages_of};
 ghost use Rattle.bus_run.specs.Whole.{RingsOf};
 
 use bus_script::{Line, What};

@@ -2,11 +2,11 @@
 ghost use Rattle.std.specs.Prelude.{◌≡◌, ◌+◌, ◌<◌, ◌≤◌, ◌∷◌, [], ◌++◌, List, length, map, take, drop, All, IfOk, OnOk, IsTrue, ◌↔◌, count_by, MatchOption, ⊤};
 ghost use Rattle.bus_model.specs.Logs.{log_of, EachHistory};
 ghost use Rattle.bus_model.specs.Run.{IsBusRun};
-ghost use Rattle.bus_script.specs.Parts.{parts, offered, offered_by};
-ghost use Rattle.bus_script.specs.declared.line.Line.{Line as OneLine};
-ghost use Rattle.bus_script.specs.declared.line.DeviceSpec.{DeviceSpec as OneSpec};
+ghost use Rattle.script_lines.specs.Parts.{parts, offered, offered_by};
+ghost use Rattle.script_lines.specs.declared.line.Line.{Line as OneLine};
+ghost use Rattle.script_lines.specs.declared.line.DeviceSpec.{DeviceSpec as OneSpec};
 ghost use Rattle.bus_script.specs.Report.{prints};
-ghost use Rattle.bus_script.specs.WellFormed.{AllRight};
+ghost use Rattle.script_lines.specs.WellFormed.{AllRight};
 ghost use Rattle.bus_run.specs.Desk.{IsKept, spec_of, setup_of, desk_log};
 ghost use Rattle.bus_run.specs.Whole.{AreFresh, CanMake, RunsSoFar, behind, setups_from};
 

@@ -1,14 +1,3 @@
-pub mod Cutting
-pub mod Numbers
-pub mod Phases
-pub mod Scripts
-pub mod Drafts
-pub mod Carrying
-pub mod Fitting
-pub mod OneByOne
 pub mod Tried
-pub mod Firsts
 pub mod Short
-pub mod Steps
 pub mod Told
-pub mod Plain

@@ -7,7 +7,7 @@ use Rattle.std.proofs.lemmas.List.Elements.{recursion_from_All}
 use Rattle.contact.specs.Versions.{versions, oldest, IsVersion}
 use Rattle.contact.specs.declared.version.Version.{Version}
 use Rattle.bus_script.specs.Report.{versions_from, last_or, version_text, versions_text}
-use Rattle.bus_script.proofs.Phases.{by_test}
+use Rattle.script_lines.proofs.Phases.{by_test}
 
 -- the versions that may still be tried
 abbrev pub left : Option Version → List ℕ

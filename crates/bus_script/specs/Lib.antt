@@ -1,14 +1,1 @@
-pub mod Words
-pub mod Forms
-pub mod Parts
-pub mod Requests
-pub mod Rows
-pub mod Faults
-pub mod Grammar
-pub mod First
-pub mod Parse
-pub mod WellFormed
-pub mod Draft
-pub mod Hex
-pub mod Runs
 pub mod Report

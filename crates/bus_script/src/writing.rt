@@ -2,15 +2,15 @@
 ghost use Rattle.std.specs.Prelude.{◌≡◌, ◌<◌, ◌≤◌, ◌++◌, ◌+◌, ◌*◌, ◌^◌, List, length, IfOk, OnOk, count_by, vec_len, codes, cond};
 ghost use Rattle.std.specs.Fmt.{decimal};
 ghost use Rattle.contact.specs.Versions.{IsVersion};
-ghost use Rattle.bus_script.specs.Parts.{is_ask, asks_in};
-ghost use Rattle.bus_script.specs.Hex.{hex_short};
-ghost use Rattle.bus_script.specs.Runs.{runs_of, runs_text};
+ghost use Rattle.script_lines.specs.Parts.{is_ask, asks_in};
+ghost use Rattle.script_text.specs.Hex.{hex_short};
+ghost use Rattle.script_text.specs.Runs.{runs_of, runs_text};
 ghost use Rattle.bus_script.specs.Report.{Answers, versions_from, last_or, tried, version_text, versions_text, contact_text, good_text, disk_text, disk_runs, answer_text, reply_text, reply_runs, result_runs, runs_back, ask_text, agreed_text, outcome_text, line_text, end_text, report_of, tells, HasVersion, most_text, is_done, is_rescinded};
 
-use crate::hex::{hex_2, hex_8};
-use crate::text::{push_decimal, push_runs};
-use crate::{Ask, Line, LineResult, Reply, Script, What};
+use crate::{LineResult, Reply};
 use contact::{Version, next_version};
+use script_lines::{Ask, Line, Script, What};
+use script_text::{hex_2, hex_8, push_decimal, push_runs};
 use scsi_disk::DiskReply;
 use std::alloc::{AllocError, Global};
 use util_ic::{IcAnswer, IcAsk};

@@ -14,8 +14,8 @@ use Rattle.scsi_disk.specs.declared.request.DiskRequest.{DiskRequest}
 use Rattle.scsi_disk.specs.declared.reply.DiskReply.{DiskReply}
 use Rattle.stor_proto.specs.Packets.{vstor_bytes}
 use Rattle.stor_proto.specs.Srbs.{ask_of}
-use Rattle.bus_script.specs.declared.line.Ask.{Ask}
-use Rattle.bus_script.specs.declared.line.Ask.TheVariants.{Ic as AskIc, Disk as AskDisk}
+use Rattle.script_lines.specs.declared.line.Ask.{Ask}
+use Rattle.script_lines.specs.declared.line.Ask.TheVariants.{Ic as AskIc, Disk as AskDisk}
 use Rattle.bus_script.specs.declared.outcome.Reply.{Reply}
 use Rattle.bus_script.specs.declared.outcome.Reply.TheVariants.{Ic as ReplyIc, Disk as ReplyDisk}
 use Rattle.pkt_desc.specs.Packets.{id_of, inband_packet}

@@ -7,8 +7,8 @@ use Rattle.util_ic.specs.declared.ic.IcAnswer.{IcAnswer}
 use Rattle.util_ic.specs.Packets.{ask_packet, negotiate_packet}
 use Rattle.scsi_disk.specs.declared.request.DiskRequest.{DiskRequest}
 use Rattle.scsi_disk.specs.declared.reply.DiskReply.{DiskReply}
-use Rattle.bus_script.specs.declared.line.Ask.{Ask}
-use Rattle.bus_script.specs.declared.line.Ask.TheVariants.{Ic as AskIc, Disk as AskDisk}
+use Rattle.script_lines.specs.declared.line.Ask.{Ask}
+use Rattle.script_lines.specs.declared.line.Ask.TheVariants.{Ic as AskIc, Disk as AskDisk}
 use Rattle.bus_script.specs.declared.outcome.Reply.{Reply}
 use Rattle.bus_script.specs.declared.outcome.Reply.TheVariants.{Ic as ReplyIc, Disk as ReplyDisk}
 use Rattle.pkt_desc.specs.Packets.{id_of}

@@ -2,7 +2,7 @@
 ghost use Rattle.std.specs.Prelude.{◌≡◌, ℕ, List, Some, map};
 ghost use Rattle.std.specs.List.{AllByRecursion};
 ghost use Rattle.contact.specs.declared.kind.Kind.{Kind};
-ghost use Rattle.bus_script.specs.declared.line.Ask.{Ask};
+ghost use Rattle.script_lines.specs.declared.line.Ask.{Ask};
 ghost use Rattle.work_model.specs.Speech.{Keeps};
 ghost use Rattle.work_model.specs.Channel.{AllFixed, AllAsk};
 ghost use Rattle.bus_speech.specs.declared.want.Want.TheVariants.{Script};

@@ -4,7 +4,7 @@ ghost use Rattle.std.specs.List.{AllByRecursion};
 ghost use Rattle.ring_machine.specs.States.{IsPacket};
 ghost use Rattle.chan_talk.specs.Listed.{listed_packet};
 ghost use Rattle.pkt_desc.specs.Packets.{id_of};
-ghost use Rattle.bus_script.specs.declared.line.Ask.{Ask as OneAsk};
+ghost use Rattle.script_lines.specs.declared.line.Ask.{Ask as OneAsk};
 ghost use Rattle.bus_speech.specs.declared.want.Want.{Want as OneWant};
 ghost use Rattle.bus_speech.specs.declared.want.Want.TheVariants.{Starts, Script};
 ghost use Rattle.bus_speech.specs.Wants.{startup, IsAskable};

@@ -5,8 +5,8 @@ use Rattle.std.proofs.lemmas.List.FromFn.{get_or-map-range_with_len}
 use Rattle.std.proofs.lemmas.List.Folds.{list_any-append}
 use Rattle.std.proofs.lemmas.Bool.Decides.{nat_tests}
 use Rattle.std.specs.List.{list_any, position, position_or_len, range_with_len}
-use Rattle.bus_script.specs.declared.line.Line.{Line}
-use Rattle.bus_script.specs.Parts.{parts, shuts}
+use Rattle.script_lines.specs.declared.line.Line.{Line}
+use Rattle.script_lines.specs.Parts.{parts, shuts}
 use Rattle.control_model.specs.declared.opening.Opening.{Opening}
 use Rattle.control_model.specs.declared.planning.Next.{Next}
 use Rattle.control_model.specs.declared.planning.Served.{Served}

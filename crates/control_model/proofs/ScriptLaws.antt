@@ -6,12 +6,12 @@ use Rattle.std.specs.List.{flat_map, onto_first, range_with_len, AllByRecursion}
 use Rattle.contact.specs.declared.kind.Kind.{Kind}
 use Rattle.contact.specs.declared.version.Version.{Version}
 use Rattle.contact.specs.Versions.{IsVersion}
-use Rattle.bus_script.specs.declared.line.Line.{Line}
-use Rattle.bus_script.specs.declared.line.What.{What}
-use Rattle.bus_script.specs.declared.line.What.TheVariants.{Contact as IsContact, Offer as IsOffer, Bad as IsBad, RingSize as IsRingSize, Window as IsWindow, Ask as IsAsk, Shut as IsShut, Phase as IsPhase}
-use Rattle.bus_script.specs.declared.line.DeviceSpec.{DeviceSpec}
-use Rattle.bus_script.specs.Parts.{parts, ends_part, offered, kind_of, ring_pages_of, pages_by}
-use Rattle.bus_script.specs.WellFormed.{IsRight, AllRight, IsScript}
+use Rattle.script_lines.specs.declared.line.Line.{Line}
+use Rattle.script_lines.specs.declared.line.What.{What}
+use Rattle.script_lines.specs.declared.line.What.TheVariants.{Contact as IsContact, Offer as IsOffer, Bad as IsBad, RingSize as IsRingSize, Window as IsWindow, Ask as IsAsk, Shut as IsShut, Phase as IsPhase}
+use Rattle.script_lines.specs.declared.line.DeviceSpec.{DeviceSpec}
+use Rattle.script_lines.specs.Parts.{parts, ends_part, offered, kind_of, ring_pages_of, pages_by}
+use Rattle.script_lines.specs.WellFormed.{IsRight, AllRight, IsScript}
 use Rattle.std.proofs.lemmas.List.FromFn.{get_or-map-range_with_len, length-map-range_with_len}
 use Rattle.control_model.specs.declared.planning.Served.{Served}
 use Rattle.control_model.specs.Dealing.{served_of, size_in, no_device, HasSizes}

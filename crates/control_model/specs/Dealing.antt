@@ -1,8 +1,8 @@
 -- The tables by which a script's plan is made in one pass over its lines.
 use Rattle.std.specs.Prelude.{◌≡◌, ℕ, ◌+◌, ◌≤◌, Bool, true, false, ◌++◌, not, ◌&&◌, List, [], ◌∷◌, length, All, slice_index_or, drop, nat_lt, nat_le, if◌then◌else◌, Option, Some, None}
 use Rattle.std.specs.List.{list_any, position}
-use Rattle.bus_script.specs.declared.line.Line.{Line}
-use Rattle.bus_script.specs.Parts.{parts, ring_pages_of, shuts}
+use Rattle.script_lines.specs.declared.line.Line.{Line}
+use Rattle.script_lines.specs.Parts.{parts, ring_pages_of, shuts}
 use Rattle.control_model.specs.declared.planning.Served.{Served}
 use Rattle.control_model.specs.declared.planning.Next.{Next}
 use Rattle.control_model.specs.declared.opening.Opening.{Opening}

@@ -3,10 +3,10 @@ use Rattle.std.specs.Prelude.{ℕ, ◌+◌, ◌==◌, Bool, false, not, ◌&&◌
 use Rattle.std.specs.List.{list_any, range_with_len}
 use Rattle.contact.specs.declared.version.Version.{Version}
 use Rattle.contact.specs.Versions.{version}
-use Rattle.bus_script.specs.declared.line.Line.{Line}
-use Rattle.bus_script.specs.declared.line.What.{What}
-use Rattle.bus_script.specs.declared.line.What.TheVariants.{Contact as IsContact, Ask as IsAsk, Shut as IsShut}
-use Rattle.bus_script.specs.Parts.{parts, offered, kind_of, ring_pages_of, shuts}
+use Rattle.script_lines.specs.declared.line.Line.{Line}
+use Rattle.script_lines.specs.declared.line.What.{What}
+use Rattle.script_lines.specs.declared.line.What.TheVariants.{Contact as IsContact, Ask as IsAsk, Shut as IsShut}
+use Rattle.script_lines.specs.Parts.{parts, offered, kind_of, ring_pages_of, shuts}
 use Rattle.control_model.specs.declared.opening.Opening.{Opening}
 use Rattle.control_model.specs.Plan.{BusPlan, list_pages, first_gpadl}
 

@@ -2,7 +2,7 @@
 ghost use Rattle.std.specs.Prelude.{◌≡◌, ◌+◌, ◌*◌, ◌^◌, ◌<◌, ◌≤◌, Bool, Option, List, [], ◌∷◌, ◌++◌, ℕ, length, map, filter, take, slice_range, nat_lt, vec_len, vec_capacity, IfOk, IfSome, OnOk};
 ghost use Rattle.std.specs.Option.{option_to_list};
 ghost use Rattle.std.specs.List.{list_any, position, range_with_len};
-ghost use Rattle.bus_script.specs.Parts.{parts, is_phase, offered_by, offered, kind_of, ring_pages_of, shuts};
+ghost use Rattle.script_lines.specs.Parts.{parts, is_phase, offered_by, offered, kind_of, ring_pages_of, shuts};
 ghost use Rattle.control_model.specs.Plan.{first_gpadl};
 ghost use Rattle.control_model.specs.Openings.{devices_by_phase, numbered, guest_in, host_in, wants_open, openings_from, pages_in};
 ghost use Rattle.control_model.specs.Dealing.{served_of, opens_one, is_closed, opens, size_in, HasSizes, Dealt, rest_of};

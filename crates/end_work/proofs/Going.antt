@@ -1,6 +1,6 @@
 -- A worker that served, over several turns.
 use Rattle.std.proofs.Common.{◌≡◌, ◌+◌, ◌∙◌, subst, arith}
-use Rattle.bus_script.specs.declared.line.Ask.{Ask}
+use Rattle.script_lines.specs.declared.line.Ask.{Ask}
 use Rattle.bus_script.specs.declared.outcome.Reply.{Reply}
 use Rattle.bus_speech.specs.Speeches.{speech_of}
 use Rattle.bus_speech.specs.Talks.{Talked}

@@ -9,10 +9,10 @@ use Rattle.scsi_disk.specs.declared.command.Command.{Command}
 use Rattle.scsi_disk.specs.declared.command.Command.TheVariants.{TestUnitReady, Inquiry, ReadCapacity, Read, Write, SynchronizeCache}
 use Rattle.scsi_disk.specs.declared.request.DiskRequest.{DiskRequest}
 use Rattle.stor_proto.specs.Srbs.{bytes_moved, data_for}
-use Rattle.bus_script.specs.Parts.{kind_asked}
-use Rattle.bus_script.specs.Requests.{IsCarried, most_moved, bytes_written}
-use Rattle.bus_script.specs.WellFormed.{CanGo}
-use Rattle.bus_script.specs.declared.line.Ask.{Ask}
+use Rattle.script_lines.specs.Parts.{kind_asked}
+use Rattle.script_lines.specs.Requests.{IsCarried, most_moved, bytes_written}
+use Rattle.script_lines.specs.WellFormed.{CanGo}
+use Rattle.script_lines.specs.declared.line.Ask.{Ask}
 use Rattle.bus_speech.specs.Disks.{IsDiskAsk}
 use Rattle.bus_speech.specs.Speeches.{has_answer_on}
 use Rattle.bus_speech.specs.Talks.{Talked, asks_of}

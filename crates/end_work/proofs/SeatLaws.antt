@@ -7,8 +7,8 @@ use Rattle.hist_lock.specs.Seat.{Seat}
 use Rattle.bus_speech.specs.Services.{service_fits}
 use Rattle.bus_speech.specs.Disks.{disk_fits}
 use Rattle.bus_speech.specs.Speeches.{fits_on}
-use Rattle.bus_script.specs.declared.line.Ask.{Ask}
-use Rattle.bus_script.specs.declared.line.Ask.TheVariants.{Ic as AskIc, Disk as AskDisk}
+use Rattle.script_lines.specs.declared.line.Ask.{Ask}
+use Rattle.script_lines.specs.declared.line.Ask.TheVariants.{Ic as AskIc, Disk as AskDisk}
 use Rattle.bus_script.specs.declared.outcome.Reply.{Reply}
 use Rattle.bus_script.specs.declared.outcome.Reply.TheVariants.{Ic as ReplyIc, Disk as ReplyDisk}
 use Rattle.util_ic.specs.Machines.{beat_reply, down_reply}

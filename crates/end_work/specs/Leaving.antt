@@ -1,6 +1,6 @@
 -- What the workers of a channel leave.
 use Rattle.std.specs.Prelude.{◌≡◌, ◌+◌, false, [], length, map, Option, Some, None}
-use Rattle.bus_script.specs.declared.line.Ask.{Ask}
+use Rattle.script_lines.specs.declared.line.Ask.{Ask}
 use Rattle.bus_script.specs.declared.outcome.Reply.{Reply}
 use Rattle.bus_speech.specs.Speeches.{speech_of}
 use Rattle.bus_speech.specs.Talks.{Talked, asks_of}

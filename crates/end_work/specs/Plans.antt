@@ -1,10 +1,10 @@
 -- What the workers of a channel are made for.
 use Rattle.std.specs.Prelude.{ℕ, ◌≡◌, ◌≤◌, Bool, true, List, [], ◌∷◌, length, map, filter, Option, Some, None, is_some}
 use Rattle.std.specs.List.{AllByRecursion}
-use Rattle.bus_script.specs.Parts.{kind_asked}
-use Rattle.bus_script.specs.WellFormed.{CanGo}
-use Rattle.bus_script.specs.declared.line.Ask.{Ask}
-use Rattle.bus_script.specs.declared.line.Ask.TheVariants.{Ic as AskIc, Disk as AskDisk}
+use Rattle.script_lines.specs.Parts.{kind_asked}
+use Rattle.script_lines.specs.WellFormed.{CanGo}
+use Rattle.script_lines.specs.declared.line.Ask.{Ask}
+use Rattle.script_lines.specs.declared.line.Ask.TheVariants.{Ic as AskIc, Disk as AskDisk}
 use Rattle.bus_script.specs.declared.outcome.Reply.{Reply}
 use Rattle.bus_speech.specs.Speeches.{has_answer_on}
 use Rattle.bus_speech.specs.Talks.{Talked}

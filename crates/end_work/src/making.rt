@@ -1,11 +1,11 @@
 //! The making of a worker.
 ghost use Rattle.std.specs.Prelude.{◌≡◌, ◌≤◌, [], length, map, filter, is_some, IfOk, None};
 ghost use Rattle.std.specs.List.{AllByRecursion};
-ghost use Rattle.bus_script.specs.Parts.{kind_asked};
-ghost use Rattle.bus_script.specs.Requests.{IsCarried};
-ghost use Rattle.bus_script.specs.WellFormed.{CanGo};
-ghost use Rattle.bus_script.specs.declared.line.Ask.{Ask as Asked};
-ghost use Rattle.bus_script.specs.declared.line.Ask.TheVariants.{Ic as AskedIc, Disk as AskedDisk};
+ghost use Rattle.script_lines.specs.Parts.{kind_asked};
+ghost use Rattle.script_lines.specs.Requests.{IsCarried};
+ghost use Rattle.script_lines.specs.WellFormed.{CanGo};
+ghost use Rattle.script_lines.specs.declared.line.Ask.{Ask as Asked};
+ghost use Rattle.script_lines.specs.declared.line.Ask.TheVariants.{Ic as AskedIc, Disk as AskedDisk};
 ghost use Rattle.bus_speech.specs.Disks.{IsDiskAsk};
 ghost use Rattle.bus_speech.specs.Speeches.{has_answer_on};
 ghost use Rattle.bus_speech.specs.Wants.{startup, IsAskable};

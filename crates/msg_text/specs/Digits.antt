@@ -2,7 +2,7 @@
 use Rattle.std.specs.Prelude.{ℕ, List, [], ◌∷◌, ◌++◌, codes}
 use Rattle.std.specs.List.{flat_map}
 use Rattle.std.specs.Fmt.{decimal}
-use Rattle.bus_script.specs.Hex.{hex_2}
+use Rattle.script_text.specs.Hex.{hex_2}
 
 -- the text of bytes as digits, byte by byte
 unfoldable pub digits_text : List ℕ → List ℕ

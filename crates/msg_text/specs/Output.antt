@@ -3,9 +3,9 @@ use Rattle.std.specs.Prelude.{ℕ, ◌+◌, ◌==◌, ◌&&◌, nat_le, List, []
 use Rattle.std.specs.Str.Lines.{lines}
 use Rattle.std.specs.Fmt.{decimal}
 use Rattle.hex.specs.Hex.{decode_of}
-use Rattle.bus_script.specs.declared.fault.Why6.{Why6}
-use Rattle.bus_script.specs.declared.fault.Why6.TheVariants.{Form, Limit}
-use Rattle.bus_script.specs.declared.fault.ScriptFault.{ScriptFault}
+use Rattle.script_text.specs.declared.fault.Why6.{Why6}
+use Rattle.script_text.specs.declared.fault.Why6.TheVariants.{Form, Limit}
+use Rattle.script_text.specs.declared.fault.ScriptFault.{ScriptFault}
 use Rattle.hex.specs.declared.error.FromHexError.{FromHexError}
 use Rattle.msg_text.specs.Text.{bytes_text}
 

@@ -2,10 +2,10 @@
 use Rattle.std.specs.Prelude.{ℕ, ◌≡◌, List, Result, Ok, Err, Vec}
 use Rattle.std.specs.declared.alloc.Global.{Global}
 use Rattle.hex.specs.declared.error.FromHexError.{FromHexError}
-use Rattle.bus_script.specs.declared.fault.Why6.TheVariants.{Form}
-use Rattle.bus_script.specs.declared.fault.ScriptFault.{ScriptFault}
-use Rattle.bus_script.specs.declared.fault.ParseFault.{ParseFault}
-use Rattle.bus_script.specs.declared.fault.ParseFault.TheVariants.{Script as IsScript, Memory}
+use Rattle.script_text.specs.declared.fault.Why6.TheVariants.{Form}
+use Rattle.script_text.specs.declared.fault.ScriptFault.{ScriptFault}
+use Rattle.script_text.specs.declared.fault.ParseFault.{ParseFault}
+use Rattle.script_text.specs.declared.fault.ParseFault.TheVariants.{Script as IsScript, Memory}
 
 -- the text, or the fault of the input; or memory was short
 abbrev pub Prints : Result (List ℕ) ScriptFault → Result (Vec ℕ Global) ParseFault → Type 0

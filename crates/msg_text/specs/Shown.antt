@@ -3,7 +3,7 @@ use Rattle.std.specs.Prelude.{ℕ, ◌+◌, ◌*◌, List, [], ◌∷◌, length
 use Rattle.std.specs.Fmt.{decimal}
 use Rattle.msg_text.specs.declared.shown.Shown.{Shown}
 use Rattle.msg_text.specs.declared.shown.Shown.TheVariants.{Number, Digits, Runs, Numbers}
-use Rattle.bus_script.specs.Runs.{runs_text}
+use Rattle.script_text.specs.Runs.{runs_text}
 use Rattle.msg_text.specs.Digits.{digits_text, numbers_text}
 use Rattle.msg_text.specs.Pieces.{named_text}
 

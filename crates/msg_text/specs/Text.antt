@@ -11,7 +11,7 @@ use Rattle.vmbus_msg.specs.Grammar.{type_of, fields_of, frames_of, kinds_of}
 use Rattle.vmbus_msg.specs.Faults.{fault_of, value_at}
 use Rattle.vmbus_msg.specs.Reading.{frames_at}
 use Rattle.msg_text.specs.Pieces.{named_text, joined}
-use Rattle.bus_script.specs.Runs.{runs_text}
+use Rattle.script_text.specs.Runs.{runs_text}
 use Rattle.msg_text.specs.Digits.{digits_text, numbers_text}
 use Rattle.msg_text.specs.Names.{Show, hidden, number, digits, runs, name_of, shows_of}
 

@@ -5,7 +5,7 @@ ghost use Rattle.msg_text.specs.Shown.{shown_text, shown_pieces, most_of, most_i
 
 use crate::push::{push_digits, push_numbers};
 use crate::shown::Shown;
-use bus_script::{push_decimal, push_runs};
+use script_text::{push_decimal, push_runs};
 use std::alloc::AllocError;
 
 // A field's name between spaces.

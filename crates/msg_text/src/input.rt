@@ -5,8 +5,8 @@ ghost use Rattle.msg_text.specs.Output.{decode_output};
 ghost use Rattle.msg_text.specs.Prints.{Prints, ReadsLine};
 
 use crate::line::{bytes_fault, push_line};
-use bus_script::{ParseFault, ScriptFault, Why6, first_line};
 use hex::FromHexError;
+use script_text::{ParseFault, ScriptFault, Why6, first_line};
 use std::alloc::Global;
 
 /// The text of each line of hexadecimal digits, in order, or the first wrong line and the first

@@ -3,7 +3,7 @@ ghost use Rattle.std.specs.Prelude.{◌≡◌, ◌<◌, ◌≤◌, ◌++◌, ◌
 ghost use Rattle.msg_text.specs.Output.{bytes_fault, line_text};
 
 use crate::message::push_bytes;
-use bus_script::{Why6, push_decimal};
+use script_text::{Why6, push_decimal};
 use std::alloc::AllocError;
 
 /// Why a line of these bytes is refused: `Form` where there are none, `Limit` where there are

@@ -4,7 +4,7 @@ ghost use Rattle.msg_text.specs.Text.{msg_text, fault_text, bytes_text, checked_
 
 use crate::field::push_fields;
 use crate::shown::Shown;
-use bus_script::push_decimal;
+use script_text::push_decimal;
 use std::alloc::AllocError;
 use vmbus_msg::{FieldName, GpadlBody, GpadlHeader, Msg, MsgFault, decode};
 

@@ -2,7 +2,7 @@
 ghost use Rattle.std.specs.Prelude.{◌≡◌, ◌≤◌, ◌++◌, ◌+◌, ◌*◌, length, OnOk, vec_len};
 ghost use Rattle.msg_text.specs.Digits.{digits_text, numbers_text};
 
-use bus_script::{hex_2, push_decimal};
+use script_text::{hex_2, push_decimal};
 use std::alloc::AllocError;
 
 /// Bytes as digits, byte by byte.

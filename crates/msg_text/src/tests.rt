@@ -1,7 +1,7 @@
 //! The lines of messages made by another program, byte for byte, and the refusals of lines.
 
 use crate::decode_text;
-use bus_script::{ParseFault, ScriptFault, Why6};
+use script_text::{ParseFault, ScriptFault, Why6};
 use std::alloc::Global;
 use std::process::Abort;
 use std::test::Fail;

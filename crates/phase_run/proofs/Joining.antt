@@ -8,7 +8,7 @@ use Rattle.chan_run.specs.Runs.{IsFront, sent_of, got_of}
 use Rattle.chan_run.specs.Laws.{AreOfOneRun}
 use Rattle.hist_lock.specs.Seat.{Call}
 use Rattle.contact.specs.declared.kind.Kind.{Kind}
-use Rattle.bus_script.specs.declared.line.Ask.{Ask}
+use Rattle.script_lines.specs.declared.line.Ask.{Ask}
 use Rattle.bus_script.specs.declared.outcome.Reply.{Reply}
 use Rattle.bus_speech.specs.declared.want.Want.{Want}
 use Rattle.bus_speech.specs.declared.want.Want.TheVariants.{Script}

@@ -1,7 +1,7 @@
 -- The two workers of a channel are made.
 use Rattle.std.proofs.Common.{◌≡◌, ◌≤◌, ◌+◌, ℕ, length, filter, map, List, [], ◌∷◌, Option, Some, None, is_some, ap, sym, ◌∙◌, subst, arith}
 use Rattle.std.specs.List.{AllByRecursion}
-use Rattle.bus_script.specs.declared.line.Ask.{Ask}
+use Rattle.script_lines.specs.declared.line.Ask.{Ask}
 use Rattle.bus_speech.specs.Speeches.{has_answer_on}
 use Rattle.bus_speech.specs.Talks.{Talked, asks_of}
 use Rattle.bus_speech.specs.Wants.{startup, IsAskable}

@@ -1,7 +1,7 @@
 //! A channel is opened with its two workers.
 ghost use Rattle.std.specs.Prelude.{◌≡◌, ◌≤◌, ◌*◌, [], length, map, IfOk};
-ghost use Rattle.bus_script.specs.Parts.{kind_asked};
-ghost use Rattle.bus_script.specs.declared.line.Ask.TheVariants.{Ic as AskedIc, Disk as AskedDisk};
+ghost use Rattle.script_lines.specs.Parts.{kind_asked};
+ghost use Rattle.script_lines.specs.declared.line.Ask.TheVariants.{Ic as AskedIc, Disk as AskedDisk};
 ghost use Rattle.contact.specs.declared.kind.Kind.TheVariants.{Disk as DiskKind};
 ghost use Rattle.io_edge.specs.declared.side.Side.TheVariants.{Host as HostSide};
 ghost use Rattle.work_model.specs.Roles.{side_that_asks};

@@ -1,9 +1,9 @@
 //! A channel of each kind of device, with three requests each.
 ghost use Rattle.std.specs.Prelude.{◌≡◌, ◌≤◌, length, true, vec_len};
 ghost use Rattle.contact.specs.declared.kind.Kind.{Kind as OneKind};
-ghost use Rattle.bus_script.specs.Parts.{kind_asked};
-ghost use Rattle.bus_script.specs.Requests.{IsCarried};
-ghost use Rattle.bus_script.specs.WellFormed.{CanGo};
+ghost use Rattle.script_lines.specs.Parts.{kind_asked};
+ghost use Rattle.script_lines.specs.Requests.{IsCarried};
+ghost use Rattle.script_lines.specs.WellFormed.{CanGo};
 
 use crate::{Pair, PairDone, open_pair, run_pair, run_phase};
 use bus_script::{Ask, Reply};

@@ -4,8 +4,8 @@ use Rattle.std.proofs.lemmas.Bool.Decides.{nat_tests}
 use Rattle.std.proofs.lemmas.Bool.{cases_eq}
 use Rattle.contact.specs.declared.part.Part.{Part}
 use Rattle.contact.specs.declared.part.Part.TheVariants.{Contact, PhaseStart, PhaseEnd, Unload}
-use Rattle.bus_script.specs.declared.line.Line.{Line}
-use Rattle.bus_script.specs.Parts.{parts, offered, ring_pages_of}
+use Rattle.script_lines.specs.declared.line.Line.{Line}
+use Rattle.script_lines.specs.Parts.{parts, offered, ring_pages_of}
 use Rattle.bus_run.specs.declared.runner.Runner.{Runner}
 use Rattle.bus_run.specs.Whole.{RunsSoFar}
 use Rattle.control_model.specs.Plan.{BusPlan, IsPlan, part_after, first_gpadl}

@@ -1,9 +1,9 @@
 -- What the output of a command is on an input, and what a wrong input is.
 use Rattle.std.specs.Prelude.{ℕ, ◌≡◌, List, [], Option, None, Ok, Err}
-use Rattle.bus_script.specs.declared.fault.ScriptFault.{ScriptFault}
-use Rattle.bus_script.specs.declared.line.Line.{Line}
+use Rattle.script_text.specs.declared.fault.ScriptFault.{ScriptFault}
+use Rattle.script_lines.specs.declared.line.Line.{Line}
 use Rattle.bus_script.specs.declared.outcome.LineResult.{LineResult}
-use Rattle.bus_script.specs.Grammar.{script_of}
+use Rattle.script_lines.specs.Grammar.{script_of}
 use Rattle.bus_script.specs.Report.{report_of}
 use Rattle.msg_text.specs.Output.{decode_output}
 use Rattle.bus_model.specs.declared.channel_run.ChannelRun.{ChannelRun}

@@ -1,7 +1,7 @@
 -- What answering an input gives.
 use Rattle.std.specs.Prelude.{ℕ, ◌≤◌, List, length, Result, Ok, Err}
-use Rattle.bus_script.specs.declared.fault.ParseFault.{ParseFault}
-use Rattle.bus_script.specs.declared.fault.ParseFault.TheVariants.{Script as IsScript, Memory}
+use Rattle.script_text.specs.declared.fault.ParseFault.{ParseFault}
+use Rattle.script_text.specs.declared.fault.ParseFault.TheVariants.{Script as IsScript, Memory}
 use Rattle.vmbus_main.specs.declared.answer.Answer.{Answer}
 use Rattle.vmbus_main.specs.declared.command.Command.{Command}
 use Rattle.vmbus_main.specs.Answer.{IsAnswer, IsFault}

@@ -2,7 +2,7 @@
 use Rattle.std.specs.Prelude.{◌≡◌, ℕ, List, length, nat_lt, Some, if◌then◌else◌}
 use Rattle.contact.specs.declared.part.Part.{Part}
 use Rattle.contact.specs.declared.part.Part.TheVariants.{PhaseStart, Unload}
-use Rattle.bus_script.specs.declared.line.Line.{Line}
+use Rattle.script_lines.specs.declared.line.Line.{Line}
 use Rattle.bus_run.specs.declared.runner.Runner.{Runner}
 use Rattle.bus_run.specs.Whole.{RunsSoFar}
 use Rattle.control_model.specs.Plan.{BusPlan, part_after}

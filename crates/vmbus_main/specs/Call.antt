@@ -1,7 +1,7 @@
 -- What the top call says of its input and its output.
 use Rattle.std.specs.Prelude.{ℕ, ◌≡◌, ◌⊎◌, ◌≤◌, ◌<◌, List, length, Option, Some, None}
-use Rattle.bus_script.specs.declared.fault.ScriptFault.{ScriptFault}
-use Rattle.bus_script.specs.declared.fault.Why6.TheVariants.{Limit}
+use Rattle.script_text.specs.declared.fault.ScriptFault.{ScriptFault}
+use Rattle.script_text.specs.declared.fault.Why6.TheVariants.{Limit}
 use Rattle.io_edge.specs.Edge.{HoldsWhole, IsLonger, Grows, GrowsByFront}
 use Rattle.bus_model.specs.declared.channel_run.ChannelRun.{ChannelRun}
 use Rattle.bus_model.specs.declared.history.DeviceHistory.{DeviceHistory}

@@ -1,6 +1,6 @@
 -- What the controls of a guest and its host come to.
 use Rattle.std.specs.Prelude.{◌≡◌, List, Option, Some, None}
-use Rattle.bus_script.specs.declared.line.Line.{Line}
+use Rattle.script_lines.specs.declared.line.Line.{Line}
 use Rattle.control_model.specs.Openings.{plan_of}
 use Rattle.control_run.specs.Laws.{IsOver}
 use Rattle.vmbus_main.specs.declared.outcome.Controls.{Controls}

@@ -1,6 +1,6 @@
 use Rattle.std.proofs.Common.{take}
 use Rattle.std.specs.List.{list_any}
-use Rattle.bus_script.specs.Parts.{shuts}
+use Rattle.script_lines.specs.Parts.{shuts}
 use Rattle.bus_plan.specs.Flags.{Marks}
 use Rattle.bus_plan.proofs.flags.mark_closed.Given as goal
 

@@ -1,5 +1,5 @@
 use Rattle.std.proofs.Common.{◌≡◌, take, drop, length, List}
-use Rattle.bus_script.specs.declared.line.Line.{Line}
+use Rattle.script_lines.specs.declared.line.Line.{Line}
 use Rattle.bus_model.specs.Dests.{dests, addresses}
 use Rattle.bus_plan.specs.Flags.{AreMarked, closed_by}
 use Rattle.bus_plan.specs.Plans.{IsPlanned}

@@ -3,7 +3,7 @@ use Rattle.std.specs.Prelude.{All}
 use Rattle.std.proofs.lemmas.List.{take_all}
 use Rattle.std.proofs.lemmas.List.Elements.{All-more}
 use Rattle.std.proofs.lemmas.List.Splits.{slice_split_none}
-use Rattle.bus_script.specs.Parts.{ends_part}
+use Rattle.script_lines.specs.Parts.{ends_part}
 use Rattle.bus_plan.proofs.Cutting.{split_here}
 use Rattle.bus_plan.proofs.split.first_part.Goals as goal
 

@@ -1,6 +1,6 @@
 use Rattle.std.proofs.Common.{◌≡◌, false, take}
 use Rattle.std.specs.Prelude.{All}
-use Rattle.bus_script.specs.Parts.{ends_part}
+use Rattle.script_lines.specs.Parts.{ends_part}
 use Rattle.bus_plan.proofs.split.first_part.Given as goal
 
 abbrev pub invariant-loop-i : goal.invariant-loop-i

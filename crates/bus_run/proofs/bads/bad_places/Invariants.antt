@@ -1,5 +1,5 @@
 use Rattle.std.proofs.Common.{◌≡◌, take}
-use Rattle.bus_script.specs.Parts.{bads_of}
+use Rattle.script_lines.specs.Parts.{bads_of}
 use Rattle.bus_run.proofs.bads.bad_places.Given as goal
 
 abbrev pub invariant-loop-line : goal.invariant-loop-line

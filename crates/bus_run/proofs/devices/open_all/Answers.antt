@@ -1,6 +1,6 @@
 use Rattle.std.proofs.Common.{◌≡◌, ◌*◌, ◌<◌, ◌∙◌, ap, sym, subst, arith, length}
 use Rattle.end_work.specs.Plans.{AllCarried}
-use Rattle.bus_script.specs.Parts.{kind_of}
+use Rattle.script_lines.specs.Parts.{kind_of}
 use Rattle.bus_run.specs.Desk.{spec_of, asks_of, IsKept, IsReady, opened_by}
 use Rattle.bus_run.specs.Opening.{OneIf, OpensDesk, held_of}
 use Rattle.bus_run.proofs.Opened.{desk_there, suits_here, opened_more}

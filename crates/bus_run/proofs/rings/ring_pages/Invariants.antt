@@ -1,6 +1,6 @@
 use Rattle.std.proofs.Common.{◌≡◌, [], take}
 use Rattle.std.specs.List.{flat_map}
-use Rattle.bus_script.specs.Parts.{pages_by}
+use Rattle.script_lines.specs.Parts.{pages_by}
 use Rattle.bus_run.proofs.rings.ring_pages.Given as goal
 
 abbrev pub invariant-loop-line : goal.invariant-loop-line

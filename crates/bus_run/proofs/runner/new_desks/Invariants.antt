@@ -1,5 +1,5 @@
 use Rattle.std.proofs.Common.{take}
-use Rattle.bus_script.specs.Parts.{offered}
+use Rattle.script_lines.specs.Parts.{offered}
 use Rattle.bus_run.specs.Whole.{AreFresh}
 use Rattle.bus_run.proofs.runner.new_desks.Given as goal
 

@@ -1,5 +1,5 @@
 use Rattle.std.proofs.Common.{◌≡◌, ◌++◌, ◌∙◌, sym, subst, ap, arith, length}
-use Rattle.bus_script.specs.Parts.{offered_by, bads_of}
+use Rattle.script_lines.specs.Parts.{offered_by, bads_of}
 use Rattle.bus_run.specs.Whole.{AreFresh}
 use Rattle.bus_run.proofs.Phases.{fresh_more}
 use Rattle.bus_run.proofs.runner.offer.Goals as goal

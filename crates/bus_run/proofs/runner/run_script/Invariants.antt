@@ -1,5 +1,5 @@
 use Rattle.std.proofs.Common.{◌-◌, length}
-use Rattle.bus_script.specs.Parts.{parts}
+use Rattle.script_lines.specs.Parts.{parts}
 use Rattle.bus_run.specs.Whole.{RunsSoFar}
 use Rattle.bus_run.proofs.runner.run_script.Given as goal
 

@@ -1,6 +1,6 @@
 use Rattle.std.proofs.Common.{sym, subst}
-use Rattle.bus_script.specs.Parts.{offered}
-use Rattle.bus_script.specs.WellFormed.{AllRight}
+use Rattle.script_lines.specs.Parts.{offered}
+use Rattle.script_lines.specs.WellFormed.{AllRight}
 use Rattle.bus_script.proofs.Told.{version_at}
 use Rattle.bus_script.proofs.writing.report.Goals as goal
 

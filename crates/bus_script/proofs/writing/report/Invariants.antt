@@ -1,5 +1,5 @@
 use Rattle.std.proofs.Common.{◌≡◌, ◌+◌, ◌*◌, ◌++◌, ◌≤◌, length, drop, count_by}
-use Rattle.bus_script.specs.Parts.{asks_in}
+use Rattle.script_lines.specs.Parts.{asks_in}
 use Rattle.bus_script.specs.Report.{prints, lines_text, runs_back}
 use Rattle.bus_script.proofs.writing.report.Given as goal
 

@@ -1,5 +1,5 @@
 use Rattle.std.proofs.Common.{◌∙◌, Some, ap, sym}
-use Rattle.bus_script.specs.declared.line.Ask.TheVariants.{Ic as AskIc}
+use Rattle.script_lines.specs.declared.line.Ask.TheVariants.{Ic as AskIc}
 use Rattle.bus_speech.proofs.SpeechLaws.{beat_fits}
 use Rattle.bus_talk.proofs.tests.beat_round.Goals as goal
 

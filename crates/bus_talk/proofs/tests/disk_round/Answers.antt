@@ -1,5 +1,5 @@
 use Rattle.std.proofs.Common.{◌∙◌, Some, ap, sym}
-use Rattle.bus_script.specs.declared.line.Ask.TheVariants.{Disk as AskDisk}
+use Rattle.script_lines.specs.declared.line.Ask.TheVariants.{Disk as AskDisk}
 use Rattle.bus_speech.proofs.SpeechLaws.{disk_reply_fits}
 use Rattle.bus_talk.proofs.tests.disk_round.Goals as goal
 

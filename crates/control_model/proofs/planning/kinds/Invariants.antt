@@ -1,5 +1,5 @@
 use Rattle.std.proofs.Common.{◌≡◌, take, map}
-use Rattle.bus_script.specs.Parts.{kind_of, offered}
+use Rattle.script_lines.specs.Parts.{kind_of, offered}
 use Rattle.control_model.proofs.planning.kinds.Given as goal
 
 abbrev pub invariant-loop-line : goal.invariant-loop-line

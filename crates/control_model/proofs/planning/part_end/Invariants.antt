@@ -1,5 +1,5 @@
 use Rattle.std.proofs.Common.{◌≡◌, drop, slice_range}
-use Rattle.bus_script.specs.Parts.{parts}
+use Rattle.script_lines.specs.Parts.{parts}
 use Rattle.control_model.proofs.CuttingLaws.{ahead}
 use Rattle.control_model.proofs.planning.part_end.Given as goal
 

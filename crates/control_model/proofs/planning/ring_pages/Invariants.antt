@@ -1,5 +1,5 @@
 use Rattle.std.proofs.Common.{◌≡◌, drop}
-use Rattle.bus_script.specs.Parts.{ring_pages_of}
+use Rattle.script_lines.specs.Parts.{ring_pages_of}
 use Rattle.control_model.proofs.planning.ring_pages.Given as goal
 
 abbrev pub invariant-loop-line : goal.invariant-loop-line

@@ -1,8 +1,8 @@
 use Rattle.std.proofs.Common.{◌∙◌, ap, subst, sym, arith}
 use Rattle.std.proofs.lemmas.List.{take_all}
 use Rattle.std.specs.List.{AllByRecursion}
-use Rattle.bus_script.specs.Parts.{kind_asked}
-use Rattle.bus_script.specs.WellFormed.{CanGo}
+use Rattle.script_lines.specs.Parts.{kind_asked}
+use Rattle.script_lines.specs.WellFormed.{CanGo}
 use Rattle.bus_speech.specs.Wants.{IsAskable}
 use Rattle.end_work.proofs.Opening.{all_more, carried_kind, carried_goes}
 use Rattle.end_work.proofs.making.all_can.Goals as goal

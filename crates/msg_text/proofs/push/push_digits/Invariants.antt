@@ -1,6 +1,6 @@
 use Rattle.std.proofs.Common.{◌≡◌, ◌≤◌, ◌+◌, ◌*◌, ◌++◌, drop, vec_len}
 use Rattle.std.specs.List.{flat_map}
-use Rattle.bus_script.specs.Hex.{hex_2}
+use Rattle.script_text.specs.Hex.{hex_2}
 use Rattle.msg_text.proofs.push.push_digits.Given as goal
 
 abbrev pub invariant-loop-byte : goal.invariant-loop-byte

@@ -1,5 +1,5 @@
 use Rattle.std.proofs.Common.{◌≡◌, map, take}
-use Rattle.bus_script.specs.declared.line.Ask.TheVariants.{Disk as AskDisk}
+use Rattle.script_lines.specs.declared.line.Ask.TheVariants.{Disk as AskDisk}
 use Rattle.phase_run.proofs.open.disk_requests.Given as goal
 
 abbrev pub invariant-loop-ask : goal.invariant-loop-ask

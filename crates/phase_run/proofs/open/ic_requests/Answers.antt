@@ -1,5 +1,5 @@
 use Rattle.std.proofs.Common.{◌∙◌, ap}
-use Rattle.bus_script.specs.Parts.{kind_asked}
+use Rattle.script_lines.specs.Parts.{kind_asked}
 use Rattle.end_work.proofs.Opening.{carried_kind}
 use Rattle.phase_run.proofs.open.ic_requests.Goals as goal
 

@@ -3,7 +3,7 @@ use Rattle.std.proofs.Common.{◌≡◌, ◌≤◌, ◌*◌, ℕ, List, length, 
 use Rattle.std.specs.Prelude.{IsSome}
 use Rattle.scsi_disk.specs.Commands.{command_of}
 use Rattle.scsi_disk.specs.declared.command.Command.TheVariants.{Read, Write}
-use Rattle.bus_script.specs.Requests.{IsCarried, most_moved, bytes_written}
+use Rattle.script_lines.specs.Requests.{IsCarried, most_moved, bytes_written}
 
 write_carried : (cdb out : List ℕ) (lba count : ℕ) → length cdb ≡ 16 → Some (Write lba count) ≡ command_of cdb → count ≤ 4 → length out ≡ 512 * count → IsCarried (record { cdb = cdb; out = out })
 write_carried cdb out lba count len is few all = record {

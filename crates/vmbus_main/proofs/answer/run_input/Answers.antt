@@ -1,6 +1,6 @@
 use Rattle.std.proofs.Common.{◌∙◌, ◌≤◌, ◌+◌, ◌*◌, length, ap, sym, subst, arith}
 use Rattle.bus_script.specs.Report.{report_of, runs_back}
-use Rattle.bus_script.specs.WellFormed.{IsScript}
+use Rattle.script_lines.specs.WellFormed.{IsScript}
 use Rattle.bus_model.proofs.FewBack.{report_fits_lem}
 use Rattle.vmbus_main.proofs.answer.run_input.Goals as goal
 

@@ -1,5 +1,5 @@
 use Rattle.std.proofs.Common.{◌-◌, length}
-use Rattle.bus_script.specs.Parts.{parts}
+use Rattle.script_lines.specs.Parts.{parts}
 use Rattle.vmbus_main.specs.Between.{IsBetween}
 use Rattle.vmbus_main.proofs.run.run_phases.Given as goal
 

@@ -1,6 +1,6 @@
 use Rattle.std.proofs.Common.{◌≡◌, nat_lt, length, arith, ◌∙◌}
 use Rattle.std.proofs.lemmas.Bool.Decides.{nat_tests}
-use Rattle.bus_script.specs.Parts.{parts}
+use Rattle.script_lines.specs.Parts.{parts}
 use Rattle.bus_run.proofs.Phases.{next_is}
 use Rattle.bus_run.proofs.runner.Runner.has_next.Goals as goal
 

@@ -1,5 +1,5 @@
 use Rattle.std.proofs.Common.{◌≡◌, ap, subst, ◌∙◌, refl, length, arith, replicate, false}
-use Rattle.bus_script.specs.Parts.{offered}
+use Rattle.script_lines.specs.Parts.{offered}
 use Rattle.bus_run.specs.Whole.{AreFresh, RingsOf}
 use Rattle.bus_run.proofs.Phases.{start}
 use Rattle.bus_run.proofs.runner.Runner.make.Goals as goal

@@ -1,8 +1,8 @@
 use Rattle.std.proofs.Common.{◌≡◌, ◌≤◌, ◌++◌, ◌∷◌, [], ap, sym, subst, ◌∙◌, refl, length, take, drop, arith, rules}
 use Rattle.std.specs.Prelude.{map, MatchOption, ⊤}
 use Rattle.std.proofs.lemmas.List.{with_items_is, places}
-use Rattle.bus_script.specs.Parts.{parts, offered, asks_in}
-use Rattle.bus_script.specs.WellFormed.{AllRight, AllGo}
+use Rattle.script_lines.specs.Parts.{parts, offered, asks_in}
+use Rattle.script_lines.specs.WellFormed.{AllRight, AllGo}
 use Rattle.bus_plan.specs.Flags.{AreMarked, closed_by}
 use Rattle.bus_run.specs.Desk.{spec_of, AreRings}
 use Rattle.bus_run.specs.Whole.{parts_left, behind}

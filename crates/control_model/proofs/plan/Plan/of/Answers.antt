@@ -1,9 +1,9 @@
 use Rattle.std.proofs.Common.{◌≡◌, ◌∙◌, List, length, map, sym, ap, subst, arith}
 use Rattle.std.proofs.lemmas.List.{length-map}
 use Rattle.std.specs.List.{range_with_len}
-use Rattle.bus_script.specs.declared.line.Line.{Line}
-use Rattle.bus_script.specs.Parts.{offered, kind_of}
-use Rattle.bus_script.specs.WellFormed.{IsScript}
+use Rattle.script_lines.specs.declared.line.Line.{Line}
+use Rattle.script_lines.specs.Parts.{offered, kind_of}
+use Rattle.script_lines.specs.WellFormed.{IsScript}
 use Rattle.control_model.specs.Plan.{IsPlan}
 use Rattle.control_model.specs.Openings.{plan_of}
 use Rattle.control_model.specs.Dealing.{served_of}

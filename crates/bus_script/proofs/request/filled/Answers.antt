@@ -1,6 +1,0 @@
-use Rattle.std.proofs.Common.{◌∙◌, ◌*◌, arith}
-use Rattle.std.proofs.lemmas.List.{take-replicate}
-use Rattle.bus_script.proofs.request.filled.Goals as goal
-
-pub returns : goal.returns
-returns c = c.of.ensures ∙ take-replicate (512 * c.args.count) 2048 c.args.byte (omega (arith, c.requires))

@@ -1,0 +1,354 @@
+-- A line against which nothing stands fits behind the lines before it.
+use Rattle.std.proofs.Common.{◌≡◌, ℕ, ◌+◌, ◌<◌, ◌≤◌, Bool, true, false, List, [], ◌∷◌, ◌++◌, length, map, refl, sym, ap, ◌∙◌, subst, arith, zero, suc, is_some, IfSome, cond}
+use Rattle.std.specs.Prelude.{◌||◌, ◌&&◌, ◌==◌, not, nat_lt, nat_le, Option, Some, None, slice_get, unwrap_or, option_map}
+use Rattle.std.specs.List.{list_all}
+use Rattle.std.specs.Option.{option_or, option_map_or}
+use Rattle.std.proofs.lemmas.Bool.Decides.{nat_tests}
+use Rattle.std.proofs.lemmas.List.{append-nil}
+use Rattle.contact.specs.declared.version.Version.{Version}
+use Rattle.contact.specs.Versions.{IsVersion}
+use Rattle.util_ic.specs.declared.ic.IcAsk.TheVariants.{Beat as AskBeat, Down as AskDown}
+use Rattle.script_text.specs.declared.fault.Why6.{Why6}
+use Rattle.script_text.specs.declared.fault.Why6.TheVariants.{Limit, Order}
+use Rattle.script_lines.specs.declared.line.Line.{Line}
+use Rattle.script_lines.specs.declared.line.What.TheVariants.{Contact as IsContact, Offer as IsOffer, Bad as IsBad, RingSize as IsRingSize, Window as IsWindow, Ask as IsAsk, Shut as IsShut, Phase as IsPhase}
+use Rattle.script_lines.specs.declared.line.Ask.{Ask}
+use Rattle.script_lines.specs.declared.line.Ask.TheVariants.{Ic, Disk as AskDisk}
+use Rattle.script_lines.specs.declared.line.DeviceSpec.{DeviceSpec}
+use Rattle.script_lines.specs.declared.line.DeviceSpec.TheVariants.{Beat as IsBeat, Down as IsDown, Disk as IsDisk}
+use Rattle.script_lines.specs.declared.disk_ask.DiskAsk.{DiskAsk}
+use Rattle.script_lines.specs.declared.offering.Offering.{Offering}
+use Rattle.script_lines.specs.declared.offering.Offering.TheVariants.{Beat as OfBeat, Down as OfDown, Disk as OfDisk}
+use Rattle.contact.specs.declared.kind.Kind.TheVariants.{Disk as KindDisk}
+use Rattle.script_lines.specs.declared.said.Said.{Said}
+use Rattle.script_lines.specs.declared.said.Said.TheVariants.{Contact, Offer, Bad, Ring, Window, Beat, Down, Command, Close, Phase}
+use Rattle.script_lines.specs.Parts.{is_settings, offered, kind_of, kind_asked, phases_over, closed_in, channels, channels_of, device_of, blocks_at, has_bad}
+use Rattle.script_lines.specs.Faults.{unless, device_said, says_settings, line_limit, ask_limit, has_room, count_limit, is_first, is_closed_before, own_order, order_fault, is_beat, is_down, is_disk, is_offered, name_fault, is_closed_here, is_bad, repeat_fault, offers_in_range, is_block, range_fault, row_fault}
+use Rattle.script_lines.specs.Grammar.{or_zero, spec_of}
+use Rattle.script_lines.specs.WellFormed.{IsDevice, CanGo, OfferInRange, InRange, Fits}
+use Rattle.script_text.specs.Forms.{within}
+use Rattle.script_lines.specs.Requests.{request_of}
+use Rattle.script_lines.proofs.Carrying.{asks_carried}
+use Rattle.script_lines.proofs.Phases.{by_test, closed_by}
+
+or_none : (a b : Option Why6) → option_or a b ≡ None → (a ≡ None) × (b ≡ None)
+or_none None b is = (refl, is)
+or_none (Some why) b is = absurd (cc)
+
+unless_none : (b : Bool) (why : Why6) → unless b why ≡ None → b ≡ true
+unless_none true why is = refl
+unless_none false why is = absurd (cc)
+
+-- nothing stands against a line
+record Stands (number : ℕ) (before : List Line) (device : Option ℕ) (said : Said) : Type 0 where
+  line : number ≤ 20000
+  count : count_limit before said ≡ None
+  order : order_fault before device said ≡ None
+  name : name_fault before device said ≡ None
+  repeat : repeat_fault before device said ≡ None
+  range : range_fault before device said ≡ None
+
+stands : (number : ℕ) (before : List Line) (device : Option ℕ) (said : Said) → row_fault number before device said ≡ None → Stands number before device said
+stands number before device said free =
+    let five = or_none _ (range_fault before device said) free in
+    let four = or_none _ (repeat_fault before device said) five.0 in
+    let three = or_none _ (name_fault before device said) four.0 in
+    let two = or_none _ (order_fault before device said) three.0 in
+    let one = or_none (line_limit number) (count_limit before said) two.0 in
+    let line = unless_none (nat_le number 20000) Limit one.0 in
+    record {
+      line = grind (arith, nat_tests, line);
+      count = one.1;
+      order = two.1;
+      name = three.1;
+      repeat = four.1;
+      range = five.1;
+    }
+
+some_is : {X : Type 0} (o : Option X) → is_some o ≡ true → (x : X) × (o ≡ Some x)
+some_is None holds = absurd (cc)
+some_is (Some x) holds = (x, refl)
+
+both_true : (a b : Bool) → (a && b) ≡ true → (a ≡ true) × (b ≡ true)
+both_true true true is = (refl, refl)
+both_true true false is = absurd (cc)
+both_true false b is = absurd (cc)
+
+not_true : (b : Bool) → not b ≡ true → b ≡ false
+not_true true is = absurd (cc)
+not_true false is = refl
+
+first_is : (before : List Line) → is_first before ≡ true → before ≡ []
+first_is [] holds = refl
+first_is (l ∷ ls) holds = absurd (cc)
+
+own_free : (before : List Line) (device : Option ℕ) (said : Said) → order_fault before device said ≡ None → own_order before device said ≡ None
+own_free before device said free = (or_none (unless (not (says_settings said) || list_all (λ l. is_settings l.what) before) Order) (own_order before device said) free).1
+
+-- settings stand behind settings
+settings_stand : (before : List Line) (b : Bool) (own : Option Why6) (why : Why6) → option_or (unless (not true || b) why) own ≡ None → b ≡ true
+settings_stand before b own why free = unless_none b why ((or_none _ own free).0)
+
+kind_at : (specs : List DeviceSpec) (d : ℕ) (spec : DeviceSpec) → slice_get specs d ≡ Some spec → slice_get (map kind_of specs) d ≡ Some (kind_of spec)
+kind_at [] d spec is = absurd (cc)
+kind_at (s ∷ specs) zero spec is = ap (option_map kind_of) is
+kind_at (s ∷ specs) (suc d) spec is = kind_at specs d spec is
+
+beat_is : (spec : DeviceSpec) → is_beat spec ≡ true → spec ≡ IsBeat
+beat_is IsBeat is = refl
+beat_is IsDown is = absurd (cc)
+beat_is (IsDisk blocks subs) is = absurd (cc)
+
+down_is : (spec : DeviceSpec) → is_down spec ≡ true → spec ≡ IsDown
+down_is IsBeat is = absurd (cc)
+down_is IsDown is = refl
+down_is (IsDisk blocks subs) is = absurd (cc)
+
+disk_kind : (spec : DeviceSpec) → is_disk spec ≡ true → kind_of spec ≡ KindDisk
+disk_kind IsBeat is = absurd (cc)
+disk_kind IsDown is = absurd (cc)
+disk_kind (IsDisk blocks subs) is = refl
+
+-- no number but 0 is from 0 to 0
+zero_within : (o : Option ℕ) → unwrap_or (within 0 0 o) 0 ≡ 0
+zero_within None = refl
+zero_within (Some n) = by_test (nat_le 0 n && nat_le n 0)
+    (λ e. ap (λ (b : Bool). unwrap_or (cond b (Some n) None) 0) e ∙ (let both = both_true (nat_le 0 n) (nat_le n 0) e in grind (arith, nat_tests, both.1)))
+    (λ e. ap (λ (b : Bool). unwrap_or (cond b (Some n) None) 0) e)
+
+-- a device that is offered in its ranges
+device_right : (offering : Offering) → offers_in_range offering ≡ true → OfferInRange offering → IsDevice (spec_of offering)
+device_right OfBeat holds range = tt
+device_right OfDown holds range = tt
+device_right (OfDisk None subs) holds range = absurd (cc)
+device_right (OfDisk (Some blocks) subs) holds range = (range.0, range.1, zero_within subs)
+
+-- and its channels
+room_is : (before : List Line) (offering : Offering) → has_room before offering ≡ true → channels before + channels_of (spec_of offering) ≤ 16
+room_is before OfBeat room = grind (arith, nat_tests, room)
+room_is before OfDown room = grind (arith, nat_tests, room)
+room_is before (OfDisk blocks None) room = absurd (cc)
+room_is before (OfDisk blocks (Some subs)) room =
+    let most : channels before + (1 + subs) ≤ 16 = grind (arith, nat_tests, room) in omega (arith, most, zero_within (Some subs))
+
+-- a block of a device that was offered
+block_is : (before : List Line) (device lba : Option ℕ) → is_block before device lba ≡ true → unwrap_or lba 0 < blocks_at (unwrap_or device 0) (offered before)
+block_is before None lba is = absurd (cc)
+block_is before (Some d) None is = absurd (cc)
+block_is before (Some d) (Some l) is = grind (arith, nat_tests, is)
+
+fresh_is : (before : List Line) (device lba : Option ℕ) → is_block before device lba ≡ true → is_bad before device lba ≡ false → has_bad (unwrap_or device 0) (unwrap_or lba 0) before ≡ false
+fresh_is before None lba is fresh = absurd (cc)
+fresh_is before (Some d) None is fresh = absurd (cc)
+fresh_is before (Some d) (Some l) is fresh = fresh
+
+-- the device of such a kind that was offered
+offered_is : (kind : DeviceSpec → Bool) (before : List Line) (device : Option ℕ) → is_offered kind before device ≡ true
+    → (spec : DeviceSpec) × (slice_get (offered before) (unwrap_or device 0) ≡ Some spec) × (kind spec ≡ true)
+offered_is kind before None is = absurd (cc)
+offered_is kind before (Some d) is = at (slice_get (offered before) d) refl is
+  where
+    at : (o : Option DeviceSpec) → slice_get (offered before) d ≡ o → option_map_or kind o false ≡ true → (spec : DeviceSpec) × (slice_get (offered before) d ≡ Some spec) × (kind spec ≡ true)
+    at None same holds = absurd (cc)
+    at (Some spec) same holds = (spec, same, holds)
+
+right_ask : (before : List Line) (device : Option ℕ) (spec : DeviceSpec) (ask : Ask) → slice_get (offered before) (unwrap_or device 0) ≡ Some spec → kind_of spec ≡ kind_asked ask
+    → slice_get (map kind_of (offered before ++ [])) (unwrap_or device 0) ≡ Some (kind_asked ask)
+right_ask before device spec ask is kind =
+    ap (λ specs. slice_get (map kind_of specs) (unwrap_or device 0)) (append-nil (offered before)) ∙ kind_at (offered before) (unwrap_or device 0) spec is ∙ ap Some kind
+
+within_offered : (before : List Line) (device : Option ℕ) → is_some device ≡ true → IfSome device (λ d. d < length (offered before)) → unwrap_or device 0 < length (offered before ++ [])
+within_offered before None there within = absurd (cc)
+within_offered before (Some d) there within = subst (λ (specs : List DeviceSpec). d < length specs) (sym (append-nil (offered before))) within
+
+open_is : (before : List Line) (d : ℕ) → is_closed_before before d ≡ false → is_closed_here before d ≡ false → closed_in d before ≡ None
+open_is before d earlier here = at (closed_in d before) refl earlier here
+  where
+    at : (o : Option ℕ) → closed_in d before ≡ o → option_map_or (λ p. nat_lt p (phases_over before)) o false ≡ false → option_map_or (λ p. p == phases_over before) o false ≡ false → closed_in d before ≡ None
+    at None same less is = same
+    at (Some p) same less is = let most = closed_by 0 d before p same in absurd (grind (arith, nat_tests, less, is, most))
+
+eq_is : (a b : ℕ) → (a == b) ≡ true → a ≡ b
+eq_is a b is = grind (arith, nat_tests, is)
+
+module _ (number : ℕ) (before : List Line) (behind : length before < number) where
+  pub fits_contact : (guest host : Option Version) (device : Option ℕ) → row_fault number before device (Contact guest host) ≡ None → InRange (Contact guest host)
+      → Fits before (IsContact (or_zero guest) (or_zero host))
+  fits_contact guest host device free range =
+      let s = stands number before device (Contact guest host) free in
+      let there = both_true _ _ (unless_none _ _ s.range) in
+      record {
+        right = (version_is guest there.0 range.0, version_is host there.1 range.1);
+        goes = tt;
+        fresh = refl;
+        contact = λ is. first_is before (unless_none _ _ (own_free before device (Contact guest host) s.order));
+        settings = λ is. settings_stand before _ _ _ s.order;
+        few = λ one is. absurd (cc);
+        new = λ name is. absurd (cc);
+        asks = λ is. absurd (cc);
+        closed = λ d is. absurd (cc);
+        short = omega (arith, s.line, behind);
+      }
+    where
+      version_is : (v : Option Version) → is_some v ≡ true → IfSome v (λ u. IsVersion u.0) → IsVersion ((or_zero v).0)
+      version_is None there in_range = absurd (cc)
+      version_is (Some v) there in_range = in_range
+
+  pub fits_offer : (name : List ℕ) (offering : Offering) (device : Option ℕ) → device ≡ device_said before (Offer name offering) → row_fault number before device (Offer name offering) ≡ None
+      → InRange (Offer name offering) → Fits before (IsOffer name (spec_of offering))
+  fits_offer name offering device said free range =
+      let s = stands number before device (Offer name offering) free in
+      let room = room_is before offering (unless_none _ _ s.count) in
+      record {
+        right = device_right offering (unless_none _ _ s.range) range;
+        goes = tt;
+        fresh = refl;
+        contact = λ is. absurd (cc);
+        settings = λ is. settings_stand before _ _ _ s.order;
+        few = λ one is. let same : spec_of offering ≡ one = cc (is) in subst (λ d. channels before + channels_of d ≤ 16) same room;
+        new = λ other is. let same : name ≡ other = cc (is) in ap (λ n. device_of n before) (sym same) ∙ sym said ∙ none_is device (not_true _ (unless_none _ _ s.repeat));
+        asks = λ is. absurd (cc);
+        closed = λ d is. absurd (cc);
+        short = omega (arith, s.line, behind);
+      }
+    where
+      none_is : (o : Option ℕ) → is_some o ≡ false → o ≡ None
+      none_is None is = refl
+      none_is (Some d) is = absurd (cc)
+
+  pub fits_bad : (name : List ℕ) (lba device : Option ℕ) → row_fault number before device (Bad name lba) ≡ None → Fits before (IsBad (unwrap_or device 0) (unwrap_or lba 0))
+  fits_bad name lba device free =
+      let s = stands number before device (Bad name lba) free in
+      let block = unless_none _ _ s.range in
+      record {
+        right = subst (λ (specs : List DeviceSpec). unwrap_or lba 0 < blocks_at (unwrap_or device 0) specs) (sym (append-nil (offered before))) (block_is before device lba block);
+        goes = tt;
+        fresh = fresh_is before device lba block (not_true _ (unless_none _ _ s.repeat));
+        contact = λ is. absurd (cc);
+        settings = λ is. settings_stand before _ _ _ s.order;
+        few = λ one is. absurd (cc);
+        new = λ other is. absurd (cc);
+        asks = λ is. absurd (cc);
+        closed = λ d is. absurd (cc);
+        short = omega (arith, s.line, behind);
+      }
+
+  pub fits_ring : (name : List ℕ) (pages device : Option ℕ) → row_fault number before device (Ring name pages) ≡ None → InRange (Ring name pages) → IfSome device (λ d. d < length (offered before))
+      → Fits before (IsRingSize (unwrap_or device 0) (unwrap_or pages 0))
+  fits_ring name pages device free range within =
+      let s = stands number before device (Ring name pages) free in
+      record {
+        right = (within_offered before device (unless_none _ _ s.name) within, (in_range pages (unless_none _ _ s.range) range).0, (in_range pages (unless_none _ _ s.range) range).1);
+        goes = tt;
+        fresh = refl;
+        contact = λ is. absurd (cc);
+        settings = λ is. settings_stand before _ _ _ s.order;
+        few = λ one is. absurd (cc);
+        new = λ other is. absurd (cc);
+        asks = λ is. absurd (cc);
+        closed = λ d is. absurd (cc);
+        short = omega (arith, s.line, behind);
+      }
+    where
+      in_range : (o : Option ℕ) → is_some o ≡ true → IfSome o (λ n. (1 ≤ n) × (n ≤ 16)) → (1 ≤ unwrap_or o 0) × (unwrap_or o 0 ≤ 16)
+      in_range None there is = absurd (cc)
+      in_range (Some n) there is = is
+
+  pub fits_window : (name : List ℕ) (size device : Option ℕ) → row_fault number before device (Window name size) ≡ None → InRange (Window name size) → IfSome device (λ d. d < length (offered before))
+      → Fits before (IsWindow (unwrap_or device 0) (unwrap_or size 0))
+  fits_window name size device free range within =
+      let s = stands number before device (Window name size) free in
+      record {
+        right = (within_offered before device (unless_none _ _ s.name) within, (in_range size (unless_none _ _ s.range) range).0, (in_range size (unless_none _ _ s.range) range).1);
+        goes = tt;
+        fresh = refl;
+        contact = λ is. absurd (cc);
+        settings = λ is. settings_stand before _ _ _ s.order;
+        few = λ one is. absurd (cc);
+        new = λ other is. absurd (cc);
+        asks = λ is. absurd (cc);
+        closed = λ d is. absurd (cc);
+        short = omega (arith, s.line, behind);
+      }
+    where
+      in_range : (o : Option ℕ) → is_some o ≡ true → IfSome o (λ n. (1 ≤ n) × (n ≤ 64)) → (1 ≤ unwrap_or o 0) × (unwrap_or o 0 ≤ 64)
+      in_range None there is = absurd (cc)
+      in_range (Some n) there is = is
+
+  fits_ask : (ask : Ask) (device : Option ℕ) (spec : DeviceSpec) → slice_get (offered before) (unwrap_or device 0) ≡ Some spec → kind_of spec ≡ kind_asked ask → CanGo ask → ask_limit before ≡ None → number ≤ 20000
+      → Fits before (IsAsk (unwrap_or device 0) ask)
+  fits_ask ask device spec at kind goes room line =
+      let less = unless_none _ _ room in
+      record {
+        right = right_ask before device spec ask at kind;
+        goes = goes;
+        fresh = refl;
+        contact = λ is. absurd (cc);
+        settings = λ is. absurd (cc);
+        few = λ one is. absurd (cc);
+        new = λ other is. absurd (cc);
+        asks = λ is. grind (arith, nat_tests, less);
+        closed = λ d is. absurd (cc);
+        short = omega (arith, line, behind);
+      }
+
+  pub fits_beat : (name : List ℕ) (seq device : Option ℕ) → row_fault number before device (Beat name seq) ≡ None → Fits before (IsAsk (unwrap_or device 0) (Ic (AskBeat (unwrap_or seq 0))))
+  fits_beat name seq device free =
+      let s = stands number before device (Beat name seq) free in
+      let found = offered_is is_beat before device (unless_none _ _ s.name) in
+      fits_ask (Ic (AskBeat (unwrap_or seq 0))) device found.0 found.1 (ap kind_of (beat_is found.0 found.2)) tt s.count s.line
+
+  pub fits_down : (name : List ℕ) (flags device : Option ℕ) → row_fault number before device (Down name flags) ≡ None → Fits before (IsAsk (unwrap_or device 0) (Ic (AskDown 0 0 (unwrap_or flags 0))))
+  fits_down name flags device free =
+      let s = stands number before device (Down name flags) free in
+      let found = offered_is is_down before device (unless_none _ _ s.name) in
+      fits_ask (Ic (AskDown 0 0 (unwrap_or flags 0))) device found.0 found.1 (ap kind_of (down_is found.0 found.2)) tt s.count s.line
+
+  pub fits_command : (name : List ℕ) (ask : DiskAsk) (device : Option ℕ) → row_fault number before device (Command name ask) ≡ None → InRange (Command name ask)
+      → Fits before (IsAsk (unwrap_or device 0) (AskDisk (request_of ask)))
+  fits_command name ask device free range =
+      let s = stands number before device (Command name ask) free in
+      let found = offered_is is_disk before device (unless_none _ _ s.name) in
+      fits_ask (AskDisk (request_of ask)) device found.0 found.1 (disk_kind found.0 found.2) (asks_carried ask (unless_none _ _ s.range) range) s.count s.line
+
+  pub fits_close : (name : List ℕ) (device : Option ℕ) → row_fault number before device (Close name) ≡ None → IfSome device (λ d. d < length (offered before)) → Fits before (IsShut (unwrap_or device 0))
+  fits_close name device free within =
+      let s = stands number before device (Close name) free in
+      let named = unless_none _ _ s.name in
+      let earlier = not_true _ (unless_none _ _ (own_free before device (Close name) s.order)) in
+      let here = not_true _ (unless_none _ _ s.repeat) in
+      record {
+        right = within_offered before device named within;
+        goes = tt;
+        fresh = refl;
+        contact = λ is. absurd (cc);
+        settings = λ is. absurd (cc);
+        few = λ one is. absurd (cc);
+        new = λ other is. absurd (cc);
+        asks = λ is. absurd (cc);
+        closed = λ d is. subst (λ e. closed_in e before ≡ None) (eq_is (unwrap_or device 0) d is) (open_at device named earlier here);
+        short = omega (arith, s.line, behind);
+      }
+    where
+      open_at : (o : Option ℕ) → is_some o ≡ true → option_map_or (is_closed_before before) o false ≡ false → option_map_or (is_closed_here before) o false ≡ false → closed_in (unwrap_or o 0) before ≡ None
+      open_at None there earlier here = absurd (cc)
+      open_at (Some d) there earlier here = open_is before d earlier here
+
+  pub fits_phase : (device : Option ℕ) → row_fault number before device Phase ≡ None → Fits before IsPhase
+  fits_phase device free =
+      let s = stands number before device Phase free in
+      record {
+        right = tt;
+        goes = tt;
+        fresh = refl;
+        contact = λ is. absurd (cc);
+        settings = λ is. absurd (cc);
+        few = λ one is. absurd (cc);
+        new = λ other is. absurd (cc);
+        asks = λ is. absurd (cc);
+        closed = λ d is. absurd (cc);
+        short = omega (arith, s.line, behind);
+      }
+
+  pub line_is : (device : Option ℕ) (said : Said) → row_fault number before device said ≡ None → number ≤ 20000
+  line_is device said free = let s = stands number before device said free in s.line

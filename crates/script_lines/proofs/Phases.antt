@@ -1,0 +1,158 @@
+-- The phases of a script as lines come.
+use Rattle.std.proofs.Common.{◌≡◌, ℕ, ◌+◌, ◌<◌, ◌≤◌, Bool, true, false, cond, List, [], ◌∷◌, ◌++◌, length, refl, sym, ap, ◌∙◌, subst, arith, All}
+use Rattle.std.specs.Prelude.{Option, Some, None, if◌then◌else◌, count_by}
+use Rattle.std.specs.List.{onto_first, AllByRecursion}
+use Rattle.std.specs.Option.{option_or}
+use Rattle.std.proofs.lemmas.List.Splits.{slice_split-cons_yes, slice_split-cons_no, length-slice_split}
+use Rattle.std.proofs.lemmas.List.Sums.{sum_by-append, sum_by-cons}
+use Rattle.std.proofs.lemmas.List.Elements.{recursion_from_All, All-from_recursion}
+use Rattle.script_lines.specs.declared.line.Line.{Line}
+use Rattle.script_lines.specs.Parts.{ends_part, parts, asks_in, shuts, last_of, this_part, phases_over, phase_behind, closed_from, closed_in}
+
+pub by_test : {P : Type 0} (b : Bool) → (b ≡ true → P) → (b ≡ false → P) → P
+by_test true f g = f refl
+by_test false f g = g refl
+
+some_part : (ls : List Line) → 0 < length (parts ls)
+some_part ls = omega (arith, length-slice_split ends_part ls)
+
+onto_push : (k : Line) (ps : List (List Line)) (q : List Line) → 0 < length ps → onto_first k (ps ++ q ∷ []) ≡ onto_first k ps ++ q ∷ []
+onto_push k [] q less = absurd (omega (arith, less))
+onto_push k (p ∷ ps) q less = refl
+
+-- a line more in the last phase
+abbrev pub onto_last : List (List Line) → Line → List (List Line)
+onto_last [] l = []
+onto_last (p ∷ []) l = (p ++ l ∷ []) ∷ []
+onto_last (p ∷ q ∷ ps) l = p ∷ onto_last (q ∷ ps) l
+
+last_cons : (p : List Line) (ps : List (List Line)) (l : Line) → 0 < length ps → onto_last (p ∷ ps) l ≡ p ∷ onto_last ps l
+last_cons p [] l less = absurd (omega (arith, less))
+last_cons p (q ∷ ps) l less = refl
+
+first_last : (k : Line) (ps : List (List Line)) (l : Line) → 0 < length ps → onto_first k (onto_last ps l) ≡ onto_last (onto_first k ps) l
+first_last k [] l less = absurd (omega (arith, less))
+first_last k (p ∷ []) l less = refl
+first_last k (p ∷ q ∷ ps) l less = refl
+
+pub parts_phase : (ls : List Line) (l : Line) → ends_part l ≡ true → parts (ls ++ l ∷ []) ≡ parts ls ++ [] ∷ []
+parts_phase [] l ends = slice_split-cons_yes ends_part l [] ends
+parts_phase (k ∷ ks) l ends = by_test (ends_part k)
+    (λ e. slice_split-cons_yes ends_part k (ks ++ l ∷ []) e ∙ ap (λ ps. [] ∷ ps) (parts_phase ks l ends) ∙ sym (ap (λ ps. ps ++ [] ∷ []) (slice_split-cons_yes ends_part k ks e)))
+    (λ e. slice_split-cons_no ends_part k (ks ++ l ∷ []) e ∙ ap (onto_first k) (parts_phase ks l ends) ∙ onto_push k (parts ks) [] (some_part ks)
+    ∙ sym (ap (λ ps. ps ++ [] ∷ []) (slice_split-cons_no ends_part k ks e)))
+
+pub parts_other : (ls : List Line) (l : Line) → ends_part l ≡ false → parts (ls ++ l ∷ []) ≡ onto_last (parts ls) l
+parts_other [] l other = slice_split-cons_no ends_part l [] other
+parts_other (k ∷ ks) l other = by_test (ends_part k)
+    (λ e. slice_split-cons_yes ends_part k (ks ++ l ∷ []) e ∙ ap (λ ps. [] ∷ ps) (parts_other ks l other) ∙ sym (last_cons [] (parts ks) l (some_part ks))
+    ∙ sym (ap (λ ps. onto_last ps l) (slice_split-cons_yes ends_part k ks e)))
+    (λ e. slice_split-cons_no ends_part k (ks ++ l ∷ []) e ∙ ap (onto_first k) (parts_other ks l other) ∙ first_last k (parts ks) l (some_part ks)
+    ∙ sym (ap (λ ps. onto_last ps l) (slice_split-cons_no ends_part k ks e)))
+
+last_phase : (ps : List (List Line)) (q : List Line) → last_of (ps ++ q ∷ []) ≡ q
+last_phase [] q = refl
+last_phase (p ∷ []) q = refl
+last_phase (p ∷ r ∷ ps) q = last_phase (r ∷ ps) q
+
+last_other : (ps : List (List Line)) (l : Line) → 0 < length ps → last_of (onto_last ps l) ≡ last_of ps ++ l ∷ []
+last_other [] l less = absurd (omega (arith, less))
+last_other (p ∷ []) l less = refl
+last_other (p ∷ q ∷ []) l less = refl
+last_other (p ∷ q ∷ r ∷ ps) l less = last_other (q ∷ r ∷ ps) l (omega arith)
+
+-- a new phase has no lines yet
+pub this_phase : (ls : List Line) (l : Line) → ends_part l ≡ true → this_part (ls ++ l ∷ []) ≡ []
+this_phase ls l ends = ap last_of (parts_phase ls l ends) ∙ last_phase (parts ls) []
+
+pub this_other : (ls : List Line) (l : Line) → ends_part l ≡ false → this_part (ls ++ l ∷ []) ≡ this_part ls ++ l ∷ []
+this_other ls l other = ap last_of (parts_other ls l other) ∙ last_other (parts ls) l (some_part ls)
+
+-- a count of a list and one more
+count_more : (p : Line → Bool) (ls : List Line) (l : Line) → count_by p (ls ++ l ∷ []) ≡ count_by p ls + cond (p l) 1 0
+count_more p ls l = sum_by-append (λ k. cond (p k) 1 0) ls (l ∷ []) ∙ (let one : count_by p (l ∷ []) ≡ cond (p l) 1 0 = omega (arith, sum_by-cons (λ (k : Line). cond (p k) 1 0) l []) in ap (λ n. count_by p ls + n) one)
+
+pub count_yes : (p : Line → Bool) (ls : List Line) (l : Line) → p l ≡ true → count_by p (ls ++ l ∷ []) ≡ count_by p ls + 1
+count_yes p ls l e = count_more p ls l ∙ ap (λ b. count_by p ls + cond b 1 0) e
+
+pub count_no : (p : Line → Bool) (ls : List Line) (l : Line) → p l ≡ false → count_by p (ls ++ l ∷ []) ≡ count_by p ls
+count_no p ls l e = let same : count_by p ls + 0 ≡ count_by p ls = omega arith in count_more p ls l ∙ ap (λ b. count_by p ls + cond b 1 0) e ∙ same
+
+abbrev pub FewAsks : List Line → Type 0
+FewAsks part = asks_in part ≤ 4096
+
+few_phase : (ps : List (List Line)) → AllByRecursion FewAsks ps → AllByRecursion FewAsks (ps ++ [] ∷ [])
+few_phase [] few = (omega arith, tt)
+few_phase (p ∷ ps) few = (few.0, few_phase ps few.1)
+
+few_other : (ps : List (List Line)) (l : Line) → AllByRecursion FewAsks ps → asks_in (last_of ps ++ l ∷ []) ≤ 4096 → AllByRecursion FewAsks (onto_last ps l)
+few_other [] l few less = few
+few_other (p ∷ []) l few less = (less, tt)
+few_other (p ∷ q ∷ ps) l few less = (few.0, few_other (q ∷ ps) l few.1 less)
+
+-- each phase still has at most 4,096 requests
+pub asks_phase : (ls : List Line) (l : Line) → ends_part l ≡ true → All FewAsks (parts ls) → All FewAsks (parts (ls ++ l ∷ []))
+asks_phase ls l ends few = subst (All FewAsks) (sym (parts_phase ls l ends)) (All-from_recursion FewAsks (parts ls ++ [] ∷ []) (few_phase (parts ls) (recursion_from_All FewAsks (parts ls) few)))
+
+pub asks_other : (ls : List Line) (l : Line) → ends_part l ≡ false → asks_in (this_part ls ++ l ∷ []) ≤ 4096 → All FewAsks (parts ls) → All FewAsks (parts (ls ++ l ∷ []))
+asks_other ls l other less few =
+    subst (All FewAsks) (sym (parts_other ls l other)) (All-from_recursion FewAsks (onto_last (parts ls) l) (few_other (parts ls) l (recursion_from_All FewAsks (parts ls) few) less))
+
+all_this : (ps : List (List Line)) → 0 < length ps → AllByRecursion FewAsks ps → asks_in (last_of ps) ≤ 4096
+all_this [] less few = absurd (omega (arith, less))
+all_this (p ∷ []) less few = few.0
+all_this (p ∷ q ∷ ps) less few = all_this (q ∷ ps) (omega arith) few.1
+
+pub asks_this : (ls : List Line) → All FewAsks (parts ls) → asks_in (this_part ls) ≤ 4096
+asks_this ls few = all_this (parts ls) (some_part ls) (recursion_from_All FewAsks (parts ls) few)
+
+pub closed_here : (phase device : ℕ) (l : Line) (ls : List Line) → shuts device l.what ≡ true → closed_from phase device (l ∷ ls) ≡ Some phase
+closed_here phase device l ls e = ap (λ b. if b then Some phase else closed_from (phase_behind phase l) device ls) e
+
+pub closed_on : (phase device : ℕ) (l : Line) (ls : List Line) → shuts device l.what ≡ false → closed_from phase device (l ∷ ls) ≡ closed_from (phase_behind phase l) device ls
+closed_on phase device l ls e = ap (λ b. if b then Some phase else closed_from (phase_behind phase l) device ls) e
+
+pub behind_count : (phase : ℕ) (l : Line) (ls : List Line) → phase_behind phase l + phases_over ls ≡ phase + phases_over (l ∷ ls)
+behind_count phase l ls =
+    let more = sum_by-cons (λ (k : Line). cond (ends_part k) 1 0) l ls in
+    by_test (ends_part l)
+    (λ e. let next : phase_behind phase l ≡ phase + 1 = ap (λ b. if b then phase + 1 else phase) e in
+    let one : cond {A = ℕ} (ends_part l) 1 0 ≡ 1 = ap (λ b. cond {A = ℕ} b 1 0) e in omega (arith, more, next, one))
+    (λ e. let next : phase_behind phase l ≡ phase = ap (λ b. if b then phase + 1 else phase) e in
+    let one : cond {A = ℕ} (ends_part l) 1 0 ≡ 0 = ap (λ b. cond {A = ℕ} b 1 0) e in omega (arith, more, next, one))
+
+-- what a line at the end adds to a device's close
+abbrev pub close_at : ℕ → Bool → Option ℕ
+close_at phase closes = if closes then Some phase else None
+
+closed_more_from : (phase device : ℕ) (ls : List Line) (l : Line) → closed_from phase device (ls ++ l ∷ []) ≡ option_or (closed_from phase device ls) (close_at (phase + phases_over ls) (shuts device l.what))
+closed_more_from phase device [] l = by_test (shuts device l.what)
+    (λ e. let same : phase ≡ phase + 0 = omega arith in closed_here phase device l [] e ∙ ap Some same ∙ sym (ap (close_at (phase + 0)) e))
+    (λ e. closed_on phase device l [] e ∙ sym (ap (close_at (phase + 0)) e))
+closed_more_from phase device (k ∷ ks) l = by_test (shuts device k.what)
+    (λ e. closed_here phase device k (ks ++ l ∷ []) e ∙ sym (ap (λ o. option_or o (close_at (phase + phases_over (k ∷ ks)) (shuts device l.what))) (closed_here phase device k ks e)))
+    (λ e. closed_on phase device k (ks ++ l ∷ []) e ∙ closed_more_from (phase_behind phase k) device ks l
+    ∙ ap (λ n. option_or (closed_from (phase_behind phase k) device ks) (close_at n (shuts device l.what))) (behind_count phase k ks)
+    ∙ sym (ap (λ o. option_or o (close_at (phase + phases_over (k ∷ ks)) (shuts device l.what))) (closed_on phase device k ks e)))
+
+pub closed_more : (device : ℕ) (ls : List Line) (l : Line) → closed_in device (ls ++ l ∷ []) ≡ option_or (closed_in device ls) (close_at (phases_over ls) (shuts device l.what))
+closed_more device ls l =
+    let same : 0 + phases_over ls ≡ phases_over ls = omega arith in
+    closed_more_from 0 device ls l ∙ ap (λ n. option_or (closed_in device ls) (close_at n (shuts device l.what))) same
+
+-- a device is closed in no phase behind the one that goes on
+pub closed_by : (phase device : ℕ) (ls : List Line) (p : ℕ) → closed_from phase device ls ≡ Some p → p ≤ phase + phases_over ls
+closed_by phase device [] p is = absurd (cc)
+closed_by phase device (l ∷ ls) p is = by_test (shuts device l.what)
+    (λ e. let same : Some phase ≡ Some p = sym (closed_here phase device l ls e) ∙ is in let at : phase ≡ p = cc (same) in omega (arith, at))
+    (λ e. omega (arith, closed_by (phase_behind phase l) device ls p (sym (closed_on phase device l ls e) ∙ is), behind_count phase l ls))
+
+-- one that isn't closed has no line that closes it
+pub none_shut : (phase device : ℕ) (ls : List Line) → closed_from phase device ls ≡ None → count_by (λ l. shuts device l.what) ls ≡ 0
+none_shut phase device [] is = refl
+none_shut phase device (l ∷ ls) is =
+    let more = sum_by-cons (λ (k : Line). cond (shuts device k.what) 1 0) l ls in
+    by_test (shuts device l.what)
+    (λ e. let same : Some phase ≡ None = sym (closed_here phase device l ls e) ∙ is in absurd (cc (same)))
+    (λ e. let zero : cond {A = ℕ} (shuts device l.what) 1 0 ≡ 0 = ap (λ b. cond {A = ℕ} b 1 0) e in
+    omega (arith, more, zero, none_shut (phase_behind phase l) device ls (sym (closed_on phase device l ls e) ∙ is)))

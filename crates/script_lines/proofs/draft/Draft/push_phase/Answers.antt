@@ -1,0 +1,11 @@
+use Rattle.std.proofs.Common.{sym, subst}
+use Rattle.script_lines.specs.declared.line.What.TheVariants.{Phase}
+use Rattle.script_lines.specs.WellFormed.{Fits}
+use Rattle.script_lines.proofs.Drafts.{keeps_phase}
+use Rattle.script_lines.proofs.draft.Draft.push_phase.Goals as goal
+
+pub invariant_of-self-2 : goal.invariant_of-self-2
+invariant_of-self-2 c =
+    let s = c.self.inside in
+    let fits = subst (λ ls. Fits ls Phase) (sym c.self.view_is) c.requires in
+    rw (c.in_ok-push.ensures.items) (keeps_phase s.lines.items s.names.keys s.seen.items s.channels s.asks s.phase s.settings s.bad.keys c.self.invariant c.args.number fits)

@@ -1,0 +1,9 @@
+pub mod Parts
+pub mod Requests
+pub mod Rows
+pub mod Faults
+pub mod Grammar
+pub mod First
+pub mod Parse
+pub mod WellFormed
+pub mod Draft

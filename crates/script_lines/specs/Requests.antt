@@ -1,0 +1,81 @@
+-- The requests that lines ask of a disk.
+use Rattle.std.specs.Prelude.{ℕ, ◌≡◌, ◌≤◌, ◌<◌, ◌*◌, ◌^◌, true, List, [], ◌∷◌, ◌++◌, length, replicate, Option, Some, IsSome, IfSome, unwrap_or}
+use Rattle.std.specs.Int.{to_be_bytes, w16, w32}
+use Rattle.scsi_disk.specs.Commands.{command_of}
+use Rattle.scsi_disk.specs.declared.command.Command.{Command}
+use Rattle.scsi_disk.specs.declared.command.Command.TheVariants.{TestUnitReady, Inquiry as IsInquiry, ReadCapacity, Read as IsRead, Write as IsWrite, SynchronizeCache}
+use Rattle.scsi_disk.specs.declared.request.DiskRequest.{DiskRequest}
+use Rattle.script_lines.specs.declared.disk_ask.DiskAsk.{DiskAsk}
+use Rattle.script_lines.specs.declared.disk_ask.DiskAsk.TheVariants.{Ready, Inquiry, Capacity, Flush, Read, Write}
+
+-- a command in 16 bytes: its code, its first block in bytes 2 to 5 and its count of blocks in bytes 7 and 8, both big-endian
+abbrev pub ten : ℕ → ℕ → ℕ → List ℕ
+ten code lba count = code ∷ 0 ∷ (to_be_bytes w32 lba ++ (0 ∷ (to_be_bytes w16 count ++ (0 ∷ 0 ∷ 0 ∷ 0 ∷ 0 ∷ 0 ∷ 0 ∷ []))))
+
+-- an inquiry for 36 bytes: how many may come stands in bytes 3 and 4, big-endian
+abbrev pub inquiry_cdb : List ℕ
+inquiry_cdb = 0x12 ∷ 0 ∷ 0 ∷ 0 ∷ 36 ∷ 0 ∷ 0 ∷ 0 ∷ 0 ∷ 0 ∷ 0 ∷ 0 ∷ 0 ∷ 0 ∷ 0 ∷ 0 ∷ []
+
+-- so many blocks of one byte
+abbrev pub filled : ℕ → ℕ → List ℕ
+filled count byte = replicate (512 * count) byte
+
+-- the command of a line
+abbrev pub cdb_of : DiskAsk → List ℕ
+cdb_of Ready = ten 0x00 0 0
+cdb_of Inquiry = inquiry_cdb
+cdb_of Capacity = ten 0x25 0 0
+cdb_of Flush = ten 0x35 0 0
+cdb_of (Read lba count) = ten 0x28 (unwrap_or lba 0) (unwrap_or count 0)
+cdb_of (Write lba count byte) = ten 0x2a (unwrap_or lba 0) (unwrap_or count 0)
+
+-- the data of a line: a write alone has any
+abbrev pub out_of : DiskAsk → List ℕ
+out_of Ready = []
+out_of Inquiry = []
+out_of Capacity = []
+out_of Flush = []
+out_of (Read lba count) = []
+out_of (Write lba count byte) = filled (unwrap_or count 0) byte
+
+-- the request of a line
+abbrev pub request_of : DiskAsk → DiskRequest
+request_of ask = record { cdb = cdb_of ask; out = out_of ask }
+
+-- the disk's command of a line
+abbrev pub command_said : DiskAsk → Command
+command_said Ready = TestUnitReady
+command_said Inquiry = IsInquiry true 36
+command_said Capacity = ReadCapacity
+command_said Flush = SynchronizeCache
+command_said (Read lba count) = IsRead (unwrap_or lba 0) (unwrap_or count 0)
+command_said (Write lba count byte) = IsWrite (unwrap_or lba 0) (unwrap_or count 0)
+
+-- its first block has a number of 32 bits, and it moves at most 4 blocks
+abbrev pub AskInRange : DiskAsk → Type 0
+AskInRange Ready = Unit {0}
+AskInRange Inquiry = Unit {0}
+AskInRange Capacity = Unit {0}
+AskInRange Flush = Unit {0}
+AskInRange (Read lba count) = IfSome lba (λ n. n < 2 ^ 32) × IfSome count (λ n. n ≤ 4)
+AskInRange (Write lba count byte) = IfSome lba (λ n. n < 2 ^ 32) × IfSome count (λ n. n ≤ 4)
+
+-- how many bytes a command moves at most, to the disk or back
+abbrev pub most_moved : Option Command → ℕ
+most_moved (Some (IsInquiry standard allocation)) = allocation
+most_moved (Some ReadCapacity) = 8
+most_moved (Some (IsRead lba count)) = 512 * count
+most_moved (Some (IsWrite lba count)) = 512 * count
+most_moved _ = 0
+
+-- how many bytes a command writes
+abbrev pub bytes_written : Option Command → ℕ
+bytes_written (Some (IsWrite lba count)) = 512 * count
+bytes_written _ = 0
+
+-- a request that a disk's channel carries: a built command in 16 bytes, which moves at most 2,048 bytes, with the data that it writes
+pub record IsCarried (request : DiskRequest) : Type 0 where
+  pub bytes : length request.cdb ≡ 16
+  pub built : IsSome (command_of request.cdb)
+  pub moves : most_moved (command_of request.cdb) ≤ 2048
+  pub writes : length request.out ≡ bytes_written (command_of request.cdb)

@@ -1,0 +1,138 @@
+-- The rows of the table of lines.
+use Rattle.std.specs.Prelude.{ℕ, ◌^◌, ◌-◌, ◌==◌, Bool, false, ◌&&◌, nat_le, List, [], ◌∷◌, codes, Option, Some, None, if◌then◌else◌}
+use Rattle.std.specs.List.{list_all}
+use Rattle.std.specs.Option.{option_map}
+use Rattle.std.specs.Str.{bytes_eq}
+use Rattle.script_lines.specs.declared.disk_ask.DiskAsk.{DiskAsk}
+use Rattle.script_lines.specs.declared.disk_ask.DiskAsk.TheVariants.{Ready, Inquiry, Capacity, Flush, Read, Write}
+use Rattle.script_lines.specs.declared.offering.Offering.TheVariants.{Beat as OfBeat, Down as OfDown, Disk as OfDisk}
+use Rattle.script_lines.specs.declared.said.Said.{Said}
+use Rattle.script_lines.specs.declared.said.Said.TheVariants.{Nothing, Contact, Offer, Bad, Ring, Window, Beat, Down, Command, Close, Phase}
+use Rattle.script_text.specs.Words.{words}
+use Rattle.script_text.specs.Forms.{is_name, is_decimal, number_of, in_u64, within, is_byte, byte_of, is_version, version_of}
+
+-- NAME
+abbrev pub name_alone : List (List ℕ) → Option (List ℕ)
+name_alone (name ∷ []) = if is_name name then Some name else None
+name_alone others = None
+
+-- NAME NUMBER
+abbrev pub name_and_number : List (List ℕ) → Option (List ℕ × Option ℕ)
+name_and_number (name ∷ number ∷ []) = if is_name name && is_decimal number then Some (name, in_u64 (number_of number)) else None
+name_and_number others = None
+
+-- NAME NUMBER NUMBER
+abbrev pub name_and_two : List (List ℕ) → Option (List ℕ × Option ℕ × Option ℕ)
+name_and_two (name ∷ first ∷ second ∷ []) =
+    if is_name name && is_decimal first && is_decimal second then Some (name, in_u64 (number_of first), in_u64 (number_of second)) else None
+name_and_two others = None
+
+-- GUEST HOST, behind contact
+abbrev pub contact_row : List (List ℕ) → Option Said
+contact_row (guest ∷ host ∷ []) = if is_version guest && is_version host then Some (Contact (version_of guest) (version_of host)) else None
+contact_row others = None
+
+-- NAME BLOCKS SUBS, behind offer disk
+abbrev pub disk_offer : List (List ℕ) → Option Said
+disk_offer others = option_map (λ p. Offer p.0 (OfDisk (within 1 65536 p.1) p.2)) (name_and_two others)
+
+-- hb NAME, shutdown NAME, or disk and what stands behind it, behind offer
+abbrev pub offer_row : List (List ℕ) → Option Said
+offer_row [] = None
+offer_row (kind ∷ others) =
+    if bytes_eq kind (codes "hb") then option_map (λ name. Offer name OfBeat) (name_alone others) else
+    if bytes_eq kind (codes "shutdown") then option_map (λ name. Offer name OfDown) (name_alone others) else
+    if bytes_eq kind (codes "disk") then disk_offer others else None
+
+-- NAME LBA, behind bad
+abbrev pub bad_row : List (List ℕ) → Option Said
+bad_row others = option_map (λ p. Bad p.0 p.1) (name_and_number others)
+
+-- NAME PAGES, behind ring
+abbrev pub ring_row : List (List ℕ) → Option Said
+ring_row others = option_map (λ p. Ring p.0 (within 1 16 p.1)) (name_and_number others)
+
+-- NAME N, behind window
+abbrev pub window_row : List (List ℕ) → Option Said
+window_row others = option_map (λ p. Window p.0 (within 1 64 p.1)) (name_and_number others)
+
+-- NAME SEQ, behind beat
+abbrev pub beat_row : List (List ℕ) → Option Said
+beat_row others = option_map (λ p. Beat p.0 p.1) (name_and_number others)
+
+-- NAME FLAGS, behind down
+abbrev pub down_row : List (List ℕ) → Option Said
+down_row others = option_map (λ p. Down p.0 (within 0 (2 ^ 32 - 1) p.1)) (name_and_number others)
+
+-- NAME, behind the key words of a disk that take no more
+abbrev pub plain_command : DiskAsk → List (List ℕ) → Option Said
+plain_command ask others = option_map (λ name. Command name ask) (name_alone others)
+
+-- the first block of a command, and how many blocks it moves
+abbrev pub lba_in : Option ℕ → Option ℕ
+lba_in number = within 0 (2 ^ 32 - 1) number
+
+abbrev pub count_in : Option ℕ → Option ℕ
+count_in number = within 0 4 number
+
+-- NAME LBA COUNT, behind read
+abbrev pub read_row : List (List ℕ) → Option Said
+read_row others = option_map (λ p. Command p.0 (Read (lba_in p.1) (count_in p.2))) (name_and_two others)
+
+-- NAME LBA COUNT HH, behind write
+abbrev pub write_row : List (List ℕ) → Option Said
+write_row (name ∷ lba ∷ count ∷ byte ∷ []) =
+    if is_name name && is_decimal lba && is_decimal count && is_byte byte
+    then Some (Command name (Write (lba_in (in_u64 (number_of lba))) (count_in (in_u64 (number_of count))) (byte_of byte)))
+    else None
+write_row others = None
+
+-- what stands behind each key word of a disk
+abbrev pub disk_row : List ℕ → List (List ℕ) → Option Said
+disk_row key others =
+    if bytes_eq key (codes "bad") then bad_row others else
+    if bytes_eq key (codes "ready") then plain_command Ready others else
+    if bytes_eq key (codes "inquiry") then plain_command Inquiry others else
+    if bytes_eq key (codes "capacity") then plain_command Capacity others else
+    if bytes_eq key (codes "flush") then plain_command Flush others else
+    if bytes_eq key (codes "read") then read_row others else
+    if bytes_eq key (codes "write") then write_row others else None
+
+-- NAME, behind close
+abbrev pub close_row : List (List ℕ) → Option Said
+close_row others = option_map Close (name_alone others)
+
+-- nothing, behind phase
+abbrev pub phase_row : List (List ℕ) → Option Said
+phase_row [] = Some Phase
+phase_row others = None
+
+-- the table of lines: what stands behind each key word
+abbrev pub row_of : List ℕ → List (List ℕ) → Option Said
+row_of key others =
+    if bytes_eq key (codes "contact") then contact_row others else
+    if bytes_eq key (codes "offer") then offer_row others else
+    if bytes_eq key (codes "ring") then ring_row others else
+    if bytes_eq key (codes "window") then window_row others else
+    if bytes_eq key (codes "beat") then beat_row others else
+    if bytes_eq key (codes "down") then down_row others else
+    if bytes_eq key (codes "close") then close_row others else
+    if bytes_eq key (codes "phase") then phase_row others else disk_row key others
+
+-- a word that makes its line a comment, where it is the first
+abbrev pub begins_comment : List ℕ → Bool
+begins_comment [] = false
+begins_comment (c ∷ cs) = c == 35
+
+-- what these words say
+abbrev pub said_by : List (List ℕ) → Option Said
+said_by [] = Some Nothing
+said_by (key ∷ others) = if begins_comment key then Some Nothing else row_of key others
+
+-- 0x20 to 0x7E
+abbrev pub is_printable : ℕ → Bool
+is_printable c = nat_le 0x20 c && nat_le c 0x7E
+
+-- what a line says, where it has printable bytes alone and its words are a row of the table
+abbrev pub said_in : List ℕ → Option Said
+said_in line = if list_all is_printable line then said_by (words line) else None

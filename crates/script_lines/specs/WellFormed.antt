@@ -1,0 +1,136 @@
+-- What every script has.
+use Rattle.std.specs.Prelude.{ℕ, ◌≡◌, ◌+◌, ◌<◌, ◌≤◌, Bool, true, false, not, Some, None, IfSome, List, [], ◌∷◌, ◌++◌, length, map, All, count_by, slice_get, if◌then◌else◌}
+use Rattle.std.specs.List.{list_all}
+use Rattle.contact.specs.Versions.{IsVersion}
+use Rattle.script_lines.specs.declared.line.Line.{Line}
+use Rattle.script_lines.specs.declared.line.What.{What}
+use Rattle.script_lines.specs.declared.line.What.TheVariants.{Contact as IsContact, Offer as IsOffer, Bad as IsBad, RingSize as IsRingSize, Window as IsWindow, Ask as IsAsk, Shut as IsShut, Phase as IsPhase}
+use Rattle.script_lines.specs.declared.line.DeviceSpec.{DeviceSpec}
+use Rattle.script_lines.specs.declared.line.DeviceSpec.TheVariants.{Beat as IsBeat, Down as IsDown, Disk as IsDisk}
+use Rattle.script_lines.specs.declared.line.Ask.{Ask}
+use Rattle.script_lines.specs.declared.line.Ask.TheVariants.{Ic, Disk as AskDisk}
+use Rattle.script_lines.specs.declared.offering.Offering.{Offering}
+use Rattle.script_lines.specs.declared.offering.Offering.TheVariants.{Beat as OfBeat, Down as OfDown, Disk as OfDisk}
+use Rattle.script_lines.specs.declared.said.Said.{Said}
+use Rattle.script_lines.specs.declared.said.Said.TheVariants.{Nothing, Contact, Offer, Bad, Ring, Window, Beat, Down, Command, Close, Phase}
+use Rattle.script_lines.specs.Requests.{AskInRange, IsCarried}
+use Rattle.script_lines.specs.Parts.{parts, this_part, offered, offered_by, named_by, asks_in, is_ask, is_settings, shuts, closed_in, channels, channels_of, device_of, kind_of, kind_asked, blocks_at, has_bad}
+
+-- a disk has 1 to 65,536 blocks, and no channel but the first
+abbrev pub IsDevice : DeviceSpec → Type 0
+IsDevice IsBeat = Unit {0}
+IsDevice IsDown = Unit {0}
+IsDevice (IsDisk blocks subs) = (1 ≤ blocks) × (blocks ≤ 65536) × (subs ≡ 0)
+
+-- a line that speaks of a device speaks of one that is offered, and a request of one of its kind; a bad block is one of its disk, and numbers are in their ranges
+abbrev pub IsRight : List DeviceSpec → What → Type 0
+IsRight kinds (IsContact guest host) = IsVersion guest.0 × IsVersion host.0
+IsRight kinds (IsOffer name device) = IsDevice device
+IsRight kinds (IsBad device lba) = lba < blocks_at device kinds
+IsRight kinds (IsRingSize device pages) = (device < length kinds) × (1 ≤ pages) × (pages ≤ 16)
+IsRight kinds (IsWindow device size) = (device < length kinds) × (1 ≤ size) × (size ≤ 64)
+IsRight kinds (IsAsk device ask) = slice_get (map kind_of kinds) device ≡ Some (kind_asked ask)
+IsRight kinds (IsShut device) = device < length kinds
+IsRight kinds IsPhase = Unit {0}
+
+-- a request that a channel of its device carries
+abbrev pub CanGo : Ask → Type 0
+CanGo (Ic ask) = Unit {0}
+CanGo (AskDisk request) = IsCarried request
+
+abbrev pub AskGoes : What → Type 0
+AskGoes (IsContact guest host) = Unit {0}
+AskGoes (IsOffer name device) = Unit {0}
+AskGoes (IsBad device lba) = Unit {0}
+AskGoes (IsRingSize device pages) = Unit {0}
+AskGoes (IsWindow device size) = Unit {0}
+AskGoes (IsAsk device ask) = CanGo ask
+AskGoes (IsShut device) = Unit {0}
+AskGoes IsPhase = Unit {0}
+
+-- each request of these lines goes through its channel
+abbrev pub AllGo : List Line → Type 0
+AllGo [] = Unit {0}
+AllGo (l ∷ ls) = AskGoes l.what × AllGo ls
+
+-- each of these lines is right
+abbrev pub AllRight : List DeviceSpec → List Line → Type 0
+AllRight kinds [] = Unit {0}
+AllRight kinds (l ∷ ls) = IsRight kinds l.what × AllRight kinds ls
+
+-- the line says which versions the guest and its host have
+abbrev pub is_contact : What → Bool
+is_contact (IsContact guest host) = true
+is_contact (IsOffer name device) = false
+is_contact (IsBad device lba) = false
+is_contact (IsRingSize device pages) = false
+is_contact (IsWindow device size) = false
+is_contact (IsAsk device ask) = false
+is_contact (IsShut device) = false
+is_contact IsPhase = false
+
+-- behind the first line none says versions
+abbrev pub contact_first : List Line → Bool
+contact_first [] = true
+contact_first (l ∷ ls) = list_all (λ m. not (is_contact m.what)) ls
+
+-- no line of settings stands behind a line of another kind
+abbrev pub settings_first : List Line → Bool
+settings_first [] = true
+settings_first (l ∷ ls) = if is_settings l.what then settings_first ls else list_all (λ m. not (is_settings m.what)) ls
+
+-- What every script has: each line is right among the devices that the script offers, at most 16 of them with 16 channels, and each request goes through its channel; settings stand first, and the versions before them all; a phase has at most 4,096 requests; a device is closed once at most
+pub record IsScript (lines : List Line) : Type 0 where
+  pub right : AllRight (offered lines) lines
+  pub go : AllGo lines
+  pub contact : contact_first lines ≡ true
+  pub settings : settings_first lines ≡ true
+  pub few : length (offered lines) ≤ 16
+  pub channels : channels lines ≤ 16
+  pub short : length lines ≤ 20000
+  pub asks : All (λ part. asks_in part ≤ 4096) (parts lines)
+  pub closed : (device : ℕ) → count_by (λ l. shuts device l.what) lines ≤ 1
+
+-- a disk's blocks are in their range, where there are any
+abbrev pub OfferInRange : Offering → Type 0
+OfferInRange OfBeat = Unit {0}
+OfferInRange OfDown = Unit {0}
+OfferInRange (OfDisk blocks subs) = IfSome blocks (λ n. (1 ≤ n) × (n ≤ 65536))
+
+-- the values that a line says are in their ranges, where it says any
+abbrev pub InRange : Said → Type 0
+InRange Nothing = Unit {0}
+InRange (Contact guest host) = IfSome guest (λ v. IsVersion v.0) × IfSome host (λ v. IsVersion v.0)
+InRange (Offer name offering) = OfferInRange offering
+InRange (Bad name lba) = Unit {0}
+InRange (Ring name pages) = IfSome pages (λ n. (1 ≤ n) × (n ≤ 16))
+InRange (Window name size) = IfSome size (λ n. (1 ≤ n) × (n ≤ 64))
+InRange (Beat name seq) = Unit {0}
+InRange (Down name flags) = Unit {0}
+InRange (Command name ask) = AskInRange ask
+InRange (Close name) = Unit {0}
+InRange Phase = Unit {0}
+
+-- the block was made bad before
+abbrev pub is_again : List Line → What → Bool
+is_again before (IsContact guest host) = false
+is_again before (IsOffer name device) = false
+is_again before (IsBad device lba) = has_bad device lba before
+is_again before (IsRingSize device pages) = false
+is_again before (IsWindow device size) = false
+is_again before (IsAsk device ask) = false
+is_again before (IsShut device) = false
+is_again before IsPhase = false
+
+-- a line of this may stand behind these lines
+pub record Fits (before : List Line) (what : What) : Type 0 where
+  pub right : IsRight (offered before ++ offered_by what) what
+  pub goes : AskGoes what
+  pub fresh : is_again before what ≡ false
+  pub contact : is_contact what ≡ true → before ≡ []
+  pub settings : is_settings what ≡ true → list_all (λ l. is_settings l.what) before ≡ true
+  pub few : (spec : DeviceSpec) → offered_by what ≡ spec ∷ [] → channels before + channels_of spec ≤ 16
+  pub new : (name : List ℕ) → named_by what ≡ name ∷ [] → device_of name before ≡ None
+  pub asks : is_ask what ≡ true → asks_in (this_part before) < 4096
+  pub closed : (device : ℕ) → shuts device what ≡ true → closed_in device before ≡ None
+  pub short : length before < 20000

@@ -1,0 +1,20 @@
+//! The lines of a script, read from its bytes; the first wrong one, and why it is refused.
+#![tactic(auto)]
+
+mod bad_place;
+mod disk_ask;
+mod draft;
+mod law;
+mod line;
+mod offering;
+mod reading;
+mod refusal;
+mod request;
+mod row;
+mod said;
+mod script;
+
+pub use law::first_wrong_line;
+pub use line::{Ask, DeviceSpec, Line, What};
+pub use reading::parse;
+pub use script::Script;

@@ -1,0 +1,77 @@
+//! What the lines of a script say.
+ghost use Rattle.std.specs.Prelude.{◌≡◌};
+
+use contact::Version;
+use script_text::Name;
+use scsi_disk::DiskRequest;
+use util_ic::IcAsk;
+
+/// A device that a script offers.
+#[derive(Clone, Copy, Debug, PartialEq, Eq)]
+pub enum DeviceSpec {
+    /// A heartbeat service.
+    Beat,
+    /// A shutdown service.
+    Down,
+    /// A disk.
+    Disk {
+        /// How many blocks of 512 bytes it has.
+        blocks: u64,
+        /// How many channels it has beside the first one.
+        subs: u32,
+    },
+}
+
+/// A request to a device.
+#[derive(Drop)]
+pub enum Ask {
+    /// A request to a utility service.
+    Ic(IcAsk),
+    /// A command for a disk.
+    Disk(DiskRequest),
+}
+
+impl Ask {
+    /// The same request. It takes no memory.
+    pub fn again(&self) -> Ask
+        ensures { result ≡ self.now }
+    {
+        match self {
+            Ask::Ic(ask) => Ask::Ic(*ask),
+            Ask::Disk(request) => Ask::Disk(DiskRequest {
+                cdb: request.cdb,
+                out: request.out.again(),
+            }),
+        }
+    }
+}
+
+/// What a line with words says. Devices count from 0, in order of offer.
+#[derive(Drop)]
+pub enum What {
+    /// The highest versions of the guest and of its host.
+    Contact { guest: Version, host: Version },
+    /// The host offers a device under a name.
+    Offer { name: Name, device: DeviceSpec },
+    /// A block of a disk can't be read.
+    Bad { device: u32, lba: u64 },
+    /// Each ring of a device has this many data pages of 4,096 bytes.
+    RingSize { device: u32, pages: u32 },
+    /// A channel of a device has at most this many requests open.
+    Window { device: u32, size: u32 },
+    /// A device is asked.
+    Ask { device: u32, ask: Ask },
+    /// A device is closed at the end of this phase, for good.
+    Shut { device: u32 },
+    /// The next phase begins.
+    Phase,
+}
+
+/// A line with words, and its number; lines count from 1.
+#[derive(Drop)]
+pub struct Line {
+    /// The number of the line among all lines of the script.
+    pub number: u32,
+    /// What it says.
+    pub what: What,
+}

@@ -1,0 +1,296 @@
+//! The rows of the table of lines.
+ghost use Rattle.std.specs.Prelude.{◌≡◌, ◌<◌, ◌≤◌, [], List, length, Option, Some, None, IfSome};
+ghost use Rattle.std.specs.List.{list_all};
+ghost use Rattle.std.specs.Option.{option_map};
+ghost use Rattle.script_text.specs.Words.{words};
+ghost use Rattle.script_lines.specs.WellFormed.{InRange};
+ghost use Rattle.script_lines.specs.Requests.{AskInRange};
+ghost use Rattle.script_lines.specs.Rows.{is_printable, said_in, said_by, begins_comment, row_of, disk_row, name_alone, name_and_number, name_and_two, contact_row, offer_row, disk_offer, bad_row, plain_command, read_row, write_row, ring_row, window_row, beat_row, down_row, close_row, phase_row};
+
+use crate::disk_ask::DiskAsk;
+use crate::offering::Offering;
+use crate::said::Said;
+use script_text::{
+    Name, byte_of, first_word, is_byte, is_decimal, is_name, is_version, number_of, version_of,
+    within,
+};
+
+/// What a line says, where it has printable bytes alone and its words are a row of the table.
+pub fn said_in(line: &[u8]) -> Option<Said>
+    ensures said { result ≡ said_in line.now }
+    ensures range { IfSome result InRange }
+{
+    if are_printable(line) {
+        said_by(line)
+    } else {
+        None
+    }
+}
+
+fn are_printable(line: &[u8]) -> bool
+    ensures { result ≡ list_all is_printable line.now }
+{
+    line.iter().all(|c| 0x20 <= *c && *c <= 0x7E)
+}
+
+/// A line without words, and one whose first word begins with `#`, is passed over.
+fn said_by(line: &[u8]) -> Option<Said>
+    ensures said { result ≡ said_by (words line.now) }
+    ensures range { IfSome result InRange }
+{
+    match first_word(line) {
+        None => Some(Said::Nothing),
+        Some((key, rest)) => {
+            if begins_comment(key) {
+                Some(Said::Nothing)
+            } else {
+                row_of(key, rest)
+            }
+        }
+    }
+}
+
+fn begins_comment(word: &[u8]) -> bool
+    ensures { result ≡ begins_comment word.now }
+{
+    match word {
+        [first, ..] => *first == b'#',
+        [] => false,
+    }
+}
+
+fn row_of(key: &[u8], rest: &[u8]) -> Option<Said>
+    ensures said { result ≡ row_of key.now (words rest.now) }
+    ensures range { IfSome result InRange }
+{
+    if key == b"contact".as_slice() {
+        contact_row(rest)
+    } else if key == b"offer".as_slice() {
+        offer_row(rest)
+    } else if key == b"ring".as_slice() {
+        ring_row(rest)
+    } else if key == b"window".as_slice() {
+        window_row(rest)
+    } else if key == b"beat".as_slice() {
+        beat_row(rest)
+    } else if key == b"down".as_slice() {
+        down_row(rest)
+    } else if key == b"close".as_slice() {
+        close_row(rest)
+    } else if key == b"phase".as_slice() {
+        phase_row(rest)
+    } else {
+        disk_row(key, rest)
+    }
+}
+
+fn disk_row(key: &[u8], rest: &[u8]) -> Option<Said>
+    ensures said { result ≡ disk_row key.now (words rest.now) }
+    ensures range { IfSome result InRange }
+{
+    if key == b"bad".as_slice() {
+        bad_row(rest)
+    } else if key == b"ready".as_slice() {
+        plain_command(DiskAsk::Ready, rest)
+    } else if key == b"inquiry".as_slice() {
+        plain_command(DiskAsk::Inquiry, rest)
+    } else if key == b"capacity".as_slice() {
+        plain_command(DiskAsk::Capacity, rest)
+    } else if key == b"flush".as_slice() {
+        plain_command(DiskAsk::Flush, rest)
+    } else if key == b"read".as_slice() {
+        read_row(rest)
+    } else if key == b"write".as_slice() {
+        write_row(rest)
+    } else {
+        None
+    }
+}
+
+fn name_alone(rest: &[u8]) -> Option<Name>
+    ensures { result ≡ name_alone (words rest.now) }
+{
+    let (name, rest) = first_word(rest)?;
+    match first_word(rest) {
+        None if is_name(name) => Some(Name::of(name)),
+        _ => None,
+    }
+}
+
+fn name_and_number(rest: &[u8]) -> Option<(Name, Option<u64>)>
+    ensures { result ≡ name_and_number (words rest.now) }
+{
+    let (name, rest) = first_word(rest)?;
+    let (number, rest) = first_word(rest)?;
+    match first_word(rest) {
+        None if is_name(name) && is_decimal(number) => { Some((Name::of(name), number_of(number))) }
+        _ => None,
+    }
+}
+
+fn name_and_two(rest: &[u8]) -> Option<(Name, Option<u64>, Option<u64>)>
+    ensures { result ≡ name_and_two (words rest.now) }
+{
+    let (name, rest) = first_word(rest)?;
+    let (first, rest) = first_word(rest)?;
+    let (second, rest) = first_word(rest)?;
+    match first_word(rest) {
+        None if is_name(name) && is_decimal(first) && is_decimal(second) => {
+            Some((Name::of(name), number_of(first), number_of(second)))
+        }
+        _ => None,
+    }
+}
+
+fn contact_row(rest: &[u8]) -> Option<Said>
+    ensures said { result ≡ contact_row (words rest.now) }
+    ensures range { IfSome result InRange }
+{
+    let (guest, rest) = first_word(rest)?;
+    let (host, rest) = first_word(rest)?;
+    match first_word(rest) {
+        None if is_version(guest) && is_version(host) => {
+            Some(Said::Contact(version_of(guest), version_of(host)))
+        }
+        _ => None,
+    }
+}
+
+fn offer_row(rest: &[u8]) -> Option<Said>
+    ensures said { result ≡ offer_row (words rest.now) }
+    ensures range { IfSome result InRange }
+{
+    let (kind, rest) = first_word(rest)?;
+    if kind == b"hb".as_slice() {
+        plain_offer(Offering::Beat, rest)
+    } else if kind == b"shutdown".as_slice() {
+        plain_offer(Offering::Down, rest)
+    } else if kind == b"disk".as_slice() {
+        disk_offer(rest)
+    } else {
+        None
+    }
+}
+
+fn plain_offer(offering: Offering, rest: &[u8]) -> Option<Said>
+    requires { InRange (Said.Offer [] offering) }
+    ensures said { result ≡ option_map (λ name. Said.Offer name offering) (name_alone (words rest.now)) }
+    ensures range { IfSome result InRange }
+{
+    let name = name_alone(rest)?;
+    Some(Said::Offer(name, offering))
+}
+
+fn disk_offer(rest: &[u8]) -> Option<Said>
+    ensures said { result ≡ disk_offer (words rest.now) }
+    ensures range { IfSome result InRange }
+{
+    let (name, blocks, subs) = name_and_two(rest)?;
+    Some(Said::Offer(
+        name,
+        Offering::Disk {
+            blocks: within(1, 65_536, blocks),
+            subs,
+        },
+    ))
+}
+
+fn bad_row(rest: &[u8]) -> Option<Said>
+    ensures said { result ≡ bad_row (words rest.now) }
+    ensures range { IfSome result InRange }
+{
+    let (name, lba) = name_and_number(rest)?;
+    Some(Said::Bad(name, lba))
+}
+
+fn ring_row(rest: &[u8]) -> Option<Said>
+    ensures said { result ≡ ring_row (words rest.now) }
+    ensures range { IfSome result InRange }
+{
+    let (name, pages) = name_and_number(rest)?;
+    Some(Said::Ring(name, within(1, 16, pages)))
+}
+
+fn window_row(rest: &[u8]) -> Option<Said>
+    ensures said { result ≡ window_row (words rest.now) }
+    ensures range { IfSome result InRange }
+{
+    let (name, size) = name_and_number(rest)?;
+    Some(Said::Window(name, within(1, 64, size)))
+}
+
+fn beat_row(rest: &[u8]) -> Option<Said>
+    ensures said { result ≡ beat_row (words rest.now) }
+    ensures range { IfSome result InRange }
+{
+    let (name, seq) = name_and_number(rest)?;
+    Some(Said::Beat(name, seq))
+}
+
+fn down_row(rest: &[u8]) -> Option<Said>
+    ensures said { result ≡ down_row (words rest.now) }
+    ensures range { IfSome result InRange }
+{
+    let (name, flags) = name_and_number(rest)?;
+    Some(Said::Down(name, within(0, u32::MAX, flags)))
+}
+
+fn plain_command(ask: DiskAsk, rest: &[u8]) -> Option<Said>
+    requires { AskInRange ask }
+    ensures said { result ≡ plain_command ask (words rest.now) }
+    ensures range { IfSome result InRange }
+{
+    let name = name_alone(rest)?;
+    Some(Said::Command(name, ask))
+}
+
+fn read_row(rest: &[u8]) -> Option<Said>
+    ensures said { result ≡ read_row (words rest.now) }
+    ensures range { IfSome result InRange }
+{
+    let (name, lba, count) = name_and_two(rest)?;
+    let ask = DiskAsk::Read {
+        lba: within(0, u32::MAX, lba),
+        count: within(0, 4, count),
+    };
+    Some(Said::Command(name, ask))
+}
+
+fn write_row(rest: &[u8]) -> Option<Said>
+    ensures said { result ≡ write_row (words rest.now) }
+    ensures range { IfSome result InRange }
+{
+    let (name, rest) = first_word(rest)?;
+    let (lba, rest) = first_word(rest)?;
+    let (count, rest) = first_word(rest)?;
+    let (byte, rest) = first_word(rest)?;
+    match first_word(rest) {
+        None if is_name(name) && is_decimal(lba) && is_decimal(count) && is_byte(byte) => {
+            let ask = DiskAsk::Write {
+                lba: within(0, u32::MAX, number_of(lba)),
+                count: within(0, 4, number_of(count)),
+                byte: byte_of(byte),
+            };
+            Some(Said::Command(Name::of(name), ask))
+        }
+        _ => None,
+    }
+}
+
+fn close_row(rest: &[u8]) -> Option<Said>
+    ensures said { result ≡ close_row (words rest.now) }
+    ensures range { IfSome result InRange }
+{
+    let name = name_alone(rest)?;
+    Some(Said::Close(name))
+}
+
+fn phase_row(rest: &[u8]) -> Option<Said>
+    ensures said { result ≡ phase_row (words rest.now) }
+    ensures range { IfSome result InRange }
+{
+    match first_word(rest) {
+        None => Some(Said::Phase),
+        Some(_) => None,
+    }
+}

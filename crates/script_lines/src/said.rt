@@ -1,0 +1,33 @@
+//! What one line says by itself.
+
+use crate::disk_ask::DiskAsk;
+use crate::offering::Offering;
+use contact::Version;
+use script_text::Name;
+
+/// What a line says, before it is held against the lines before it. A value out of range is none.
+#[derive(Drop)]
+pub enum Said {
+    /// It has no words, or is a comment.
+    Nothing,
+    /// It says the highest versions of the guest and of its host.
+    Contact(Option<Version>, Option<Version>),
+    /// It offers a device.
+    Offer(Name, Offering),
+    /// It says which block of a disk can't be read.
+    Bad(Name, Option<u64>),
+    /// It says how many data pages each ring of a device has.
+    Ring(Name, Option<u32>),
+    /// It says how many requests a channel of a device has open at most.
+    Window(Name, Option<u32>),
+    /// It asks a heartbeat device, with a sequence number.
+    Beat(Name, Option<u64>),
+    /// It asks a shutdown device, with flags.
+    Down(Name, Option<u32>),
+    /// It gives a disk a command.
+    Command(Name, DiskAsk),
+    /// It closes a device.
+    Close(Name),
+    /// It begins the next phase.
+    Phase,
+}

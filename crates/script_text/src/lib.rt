@@ -1,0 +1,19 @@
+//! The texts of a script: bytes as lines and words, what a word writes, and numbers and bytes as text.
+#![tactic(auto)]
+
+mod cut;
+mod fault;
+mod hex;
+mod name;
+mod number;
+mod run;
+mod text;
+mod version;
+
+pub use cut::{first_line, first_word};
+pub use fault::{ParseFault, ScriptFault, Why6};
+pub use hex::{byte_of, hex_2, hex_8, is_byte};
+pub use name::{Name, is_name};
+pub use number::{is_decimal, number_of, within};
+pub use text::{push_decimal, push_runs};
+pub use version::{is_version, version_of};
