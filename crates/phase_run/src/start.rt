@@ -78,12 +78,7 @@ fn run_guest<R: Wait, G: Gate>(
 }
 
 // The same for the end that serves.
-fn run_host<R: Wait, G: Gate>(
-    rt: &R,
-    gate: &G,
-    refused: &AtomicBool,
-    host: HostWorker,
-) -> HostStart
+fn run_host<R: Wait, G: Gate>(rt: &R, gate: &G, refused: &AtomicBool, host: HostWorker) -> HostStart
     requires { IsLive host }
     ensures { HostComes host result }
 {
