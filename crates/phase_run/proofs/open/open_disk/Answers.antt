@@ -1,4 +1,4 @@
-use Rattle.std.proofs.Common.{◌∙◌, ◌*◌, ap}
+use Rattle.std.proofs.Common.{◌∙◌, ◌*◌, ap, None}
 use Rattle.work_model.specs.Roles.{side_that_asks}
 use Rattle.end_work.specs.Plans.{Planned, guest_planned, host_planned}
 use Rattle.end_work.specs.Seats.{at_host}
@@ -23,6 +23,6 @@ returns-clause-opens c =
 
 pub returns-clause-channel : goal.returns-clause-channel
 returns-clause-channel c =
-    on_channel c.args.relid (512 * c.args.pages) (guest_planned c.guest_plan-plan.result) (host_planned c.host_plan-plan.result) _ _ c.in_ok-guest_end.guest_end c.in_ok-guest_end.host_end c.in_ok-guest.guest c.in_ok-host.host
+    on_channel c.args.relid (512 * c.args.pages) (guest_planned c.guest_plan-plan.result) (host_planned c.host_plan-plan.result) None (at_host c.args.seat) c.in_ok-guest_end.guest_end c.in_ok-guest_end.host_end c.in_ok-guest.guest c.in_ok-host.host
     c.in_ok-guest.ensures.made c.in_ok-host.ensures.made (ap (λ (p : Planned). p.relid) c.guest_plan-plan.ensures) (ap (λ (p : Planned). p.relid) c.host_plan-plan.ensures) c.in_ok-guest_end.ensures.guest c.in_ok-guest_end.ensures.host
     c.in_ok-guest.ensures.end.0 c.in_ok-host.ensures.end.0
