@@ -16,12 +16,12 @@ const MOST: usize = 1_048_576;
 fn numbers(line: &str) -> Option<([u32; 5], usize)> {
     let mut all = [0; 5];
     let mut count = 0;
-    for word in line.split(' ') {
-        if count == 5 {
+    for (place, word) in line.split(' ').enumerate() {
+        if place >= 5 {
             return None;
         }
-        all[count] = word.parse().ok()?;
-        count += 1;
+        all[place] = word.parse().ok()?;
+        count = place + 1;
     }
     Some((all, count))
 }
