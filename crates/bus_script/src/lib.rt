@@ -1,11 +1,7 @@
 //! The script of a bus: its bytes read into lines, and the report of its run written as bytes.
 #![tactic(auto)]
 
-#[cfg(test)]
-mod disk_tests;
 mod outcome;
-#[cfg(test)]
-mod tests;
 mod writing;
 
 pub use outcome::{LineResult, Reply};

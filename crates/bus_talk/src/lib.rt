@@ -6,8 +6,6 @@ mod disks;
 mod kind_talk;
 mod packets;
 mod services;
-#[cfg(test)]
-mod tests;
 
 pub use askable::is_askable;
 pub use kind_talk::KindTalk;

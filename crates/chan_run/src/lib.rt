@@ -5,8 +5,6 @@ mod event;
 mod kind;
 pub mod laws;
 mod past;
-#[cfg(test)]
-mod tests;
 
 pub use event::Event;
 pub use past::Past;

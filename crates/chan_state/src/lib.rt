@@ -8,8 +8,6 @@ mod fault;
 mod state;
 mod stop;
 mod table;
-#[cfg(test)]
-mod tests;
 
 pub use action::Action;
 pub use chan_state::ChanState;

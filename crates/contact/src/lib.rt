@@ -5,8 +5,6 @@ mod channel_offer;
 mod class;
 mod kind;
 mod part;
-#[cfg(test)]
-mod tests;
 mod version;
 
 pub use channel_offer::{OfferFault, Offered, offer, offers, read_offer};

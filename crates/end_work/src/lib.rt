@@ -10,8 +10,6 @@ mod host_plan;
 mod host_seat;
 mod host_worker;
 mod making;
-#[cfg(test)]
-mod tests;
 mod turns;
 mod worker;
 

@@ -10,8 +10,6 @@ mod fault;
 mod law;
 mod page_list;
 mod progress;
-#[cfg(test)]
-mod tests;
 
 pub use assembler::Assembler;
 pub use cut::to_messages;

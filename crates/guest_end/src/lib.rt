@@ -12,8 +12,6 @@ mod opening;
 mod proposing;
 mod rescinding;
 mod tearing;
-#[cfg(test)]
-mod tests;
 mod turns;
 
 pub use control::GuestControl;

@@ -3,8 +3,6 @@
 
 mod full;
 mod mail_box;
-#[cfg(test)]
-mod tests;
 
 pub use full::MailFull;
 pub use mail_box::MailBox;

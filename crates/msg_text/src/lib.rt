@@ -7,7 +7,5 @@ mod line;
 mod message;
 mod push;
 mod shown;
-#[cfg(test)]
-mod tests;
 
 pub use input::decode_text;

@@ -13,8 +13,6 @@ mod objects;
 mod reply;
 mod station;
 mod tables;
-#[cfg(test)]
-mod tests;
 
 pub use codec::{decode_nvsp, encode_nvsp};
 pub use fault::NvspFault;

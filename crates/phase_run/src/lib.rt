@@ -7,8 +7,6 @@ mod open;
 mod pair;
 mod phase;
 mod start;
-#[cfg(test)]
-mod tests;
 
 pub use open::open_pair;
 pub use pair::{Pair, PairDone, run_pair, serving_seat};

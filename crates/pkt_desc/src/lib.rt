@@ -4,8 +4,6 @@
 mod build;
 mod desc;
 mod read;
-#[cfg(test)]
-mod tests;
 
 pub use build::{build_comp, build_inband};
 pub use desc::{Desc, PacketFault};

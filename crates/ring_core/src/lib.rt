@@ -9,8 +9,6 @@ mod room;
 mod seat;
 mod solo_mem;
 mod taken;
-#[cfg(test)]
-mod tests;
 mod told_mem;
 mod words;
 

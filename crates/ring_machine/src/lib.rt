@@ -10,8 +10,6 @@ mod next;
 mod place;
 mod ring;
 mod state;
-#[cfg(test)]
-mod tests;
 
 pub use end_core::EndCore;
 pub use last::{Armed, Bad, Indices, Last, Mode, SendRefusal, Signalled, TakeRefusal, Why};

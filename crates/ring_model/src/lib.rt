@@ -4,8 +4,6 @@
 pub mod laws;
 mod settled;
 mod solo_pair;
-#[cfg(test)]
-mod tests;
 
 pub use settled::{Settled, finish};
 pub use solo_pair::SoloPair;

@@ -2,7 +2,5 @@
 #![tactic(auto)]
 
 mod may;
-#[cfg(test)]
-mod tests;
 
 pub use may::{is_packet, may_begin, may_send, may_take};

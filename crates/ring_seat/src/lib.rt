@@ -7,8 +7,6 @@ mod rule;
 mod settled;
 mod sleep;
 mod table_seat;
-#[cfg(test)]
-mod tests;
 mod view;
 
 pub use channel::{ChannelMem, GuestEnd, HostEnd};

@@ -13,8 +13,6 @@ mod read;
 mod rndis;
 mod small;
 mod tables;
-#[cfg(test)]
-mod tests;
 mod write;
 
 pub use fault::RndisFault;

@@ -10,8 +10,6 @@ mod refusal;
 mod reply;
 mod request;
 mod store;
-#[cfg(test)]
-mod tests;
 
 pub use chunk::Chunk;
 pub use command::Command;

@@ -13,8 +13,6 @@ mod opening;
 mod operation;
 mod srb;
 mod stop;
-#[cfg(test)]
-mod tests;
 mod vstor;
 
 pub use codec::{decode_vstor, encode_vstor};

@@ -4,8 +4,6 @@
 mod free;
 mod full;
 mod table;
-#[cfg(test)]
-mod tests;
 mod unknown;
 
 pub use full::TableFull;

@@ -9,8 +9,6 @@ mod read;
 mod request;
 mod row;
 mod tables;
-#[cfg(test)]
-mod tests;
 mod version;
 
 pub use answer::serve;

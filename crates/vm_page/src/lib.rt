@@ -3,8 +3,6 @@
 
 mod cut;
 mod span;
-#[cfg(test)]
-mod tests;
 mod words;
 
 pub use cut::spans;

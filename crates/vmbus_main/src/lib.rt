@@ -10,7 +10,3 @@ mod run;
 pub use call::vmbus;
 pub use outcome::{Controls, Outcome};
 
-#[cfg(test)]
-mod tests;
-#[cfg(test)]
-mod thread_tests;

@@ -26,5 +26,3 @@ pub use msg::Msg;
 pub use read::decode;
 pub use write::encode;
 
-#[cfg(test)]
-mod tests;

@@ -3,8 +3,6 @@
 
 mod asker;
 mod desk;
-#[cfg(test)]
-mod echo;
 mod ended;
 pub mod laws;
 mod owed;
@@ -13,8 +11,6 @@ mod put;
 mod server;
 mod settle;
 mod sheet;
-#[cfg(test)]
-mod tests;
 
 pub use asker::{Asker, AskerDone, Hold};
 pub use ended::{Ended, Turn};

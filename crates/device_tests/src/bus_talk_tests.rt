@@ -1,0 +1,243 @@
+//! Packets of each kind of channel against those that Linux's own structs make, and back.
+ghost use Rattle.std.specs.Prelude.{◌≡◌, ◌≤◌, length, IfOk};
+ghost use Rattle.contact.specs.declared.kind.Kind.TheVariants.{Beat, Down, Disk as DiskKind};
+
+use crate::check::check;
+use bus_talk::{KindTalk, is_askable};
+use bus_script::{Ask, Reply};
+use chan_talk::Talk;
+use contact::Kind;
+use hist_lock::Machine;
+use scsi_disk::{Chunk, Disk, DiskReply, DiskRequest};
+use std::alloc::Global;
+use std::process::Abort;
+use std::test::Fail;
+use util_ic::{BeatMachine, DownMachine, IcAsk};
+use vm_page::bytes_of;
+
+/// The talk of a channel on which this one thing is asked.
+fn talk_of(rt: &impl Abort, alloc: Global, kind: Kind, ask: Ask) -> Result<KindTalk, Fail>
+    ensures { IfOk result (λ t. t.kind ≡ kind) }
+{
+    if !is_askable(kind, &ask) {
+        panic!(rt; "it can't be asked");
+    }
+    let mut asks = Vec::with_capacity(alloc, 1)?;
+    asks.push(ask)?;
+    Ok(KindTalk::make(kind, asks))
+}
+
+/// Wants a packet of this first word and id with these first bytes of its payload, and zeros behind them up to 64 bytes.
+fn check(rt: &impl Abort, packet: &[u64], first: u64, id: u64, front: &[u8])
+    requires { length front.now ≤ 64 }
+{
+    check(rt, packet.len() >= 10);
+    check(rt, (packet[0], packet[1]) == (first, id));
+    let mut want = [0; 64];
+    want[..front.len()].copy_from_slice(front);
+    let mut bytes = [0; 64];
+    bytes_of(&packet[2..10], &mut bytes);
+    check(rt, bytes == want);
+}
+
+/// In-band data with flag 1, and a completion, both of 64 bytes: 10 words.
+const ASKS: u64 = 0x0001_000a_0002_0006;
+
+const DONE: u64 = 0x000a_0002_000b;
+
+#[test]
+fn disks_start_up(rt: HostRuntime) -> Result<(), Fail> {
+    let talk = KindTalk::make(Kind::Disk, Vec::with_capacity(rt.alloc(), 0)?);
+    check(&rt, (talk.count(), talk.starts()) == (4, 4));
+    let rows: [(u8, [u8; 2]); 4] = [(7, [0, 0]), (9, [2, 6]), (10, [0, 0]), (8, [0, 0])];
+    for k in 0..4 {
+        let (operation, version) = rows[k as usize];
+        let mut words = [0; 384];
+        let len = talk.encode(k, 40, &mut words);
+        let packet = &words[..len];
+        let mut front = [operation, 0, 0, 0, 1, 0, 0, 0, 0, 0, 0, 0, 0, 0];
+        front[12..14].copy_from_slice(&version);
+        check(&rt, packet, ASKS, 40, &front);
+        check(&rt, talk.is_waiting(packet) && talk.read(packet).is_none());
+        let mut out = [0; 384];
+        let back = talk.write_fixed(packet, &mut out);
+        check(&rt, back > 0);
+        front[0] = 1;
+        if operation == 10 {
+            // At most 3 sub-channels, flags 1, at most 4,096 bytes.
+            let most = [
+                1, 0, 0, 0, 1, 0, 0, 0, 0, 0, 0, 0, 0, 0, 0, 0, 3, 0, 0, 0, 1, 0, 0, 0, 0, 16,
+            ];
+            check(&rt, &out[..back], DONE, 40, &most);
+        } else {
+            check(&rt, &out[..back], DONE, 40, &front);
+        }
+        check(&rt, talk.result(k, &out[..back]).is_none());
+    }
+    Ok(())
+}
+
+/// What is asked of a disk under the id 77, and what the guest reads in the answer. The request's packet stays in `words`.
+fn disk_round(rt: &impl Abort, disk: &mut Disk, talk: &KindTalk, words: &mut [u64]) -> Option<Reply>
+    requires kind { talk.now.kind ≡ DiskKind }
+    requires words { length words.old ≡ 384 }
+{
+    check(rt, (talk.count(), talk.starts()) == (5, 4));
+    check(rt, talk.has_answer(4));
+    let len = talk.encode(4, 77, words);
+    let packet = &words[..len];
+    check(rt, talk.id(packet) == 77);
+    check(rt, talk.is_waiting(packet));
+    let asked = talk.read(packet);
+    let Some(Ask::Disk(request)) = asked else {
+        panic!(rt; "nothing is asked of the disk")
+    };
+    let reply = Reply::Disk(disk.apply(&request));
+    let mut out = [0; 384];
+    check(rt, talk.write_fixed(packet, &mut out) == 0);
+    let back = talk.write_answer(packet, &reply, &mut out);
+    check(rt, back > 0);
+    check(rt, talk.id(&out[..back]) == 77);
+    talk.result(4, &out[..back])
+}
+
+/// A command for a disk with this data.
+fn command(front: [u8; 10], out: &[u8]) -> Ask
+    requires { length out.now ≤ 4096 }
+{
+    let mut cdb = [0; 16];
+    cdb[..10].copy_from_slice(&front);
+    Ask::Disk(DiskRequest {
+        cdb,
+        out: Chunk::of(out),
+    })
+}
+
+#[test]
+fn disks_write_and_read(rt: HostRuntime) -> Result<(), Fail> {
+    let mut disk = Disk::make(rt.alloc(), 64, &[5])?;
+    let mut words = [0; 384];
+    let write = command([0x2a, 0, 0, 0, 0, 3, 0, 0, 1, 0], &[9; 512]);
+    let talk = talk_of(&rt, rt.alloc(), Kind::Disk, write)?;
+    match disk_round(&rt, &mut disk, &talk, &mut words) {
+        Some(Reply::Disk(DiskReply::Good(back))) => check(&rt, back.bytes().is_empty()),
+        _ => panic!(rt; "no good reply"),
+    }
+    // 64 bytes and 512 of data are 72 words.
+    let front = [
+        3, 0, 0, 0, 1, 0, 0, 0, 0, 0, 0, 0, 52, 0, 0, 0, 0, 0, 0, 0, 10, 20, 0, 0, 0, 2, 0, 0,
+        0x2a, 0, 0, 0, 0, 3, 0, 0, 1,
+    ];
+    check(&rt, &words, 0x0001_004a_0002_0006, 77, &front);
+    check(&rt, (words[10], words[73]) == (0x0909_0909_0909_0909, 0x0909_0909_0909_0909));
+    let read = command([0x28, 0, 0, 0, 0, 3, 0, 0, 1, 0], &[]);
+    let talk = talk_of(&rt, rt.alloc(), Kind::Disk, read)?;
+    match disk_round(&rt, &mut disk, &talk, &mut words) {
+        Some(Reply::Disk(DiskReply::Good(back))) => check(&rt, back.bytes() == [9; 512].as_slice()),
+        _ => panic!(rt; "no good reply"),
+    }
+    let bad = command([0x28, 0, 0, 0, 0, 5, 0, 0, 1, 0], &[]);
+    let talk = talk_of(&rt, rt.alloc(), Kind::Disk, bad)?;
+    match disk_round(&rt, &mut disk, &talk, &mut words) {
+        Some(Reply::Disk(DiskReply::Check { key, asc, ascq })) => {
+            check(&rt, (key, asc, ascq) == (3, 0x11, 0));
+        }
+        _ => panic!(rt; "no check"),
+    }
+    check(&rt, !is_askable(Kind::Disk, &command([0x28, 0, 0, 0, 0, 5, 0, 0, 5, 0], &[])));
+    check(&rt, !is_askable(Kind::Beat, &command([0; 10], &[])));
+    Ok(())
+}
+
+/// A channel's start-up is answered, whatever else is asked.
+fn negotiates(rt: &impl Abort, talk: &KindTalk) {
+    check(rt, (talk.count(), talk.starts()) == (2, 1));
+    let mut words = [0; 384];
+    let len = talk.encode(0, 4, &mut words);
+    let packet = &words[..len];
+    check(rt, talk.is_waiting(packet) && talk.read(packet).is_none());
+    let mut out = [0; 384];
+    let back = talk.write_fixed(packet, &mut out);
+    check(rt, back > 0);
+    check(rt, talk.id(&out[..back]) == 4);
+    check(rt, talk.result(0, &out[..back]).is_none());
+}
+
+/// A heartbeat's sequence number comes back one greater.
+#[test]
+fn heartbeats(rt: HostRuntime) -> Result<(), Fail> {
+    let talk = talk_of(
+        &rt,
+        rt.alloc(),
+        Kind::Beat,
+        Ask::Ic(IcAsk::Beat { seq: 41 }),
+    )?;
+    negotiates(&rt, &talk);
+    match beat_round(&rt, &talk) {
+        Some(Reply::Ic(answer)) => check(&rt, (answer.status, answer.seq) == (0, 42)),
+        _ => panic!(rt; "no reply"),
+    }
+    Ok(())
+}
+
+/// What is asked of a heartbeat service, and what the host reads in the answer.
+fn beat_round(rt: &impl Abort, talk: &KindTalk) -> Option<Reply>
+    requires { talk.now.kind ≡ Beat }
+{
+    let mut words = [0; 384];
+    check(rt, talk.count() == 2);
+    let len = talk.encode(1, 5, &mut words);
+    let packet = &words[..len];
+    let asked = talk.read(packet);
+    let Some(one) = asked else {
+        panic!(rt; "nothing is asked")
+    };
+    let Ask::Ic(ask) = one else {
+        panic!(rt; "a disk is asked")
+    };
+    let reply = Reply::Ic(BeatMachine::make().apply(&ask));
+    let mut out = [0; 384];
+    let back = talk.write_answer(packet, &reply, &mut out);
+    check(rt, back > 0);
+    check(rt, talk.id(&out[..back]) == 5);
+    talk.result(1, &out[..back])
+}
+
+/// A guest refuses to hibernate.
+#[test]
+fn shutdowns(rt: HostRuntime) -> Result<(), Fail> {
+    let ask = Ask::Ic(IcAsk::Down {
+        reason: 1,
+        timeout: 2,
+        flags: 4,
+    });
+    let talk = talk_of(&rt, rt.alloc(), Kind::Down, ask)?;
+    negotiates(&rt, &talk);
+    match down_round(&rt, &talk) {
+        Some(Reply::Ic(answer)) => check(&rt, answer.status == 0x8000_4005),
+        _ => panic!(rt; "no reply"),
+    }
+    Ok(())
+}
+
+/// What is asked of a shutdown service, and what the host reads in the answer.
+fn down_round(rt: &impl Abort, talk: &KindTalk) -> Option<Reply>
+    requires { talk.now.kind ≡ Down }
+{
+    let mut words = [0; 384];
+    check(rt, talk.count() == 2);
+    let len = talk.encode(1, 5, &mut words);
+    let packet = &words[..len];
+    let asked = talk.read(packet);
+    let Some(one) = asked else {
+        panic!(rt; "nothing is asked")
+    };
+    let Ask::Ic(ask) = one else {
+        panic!(rt; "a disk is asked")
+    };
+    let reply = Reply::Ic(DownMachine::make().apply(&ask));
+    let mut out = [0; 384];
+    let back = talk.write_answer(packet, &reply, &mut out);
+    check(rt, back > 0);
+    talk.result(1, &out[..back])
+}

@@ -1,0 +1,19 @@
+//! Tests.
+#![tactic(auto)]
+
+#[cfg(test)]
+mod bus_talk_tests;
+#[cfg(test)]
+mod check;
+#[cfg(test)]
+mod hist_lock_tests;
+#[cfg(test)]
+mod net_dev_tests;
+#[cfg(test)]
+mod rndis_msg_tests;
+#[cfg(test)]
+mod scsi_disk_tests;
+#[cfg(test)]
+mod stor_proto_tests;
+#[cfg(test)]
+mod util_ic_tests;

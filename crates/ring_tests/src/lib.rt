@@ -1,0 +1,17 @@
+//! Tests.
+#![tactic(auto)]
+
+#[cfg(test)]
+mod chan_run_tests;
+#[cfg(test)]
+mod check;
+#[cfg(test)]
+mod ring_core_tests;
+#[cfg(test)]
+mod ring_machine_tests;
+#[cfg(test)]
+mod ring_model_tests;
+#[cfg(test)]
+mod ring_rows_tests;
+#[cfg(test)]
+mod ring_seat_tests;

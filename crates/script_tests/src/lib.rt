@@ -1,0 +1,9 @@
+//! Tests.
+#![tactic(auto)]
+
+#[cfg(test)]
+mod bus_script_tests;
+#[cfg(test)]
+mod check;
+#[cfg(test)]
+mod disk_script_tests;

@@ -1,0 +1,15 @@
+//! Tests.
+#![tactic(auto)]
+
+#[cfg(test)]
+mod check;
+#[cfg(test)]
+mod echo;
+#[cfg(test)]
+mod end_work_tests;
+#[cfg(test)]
+mod phase_run_tests;
+#[cfg(test)]
+mod work_model_tests;
+#[cfg(test)]
+mod worker_core_tests;
