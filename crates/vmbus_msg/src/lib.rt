@@ -12,8 +12,8 @@ mod gpadl_body;
 mod gpadl_header;
 mod laws;
 mod msg;
+mod part;
 mod read;
-mod tables;
 mod write;
 
 pub use fault::MsgFault;
@@ -25,4 +25,3 @@ pub use laws::{decode_and_encode, encode_and_decode};
 pub use msg::Msg;
 pub use read::decode;
 pub use write::encode;
-

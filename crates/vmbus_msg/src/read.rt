@@ -14,8 +14,39 @@ use crate::frames::Frames;
 use crate::gpadl_body::GpadlBody;
 use crate::gpadl_header::GpadlHeader;
 use crate::msg::Msg;
-use crate::tables;
-use wire_table::{fields, get_at};
+use wire_table::{array_at, get_at};
+
+// The number of 8 bits at a place.
+fn u8_at(bytes: &[u8], at: usize) -> u8
+    requires { at + 1 ≤ length bytes.now }
+    ensures { result ≡ value_at bytes.now at (at + 1) }
+{
+    get_at(bytes, at, 1) as u8
+}
+
+// The number of 16 bits at a place, the lowest byte first.
+fn u16_at(bytes: &[u8], at: usize) -> u16
+    requires { at + 2 ≤ length bytes.now }
+    ensures { result ≡ value_at bytes.now at (at + 2) }
+{
+    get_at(bytes, at, 2) as u16
+}
+
+// The number of 32 bits at a place, the lowest byte first.
+fn u32_at(bytes: &[u8], at: usize) -> u32
+    requires { at + 4 ≤ length bytes.now }
+    ensures { result ≡ value_at bytes.now at (at + 4) }
+{
+    get_at(bytes, at, 4) as u32
+}
+
+// The number of 64 bits at a place, the lowest byte first.
+fn u64_at(bytes: &[u8], at: usize) -> u64
+    requires { at + 8 ≤ length bytes.now }
+    ensures { result ≡ value_at bytes.now at (at + 8) }
+{
+    get_at(bytes, at, 8)
+}
 
 // A length as a fault tells it.
 fn told_len(bytes: &[u8]) -> u32
@@ -108,24 +139,23 @@ fn read_offer_channel(bytes: &[u8]) -> Result<Msg, MsgFault>
     ensures { Reads 1 bytes.now result }
 {
     has_len(bytes, 196)?;
-    let table = tables::offer_channel_table();
-    Ok(fields!(get table in bytes: Msg::OfferChannel {
-        padding: u32 1,
-        if_type: raw 8,
-        if_instance: raw 24,
-        reserved1: u64 2,
-        reserved2: u64 3,
-        chn_flags: u16 4,
-        mmio: u16 5,
-        user: raw 60,
-        sub: u16 6,
-        reserved3: u16 7,
-        relid: u32 8,
-        monitorid: u8 9,
-        monitor: u8 10,
-        interrupt: u16 11,
-        connection: u32 12,
-    }))
+    Ok(Msg::OfferChannel {
+        padding: u32_at(bytes, 4),
+        if_type: array_at(bytes, 8),
+        if_instance: array_at(bytes, 24),
+        reserved1: u64_at(bytes, 40),
+        reserved2: u64_at(bytes, 48),
+        chn_flags: u16_at(bytes, 56),
+        mmio: u16_at(bytes, 58),
+        user: array_at(bytes, 60),
+        sub: u16_at(bytes, 180),
+        reserved3: u16_at(bytes, 182),
+        relid: u32_at(bytes, 184),
+        monitorid: u8_at(bytes, 188),
+        monitor: u8_at(bytes, 189),
+        interrupt: u16_at(bytes, 190),
+        connection: u32_at(bytes, 192),
+    })
 }
 
 // A RESCIND_CHANNELOFFER has exactly 12 bytes.
@@ -134,11 +164,10 @@ fn read_rescind_channel_offer(bytes: &[u8]) -> Result<Msg, MsgFault>
     ensures { Reads 2 bytes.now result }
 {
     has_len(bytes, 12)?;
-    let table = tables::rescind_channel_offer_table();
-    Ok(fields!(get table in bytes: Msg::RescindChannelOffer {
-        padding: u32 1,
-        relid: u32 2,
-    }))
+    Ok(Msg::RescindChannelOffer {
+        padding: u32_at(bytes, 4),
+        relid: u32_at(bytes, 8),
+    })
 }
 
 // A REQUESTOFFERS has exactly 8 bytes.
@@ -147,10 +176,9 @@ fn read_request_offers(bytes: &[u8]) -> Result<Msg, MsgFault>
     ensures { Reads 3 bytes.now result }
 {
     has_len(bytes, 8)?;
-    let table = tables::request_offers_table();
-    Ok(fields!(get table in bytes: Msg::RequestOffers {
-        padding: u32 1,
-    }))
+    Ok(Msg::RequestOffers {
+        padding: u32_at(bytes, 4),
+    })
 }
 
 // An ALLOFFERS_DELIVERED has exactly 8 bytes.
@@ -159,10 +187,9 @@ fn read_all_offers_delivered(bytes: &[u8]) -> Result<Msg, MsgFault>
     ensures { Reads 4 bytes.now result }
 {
     has_len(bytes, 8)?;
-    let table = tables::all_offers_delivered_table();
-    Ok(fields!(get table in bytes: Msg::AllOffersDelivered {
-        padding: u32 1,
-    }))
+    Ok(Msg::AllOffersDelivered {
+        padding: u32_at(bytes, 4),
+    })
 }
 
 // An OPENCHANNEL has exactly 148 bytes.
@@ -171,16 +198,15 @@ fn read_open_channel(bytes: &[u8]) -> Result<Msg, MsgFault>
     ensures { Reads 5 bytes.now result }
 {
     has_len(bytes, 148)?;
-    let table = tables::open_channel_table();
-    Ok(fields!(get table in bytes: Msg::OpenChannel {
-        padding: u32 1,
-        relid: u32 2,
-        openid: u32 3,
-        gpadl: u32 4,
-        target_vp: u32 5,
-        downstream: u32 6,
-        user: raw 28,
-    }))
+    Ok(Msg::OpenChannel {
+        padding: u32_at(bytes, 4),
+        relid: u32_at(bytes, 8),
+        openid: u32_at(bytes, 12),
+        gpadl: u32_at(bytes, 16),
+        target_vp: u32_at(bytes, 20),
+        downstream: u32_at(bytes, 24),
+        user: array_at(bytes, 28),
+    })
 }
 
 // An OPENCHANNEL_RESULT has exactly 20 bytes.
@@ -189,13 +215,12 @@ fn read_open_channel_result(bytes: &[u8]) -> Result<Msg, MsgFault>
     ensures { Reads 6 bytes.now result }
 {
     has_len(bytes, 20)?;
-    let table = tables::open_channel_result_table();
-    Ok(fields!(get table in bytes: Msg::OpenChannelResult {
-        padding: u32 1,
-        relid: u32 2,
-        openid: u32 3,
-        status: u32 4,
-    }))
+    Ok(Msg::OpenChannelResult {
+        padding: u32_at(bytes, 4),
+        relid: u32_at(bytes, 8),
+        openid: u32_at(bytes, 12),
+        status: u32_at(bytes, 16),
+    })
 }
 
 // A CLOSECHANNEL has exactly 12 bytes.
@@ -204,11 +229,10 @@ fn read_close_channel(bytes: &[u8]) -> Result<Msg, MsgFault>
     ensures { Reads 7 bytes.now result }
 {
     has_len(bytes, 12)?;
-    let table = tables::close_channel_table();
-    Ok(fields!(get table in bytes: Msg::CloseChannel {
-        padding: u32 1,
-        relid: u32 2,
-    }))
+    Ok(Msg::CloseChannel {
+        padding: u32_at(bytes, 4),
+        relid: u32_at(bytes, 8),
+    })
 }
 
 // A GPADL_CREATED has exactly 20 bytes.
@@ -217,13 +241,12 @@ fn read_gpadl_created(bytes: &[u8]) -> Result<Msg, MsgFault>
     ensures { Reads 10 bytes.now result }
 {
     has_len(bytes, 20)?;
-    let table = tables::gpadl_created_table();
-    Ok(fields!(get table in bytes: Msg::GpadlCreated {
-        padding: u32 1,
-        relid: u32 2,
-        gpadl: u32 3,
-        status: u32 4,
-    }))
+    Ok(Msg::GpadlCreated {
+        padding: u32_at(bytes, 4),
+        relid: u32_at(bytes, 8),
+        gpadl: u32_at(bytes, 12),
+        status: u32_at(bytes, 16),
+    })
 }
 
 // A GPADL_TEARDOWN has exactly 16 bytes.
@@ -232,12 +255,11 @@ fn read_gpadl_teardown(bytes: &[u8]) -> Result<Msg, MsgFault>
     ensures { Reads 11 bytes.now result }
 {
     has_len(bytes, 16)?;
-    let table = tables::gpadl_teardown_table();
-    Ok(fields!(get table in bytes: Msg::GpadlTeardown {
-        padding: u32 1,
-        relid: u32 2,
-        gpadl: u32 3,
-    }))
+    Ok(Msg::GpadlTeardown {
+        padding: u32_at(bytes, 4),
+        relid: u32_at(bytes, 8),
+        gpadl: u32_at(bytes, 12),
+    })
 }
 
 // A GPADL_TORNDOWN has exactly 12 bytes.
@@ -246,11 +268,10 @@ fn read_gpadl_torndown(bytes: &[u8]) -> Result<Msg, MsgFault>
     ensures { Reads 12 bytes.now result }
 {
     has_len(bytes, 12)?;
-    let table = tables::gpadl_torndown_table();
-    Ok(fields!(get table in bytes: Msg::GpadlTorndown {
-        padding: u32 1,
-        gpadl: u32 2,
-    }))
+    Ok(Msg::GpadlTorndown {
+        padding: u32_at(bytes, 4),
+        gpadl: u32_at(bytes, 8),
+    })
 }
 
 // A RELID_RELEASED has exactly 12 bytes.
@@ -259,11 +280,10 @@ fn read_relid_released(bytes: &[u8]) -> Result<Msg, MsgFault>
     ensures { Reads 13 bytes.now result }
 {
     has_len(bytes, 12)?;
-    let table = tables::relid_released_table();
-    Ok(fields!(get table in bytes: Msg::RelidReleased {
-        padding: u32 1,
-        relid: u32 2,
-    }))
+    Ok(Msg::RelidReleased {
+        padding: u32_at(bytes, 4),
+        relid: u32_at(bytes, 8),
+    })
 }
 
 // An INITIATE_CONTACT has exactly 40 bytes.
@@ -272,15 +292,14 @@ fn read_initiate_contact(bytes: &[u8]) -> Result<Msg, MsgFault>
     ensures { Reads 14 bytes.now result }
 {
     has_len(bytes, 40)?;
-    let table = tables::initiate_contact_table();
-    Ok(fields!(get table in bytes: Msg::InitiateContact {
-        padding: u32 1,
-        version: u32 2,
-        target_vcpu: u32 3,
-        page: u64 4,
-        monitor1: u64 5,
-        monitor2: u64 6,
-    }))
+    Ok(Msg::InitiateContact {
+        padding: u32_at(bytes, 4),
+        version: u32_at(bytes, 8),
+        target_vcpu: u32_at(bytes, 12),
+        page: u64_at(bytes, 16),
+        monitor1: u64_at(bytes, 24),
+        monitor2: u64_at(bytes, 32),
+    })
 }
 
 // A VERSION_RESPONSE has exactly 16 bytes.
@@ -289,14 +308,13 @@ fn read_version_response(bytes: &[u8]) -> Result<Msg, MsgFault>
     ensures { Reads 15 bytes.now result }
 {
     has_len(bytes, 16)?;
-    let table = tables::version_response_table();
-    Ok(fields!(get table in bytes: Msg::VersionResponse {
-        padding: u32 1,
-        supported: u8 2,
-        state: u8 3,
-        padding2: u16 4,
-        conn: u32 5,
-    }))
+    Ok(Msg::VersionResponse {
+        padding: u32_at(bytes, 4),
+        supported: u8_at(bytes, 8),
+        state: u8_at(bytes, 9),
+        padding2: u16_at(bytes, 10),
+        conn: u32_at(bytes, 12),
+    })
 }
 
 // An UNLOAD has exactly 8 bytes.
@@ -305,10 +323,9 @@ fn read_unload(bytes: &[u8]) -> Result<Msg, MsgFault>
     ensures { Reads 16 bytes.now result }
 {
     has_len(bytes, 8)?;
-    let table = tables::unload_table();
-    Ok(fields!(get table in bytes: Msg::Unload {
-        padding: u32 1,
-    }))
+    Ok(Msg::Unload {
+        padding: u32_at(bytes, 4),
+    })
 }
 
 // An UNLOAD_RESPONSE has exactly 8 bytes.
@@ -317,10 +334,9 @@ fn read_unload_response(bytes: &[u8]) -> Result<Msg, MsgFault>
     ensures { Reads 17 bytes.now result }
 {
     has_len(bytes, 8)?;
-    let table = tables::unload_response_table();
-    Ok(fields!(get table in bytes: Msg::UnloadResponse {
-        padding: u32 1,
-    }))
+    Ok(Msg::UnloadResponse {
+        padding: u32_at(bytes, 4),
+    })
 }
 
 // How many bytes the range of a page list's header says that it has.
@@ -328,8 +344,7 @@ fn range_buflen(bytes: &[u8]) -> u16
     requires { 28 ≤ length bytes.now }
     ensures { result ≡ value_at bytes.now 16 18 }
 {
-    let table = tables::gpadl_header_table();
-    table.get(bytes, 4) as u16
+    u16_at(bytes, 16)
 }
 
 // How many ranges a page list's header says that it has.
@@ -337,8 +352,7 @@ fn rangecount(bytes: &[u8]) -> u16
     requires { 28 ≤ length bytes.now }
     ensures { result ≡ value_at bytes.now 18 20 }
 {
-    let table = tables::gpadl_header_table();
-    table.get(bytes, 5) as u16
+    u16_at(bytes, 18)
 }
 
 // How many frames a page list's header holds: one for each page of its range, and at most 26.
@@ -365,18 +379,18 @@ fn read_gpadl_header(bytes: &[u8]) -> Result<Msg, MsgFault>
     ensures { Reads 8 bytes.now result }
 {
     has_header(bytes)?;
-    let table = tables::gpadl_header_table();
     let frames = read_frames(bytes.split_at(28).1, (bytes.len() - 28) / 8);
-    Ok(Msg::GpadlHeader(fields!(get table in bytes: GpadlHeader {
-        padding: u32 1,
-        relid: u32 2,
-        gpadl: u32 3,
-        range_buflen: u16 4,
-        rangecount: u16 5,
-        byte_count: u32 6,
-        byte_offset: u32 7,
-        frames: is frames,
-    })))
+    let header = GpadlHeader {
+        padding: u32_at(bytes, 4),
+        relid: u32_at(bytes, 8),
+        gpadl: u32_at(bytes, 12),
+        range_buflen: range_buflen(bytes),
+        rangecount: rangecount(bytes),
+        byte_count: u32_at(bytes, 20),
+        byte_offset: u32_at(bytes, 24),
+        frames,
+    };
+    Ok(Msg::GpadlHeader(header))
 }
 
 // A GPADL_BODY has 1 to 28 whole frames.
@@ -385,14 +399,14 @@ fn read_gpadl_body(bytes: &[u8]) -> Result<Msg, MsgFault>
     ensures { Reads 9 bytes.now result }
 {
     has_frames(bytes)?;
-    let table = tables::gpadl_body_table();
     let frames = read_frames(bytes.split_at(16).1, (bytes.len() - 16) / 8);
-    Ok(Msg::GpadlBody(fields!(get table in bytes: GpadlBody {
-        padding: u32 1,
-        msgnumber: u32 2,
-        gpadl: u32 3,
-        frames: is frames,
-    })))
+    let body = GpadlBody {
+        padding: u32_at(bytes, 4),
+        msgnumber: u32_at(bytes, 8),
+        gpadl: u32_at(bytes, 12),
+        frames,
+    };
+    Ok(Msg::GpadlBody(body))
 }
 
 // The message of this type that the bytes hold.
@@ -427,7 +441,7 @@ fn parse(bytes: &[u8]) -> Result<Msg, MsgFault>
     ensures { Parses bytes.now result }
 {
     has_at_least(bytes, 8)?;
-    let kind = get_at(bytes, 0, 4) as u32;
+    let kind = u32_at(bytes, 0);
     read(kind, bytes)
 }
 

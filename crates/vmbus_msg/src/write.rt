@@ -1,14 +1,15 @@
 //! Messages written as bytes.
 
-ghost use Rattle.std.specs.Prelude.{◌≡◌, ◌+◌, ◌*◌, ◌^◌, ◌<◌, ◌≤◌, ◌++◌, [], ◌∷◌, length, take, drop};
+ghost use Rattle.std.specs.Prelude.{◌≡◌, ◌+◌, ◌*◌, ◌^◌, ◌<◌, ◌≤◌, ◌++◌, [], length, take, drop};
 ghost use Rattle.std.specs.List.{flat_map, AllByRecursion};
 ghost use Rattle.wire_table.specs.Little.{bytes_of};
-ghost use Rattle.wire_table.specs.Rows.{num, nums, spelled_after};
-ghost use Rattle.vmbus_msg.specs.Grammar.{AllFit, bytes_of_message, length_of, type_of, kinds_of, fields_of, frames_of, IsMessage};
+ghost use Rattle.wire_table.specs.Rows.{bytes_in, size_of, spelled_after, total};
+ghost use Rattle.vmbus_msg.specs.Parts.{kind_in, kinds_in, row_in, rows_in};
+ghost use Rattle.vmbus_msg.specs.Grammar.{Fits, AllFit, bytes_of_message, length_of, type_of, kinds_of, fields_of, frames_of, IsMessage};
 
 use crate::msg::Msg;
-use crate::tables;
-use wire_table::{fields, put_at};
+use crate::part::Part;
+use wire_table::{put_at, put_bytes};
 
 // Writes frames from a place on, with nothing changed before it.
 fn put_frames(out: &mut [u8], at: usize, frames: &[u64])
@@ -21,27 +22,45 @@ fn put_frames(out: &mut [u8], at: usize, frames: &[u64])
     }
 }
 
-// Writes the fields of an offer that stand behind its user-defined bytes.
-fn put_offer_end(
-    out: &mut [u8],
-    sub: u16,
-    reserved3: u16,
-    relid: u32,
-    monitorid: u8,
-    monitor: u8,
-    interrupt: u16,
-    connection: u32,
-)
-    requires { 196 ≤ length out.old }
-    ensures fit { AllFit
-        (nums 2 ∷ nums 2 ∷ nums 4 ∷ nums 1 ∷ nums 1 ∷ nums 2 ∷ nums 4 ∷ [])
-        (num 2 sub ∷ num 2 reserved3 ∷ num 4 relid ∷ num 1 monitorid ∷ num 1 monitor ∷ num 2 interrupt ∷ num 4 connection ∷ []) }
-    ensures front { take 196 out.new
-        ≡ spelled_after (take 180 out.old)
-        (num 2 sub ∷ num 2 reserved3 ∷ num 4 relid ∷ num 1 monitorid ∷ num 1 monitor ∷ num 2 interrupt ∷ num 4 connection ∷ []) }
+// Writes a field at a place, with nothing changed before it, and answers where it ends.
+fn put_part(out: &mut [u8], at: usize, part: Part<'_>) -> usize
+    requires { at + size_of (kind_in part) ≤ length out.old }
+    ensures end { result ≡ at + size_of (kind_in part.entry) }
+    ensures front { take result out.new ≡ take at out.old ++ bytes_in (row_in part.entry) }
+    ensures fit { Fits (kind_in part.entry) (row_in part.entry) }
 {
-    let table = tables::offer_channel_table();
-    fields!(put table in out: num 6 = sub, num 7 = reserved3, num 8 = relid, num 9 = monitorid, num 10 = monitor, num 11 = interrupt, num 12 = connection);
+    match part {
+        Part::U8(number) => put_number(out, at, 1, u64::from(number)),
+        Part::U16(number) => put_number(out, at, 2, u64::from(number)),
+        Part::U32(number) => put_number(out, at, 4, u64::from(number)),
+        Part::U64(number) => put_number(out, at, 8, number),
+        Part::Raw(bytes) => {
+            put_bytes(out, at, bytes);
+            at + bytes.len()
+        }
+    }
+}
+
+// Writes a number at a place, with nothing changed before it, and answers where it ends.
+fn put_number(out: &mut [u8], at: usize, width: usize, number: u64) -> usize
+    requires { at + width ≤ length out.old }
+    ensures end { result ≡ at + width }
+    ensures front { take result out.new ≡ take at out.old ++ bytes_of width number }
+{
+    put_at(out, at, width, number);
+    at + width
+}
+
+// Writes fields in order, from the front on.
+fn put_parts(out: &mut [u8], parts: &[Part<'_>])
+    requires { total (kinds_in parts.now) ≤ length out.old }
+    ensures front { take (total (kinds_in parts.now)) out.new ≡ spelled_after [] (rows_in parts.now) }
+    ensures fit { AllFit (kinds_in parts.now) (rows_in parts.now) }
+{
+    let mut at = 0;
+    for part in parts {
+        at = put_part(out, at, *part);
+    }
 }
 
 // How many bytes a message has.
@@ -94,30 +113,36 @@ fn write(m: &Msg, out: &mut [u8])
             interrupt,
             connection,
         } => {
-            let table = tables::offer_channel_table();
-            fields!(put table in out: num 0 = 1u32, num 1 = *padding, raw 8 = if_type, raw 24 = if_instance, num 2 = *reserved1, num 3 = *reserved2, num 4 = *chn_flags, num 5 = *mmio, raw 60 = user);
-            put_offer_end(
+            put_parts(
                 out,
-                *sub,
-                *reserved3,
-                *relid,
-                *monitorid,
-                *monitor,
-                *interrupt,
-                *connection,
+                &[
+                    Part::U32(1),
+                    Part::U32(*padding),
+                    Part::Raw(if_type),
+                    Part::Raw(if_instance),
+                    Part::U64(*reserved1),
+                    Part::U64(*reserved2),
+                    Part::U16(*chn_flags),
+                    Part::U16(*mmio),
+                    Part::Raw(user),
+                    Part::U16(*sub),
+                    Part::U16(*reserved3),
+                    Part::U32(*relid),
+                    Part::U8(*monitorid),
+                    Part::U8(*monitor),
+                    Part::U16(*interrupt),
+                    Part::U32(*connection),
+                ],
             );
         }
         Msg::RescindChannelOffer { padding, relid } => {
-            let table = tables::rescind_channel_offer_table();
-            fields!(put table in out: num 0 = 2u32, num 1 = *padding, num 2 = *relid);
+            put_parts(out, &[Part::U32(2), Part::U32(*padding), Part::U32(*relid)]);
         }
         Msg::RequestOffers { padding } => {
-            let table = tables::request_offers_table();
-            fields!(put table in out: num 0 = 3u32, num 1 = *padding);
+            put_parts(out, &[Part::U32(3), Part::U32(*padding)]);
         }
         Msg::AllOffersDelivered { padding } => {
-            let table = tables::all_offers_delivered_table();
-            fields!(put table in out: num 0 = 4u32, num 1 = *padding);
+            put_parts(out, &[Part::U32(4), Part::U32(*padding)]);
         }
         Msg::OpenChannel {
             padding,
@@ -128,8 +153,19 @@ fn write(m: &Msg, out: &mut [u8])
             downstream,
             user,
         } => {
-            let table = tables::open_channel_table();
-            fields!(put table in out: num 0 = 5u32, num 1 = *padding, num 2 = *relid, num 3 = *openid, num 4 = *gpadl, num 5 = *target_vp, num 6 = *downstream, raw 28 = user);
+            put_parts(
+                out,
+                &[
+                    Part::U32(5),
+                    Part::U32(*padding),
+                    Part::U32(*relid),
+                    Part::U32(*openid),
+                    Part::U32(*gpadl),
+                    Part::U32(*target_vp),
+                    Part::U32(*downstream),
+                    Part::Raw(user),
+                ],
+            );
         }
         Msg::OpenChannelResult {
             padding,
@@ -137,21 +173,46 @@ fn write(m: &Msg, out: &mut [u8])
             openid,
             status,
         } => {
-            let table = tables::open_channel_result_table();
-            fields!(put table in out: num 0 = 6u32, num 1 = *padding, num 2 = *relid, num 3 = *openid, num 4 = *status);
+            put_parts(
+                out,
+                &[
+                    Part::U32(6),
+                    Part::U32(*padding),
+                    Part::U32(*relid),
+                    Part::U32(*openid),
+                    Part::U32(*status),
+                ],
+            );
         }
         Msg::CloseChannel { padding, relid } => {
-            let table = tables::close_channel_table();
-            fields!(put table in out: num 0 = 7u32, num 1 = *padding, num 2 = *relid);
+            put_parts(out, &[Part::U32(7), Part::U32(*padding), Part::U32(*relid)]);
         }
         Msg::GpadlHeader(h) => {
-            let table = tables::gpadl_header_table();
-            fields!(put table in out: num 0 = 8u32, num 1 = h.padding, num 2 = h.relid, num 3 = h.gpadl, num 4 = h.range_buflen, num 5 = h.rangecount, num 6 = h.byte_count, num 7 = h.byte_offset);
+            put_parts(
+                out,
+                &[
+                    Part::U32(8),
+                    Part::U32(h.padding),
+                    Part::U32(h.relid),
+                    Part::U32(h.gpadl),
+                    Part::U16(h.range_buflen),
+                    Part::U16(h.rangecount),
+                    Part::U32(h.byte_count),
+                    Part::U32(h.byte_offset),
+                ],
+            );
             put_frames(out, 28, h.frames.as_slice());
         }
         Msg::GpadlBody(h) => {
-            let table = tables::gpadl_body_table();
-            fields!(put table in out: num 0 = 9u32, num 1 = h.padding, num 2 = h.msgnumber, num 3 = h.gpadl);
+            put_parts(
+                out,
+                &[
+                    Part::U32(9),
+                    Part::U32(h.padding),
+                    Part::U32(h.msgnumber),
+                    Part::U32(h.gpadl),
+                ],
+            );
             put_frames(out, 16, h.frames.as_slice());
         }
         Msg::GpadlCreated {
@@ -160,24 +221,43 @@ fn write(m: &Msg, out: &mut [u8])
             gpadl,
             status,
         } => {
-            let table = tables::gpadl_created_table();
-            fields!(put table in out: num 0 = 10u32, num 1 = *padding, num 2 = *relid, num 3 = *gpadl, num 4 = *status);
+            put_parts(
+                out,
+                &[
+                    Part::U32(10),
+                    Part::U32(*padding),
+                    Part::U32(*relid),
+                    Part::U32(*gpadl),
+                    Part::U32(*status),
+                ],
+            );
         }
         Msg::GpadlTeardown {
             padding,
             relid,
             gpadl,
         } => {
-            let table = tables::gpadl_teardown_table();
-            fields!(put table in out: num 0 = 11u32, num 1 = *padding, num 2 = *relid, num 3 = *gpadl);
+            put_parts(
+                out,
+                &[
+                    Part::U32(11),
+                    Part::U32(*padding),
+                    Part::U32(*relid),
+                    Part::U32(*gpadl),
+                ],
+            );
         }
         Msg::GpadlTorndown { padding, gpadl } => {
-            let table = tables::gpadl_torndown_table();
-            fields!(put table in out: num 0 = 12u32, num 1 = *padding, num 2 = *gpadl);
+            put_parts(
+                out,
+                &[Part::U32(12), Part::U32(*padding), Part::U32(*gpadl)],
+            );
         }
         Msg::RelidReleased { padding, relid } => {
-            let table = tables::relid_released_table();
-            fields!(put table in out: num 0 = 13u32, num 1 = *padding, num 2 = *relid);
+            put_parts(
+                out,
+                &[Part::U32(13), Part::U32(*padding), Part::U32(*relid)],
+            );
         }
         Msg::InitiateContact {
             padding,
@@ -187,8 +267,18 @@ fn write(m: &Msg, out: &mut [u8])
             monitor1,
             monitor2,
         } => {
-            let table = tables::initiate_contact_table();
-            fields!(put table in out: num 0 = 14u32, num 1 = *padding, num 2 = *version, num 3 = *target_vcpu, num 4 = *page, num 5 = *monitor1, num 6 = *monitor2);
+            put_parts(
+                out,
+                &[
+                    Part::U32(14),
+                    Part::U32(*padding),
+                    Part::U32(*version),
+                    Part::U32(*target_vcpu),
+                    Part::U64(*page),
+                    Part::U64(*monitor1),
+                    Part::U64(*monitor2),
+                ],
+            );
         }
         Msg::VersionResponse {
             padding,
@@ -197,16 +287,23 @@ fn write(m: &Msg, out: &mut [u8])
             padding2,
             conn,
         } => {
-            let table = tables::version_response_table();
-            fields!(put table in out: num 0 = 15u32, num 1 = *padding, num 2 = *supported, num 3 = *state, num 4 = *padding2, num 5 = *conn);
+            put_parts(
+                out,
+                &[
+                    Part::U32(15),
+                    Part::U32(*padding),
+                    Part::U8(*supported),
+                    Part::U8(*state),
+                    Part::U16(*padding2),
+                    Part::U32(*conn),
+                ],
+            );
         }
         Msg::Unload { padding } => {
-            let table = tables::unload_table();
-            fields!(put table in out: num 0 = 16u32, num 1 = *padding);
+            put_parts(out, &[Part::U32(16), Part::U32(*padding)]);
         }
         Msg::UnloadResponse { padding } => {
-            let table = tables::unload_response_table();
-            fields!(put table in out: num 0 = 17u32, num 1 = *padding);
+            put_parts(out, &[Part::U32(17), Part::U32(*padding)]);
         }
     }
 }
