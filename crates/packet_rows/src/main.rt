@@ -9,6 +9,7 @@ use built::built;
 use came::Came;
 use io_edge::{StdSource, read_all};
 use std::io;
+use std::rt::Runtime;
 use stored::Storage;
 
 // How many bytes the input has at most.
@@ -31,15 +32,8 @@ fn found(storage: &mut Storage, line: &str) -> Came {
     }
 }
 
-fn main(rt: HostRuntime) -> io::Result<()> {
-    let alloc = rt.alloc();
-    let mut source = StdSource::make(rt.reader());
-    let Ok(input) = read_all(alloc, &mut source, MOST) else {
-        return Err(io::Error::other("the input wasn't read"));
-    };
-    let Ok(text) = str::from_utf8(&input) else {
-        return Err(io::Error::other("the input is no text"));
-    };
+// Writes what each line came to.
+fn tell<R: Runtime>(rt: &R, text: &str) -> io::Result<()> {
     let mut storage = Storage { asked: None };
     for line in text.lines() {
         if !line.starts_with('#') {
@@ -47,4 +41,15 @@ fn main(rt: HostRuntime) -> io::Result<()> {
         }
     }
     Ok(())
+}
+
+fn main(rt: HostRuntime) -> io::Result<()> {
+    let mut source = StdSource::make(rt.reader());
+    let Ok(input) = read_all(rt.alloc(), &mut source, MOST) else {
+        return Err(io::Error::other("the input wasn't read"));
+    };
+    match str::from_utf8(&input) {
+        Ok(text) => tell(&rt, text),
+        Err(_) => Err(io::Error::other("the input is no text")),
+    }
 }
