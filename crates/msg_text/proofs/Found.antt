@@ -1,5 +1,6 @@
 -- The message that bytes are has the text of the bytes.
-use Rattle.std.proofs.Common.{◌≡◌, ℕ, List, Ok, None, ap, sym, ◌∙◌}
+use Rattle.std.proofs.Common.{◌≡◌, ℕ, List, ◌++◌, Result, Ok, None, ap, sym, subst, ◌∙◌}
+use Rattle.std.specs.Result.{OnOk}
 use Rattle.wire_table.specs.Rows.{Row, rows_at}
 use Rattle.vmbus_msg.specs.declared.msg.Msg.{Msg}
 use Rattle.vmbus_msg.specs.Grammar.{fields_of, frames_of, kinds_of}
@@ -19,3 +20,7 @@ read_text m b none is =
 pub found_text : (b : List ℕ) (m : Msg) → Parses b (Ok m) → msg_text m ≡ bytes_text b
 unfolding Parses
 found_text b m is = read_text m b is.0 is.1
+
+-- a message's text was written behind another where that of its variant was
+pub told_as : {E : Type 0} (r : Result (Unit {0}) E) (new old : List ℕ) (m n : Msg) → m ≡ n → OnOk r (new ≡ old ++ msg_text n) → OnOk r (new ≡ old ++ msg_text m)
+told_as r new old m n is h = subst (λ k. OnOk r (new ≡ old ++ msg_text k)) (sym is) h

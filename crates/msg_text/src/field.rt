@@ -13,9 +13,9 @@ fn push_name(text: &mut Vec<u8>, name: &str) -> Result<(), AllocError>
     ensures text { OnOk result (text.new.items ≡ text.old.items ++ (32 ∷ (name.now ++ (32 ∷ [])))) }
     ensures short { OnOk result (vec_len text.new ≤ vec_len text.old + 2 + length name.now) }
 {
-    text.extend_from_slice(b" ")?;
+    text.push(b' ')?;
     text.extend_from_slice(name.as_bytes())?;
-    text.extend_from_slice(b" ")?;
+    text.push(b' ')?;
     Ok(())
 }
 

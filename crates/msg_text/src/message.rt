@@ -14,10 +14,9 @@ pub fn push_bytes(text: &mut Vec<u8>, bytes: &[u8]) -> Result<(), AllocError>
     ensures short { OnOk result (vec_len text.new ≤ vec_len text.old + 3300) }
 {
     match decode(bytes) {
-        Ok(message) => push_msg(text, &message)?,
-        Err(fault) => push_fault(text, &fault)?,
+        Ok(message) => push_msg(text, &message),
+        Err(fault) => push_fault(text, &fault),
     }
-    Ok(())
 }
 
 // The header of a page list: its fields in order, but for the padding.
@@ -37,8 +36,7 @@ fn push_header(text: &mut Vec<u8>, h: &GpadlHeader) -> Result<(), AllocError>
             Shown::Number("byte_offset", h.byte_offset as u64),
             Shown::Numbers("frames", h.frames.as_slice()),
         ],
-    )?;
-    Ok(())
+    )
 }
 
 // A body of a page list: its fields in order, but for the padding.
@@ -54,8 +52,7 @@ fn push_body(text: &mut Vec<u8>, b: &GpadlBody) -> Result<(), AllocError>
             Shown::Number("gpadl", b.gpadl as u64),
             Shown::Numbers("frames", b.frames.as_slice()),
         ],
-    )?;
-    Ok(())
+    )
 }
 
 /// A message's name, and for each printed field its name and its value.
@@ -93,14 +90,14 @@ fn push_msg(text: &mut Vec<u8>, message: &Msg) -> Result<(), AllocError>
                 Shown::Number("interrupt", *interrupt as u64),
                 Shown::Number("connection", *connection as u64),
             ],
-        )?,
+        ),
         Msg::RescindChannelOffer { relid, .. } => push_fields(
             text,
             "RESCIND_CHANNELOFFER",
             &[Shown::Number("relid", *relid as u64)],
-        )?,
-        Msg::RequestOffers { .. } => push_fields(text, "REQUESTOFFERS", &[])?,
-        Msg::AllOffersDelivered { .. } => push_fields(text, "ALLOFFERS_DELIVERED", &[])?,
+        ),
+        Msg::RequestOffers { .. } => push_fields(text, "REQUESTOFFERS", &[]),
+        Msg::AllOffersDelivered { .. } => push_fields(text, "ALLOFFERS_DELIVERED", &[]),
         Msg::OpenChannel {
             relid,
             openid,
@@ -120,7 +117,7 @@ fn push_msg(text: &mut Vec<u8>, message: &Msg) -> Result<(), AllocError>
                 Shown::Number("downstream", *downstream as u64),
                 Shown::Runs("user", user),
             ],
-        )?,
+        ),
         Msg::OpenChannelResult {
             relid,
             openid,
@@ -134,14 +131,14 @@ fn push_msg(text: &mut Vec<u8>, message: &Msg) -> Result<(), AllocError>
                 Shown::Number("openid", *openid as u64),
                 Shown::Number("status", *status as u64),
             ],
-        )?,
+        ),
         Msg::CloseChannel { relid, .. } => push_fields(
             text,
             "CLOSECHANNEL",
             &[Shown::Number("relid", *relid as u64)],
-        )?,
-        Msg::GpadlHeader(h) => push_header(text, h)?,
-        Msg::GpadlBody(b) => push_body(text, b)?,
+        ),
+        Msg::GpadlHeader(h) => push_header(text, h),
+        Msg::GpadlBody(b) => push_body(text, b),
         Msg::GpadlCreated {
             relid,
             gpadl,
@@ -155,7 +152,7 @@ fn push_msg(text: &mut Vec<u8>, message: &Msg) -> Result<(), AllocError>
                 Shown::Number("gpadl", *gpadl as u64),
                 Shown::Number("status", *status as u64),
             ],
-        )?,
+        ),
         Msg::GpadlTeardown { relid, gpadl, .. } => push_fields(
             text,
             "GPADL_TEARDOWN",
@@ -163,17 +160,17 @@ fn push_msg(text: &mut Vec<u8>, message: &Msg) -> Result<(), AllocError>
                 Shown::Number("relid", *relid as u64),
                 Shown::Number("gpadl", *gpadl as u64),
             ],
-        )?,
+        ),
         Msg::GpadlTorndown { gpadl, .. } => push_fields(
             text,
             "GPADL_TORNDOWN",
             &[Shown::Number("gpadl", *gpadl as u64)],
-        )?,
+        ),
         Msg::RelidReleased { relid, .. } => push_fields(
             text,
             "RELID_RELEASED",
             &[Shown::Number("relid", *relid as u64)],
-        )?,
+        ),
         Msg::InitiateContact {
             version,
             target_vcpu,
@@ -191,7 +188,7 @@ fn push_msg(text: &mut Vec<u8>, message: &Msg) -> Result<(), AllocError>
                 Shown::Number("monitor1", *monitor1 as u64),
                 Shown::Number("monitor2", *monitor2 as u64),
             ],
-        )?,
+        ),
         Msg::VersionResponse {
             supported,
             state,
@@ -205,11 +202,10 @@ fn push_msg(text: &mut Vec<u8>, message: &Msg) -> Result<(), AllocError>
                 Shown::Number("state", *state as u64),
                 Shown::Number("conn", *conn as u64),
             ],
-        )?,
-        Msg::Unload { .. } => push_fields(text, "UNLOAD", &[])?,
-        Msg::UnloadResponse { .. } => push_fields(text, "UNLOAD_RESPONSE", &[])?,
+        ),
+        Msg::Unload { .. } => push_fields(text, "UNLOAD", &[]),
+        Msg::UnloadResponse { .. } => push_fields(text, "UNLOAD_RESPONSE", &[]),
     }
-    Ok(())
 }
 
 // The name of a field that is checked.

@@ -203,3 +203,11 @@ written_front m w rest n len is bytes form =
     let front : take n (w ++ rest) ≡ w = take_at w rest n len in
     let all : w ≡ bytes_of_message m = sym (take_all (length_of m) w (omega (arith, len, is))) ∙ bytes in
     record { form = form; spelled = front ∙ all }
+
+-- a message's bytes were written where those of its variant were
+pub front_as : (m n : Msg) (w : List ℕ) → m ≡ n → take (length_of n) w ≡ bytes_of_message n → take (length_of m) w ≡ bytes_of_message m
+front_as m n w is h = subst (λ k. take (length_of k) w ≡ bytes_of_message k) (sym is) h
+
+-- and its fields fit where those of its variant do
+pub fit_as : (m n : Msg) → m ≡ n → AllFit (kinds_of (type_of n)) (fields_of n) → AllFit (kinds_of (type_of m)) (fields_of m)
+fit_as m n is h = subst (λ k. AllFit (kinds_of (type_of k)) (fields_of k)) (sym is) h

@@ -1,5 +1,5 @@
 -- A message is told by its type, its fields and its frames.
-use Rattle.std.proofs.Common.{◌≡◌, ℕ, List, Bool, true, false, ◌==◌, if◌then◌else◌, refl, ap, ◌∙◌, subst, arith}
+use Rattle.std.proofs.Common.{◌≡◌, ℕ, List, Bool, true, false, ◌==◌, if◌then◌else◌, refl, ap, sym, ◌∙◌, subst, arith}
 use Rattle.std.proofs.Math.Nat.{ℕ_set}
 use Rattle.std.proofs.Math.Bridge.{le_prop}
 use Rattle.wire_table.specs.Rows.{Row, nth_number, nth_raw}
@@ -94,11 +94,14 @@ same_body g n t f fr = absurd (omega arith)
 abbrev is_plain : ℕ → Bool
 is_plain k = if k == 8 then false else if k == 9 then false else true
 
-plain_same : (k : ℕ) (n : Msg) → is_plain k ≡ true → k ≡ type_of n → made k (fields_of n) ≡ n
+own_parts : (n : Msg) → is_plain (type_of n) ≡ true → made (type_of n) (fields_of n) ≡ n
 unfolding made
-plain_same k (GpadlHeader h) p t = let bad = rw t at p in cc
-plain_same k (GpadlBody h) p t = let bad = rw t at p in cc
-plain_same k n p t = rw t refl
+own_parts (GpadlHeader h) p = cc
+own_parts (GpadlBody h) p = cc
+own_parts n p = refl
+
+plain_same : (k : ℕ) (n : Msg) → is_plain k ≡ true → k ≡ type_of n → made k (fields_of n) ≡ n
+plain_same k n p t = subst (λ j. made j (fields_of n) ≡ n) (sym t) (own_parts n (subst (λ j. is_plain j ≡ true) t p))
 
 pub same_parts : (m n : Msg) → type_of m ≡ type_of n → fields_of m ≡ fields_of n → frames_of m ≡ frames_of n → m ≡ n
 unfolding made

@@ -1,7 +1,8 @@
-use Rattle.std.proofs.Common.{ℕ, List, ◌++◌, ◌∙◌, ap}
+use Rattle.std.proofs.Common.{ℕ, List, ◌≡◌, ◌++◌, subst}
+use Rattle.std.specs.Result.{OnOk}
 use Rattle.msg_text.proofs.Found.{found_text}
 use Rattle.msg_text.proofs.message.push_bytes.Goals as goal
 
-pub returns-in_ok-push_msg-in-Ok-clause-text : goal.returns-in_ok-push_msg-in-Ok-clause-text
-returns-in_ok-push_msg-in-Ok-clause-text c =
-    c.in_ok-push_msg-in-Ok.ensures.text ∙ ap (λ (t : List ℕ). c.args.text.now.items ++ t) (found_text c.args.bytes.now c.in-Ok.message c.in-Ok.ensures.reads)
+pub returns-in-Ok-clause-text : goal.returns-in-Ok-clause-text
+returns-in-Ok-clause-text c =
+    subst (λ (t : List ℕ). OnOk c.push_msg.result (c.push_msg.new.text.items ≡ c.args.text.now.items ++ t)) (found_text c.args.bytes.now c.in-Ok.message c.in-Ok.ensures.reads) c.push_msg.ensures.text
