@@ -8,6 +8,7 @@ ghost use Rattle.ring_machine.specs.Places.{IsIndex, IsRingSize};
 use io_edge::{StdSource, read_all};
 use ring_core::{raise_on_commit, raise_on_write};
 use std::io;
+use std::rt::Runtime;
 
 // How many bytes the input has at most.
 const MOST: usize = 1_048_576;
@@ -57,19 +58,30 @@ fn is_raised(line: &str) -> Option<bool> {
     }
 }
 
+// What is written of a line.
+fn told(line: &str) -> &'static str {
+    match is_raised(line) {
+        Some(true) => "1",
+        Some(false) => "0",
+        None => "no arguments",
+    }
+}
+
+// Writes whether the peer is raised with each line's arguments.
+fn tell<R: Runtime>(rt: &R, text: &str) -> io::Result<()> {
+    for line in text.lines() {
+        println!(rt; "{}", told(line))?;
+    }
+    Ok(())
+}
+
 fn main(rt: HostRuntime) -> io::Result<()> {
     let mut source = StdSource::make(rt.reader());
     let Ok(input) = read_all(rt.alloc(), &mut source, MOST) else {
         return Err(io::Error::other("the input wasn't read"));
     };
-    let Ok(text) = str::from_utf8(&input) else {
-        return Err(io::Error::other("the input is no text"));
-    };
-    for line in text.lines() {
-        match is_raised(line) {
-            Some(raised) => println!(rt; "{}", u8::from(raised))?,
-            None => println!(rt; "no arguments")?,
-        }
+    match str::from_utf8(&input) {
+        Ok(text) => tell(&rt, text),
+        Err(_) => Err(io::Error::other("the input is no text")),
     }
-    Ok(())
 }
