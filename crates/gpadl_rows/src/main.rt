@@ -5,20 +5,27 @@ mod came;
 
 use came::{Head, found, read_head};
 use io_edge::{StdSource, read_all};
+use std::alloc::Global;
 use std::io;
+use std::rt::Runtime;
 
 // How many bytes the input has at most.
 const MOST: usize = 1_048_576;
 
-fn main(rt: HostRuntime) -> io::Result<()> {
-    let alloc = rt.alloc();
-    let mut source = StdSource::make(rt.reader());
-    let Ok(input) = read_all(alloc, &mut source, MOST) else {
-        return Err(io::Error::other("the input wasn't read"));
-    };
-    let Ok(text) = str::from_utf8(&input) else {
-        return Err(io::Error::other("the input is no text"));
-    };
+// Writes what a list came to.
+fn tell_list<R: Runtime>(rt: &R, alloc: Global, head: Head, lines: &[&str]) -> io::Result<()> {
+    let came = found(alloc, head, lines)?;
+    println!(rt;
+        "{} {}: {} messages, {}",
+        head.pages,
+        head.first,
+        lines.len(),
+        came.text()
+    )
+}
+
+// Writes what each list came to.
+fn tell<R: Runtime>(rt: &R, alloc: Global, text: &str) -> io::Result<()> {
     let mut head = Head { pages: 0, first: 0 };
     let mut pieces = Vec::new(alloc);
     for line in text.lines() {
@@ -26,17 +33,22 @@ fn main(rt: HostRuntime) -> io::Result<()> {
             head = read_head(list).unwrap_or(Head { pages: 0, first: 0 });
             pieces.clear();
         } else if line == "end" {
-            let count = pieces.len();
-            let came = found(alloc, head, pieces.as_slice())?;
-            println!(rt;
-                "{} {}: {count} messages, {}",
-                head.pages,
-                head.first,
-                came.text()
-            )?;
+            tell_list(rt, alloc, head, pieces.as_slice())?;
         } else if !line.starts_with('#') {
             pieces.push(line)?;
         }
     }
     Ok(())
+}
+
+fn main(rt: HostRuntime) -> io::Result<()> {
+    let alloc = rt.alloc();
+    let mut source = StdSource::make(rt.reader());
+    let Ok(input) = read_all(alloc, &mut source, MOST) else {
+        return Err(io::Error::other("the input wasn't read"));
+    };
+    match str::from_utf8(&input) {
+        Ok(text) => tell(&rt, alloc, text),
+        Err(_) => Err(io::Error::other("the input is no text")),
+    }
 }
