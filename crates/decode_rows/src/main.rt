@@ -1,27 +1,21 @@
-//! Decodes messages that Linux's structs lay out, and messages with a fault, by the public call: the whole input stands beside what it must write.
+//! Decodes messages that Linux's structs lay out, and messages with a fault: the whole input stands beside what it must write.
 #![tactic(auto)]
 
-use io_edge::{NoGate, StdSink, StdSource};
-use std::alloc::{AllocError, Global};
-use std::io::writer;
-use std::process::ExitCode;
-use vmbus_main::vmbus;
+use io_edge::{StdSource, read_all};
+use msg_text::decode_text;
+use std::io::{self, Write, writer};
 
-// The one word of the command.
-fn decode(alloc: Global) -> Result<Vec<Vec<u8>>, AllocError> {
-    let mut words = Vec::new(alloc);
-    words.push(b"decode".to_vec(alloc)?)?;
-    Ok(words)
-}
+// How many bytes the input has at most.
+const MOST: usize = 1_048_576;
 
-fn main(rt: HostRuntime) -> ExitCode {
+fn main(rt: HostRuntime) -> io::Result<()> {
     let alloc = rt.alloc();
-    let words = match decode(alloc) {
-        Ok(words) => words,
-        Err(_) => return ExitCode::from(5),
-    };
     let mut source = StdSource::make(rt.reader());
-    let mut sink = StdSink::make(writer(&rt));
-    let outcome = vmbus(&rt, alloc, &words, &mut source, &mut sink, &NoGate);
-    ExitCode::from(outcome.status)
+    let Ok(input) = read_all(alloc, &mut source, MOST) else {
+        return Err(io::Error::other("the input wasn't read"));
+    };
+    let Ok(text) = decode_text(alloc, &input) else {
+        return Err(io::Error::other("a line is refused"));
+    };
+    writer(&rt).write_all(&text)
 }

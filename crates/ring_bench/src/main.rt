@@ -1,4 +1,4 @@
-//! Times a send, a take and a commit: by two ends in turn over one memory, by two ends in turn on atomic words, and by two ends on atomic words in two threads. Times the text of control messages and the reading of a script too. It writes nothing on standard output, and its figures on standard error.
+//! Times a send, a take and a commit: by two ends in turn over one memory, by two ends in turn on atomic words, and by two ends on atomic words in two threads. It writes nothing on standard output, and its figures on standard error.
 #![tactic(auto)]
 
 ghost use Rattle.std.specs.Prelude.{◌≤◌, length};
@@ -6,9 +6,9 @@ ghost use Rattle.ring_machine.specs.States.{IsPacket};
 
 mod memory;
 mod packet;
-mod texts;
 mod words;
 
+use packet::{MOST, words};
 use ring_rows::is_packet;
 use std::alloc::Global;
 use std::io;
@@ -45,34 +45,38 @@ fn quickest<R: Runtime + Threads + Wait + Sync>(
             Over::AtomicWords => words::round(rt, alloc, p, count)?,
             Over::Threads => words::threads_round(rt, alloc, p, count)?,
         };
-        if time < best {
-            best = time;
-        }
+        best = best.min(time);
     }
     Ok(best)
 }
 
+// Tells the times of such packets.
+fn tell<R: Runtime + Threads + Wait + Sync>(
+    rt: &R,
+    alloc: Global,
+    p: &[u64],
+    count: u64,
+) -> io::Result<()>
+    requires packet { IsPacket p.now }
+    requires few { length p.now ≤ 384 }
+{
+    let memory = quickest(rt, alloc, Over::OneMemory, p, count)?;
+    let words = quickest(rt, alloc, Over::AtomicWords, p, count)?;
+    let threads = quickest(rt, alloc, Over::Threads, p, count)?;
+    let bytes = 8 * p.len();
+    eprintln!(rt;
+        "{bytes} bytes: {memory} ns a packet over one memory, {words} on atomic words, {threads} in two threads"
+    )
+}
+
 fn main(rt: HostRuntime) -> io::Result<()> {
     for (n, count) in [(3, 20000), (10, 10000), (64, 2000), (384, 400)] {
-        let p = packet::packet(rt.alloc(), n)?;
-        if !is_packet(p.as_slice()) || p.len() > 384 {
+        let words = words(n as u64);
+        let p = &words[..n.min(MOST)];
+        if !is_packet(p) {
             return Err(io::Error::other("no packet was made"));
         }
-        let memory = quickest(&rt, rt.alloc(), Over::OneMemory, p.as_slice(), count)?;
-        let words = quickest(&rt, rt.alloc(), Over::AtomicWords, p.as_slice(), count)?;
-        let threads = quickest(&rt, rt.alloc(), Over::Threads, p.as_slice(), count)?;
-        eprintln!(rt;
-            "{} bytes: {memory} ns a packet over one memory, {words} on atomic words, {threads} in two threads",
-            8 * n
-        )?;
+        tell(&rt, rt.alloc(), p, count)?;
     }
-    let alloc = rt.alloc();
-    let time = texts::decode_time(&rt, alloc)?;
-    eprintln!(rt; "{} messages decoded: {time} us", texts::LINES)?;
-    let (bytes, time) = texts::parse_time(&rt, alloc)?;
-    eprintln!(rt;
-        "a script of {bytes} bytes in {} lines read: {time} us",
-        texts::LINES
-    )?;
     Ok(())
 }

@@ -1,8 +1,8 @@
 //! Two ends in turn over one memory.
 ghost use Rattle.ring_machine.specs.States.{IsPacket};
 
-use crate::packet::{room_for, send, take};
-use ring_core::{End, Room, Side, SoloMem};
+use crate::packet::{a_packet, room_for, send, take};
+use ring_core::{End, Side, SoloMem};
 use std::alloc::{AllocError, Global};
 use std::io;
 use std::rt::Runtime;
@@ -33,30 +33,35 @@ fn turns(g: &mut End<SoloMem>, h: &mut End<SoloMem>, p: &[u64], count: u64) -> u
     took
 }
 
-// An end over a memory of one page, with room for this in each list.
-fn end(alloc: Global, side: Side, room: Room) -> Result<End<SoloMem>, AllocError> {
-    let mut e = bare(alloc, side)?;
-    e.reserve(room, room)?;
-    Ok(e)
-}
-
-fn bare(alloc: Global, side: Side) -> Result<End<SoloMem>, AllocError> {
+// An end over a memory of one page.
+fn end(alloc: Global, side: Side) -> Result<End<SoloMem>, AllocError> {
     let solo = SoloMem::make(alloc, 4096)?;
     End::make(alloc, side, 4096, solo)
+}
+
+// The nanoseconds a packet of one round of these ends, with room for the packets made first.
+fn timed<R: Runtime>(
+    rt: &R,
+    g: &mut End<SoloMem>,
+    h: &mut End<SoloMem>,
+    p: &[u64],
+    count: u64,
+) -> io::Result<u128>
+    requires { IsPacket p.now }
+{
+    let room = room_for(p, count);
+    g.reserve(room, room)?;
+    h.reserve(room, room)?;
+    let start = Instant::now(rt)?;
+    let took = turns(g, h, p, count);
+    a_packet(start.elapsed(rt)?.as_nanos(), took, count)
 }
 
 // The nanoseconds a packet of one round. It is an error where a packet didn't arrive.
 pub(crate) fn round<R: Runtime>(rt: &R, alloc: Global, p: &[u64], count: u64) -> io::Result<u128>
     requires { IsPacket p.now }
 {
-    let room = room_for(p, count);
-    let mut g = end(alloc, Side::Guest, room)?;
-    let mut h = end(alloc, Side::Host, room)?;
-    let start = Instant::now(rt)?;
-    let took = turns(&mut g, &mut h, p, count);
-    let time = start.elapsed(rt)?.as_nanos();
-    if took != count || count == 0 {
-        return Err(io::Error::other("a packet was lost"));
-    }
-    Ok(time / count as u128)
+    let mut g = end(alloc, Side::Guest)?;
+    let mut h = end(alloc, Side::Host)?;
+    timed(rt, &mut g, &mut h, p, count)
 }

@@ -4,19 +4,16 @@ ghost use Rattle.ring_machine.specs.States.{IsPacket};
 
 use ring_core::{End, Room, Seatlike};
 use ring_rows::may_take;
-use std::alloc::{AllocError, Global};
+use std::io;
 
-// A packet of n words: in-band data.
-pub(crate) fn packet(alloc: Global, n: u64) -> Result<Vec<u64>, AllocError> {
-    let mut p = Vec::new(alloc);
-    for i in 0..n {
-        if i == 0 {
-            p.push(n.wrapping_mul(0x1_0000_0000).wrapping_add(0x2_0006))?;
-        } else {
-            p.push(i.wrapping_mul(0x9e37_79b9_7f4a_7c15))?;
-        }
-    }
-    Ok(p)
+// The longest packet, in words.
+pub(crate) const MOST: usize = 384;
+
+// The words of a packet of n words: in-band data, each word the same.
+pub(crate) fn words(n: u64) -> [u64; MOST] {
+    let mut words = [0x9e37_79b9_7f4a_7c15; MOST];
+    words[0] = n.wrapping_mul(0x1_0000_0000).wrapping_add(0x2_0006);
+    words
 }
 
 // Sends, where that may be done: whether the packet was sent.
@@ -50,4 +47,12 @@ pub(crate) fn room_for(p: &[u64], count: u64) -> Room {
         packets: count.saturating_add(1),
         words: count.wrapping_mul(p.len() as u64).wrapping_add(512),
     }
+}
+
+// The nanoseconds a packet, where all of them arrived.
+pub(crate) fn a_packet(time: u128, took: u64, count: u64) -> io::Result<u128> {
+    if took != count || count == 0 {
+        return Err(io::Error::other("a packet was lost"));
+    }
+    Ok(time / count as u128)
 }
