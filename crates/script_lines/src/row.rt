@@ -113,7 +113,8 @@ fn name_alone(rest: &[u8]) -> Option<Name>
     let (name, rest) = first_word(rest)?;
     match first_word(rest) {
         None if is_name(name) => Some(Name::of(name)),
-        _ => None,
+        None => None,
+        Some(_) => None,
     }
 }
 
@@ -124,7 +125,8 @@ fn name_and_number(rest: &[u8]) -> Option<(Name, Option<u64>)>
     let (number, rest) = first_word(rest)?;
     match first_word(rest) {
         None if is_name(name) && is_decimal(number) => { Some((Name::of(name), number_of(number))) }
-        _ => None,
+        None => None,
+        Some(_) => None,
     }
 }
 
@@ -138,7 +140,8 @@ fn name_and_two(rest: &[u8]) -> Option<(Name, Option<u64>, Option<u64>)>
         None if is_name(name) && is_decimal(first) && is_decimal(second) => {
             Some((Name::of(name), number_of(first), number_of(second)))
         }
-        _ => None,
+        None => None,
+        Some(_) => None,
     }
 }
 
@@ -152,7 +155,8 @@ fn contact_row(rest: &[u8]) -> Option<Said>
         None if is_version(guest) && is_version(host) => {
             Some(Said::Contact(version_of(guest), version_of(host)))
         }
-        _ => None,
+        None => None,
+        Some(_) => None,
     }
 }
 
@@ -273,7 +277,8 @@ fn write_row(rest: &[u8]) -> Option<Said>
             };
             Some(Said::Command(Name::of(name), ask))
         }
-        _ => None,
+        None => None,
+        Some(_) => None,
     }
 }
 
