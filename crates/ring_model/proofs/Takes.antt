@@ -18,7 +18,7 @@ use Rattle.ring_model.specs.Ring.{size, stream, Seeing, Copying, Taking_at}
 use Rattle.ring_model.proofs.Turns.{below, ahead_mod, used_mod, index_here, cell_here}
 use Rattle.ring_model.proofs.Streams.{size-append, size-one, word_in}
 use Rattle.ring_model.proofs.Frame.{Moves, producer_same, consumer_same, sending_more, no_rest, past_kept, made, first_packet}
-use Rattle.ring_model.proofs.Quiet.{Ready, marked_at, wide}
+use Rattle.ring_model.proofs.Quiet.{Ready, marked_at, unmarked, wide}
 use Rattle.ring_model.proofs.Sends.{moved, cond_true, cond_false}
 
 leb_yes : (a b : ℕ) → a ≤ b → leb a b ≡ true
@@ -104,7 +104,7 @@ module _ (fo fi : ℕ → ℕ) (mark pmark : ℕ) (e p : EndState) (r : Ready fo
               drained = ap is_drained added ∙ ((λ j. r.past.seen j || r.past.drained j) ∙ or_swap e.machine.peer_marked e.machine.drained);
               word = r.past.word ∙ ap (λ (b : Bool). cond b 1 0) (sym (marked_at e TakeWrite i));
             };
-            told = inr (EmptyEvent, added, r.past.got ∙ (all ∙ sym r.peers.sent));
+            told = inr (EmptyEvent, added, (unmarked fo fi mark pmark e p r TakeWrite i refl refl, r.past.got ∙ (all ∙ sym r.peers.sent)));
             rests = record { empty = λ a b. all; full = λ a b. absurd (cc) };
             goes = λ n. (cc);
           })
@@ -238,7 +238,7 @@ module _ (fo fi : ℕ → ℕ) (mark pmark : ℕ) (e p : EndState) (r : Ready fo
               drained = ap is_drained added ∙ r.past.drained;
               word = r.past.word ∙ ap (λ (b : Bool). cond b 1 0) (sym (marked_at e TakeCell i));
             };
-            told = inr (Got it.first, added, (it.rest, r.peers.sent ∙ (sent_is ∙ ap (λ (x : List (List ℕ)). (x ++ it.first ∷ []) ++ it.rest) (sym r.past.got))));
+            told = inr (Got it.first, added, (unmarked fo fi mark pmark e p r TakeCell i refl refl, (it.rest, r.peers.sent ∙ (sent_is ∙ ap (λ (x : List (List ℕ)). (x ++ it.first ∷ []) ++ it.rest) (sym r.past.got)))));
             rests = no_rest _ _ p refl;
             goes = λ n. (cc);
           })
