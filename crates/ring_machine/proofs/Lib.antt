@@ -3,3 +3,4 @@ pub mod Tables
 pub mod Bounds
 pub mod Lengths
 pub mod Kept
+pub mod Lasting

@@ -160,7 +160,7 @@ Tells e p past = (past ≡ e.past) ⊎ ((ev : Event (List ℕ)) × (past ≡ ev 
 -- where a take ended with Empty the end got all, and where a send of the packet q ended with Full there is no room for it
 pub record Rests (q : List ℕ) (e p : EndState) : Type 0 where
   pub empty : e.machine.stage ≡ Idle → e.machine.ended ≡ Empty → e.got ≡ p.sent
-  pub full : e.machine.stage ≡ Idle → e.machine.ended ≡ Full → (free e.machine.cells p.machine.start e.machine.write ≤ length q + 1) × (e.machine.seen ≡ p.machine.start) × (e.machine.len ≡ length q)
+  pub full : e.machine.stage ≡ Idle → e.machine.ended ≡ Full → (free e.machine.cells p.machine.start e.machine.write ≤ length q + 1) × (e.machine.room ≡ free e.machine.cells p.machine.start e.machine.write) × (e.machine.words ≡ length q)
 
 -- the two rings of an end after a step, its past, and that it goes on
 pub record Moves (n : ℕ) (fo fi : ℕ → ℕ) (mark : ℕ) (e p e' : EndState) : Type 0 where

@@ -62,7 +62,7 @@ module _ (fo fi : ℕ → ℕ) (mark pmark : ℕ) (e p : EndState) (r : Ready fo
 
       by_room : (b : Bool) → leb (free e.machine.cells (cell_of v) e.machine.write) (e.machine.len + 1) ≡ b → Moves e.machine.cells fo fi mark e p (after e v)
       by_room true h =
-          let m' : Machine = record (ends e.machine Full) { seen = cell_of v } in
+          let m' : Machine = record (ends e.machine Full) { seen = cell_of v; room = free e.machine.cells (cell_of v) e.machine.write; words = e.machine.len } in
           let most : free e.machine.cells (cell_of v) e.machine.write ≤ e.machine.len + 1 = grind (arith, nat_tests) in
           let it : IsPacket e.packet × (length e.packet ≡ e.machine.len) = subst (λ (st : Stage). Sending_at st e.machine.cells fo (size e.sent) (size r.out.given_back) e) i r.out.sending in
           moved fo fi mark v SendRead m' i (cond_true _ _ _ inside ∙ cond_true _ _ _ h)
@@ -71,7 +71,7 @@ module _ (fo fi : ℕ → ℕ) (mark pmark : ℕ) (e p : EndState) (r : Ready fo
             inn = consumer_same e.machine.cells fi p e _ r.inn refl refl refl tt;
             past = past_kept mark mark e _ r.past refl refl refl (marked_at e SendRead i) refl refl refl;
             told = inl refl;
-            rests = record { empty = λ a b. absurd (cc); full = λ a b. (omega (arith, most, room_is, it.1), cell_is, sym it.1) };
+            rests = record { empty = λ a b. absurd (cc); full = λ a b. (omega (arith, most, room_is, it.1), room_is, sym it.1) };
             goes = λ n. (cc);
           })
       by_room false h =

@@ -206,7 +206,7 @@ module _ (fo fi : ℕ → ℕ) (mark pmark : ℕ) (e p : EndState) (r : Ready fo
       by_end false h =
           let all : e.machine.done + 1 ≡ e.machine.len = let b = (r.sound.copying i).1 in grind (arith, nat_tests) in
           let whole : e.copied ++ v ∷ [] ≡ it.first = copied ∙ (ap (λ (n : ℕ). take n it.first) (all ∙ it.len) ∙ take-length it.first) in
-          let m' : Machine = record (ends e.machine Took) { read = ahead e.machine.cells e.machine.read (e.machine.len + 1) } in
+          let m' : Machine = record (ends e.machine Took) { read = ahead e.machine.cells e.machine.read (e.machine.len + 1); words = e.machine.len } in
           let got_is : (made TakeCell e v m').got ≡ e.got ++ it.first ∷ [] = cond_false _ _ _ h ∙ ap (λ (x : List ℕ). e.got ++ x ∷ []) whole in
           let added : (made TakeCell e v m').past ≡ Got it.first ∷ e.past = cond_false _ _ _ h ∙ ap (λ (x : List ℕ). Got x ∷ e.past) whole in
           let sent_is : p.sent ≡ (e.got ++ it.first ∷ []) ++ it.rest = r.inn.sent_is ∙ (ap (λ (x : List (List ℕ)). e.got ++ x) it.waiting_is ∙ sym (append_assoc e.got (it.first ∷ []) it.rest)) in
