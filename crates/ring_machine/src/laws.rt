@@ -4,8 +4,11 @@ ghost use Rattle.ring_machine.specs.Inside.{IsInside, ChangesOnly};
 ghost use Rattle.ring_machine.specs.Places.{free, used, ahead};
 ghost use Rattle.ring_machine.specs.Steps.{next_of, call_at, fed, is_busy_at};
 ghost use Rattle.ring_machine.specs.States.{Begins};
-ghost use Rattle.ring_machine.specs.Endings.{last_of};
+ghost use Rattle.ring_machine.specs.Endings.{last_of, why_of};
+ghost use Rattle.ring_machine.specs.Causes.{Breaks};
+ghost use Rattle.ring_machine.specs.declared.last.Why.{Why};
 ghost use Rattle.ring_machine.specs.declared.machine.Machine.{Machine};
+ghost use Rattle.ring_machine.specs.declared.machine.Stage.TheVariants.{Stopped};
 ghost use Rattle.ring_machine.specs.declared.state.EndState.{EndState};
 
 use crate::end_core::EndCore;
@@ -33,4 +36,10 @@ pub fn counts_bytes()
 pub fn last_stays(_core: &EndCore)
     ensures begins { (s : EndState) (m : Machine) (p : List ℕ) → Begins s m p → last_of m ≡ last_of s.machine }
     ensures feeds { (v : ℕ) → is_busy_at (fed _core.now.machine v).stage ≡ true → last_of (fed _core.now.machine v) ≡ last_of _core.now.machine }
+{}
+
+/// An end refuses a value that its step gave exactly where the value breaks a rule, and names the first rule that it breaks.
+pub fn refuses_by_cause(_core: &EndCore)
+    ensures cause { (v : ℕ) → is_busy_at _core.now.machine.stage ≡ true → (fed _core.now.machine v).stage ≡ Stopped → Breaks (why_of (fed _core.now.machine v)) _core.now.machine v }
+    ensures refusal { (v : ℕ) (why : Why) → Breaks why _core.now.machine v → ((fed _core.now.machine v).stage ≡ Stopped) × (why_of (fed _core.now.machine v) ≡ why) }
 {}
