@@ -34,7 +34,7 @@ module _ {P : Type 0} where
 
   guest_order : (run : List (Turn P)) → IsRun run → GetsInOrder (guest_of run) (host_of run)
   guest_order [] is = ([], refl)
-  guest_order (Guest (Got p) ∷ run) is = is.0
+  guest_order (Guest (Got p) ∷ run) is = is.0.1
   guest_order (Guest e ∷ run) is = guest_order run is.1
   guest_order (Host (Sent p) ∷ run) is = front_more (got_of (guest_of run)) (sent_of (host_of run)) (p ∷ []) (guest_order run is.1)
   guest_order (Host e ∷ run) is = guest_order run is.1
@@ -44,7 +44,7 @@ module _ {P : Type 0} where
 
   guest_sees : (run : List (Turn P)) → IsRun run → SeesMarks (guest_of run) (host_of run)
   guest_sees [] is e = e
-  guest_sees (Guest Saw ∷ run) is e = is.0
+  guest_sees (Guest Saw ∷ run) is e = is.0.1
   guest_sees (Guest x ∷ run) is e = guest_sees run is.1 e
   guest_sees (Host Marked ∷ run) is e = refl
   guest_sees (Host x ∷ run) is e = guest_sees run is.1 e
@@ -56,8 +56,8 @@ module _ {P : Type 0} where
   guest_drains [] is e = refl
   guest_drains (Guest (Got p) ∷ run) is e =
       let all = guest_drains run is.1 e in
-      absurd (front_over (got_of (guest_of run)) p (subst (IsFront (got_of (guest_of run) ++ p ∷ [])) (sym all) is.0))
-  guest_drains (Guest Empty ∷ run) is e = is.0
+      absurd (front_over (got_of (guest_of run)) p (subst (IsFront (got_of (guest_of run) ++ p ∷ [])) (sym all) is.0.1))
+  guest_drains (Guest Empty ∷ run) is e = is.0.1
   guest_drains (Guest x ∷ run) is e = guest_drains run is.1 e
   guest_drains (Host (Sent p) ∷ run) is e = absurd (true_false (has_marked (host_of run)) (guest_sees run is.1 (drained_seen (guest_of run) e)) is.0)
   guest_drains (Host x ∷ run) is e = guest_drains run is.1 e
@@ -123,29 +123,28 @@ module _ {P : Type 0} where
       (λ e. absurd (⊎_elim (not_first (guest_of run) f) (not_first (host_of run) g) (first_mark run is (inl e))))
       (λ e. e))
 
-  -- an end sends and marks itself only where it hasn't marked itself yet
+  -- an end did each thing where it hadn't marked itself yet
   IsEnding : List (Event P) → Type 0
   IsEnding [] = Unit {0}
-  IsEnding (Sent p ∷ past) = (has_marked past ≡ false) × IsEnding past
-  IsEnding (Got p ∷ past) = IsEnding past
-  IsEnding (Empty ∷ past) = IsEnding past
-  IsEnding (Marked ∷ past) = (has_marked past ≡ false) × IsEnding past
-  IsEnding (Saw ∷ past) = IsEnding past
+  IsEnding (e ∷ past) = (has_marked past ≡ false) × IsEnding past
+
+  unmarked : (e : Event P) (mine other : List (Event P)) → May e mine other → has_marked mine ≡ false
+  unmarked (Sent p) mine other may = may
+  unmarked (Got p) mine other may = may.0
+  unmarked Empty mine other may = may.0
+  unmarked Marked mine other may = may
+  unmarked Saw mine other may = may.0
 
   guest_ending : (run : List (Turn P)) → IsRun run → IsEnding (guest_of run)
   unfolding IsEnding
   guest_ending [] is = tt
-  guest_ending (Guest (Sent p) ∷ run) is = (is.0, guest_ending run is.1)
-  guest_ending (Guest Marked ∷ run) is = (is.0, guest_ending run is.1)
-  guest_ending (Guest x ∷ run) is = guest_ending run is.1
-  guest_ending (Host x ∷ run) is = guest_ending run is.1
+  guest_ending (Guest e ∷ run) is = (unmarked e (guest_of run) (host_of run) is.0, guest_ending run is.1)
+  guest_ending (Host e ∷ run) is = guest_ending run is.1
 
-  ending_at : (later before : List (Event P)) → IsEnding (later ++ Marked ∷ before) → (sent_of later ≡ []) × (has_marked later ≡ false)
+  ending_at : (later before : List (Event P)) → IsEnding (later ++ Marked ∷ before) → later ≡ []
   unfolding IsEnding
-  ending_at [] before k = (refl, refl)
-  ending_at (Sent p ∷ later) before k = absurd (true_false (has_marked (later ++ Marked ∷ before)) (marked_stays later (Marked ∷ before) refl) k.0)
-  ending_at (Marked ∷ later) before k = absurd (true_false (has_marked (later ++ Marked ∷ before)) (marked_stays later (Marked ∷ before) refl) k.0)
-  ending_at (x ∷ later) before k = ending_at later before k
+  ending_at [] before k = refl
+  ending_at (e ∷ later) before k = absurd (true_false (has_marked (later ++ Marked ∷ before)) (marked_stays later (Marked ∷ before) refl) k.0)
 
   pub ends_at_mark : (run : List (Turn P)) → IsRun run → BothWays EndsAtMark run
   ends_at_mark = both_ways EndsAtMark (λ run is later before e. ending_at later before (subst IsEnding e (guest_ending run is)))

@@ -1,21 +1,21 @@
 -- A run goes on: what each end may do next, by what it knows.
-use Rattle.std.proofs.Common.{◌≡◌, List, [], ◌∷◌, ◌++◌, refl, sym, ap, ◌∙◌, subst}
+use Rattle.std.proofs.Common.{◌≡◌, List, [], ◌∷◌, ◌++◌, false, refl, sym, ap, ◌∙◌, subst}
 use Rattle.std.proofs.lemmas.List.{append-nil}
 use Rattle.chan_run.specs.declared.event.Event.{Event}
 use Rattle.chan_run.specs.declared.event.Event.TheVariants.{Got, Empty}
-use Rattle.chan_run.specs.Runs.{Turn, Guest, Host, sent_of, got_of, guest_of, host_of, May, IsRun}
+use Rattle.chan_run.specs.Runs.{Turn, Guest, Host, sent_of, got_of, has_marked, guest_of, host_of, May, IsRun}
 use Rattle.chan_run.specs.Laws.{AreOfOneRun, BothWays, exchanged}
 use Rattle.chan_run.proofs.Fronts.{front_next}
 use Rattle.chan_run.proofs.RunLaws.{exchanged_run, exchanged_guest, exchanged_host}
 
 module _ {P : Type 0} where
   -- the packet that an end gets is the first one that waits for it
-  pub may_get : (p : P) (mine other : List (Event P)) (got sent rest : List P) → got_of mine ≡ got → sent_of other ≡ sent → sent ≡ got ++ p ∷ rest → May (Got p) mine other
-  may_get p mine other got sent rest g s e = front_next (got_of mine) p rest (sent_of other) (s ∙ (e ∙ ap (λ (l : List P). l ++ p ∷ rest) (sym g)))
+  pub may_get : (p : P) (mine other : List (Event P)) (got sent rest : List P) → has_marked mine ≡ false → got_of mine ≡ got → sent_of other ≡ sent → sent ≡ got ++ p ∷ rest → May (Got p) mine other
+  may_get p mine other got sent rest n g s e = (n, front_next (got_of mine) p rest (sent_of other) (s ∙ (e ∙ ap (λ (l : List P). l ++ p ∷ rest) (sym g))))
 
   -- it finds none where none waits
-  pub may_find_none : (mine other : List (Event P)) (got sent waiting : List P) → got_of mine ≡ got → sent_of other ≡ sent → sent ≡ got ++ waiting → waiting ≡ [] → May Empty mine other
-  may_find_none mine other got sent waiting g s e none = g ∙ (sym (append-nil got) ∙ (ap (λ (l : List P). got ++ l) (sym none) ∙ (sym e ∙ sym s)))
+  pub may_find_none : (mine other : List (Event P)) (got sent waiting : List P) → has_marked mine ≡ false → got_of mine ≡ got → sent_of other ≡ sent → sent ≡ got ++ waiting → waiting ≡ [] → May Empty mine other
+  may_find_none mine other got sent waiting n g s e none = (n, g ∙ (sym (append-nil got) ∙ (ap (λ (l : List P). got ++ l) (sym none) ∙ (sym e ∙ sym s))))
 
   -- one more event of an end
   pub guest_goes_on : (e : Event P) (run : List (Turn P)) (guest host : List (Event P)) → guest_of run ≡ guest → host_of run ≡ host → IsRun run → May e guest host → IsRun (Guest e ∷ run)

@@ -29,9 +29,9 @@ module _ {P : Type 0} where
   abbrev pub SeesMarks : List (Event P) → List (Event P) → Type 0
   SeesMarks mine other = has_seen mine ≡ true → has_marked other ≡ true
 
-  -- past its mark an end sends nothing, and doesn't mark itself again
+  -- an end's mark is the last thing that it did
   abbrev pub EndsAtMark : List (Event P) → List (Event P) → Type 0
-  EndsAtMark mine other = (later before : List (Event P)) → mine ≡ later ++ Marked ∷ before → (sent_of later ≡ []) × (has_marked later ≡ false)
+  EndsAtMark mine other = (later before : List (Event P)) → mine ≡ later ++ Marked ∷ before → later ≡ []
 
   -- it marked itself before it saw its peer's mark
   pub record MarksFirst (mine : List (Event P)) : Type 0 where

@@ -70,14 +70,14 @@ module _ {P : Type 0} where
   host_of (Guest e ∷ past) = host_of past
   host_of (Host e ∷ past) = e ∷ host_of past
 
-  -- An end may do this next, where it did `mine` and the other end did `other` so far: it sends nothing and sets no mark after its own mark,
-  -- a packet that it gets is the next one that the other end sent, it finds none waiting only where it got all, and a mark that it sees is there
+  -- An end may do this next, where it did `mine` and the other end did `other` so far: after its own mark it does nothing, a packet that it gets is the
+  -- next one that the other end sent, it finds none waiting only where it got all, and a mark that it sees is there
   abbrev pub May : Event P → List (Event P) → List (Event P) → Type 0
   May (Sent p) mine other = has_marked mine ≡ false
-  May (Got p) mine other = IsFront (got_of mine ++ p ∷ []) (sent_of other)
-  May Empty mine other = got_of mine ≡ sent_of other
+  May (Got p) mine other = (has_marked mine ≡ false) × IsFront (got_of mine ++ p ∷ []) (sent_of other)
+  May Empty mine other = (has_marked mine ≡ false) × (got_of mine ≡ sent_of other)
   May Marked mine other = has_marked mine ≡ false
-  May Saw mine other = has_marked other ≡ true
+  May Saw mine other = (has_marked mine ≡ false) × (has_marked other ≡ true)
 
   -- each turn was one that its end might make after the turns before it
   abbrev pub IsRun : List (Turn P) → Type 0

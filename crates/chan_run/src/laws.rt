@@ -21,7 +21,7 @@ pub fn sees_marks<P>()
     ensures { (run : List (Turn P)) → IsRun run → BothWays SeesMarks run }
 {}
 
-/// Past its mark an end sends nothing, and doesn't mark itself again.
+/// An end's mark is the last thing that it did: past it the end sends nothing, takes nothing, sees no mark and doesn't mark itself again.
 pub fn ends_at_mark<P>()
     ensures { (run : List (Turn P)) → IsRun run → BothWays EndsAtMark run }
 {}

@@ -2,3 +2,4 @@ pub mod Told
 pub mod Seen
 pub mod Cut
 pub mod Taking
+pub mod Refused

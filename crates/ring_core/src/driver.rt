@@ -82,6 +82,8 @@ fn send_back(to: &mut EndCore, from: &EndCore)
     to.machine.seen = from.machine.seen;
     to.machine.done = from.machine.done;
     to.machine.value = from.machine.value;
+    to.machine.room = from.machine.room;
+    to.machine.words = from.machine.words;
     to.machine.stage = from.machine.stage;
     to.machine.ended = from.machine.ended;
 }
@@ -97,6 +99,7 @@ fn take_back(to: &mut EndCore, from: &EndCore)
     to.machine.len = from.machine.len;
     to.machine.done = from.machine.done;
     to.machine.value = from.machine.value;
+    to.machine.words = from.machine.words;
     to.machine.stage = from.machine.stage;
     to.machine.ended = from.machine.ended;
     to.machine.drained = from.machine.drained;

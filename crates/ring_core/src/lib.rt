@@ -3,6 +3,7 @@
 
 mod driver;
 mod end;
+mod laws;
 mod packets;
 mod parts;
 mod room;
@@ -13,12 +14,13 @@ mod told_mem;
 mod words;
 
 pub use end::End;
+pub use laws::refuses_by_value;
 pub use packets::Packets;
 pub use ring_machine::{
     Armed, Bad, EndCore, EndState, Ending, Indices, Last, Machine, Mode, Op, Place, Ring,
-    SendRefusal, Side, Signalled, Stage, TakeRefusal, Why, counts_bytes, incoming, mark_index,
-    outgoing, peer, place_index, raise_on_commit, raise_on_write, signal_index, stays_inside,
-    stores_by_call,
+    SendRefusal, Side, Signalled, Stage, TakeRefusal, Why, counts_bytes, incoming, last_stays,
+    mark_index, outgoing, peer, place_index, raise_on_commit, raise_on_write, refuses_by_cause,
+    signal_index, stays_inside, stores_by_call,
 };
 pub use room::Room;
 pub use seat::Seatlike;

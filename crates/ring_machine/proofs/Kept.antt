@@ -31,37 +31,37 @@ masking_keeps m v SendMask e = at_cond (SendKeeps m) (eqb (low v) 0) _ _ (λ t. 
 masking_keeps m v _ e = absurd (cc)
 
 pub take_kept : (m : Machine) → TakeKeeps m m
-take_kept m = record { cells = refl; write = refl; start = refl; old = refl; want = refl; side = refl; masked = refl; asleep = refl; marked = refl; peer_marked = refl; saw = refl }
+take_kept m = record { cells = refl; write = refl; start = refl; old = refl; want = refl; room = refl; side = refl; masked = refl; asleep = refl; marked = refl; peer_marked = refl; saw = refl }
 
 pub take_kept_on : (b m k : Machine) → TakeKeeps b m → TakeKeeps m k → TakeKeeps b k
-take_kept_on b m k x y = record { cells = x.cells ∙ y.cells; write = x.write ∙ y.write; start = x.start ∙ y.start; old = x.old ∙ y.old; want = x.want ∙ y.want; side = x.side ∙ y.side; masked = x.masked ∙ y.masked; asleep = x.asleep ∙ y.asleep; marked = x.marked ∙ y.marked; peer_marked = x.peer_marked ∙ y.peer_marked; saw = x.saw ∙ y.saw }
+take_kept_on b m k x y = record { cells = x.cells ∙ y.cells; write = x.write ∙ y.write; start = x.start ∙ y.start; old = x.old ∙ y.old; want = x.want ∙ y.want; room = x.room ∙ y.room; side = x.side ∙ y.side; masked = x.masked ∙ y.masked; asleep = x.asleep ∙ y.asleep; marked = x.marked ∙ y.marked; peer_marked = x.peer_marked ∙ y.peer_marked; saw = x.saw ∙ y.saw }
 
 pub seeking_keeps : (m : Machine) (v : ℕ) (st : Stage) → is_seeking_at st ≡ true → TakeKeeps m (fed_at st m v)
-seeking_keeps m v TakeWrite e = at_cond (TakeKeeps m) (is_index m.cells v) _ _ (λ t. at_cond (TakeKeeps m) (eqb (cell_of v) m.read) _ _ (λ t. record { cells = refl; write = refl; start = refl; old = refl; want = refl; side = refl; masked = refl; asleep = refl; marked = refl; peer_marked = refl; saw = refl }) (λ t. record { cells = refl; write = refl; start = refl; old = refl; want = refl; side = refl; masked = refl; asleep = refl; marked = refl; peer_marked = refl; saw = refl })) (λ t. record { cells = refl; write = refl; start = refl; old = refl; want = refl; side = refl; masked = refl; asleep = refl; marked = refl; peer_marked = refl; saw = refl })
+seeking_keeps m v TakeWrite e = at_cond (TakeKeeps m) (is_index m.cells v) _ _ (λ t. at_cond (TakeKeeps m) (eqb (cell_of v) m.read) _ _ (λ t. record { cells = refl; write = refl; start = refl; old = refl; want = refl; room = refl; side = refl; masked = refl; asleep = refl; marked = refl; peer_marked = refl; saw = refl }) (λ t. record { cells = refl; write = refl; start = refl; old = refl; want = refl; room = refl; side = refl; masked = refl; asleep = refl; marked = refl; peer_marked = refl; saw = refl })) (λ t. record { cells = refl; write = refl; start = refl; old = refl; want = refl; room = refl; side = refl; masked = refl; asleep = refl; marked = refl; peer_marked = refl; saw = refl })
 seeking_keeps m v _ e = absurd (cc)
 
 pub first_keeps : (m : Machine) (v : ℕ) (st : Stage) → is_first_at st ≡ true → TakeKeeps m (fed_at st m v)
-first_keeps m v TakeFirst e = at_cond (TakeKeeps m) (leb 2 (len8_of v) && ltb (len8_of v) (used m.cells m.read m.seen)) _ _ (λ t. at_cond (TakeKeeps m) (leb 2 (offset8_of v) && leb (offset8_of v) (len8_of v)) _ _ (λ t. record { cells = refl; write = refl; start = refl; old = refl; want = refl; side = refl; masked = refl; asleep = refl; marked = refl; peer_marked = refl; saw = refl }) (λ t. record { cells = refl; write = refl; start = refl; old = refl; want = refl; side = refl; masked = refl; asleep = refl; marked = refl; peer_marked = refl; saw = refl })) (λ t. record { cells = refl; write = refl; start = refl; old = refl; want = refl; side = refl; masked = refl; asleep = refl; marked = refl; peer_marked = refl; saw = refl })
+first_keeps m v TakeFirst e = at_cond (TakeKeeps m) (leb 2 (len8_of v) && ltb (len8_of v) (used m.cells m.read m.seen)) _ _ (λ t. at_cond (TakeKeeps m) (leb 2 (offset8_of v) && leb (offset8_of v) (len8_of v)) _ _ (λ t. record { cells = refl; write = refl; start = refl; old = refl; want = refl; room = refl; side = refl; masked = refl; asleep = refl; marked = refl; peer_marked = refl; saw = refl }) (λ t. record { cells = refl; write = refl; start = refl; old = refl; want = refl; room = refl; side = refl; masked = refl; asleep = refl; marked = refl; peer_marked = refl; saw = refl })) (λ t. record { cells = refl; write = refl; start = refl; old = refl; want = refl; room = refl; side = refl; masked = refl; asleep = refl; marked = refl; peer_marked = refl; saw = refl })
 first_keeps m v _ e = absurd (cc)
 
 pub loading_keeps : (m : Machine) (v : ℕ) (st : Stage) → is_loading_at st ≡ true → TakeKeeps m (fed_at st m v)
-loading_keeps m v TakeCell e = at_cond (TakeKeeps m) (ltb (m.done + 1) m.len) _ _ (λ t. record { cells = refl; write = refl; start = refl; old = refl; want = refl; side = refl; masked = refl; asleep = refl; marked = refl; peer_marked = refl; saw = refl }) (λ t. record { cells = refl; write = refl; start = refl; old = refl; want = refl; side = refl; masked = refl; asleep = refl; marked = refl; peer_marked = refl; saw = refl })
+loading_keeps m v TakeCell e = at_cond (TakeKeeps m) (ltb (m.done + 1) m.len) _ _ (λ t. record { cells = refl; write = refl; start = refl; old = refl; want = refl; room = refl; side = refl; masked = refl; asleep = refl; marked = refl; peer_marked = refl; saw = refl }) (λ t. record { cells = refl; write = refl; start = refl; old = refl; want = refl; room = refl; side = refl; masked = refl; asleep = refl; marked = refl; peer_marked = refl; saw = refl })
 loading_keeps m v _ e = absurd (cc)
 
 pub commit_kept : (m : Machine) → CommitKeeps m m
-commit_kept m = record { cells = refl; write = refl; read = refl; seen = refl; len = refl; want = refl; side = refl; masked = refl; asleep = refl; marked = refl; peer_marked = refl; drained = refl; saw = refl }
+commit_kept m = record { cells = refl; write = refl; read = refl; seen = refl; len = refl; want = refl; room = refl; words = refl; side = refl; masked = refl; asleep = refl; marked = refl; peer_marked = refl; drained = refl; saw = refl }
 
 pub commit_kept_on : (b m k : Machine) → CommitKeeps b m → CommitKeeps m k → CommitKeeps b k
-commit_kept_on b m k x y = record { cells = x.cells ∙ y.cells; write = x.write ∙ y.write; read = x.read ∙ y.read; seen = x.seen ∙ y.seen; len = x.len ∙ y.len; want = x.want ∙ y.want; side = x.side ∙ y.side; masked = x.masked ∙ y.masked; asleep = x.asleep ∙ y.asleep; marked = x.marked ∙ y.marked; peer_marked = x.peer_marked ∙ y.peer_marked; drained = x.drained ∙ y.drained; saw = x.saw ∙ y.saw }
+commit_kept_on b m k x y = record { cells = x.cells ∙ y.cells; write = x.write ∙ y.write; read = x.read ∙ y.read; seen = x.seen ∙ y.seen; len = x.len ∙ y.len; want = x.want ∙ y.want; room = x.room ∙ y.room; words = x.words ∙ y.words; side = x.side ∙ y.side; masked = x.masked ∙ y.masked; asleep = x.asleep ∙ y.asleep; marked = x.marked ∙ y.marked; peer_marked = x.peer_marked ∙ y.peer_marked; drained = x.drained ∙ y.drained; saw = x.saw ∙ y.saw }
 
 pub giving_keeps : (m : Machine) (v : ℕ) (st : Stage) → is_giving_at st ≡ true → CommitKeeps m (fed_at st m v)
-giving_keeps m v CommitRead e = record { cells = refl; write = refl; read = refl; seen = refl; len = refl; want = refl; side = refl; masked = refl; asleep = refl; marked = refl; peer_marked = refl; drained = refl; saw = refl }
+giving_keeps m v CommitRead e = record { cells = refl; write = refl; read = refl; seen = refl; len = refl; want = refl; room = refl; words = refl; side = refl; masked = refl; asleep = refl; marked = refl; peer_marked = refl; drained = refl; saw = refl }
 giving_keeps m v _ e = absurd (cc)
 
 pub feature_keeps : (m : Machine) (v : ℕ) (st : Stage) → is_feature_at st ≡ true → CommitKeeps m (fed_at st m v)
-feature_keeps m v CommitFeature e = at_cond (CommitKeeps m) (eqb (low v % 2) 1) _ _ (λ t. record { cells = refl; write = refl; read = refl; seen = refl; len = refl; want = refl; side = refl; masked = refl; asleep = refl; marked = refl; peer_marked = refl; drained = refl; saw = refl }) (λ t. record { cells = refl; write = refl; read = refl; seen = refl; len = refl; want = refl; side = refl; masked = refl; asleep = refl; marked = refl; peer_marked = refl; drained = refl; saw = refl })
+feature_keeps m v CommitFeature e = at_cond (CommitKeeps m) (eqb (low v % 2) 1) _ _ (λ t. record { cells = refl; write = refl; read = refl; seen = refl; len = refl; want = refl; room = refl; words = refl; side = refl; masked = refl; asleep = refl; marked = refl; peer_marked = refl; drained = refl; saw = refl }) (λ t. record { cells = refl; write = refl; read = refl; seen = refl; len = refl; want = refl; room = refl; words = refl; side = refl; masked = refl; asleep = refl; marked = refl; peer_marked = refl; drained = refl; saw = refl })
 feature_keeps m v _ e = absurd (cc)
 
 pub pending_keeps : (m : Machine) (v : ℕ) (st : Stage) → is_pending_at st ≡ true → CommitKeeps m (fed_at st m v)
-pending_keeps m v CommitPending e = at_cond (CommitKeeps m) (eqb (low v) 0) _ _ (λ t. record { cells = refl; write = refl; read = refl; seen = refl; len = refl; want = refl; side = refl; masked = refl; asleep = refl; marked = refl; peer_marked = refl; drained = refl; saw = refl }) (λ t. record { cells = refl; write = refl; read = refl; seen = refl; len = refl; want = refl; side = refl; masked = refl; asleep = refl; marked = refl; peer_marked = refl; drained = refl; saw = refl })
+pending_keeps m v CommitPending e = at_cond (CommitKeeps m) (eqb (low v) 0) _ _ (λ t. record { cells = refl; write = refl; read = refl; seen = refl; len = refl; want = refl; room = refl; words = refl; side = refl; masked = refl; asleep = refl; marked = refl; peer_marked = refl; drained = refl; saw = refl }) (λ t. record { cells = refl; write = refl; read = refl; seen = refl; len = refl; want = refl; room = refl; words = refl; side = refl; masked = refl; asleep = refl; marked = refl; peer_marked = refl; drained = refl; saw = refl })
 pending_keeps m v _ e = absurd (cc)

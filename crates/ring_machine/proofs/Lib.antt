@@ -3,3 +3,5 @@ pub mod Tables
 pub mod Bounds
 pub mod Lengths
 pub mod Kept
+pub mod Refusing
+pub mod Lasting

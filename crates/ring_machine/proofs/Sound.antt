@@ -31,6 +31,9 @@ ahead_below d i k a b = grind (arith, nat_tests)
 pub used_below : (d r w : ℕ) → r < d → w < d → used d r w < d
 used_below d r w a b = grind (arith, nat_tests)
 
+free_most : (d r w : ℕ) → r < d → w < d → free d r w ≤ d
+free_most d r w a b = grind (arith, nat_tests)
+
 -- a loaded index that is in form names a cell
 pub cell_below : (n v : ℕ) → is_index n v ≡ true → cell_of v < n
 cell_below n v h = let in_ring : ltb (low v / 8) n ≡ true = and_right _ _ h in grind (arith, nat_tests)
@@ -42,7 +45,7 @@ form_small : (v : ℕ) → v / 65536 % 4294967296 < 2 ^ 32
 form_small v = omega arith
 
 -- the numbers of a sound machine, in the order of its fields
-pub record Sized (n w r t e o l k v q : ℕ) : Type 0 where
+pub record Sized (n w r t e o l k v q f u : ℕ) : Type 0 where
   pub cells : (512 ≤ n) × (n ≤ 8192)
   pub write : w < n
   pub read : r < n
@@ -53,6 +56,8 @@ pub record Sized (n w r t e o l k v q : ℕ) : Type 0 where
   pub done : k ≤ l
   pub value : v < 2 ^ 32
   pub want : q < 8 * n
+  pub room : f ≤ n
+  pub words : u < n
 
 -- what its stage and its ending say of its flags: asleep, marked and masked
 pub record Staged (st : Stage) (how : Ending) (a b c : Bool) (t r q l k : ℕ) : Type 0 where
@@ -66,7 +71,7 @@ pub record Staged (st : Stage) (how : Ending) (a b c : Bool) (t r q l k : ℕ) :
   pub broken : is_broken how ≡ true → st ≡ Stopped
   pub stopped : st ≡ Stopped → is_broken how ≡ true
 
-pub sound_of : (m : Machine) → Sized m.cells m.write m.read m.start m.seen m.old m.len m.done m.value m.want
+pub sound_of : (m : Machine) → Sized m.cells m.write m.read m.start m.seen m.old m.len m.done m.value m.want m.room m.words
     → Staged m.stage m.ended m.asleep m.marked m.masked m.start m.read m.want m.len m.done → IsSound m
 sound_of m s h = record {
   cells = s.cells;
@@ -79,6 +84,8 @@ sound_of m s h = record {
   done = s.done;
   value = s.value;
   want = s.want;
+  room = s.room;
+  words = s.words;
   arming = h.arming;
   looking = h.looking;
   asleep = h.asleep;
@@ -162,11 +169,18 @@ module _ (m : Machine) (v : ℕ) (s : IsSound m) where
   unmarked_at : (st : Stage) → m.stage ≡ st → is_busy_at st ≡ true → m.marked ≡ false
   unmarked_at st e b = s.unmarked (ap is_busy_at e ∙ b)
 
-  sized : {w r t e o l k u q : ℕ} → w < m.cells → r < m.cells → t < m.cells → e < m.cells → o < m.cells → l + 1 < m.cells → k ≤ l → u < 2 ^ 32 → q < 8 * m.cells → Sized m.cells w r t e o l k u q
-  sized a b c d e f g h i = record { cells = s.cells; write = a; read = b; start = c; seen = d; old = e; len = f; done = g; value = h; want = i }
+  sized : {w r t e o l k u q : ℕ} → w < m.cells → r < m.cells → t < m.cells → e < m.cells → o < m.cells → l + 1 < m.cells → k ≤ l → u < 2 ^ 32 → q < 8 * m.cells → Sized m.cells w r t e o l k u q m.room m.words
+  sized a b c d e f g h i = record { cells = s.cells; write = a; read = b; start = c; seen = d; old = e; len = f; done = g; value = h; want = i; room = s.room; words = s.words }
 
   none_done : 0 ≤ m.len
   none_done = omega arith
+
+  -- the numbers of a call that tells more: there was too little room, or it took a packet
+  sized_full : cell_of v < m.cells → Sized m.cells m.write m.read m.start (cell_of v) m.old m.len 0 m.value m.want (free m.cells (cell_of v) m.write) m.len
+  sized_full c = record { cells = s.cells; write = s.write; read = s.read; start = s.start; seen = c; old = s.old; len = s.len; done = none_done; value = s.value; want = s.want; room = free_most m.cells (cell_of v) m.write c s.write; words = omega (arith, s.len) }
+
+  sized_took : Sized m.cells m.write (ahead m.cells m.read (m.len + 1)) m.start m.seen m.old m.len 0 m.value m.want m.room m.len
+  sized_took = record { cells = s.cells; write = s.write; read = ahead_below m.cells m.read (m.len + 1) s.read s.len; start = s.start; seen = s.seen; old = s.old; len = s.len; done = none_done; value = s.value; want = s.want; room = s.room; words = omega (arith, s.len) }
 
   -- the next step belongs to a plain stage
   on : (from : Stage) → m.stage ≡ from → sleeps_at from ≡ false → is_busy_at from ≡ true → (st : Stage) → is_plain st ≡ true → IsSound (record m { stage = st })
@@ -185,7 +199,7 @@ module _ (m : Machine) (v : ℕ) (s : IsSound m) where
   sound_at : (st : Stage) → m.stage ≡ st → IsSound (fed_at st m v)
   sound_at Idle e = s
   sound_at Stopped e = s
-  sound_at SendRead e = at_cond IsSound (is_index m.cells v) _ _ (λ t. at_cond IsSound (leb (free m.cells (cell_of v) m.write) (m.len + 1)) _ _ (λ u. sound_of _ (sized s.write s.read s.start (cell_below m.cells v t) s.old s.len none_done s.value s.want) (rested _ _ _ _ _ _ _ _ _ (awake_at SendRead e refl) refl)) (λ u. sound_of _ (sized s.write s.read s.start (cell_below m.cells v t) s.old s.len none_done s.value s.want) (plain _ _ _ _ _ _ _ _ _ (awake_at SendRead e refl) SendCell refl (unmarked_at SendRead e refl) (whole_at SendRead e refl)))) (λ t. halt SendRead e refl BadPeer refl (low v) (low_small v))
+  sound_at SendRead e = at_cond IsSound (is_index m.cells v) _ _ (λ t. at_cond IsSound (leb (free m.cells (cell_of v) m.write) (m.len + 1)) _ _ (λ u. sound_of _ (sized_full (cell_below m.cells v t)) (rested _ _ _ _ _ _ _ _ _ (awake_at SendRead e refl) refl)) (λ u. sound_of _ (sized s.write s.read s.start (cell_below m.cells v t) s.old s.len none_done s.value s.want) (plain _ _ _ _ _ _ _ _ _ (awake_at SendRead e refl) SendCell refl (unmarked_at SendRead e refl) (whole_at SendRead e refl)))) (λ t. halt SendRead e refl BadPeer refl (low v) (low_small v))
   sound_at SendCell e = at_cond IsSound (ltb m.done m.len) _ _ (λ t. (let more : m.done + 1 ≤ m.len = grind (arith, nat_tests) in sound_of _ (sized s.write s.read s.start s.seen s.old s.len more s.value s.want) (plain _ _ _ _ _ _ _ _ _ (awake_at SendCell e refl) m.stage (ap is_plain e) (unmarked_at SendCell e refl) (whole_at SendCell e refl)))) (λ t. on SendCell e refl refl SendWrite refl)
   sound_at SendWrite e = sound_of _ (sized (ahead_below m.cells m.write (m.len + 1) s.write s.len) s.read s.start s.seen s.write s.len s.done s.value s.want) (plain _ _ _ _ _ _ _ _ _ (awake_at SendWrite e refl) SendMask refl (unmarked_at SendWrite e refl) (whole_at SendWrite e refl))
   sound_at SendMask e = at_cond IsSound (eqb (low v) 0) _ _ (λ t. on SendMask e refl refl SendLook refl) (λ t. off SendMask e refl SentQuiet refl)
@@ -193,7 +207,7 @@ module _ (m : Machine) (v : ℕ) (s : IsSound m) where
   sound_at SendRaise e = off SendRaise e refl SentRaised refl
   sound_at TakeWrite e = at_cond IsSound (is_index m.cells v) _ _ (λ t. at_cond IsSound (eqb (cell_of v) m.read) _ _ (λ u. sound_of _ (sized s.write s.read s.start s.seen s.old s.len none_done s.value s.want) (rested _ _ _ _ _ _ _ _ _ (awake_at TakeWrite e refl) refl)) (λ u. sound_of _ (sized s.write s.read s.start (cell_below m.cells v t) s.old s.len none_done s.value s.want) (at_first _ _ _ _ _ _ _ _ _ (awake_at TakeWrite e refl) refl (unmarked_at TakeWrite e refl) (whole_at TakeWrite e refl)))) (λ t. halt TakeWrite e refl BadIndex refl (low v) (low_small v))
   sound_at TakeFirst e = at_cond IsSound (leb 2 (len8_of v) && ltb (len8_of v) (used m.cells m.read m.seen)) _ _ (λ t. at_cond IsSound (leb 2 (offset8_of v) && leb (offset8_of v) (len8_of v)) _ _ (λ u. (let few = used_below m.cells m.read m.seen s.read s.seen in let long : 2 ≤ len8_of v = (let x = and_left (leb 2 (len8_of v)) _ t in grind (arith, nat_tests)) in let short : len8_of v < used m.cells m.read m.seen = (let x = and_right (leb 2 (len8_of v)) _ t in grind (arith, nat_tests)) in sound_of _ (sized s.write s.read s.start s.seen s.old (omega arith) (omega arith) s.value s.want) (at_cell _ _ _ _ _ _ _ _ _ (awake_at TakeFirst e refl) TakeCell refl (omega arith, omega arith) (unmarked_at TakeFirst e refl) (whole_at TakeFirst e refl)))) (λ u. halt TakeFirst e refl BadOffset refl (v / 65536 % 4294967296) (form_small v))) (λ t. halt TakeFirst e refl BadLength refl (v / 65536 % 4294967296) (form_small v))
-  sound_at TakeCell e = at_cond IsSound (ltb (m.done + 1) m.len) _ _ (λ t. (let more : m.done + 1 < m.len = grind (arith, nat_tests) in sound_of _ (sized s.write s.read s.start s.seen s.old s.len (omega arith) s.value s.want) (at_cell _ _ _ _ _ _ _ _ _ (awake_at TakeCell e refl) m.stage e (omega arith, more) (unmarked_at TakeCell e refl) (whole_at TakeCell e refl)))) (λ t. sound_of _ (sized s.write (ahead_below m.cells m.read (m.len + 1) s.read s.len) s.start s.seen s.old s.len none_done s.value s.want) (rested _ _ _ _ _ _ _ _ _ (awake_at TakeCell e refl) refl))
+  sound_at TakeCell e = at_cond IsSound (ltb (m.done + 1) m.len) _ _ (λ t. (let more : m.done + 1 < m.len = grind (arith, nat_tests) in sound_of _ (sized s.write s.read s.start s.seen s.old s.len (omega arith) s.value s.want) (at_cell _ _ _ _ _ _ _ _ _ (awake_at TakeCell e refl) m.stage e (omega arith, more) (unmarked_at TakeCell e refl) (whole_at TakeCell e refl)))) (λ t. sound_of _ sized_took (rested _ _ _ _ _ _ _ _ _ (awake_at TakeCell e refl) refl))
   sound_at CommitRead e = sound_of _ (sized s.write s.read s.read s.seen s.start s.len s.done s.value s.want) (plain _ _ _ _ _ _ _ _ _ (awake_at CommitRead e refl) CommitFeature refl (unmarked_at CommitRead e refl) (whole_at CommitRead e refl))
   sound_at CommitFeature e = at_cond IsSound (eqb (low v % 2) 1) _ _ (λ t. on CommitFeature e refl refl CommitPending refl) (λ t. off CommitFeature e refl CommittedQuiet refl)
   sound_at CommitPending e = at_cond IsSound (eqb (low v) 0) _ _ (λ t. off CommitPending e refl CommittedQuiet refl) (λ t. sound_of _ (sized s.write s.read s.start s.seen s.old s.len s.done (low_small v) s.want) (plain _ _ _ _ _ _ _ _ _ (awake_at CommitPending e refl) CommitWrite refl (unmarked_at CommitPending e refl) (whole_at CommitPending e refl)))
@@ -290,7 +304,7 @@ module _ (m : Machine) (s : IsSound m) (idle : m.stage ≡ Idle) (awake : m.asle
   unbroken h = let z : Idle ≡ Stopped = sym idle ∙ s.broken h in cc
 
   begins : (st : Stage) → is_plain st ≡ true → (n : ℕ) → n + 1 < m.cells → IsSound (record m { stage = st; len = n; done = 0 })
-  begins st p n h = sound_of _ (record { cells = s.cells; write = s.write; read = s.read; start = s.start; seen = s.seen; old = s.old; len = h; done = omega arith; value = s.value; want = s.want }) (plain _ _ _ _ _ _ _ _ _ (no_true awake) st p unmarked unbroken)
+  begins st p n h = sound_of _ (record { cells = s.cells; write = s.write; read = s.read; start = s.start; seen = s.seen; old = s.old; len = h; done = omega arith; value = s.value; want = s.want; room = s.room; words = s.words }) (plain _ _ _ _ _ _ _ _ _ (no_true awake) st p unmarked unbroken)
 
   pub send_sound : (n : ℕ) → n + 1 < m.cells → IsSound (send_begun m n)
   send_sound n h = begins SendRead refl n h
@@ -309,12 +323,12 @@ module _ (m : Machine) (s : IsSound m) (idle : m.stage ≡ Idle) (awake : m.asle
 
   pub arm_sound : (want : ℕ) → want < 8 * m.cells → m.start ≡ m.read → IsSound (arm_begun m want)
   arm_sound want small same = at_cond (λ (st : Stage). IsSound (record m { stage = st; len = 0; done = 0; want = want; saw = false })) (eqb want 0) _ _
-      (λ t. sound_of _ (record { cells = s.cells; write = s.write; read = s.read; start = s.start; seen = s.seen; old = s.old; len = omega (arith, s.cells); done = omega arith; value = s.value; want = small }) (armed _ _ _ _ _ _ _ _ _ (no_true awake) ArmMask refl (λ _. same) (λ h. absurd (cc)) (λ h. absurd (cc), λ h. absurd (cc)) unmarked unbroken refl))
-      (λ t. let wants : 0 < want = grind (arith, nat_tests) in sound_of _ (record { cells = s.cells; write = s.write; read = s.read; start = s.start; seen = s.seen; old = s.old; len = omega (arith, s.cells); done = omega arith; value = s.value; want = small }) (armed _ _ _ _ _ _ _ _ _ (no_true awake) ArmPending refl (λ _. same) (λ h. absurd (cc)) (λ _. wants, λ h. absurd (cc)) unmarked unbroken refl))
+      (λ t. sound_of _ (record { cells = s.cells; write = s.write; read = s.read; start = s.start; seen = s.seen; old = s.old; len = omega (arith, s.cells); done = omega arith; value = s.value; want = small; room = s.room; words = s.words }) (armed _ _ _ _ _ _ _ _ _ (no_true awake) ArmMask refl (λ _. same) (λ h. absurd (cc)) (λ h. absurd (cc), λ h. absurd (cc)) unmarked unbroken refl))
+      (λ t. let wants : 0 < want = grind (arith, nat_tests) in sound_of _ (record { cells = s.cells; write = s.write; read = s.read; start = s.start; seen = s.seen; old = s.old; len = omega (arith, s.cells); done = omega arith; value = s.value; want = small; room = s.room; words = s.words }) (armed _ _ _ _ _ _ _ _ _ (no_true awake) ArmPending refl (λ _. same) (λ h. absurd (cc)) (λ _. wants, λ h. absurd (cc)) unmarked unbroken refl))
 
 -- the call of an end that is asleep
 pub poll_sound : (m : Machine) → IsSound m → m.stage ≡ Idle → m.asleep ≡ true → IsSound (poll_begun m)
 poll_sound m s idle asleep =
     let a = s.asleep asleep in
-    sound_of _ (record { cells = s.cells; write = s.write; read = s.read; start = s.start; seen = s.seen; old = s.old; len = omega (arith, s.cells); done = omega arith; value = s.value; want = s.want })
+    sound_of _ (record { cells = s.cells; write = s.write; read = s.read; start = s.start; seen = s.seen; old = s.old; len = omega (arith, s.cells); done = omega arith; value = s.value; want = s.want; room = s.room; words = s.words })
     (polling _ _ _ _ _ _ _ _ _ (λ _. (a.0, a.1, a.3)) a.3 (λ h. let z : Idle ≡ Stopped = sym idle ∙ s.broken h in cc))

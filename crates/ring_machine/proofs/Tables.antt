@@ -180,7 +180,7 @@ module _ (sent got : List (List ℕ)) (past : List (Event (List ℕ))) (p : List
   lists_by TakeCell e b = took (ltb (m.done + 1) m.len) refl
     where
       took : (t : Bool) → ltb (m.done + 1) m.len ≡ t
-          → Lists 2 sent got past p (cond t (record m { done = m.done + 1 }) (record (ends m Took) { read = ahead m.cells m.read (m.len + 1) })) (set buf m.done v) sent (cond t got (got ++ (take m.done buf ++ v ∷ []) ∷ [])) (cond t past (GotEvent (take m.done buf ++ v ∷ []) ∷ past))
+          → Lists 2 sent got past p (cond t (record m { done = m.done + 1 }) (record (ends m Took) { read = ahead m.cells m.read (m.len + 1); words = m.len })) (set buf m.done v) sent (cond t got (got ++ (take m.done buf ++ v ∷ []) ∷ [])) (cond t past (GotEvent (take m.done buf ++ v ∷ []) ∷ past))
       took true h = more sent got past p (set buf m.done v) 2 _ sent got past (ap is_busy_at e) (ap call_at e, sym (ap (λ (x : Stage). sent_while x sent p) e), refl, sym (ap (λ (x : Stage). past_while x (record m { done = m.done + 1 }) past p) e))
       took false h =
           let room : m.done < length buf = omega (arith, s.len, s.done) in

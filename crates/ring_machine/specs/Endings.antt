@@ -22,7 +22,7 @@ use Rattle.ring_machine.specs.declared.last.SendRefusal.{SendRefusal}
 use Rattle.ring_machine.specs.declared.last.SendRefusal.TheVariants.{Full as SendFull, BadPeer as SendBadPeer}
 use Rattle.ring_machine.specs.declared.last.TakeRefusal.{TakeRefusal}
 use Rattle.ring_machine.specs.declared.last.TakeRefusal.TheVariants.{Empty as TakeEmpty, Malformed as TakeMalformed}
-use Rattle.ring_machine.specs.Places.{free, used, ahead}
+use Rattle.ring_machine.specs.Places.{used, ahead}
 use Rattle.ring_machine.specs.Steps.{is_sent, is_took, is_broken}
 
 -- what is wrong with the packet that the machine stopped at, or with the index
@@ -35,12 +35,12 @@ abbrev pub why_by : Ending → Machine → Why
 why_by BadPeer m = WhyBadPeer m.value
 why_by how m = Malformed (bad_by how m)
 
--- the free bytes that the read index that was loaded leaves, and the bytes of the packet with its trailer
+-- the free bytes that the last send found which had too little room, and the bytes that its packet needs with the trailer
 abbrev pub free_bytes : Machine → ℕ
-free_bytes m = 8 * free m.cells m.seen m.write
+free_bytes m = 8 * m.room
 
 abbrev pub need_bytes : Machine → ℕ
-need_bytes m = 8 * m.len + 8
+need_bytes m = 8 * m.words + 8
 
 abbrev pub last_by : Ending → Machine → Last
 last_by Fresh m = LastFresh
@@ -48,7 +48,7 @@ last_by SentQuiet m = Sent Quiet
 last_by SentRaised m = Sent Raised
 last_by Full m = LastFull (free_bytes m) (need_bytes m)
 last_by BadPeer m = Broke (why_by BadPeer m)
-last_by Took m = LastTook m.len
+last_by Took m = LastTook m.words
 last_by Empty m = LastEmpty (8 * m.read)
 last_by BadIndex m = Broke (why_by BadIndex m)
 last_by BadLength m = Broke (why_by BadLength m)
@@ -63,7 +63,7 @@ last_by Marked m = LastMarked
 last_by PeerMarkDown m = PeerMark false
 last_by PeerMarkUp m = PeerMark true
 
--- how the last call ended, with its numbers in bytes
+-- how the last call ended, with its numbers in bytes, also while a later one is under way
 abbrev pub last_of : Machine → Last
 last_of m = last_by m.ended m
 

@@ -4,3 +4,4 @@ pub mod States
 pub mod Loops
 pub mod Endings
 pub mod Inside
+pub mod Causes

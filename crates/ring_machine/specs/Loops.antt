@@ -116,6 +116,7 @@ pub record TakeKeeps (m k : Machine) : Type 0 where
   pub start : m.start ≡ k.start
   pub old : m.old ≡ k.old
   pub want : m.want ≡ k.want
+  pub room : m.room ≡ k.room
   pub side : m.side ≡ k.side
   pub masked : m.masked ≡ k.masked
   pub asleep : m.asleep ≡ k.asleep
@@ -131,6 +132,8 @@ pub record CommitKeeps (m k : Machine) : Type 0 where
   pub seen : m.seen ≡ k.seen
   pub len : m.len ≡ k.len
   pub want : m.want ≡ k.want
+  pub room : m.room ≡ k.room
+  pub words : m.words ≡ k.words
   pub side : m.side ≡ k.side
   pub masked : m.masked ≡ k.masked
   pub asleep : m.asleep ≡ k.asleep

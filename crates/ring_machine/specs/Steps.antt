@@ -76,7 +76,7 @@ fed_at Idle m v = m
 fed_at Stopped m v = m
 fed_at SendRead m v =
     cond (is_index m.cells v)
-    (cond (leb (free m.cells (cell_of v) m.write) (m.len + 1)) (record (ends m Full) { seen = cell_of v }) (record m { stage = SendCell; seen = cell_of v; done = 0 }))
+    (cond (leb (free m.cells (cell_of v) m.write) (m.len + 1)) (record (ends m Full) { seen = cell_of v; room = free m.cells (cell_of v) m.write; words = m.len }) (record m { stage = SendCell; seen = cell_of v; done = 0 }))
     (breaks m BadPeer (low v))
 fed_at SendCell m v = cond (ltb m.done m.len) (record m { done = m.done + 1 }) (record m { stage = SendWrite })
 fed_at SendWrite m v = record m { stage = SendMask; old = m.write; write = ahead m.cells m.write (m.len + 1) }
@@ -92,7 +92,7 @@ fed_at TakeFirst m v =
     (cond (leb 2 (offset8_of v) && leb (offset8_of v) (len8_of v)) (record m { stage = TakeCell; len = len8_of v; done = 1 }) (breaks m BadOffset (v / 65536 % 4294967296)))
     (breaks m BadLength (v / 65536 % 4294967296))
 fed_at TakeCell m v =
-    cond (ltb (m.done + 1) m.len) (record m { done = m.done + 1 }) (record (ends m Took) { read = ahead m.cells m.read (m.len + 1) })
+    cond (ltb (m.done + 1) m.len) (record m { done = m.done + 1 }) (record (ends m Took) { read = ahead m.cells m.read (m.len + 1); words = m.len })
 fed_at CommitRead m v = record m { stage = CommitFeature; old = m.start; start = m.read }
 fed_at CommitFeature m v = cond (low v % 2 == 1) (record m { stage = CommitPending }) (ends m CommittedQuiet)
 fed_at CommitPending m v = cond (low v == 0) (ends m CommittedQuiet) (record m { stage = CommitWrite; value = low v })
@@ -155,7 +155,7 @@ sleeps_at PollSignal = true
 sleeps_at _ = false
 
 abbrev pub machine_new : Side → ℕ → Machine
-machine_new side n = record { cells = n; write = 0; read = 0; start = 0; old = 0; seen = 0; len = 0; done = 0; value = 0; want = 0; side = side; stage = Idle; ended = Fresh; masked = true; asleep = false; marked = false; peer_marked = false; drained = false; saw = false }
+machine_new side n = record { cells = n; write = 0; read = 0; start = 0; old = 0; seen = 0; len = 0; done = 0; value = 0; want = 0; room = 0; words = 0; side = side; stage = Idle; ended = Fresh; masked = true; asleep = false; marked = false; peer_marked = false; drained = false; saw = false }
 
 -- the calls
 abbrev pub send_begun : Machine → ℕ → Machine
@@ -352,6 +352,8 @@ pub record IsSound (m : Machine) : Type 0 where
   pub done : m.done ≤ m.len
   pub value : m.value < 2 ^ 32
   pub want : m.want < 8 * m.cells
+  pub room : m.room ≤ m.cells
+  pub words : m.words < m.cells
   pub arming : is_arming_at m.stage ≡ true → m.start ≡ m.read
   pub looking : is_looking_at m.stage ≡ true → m.masked ≡ false
   pub asleep : m.asleep ≡ true → (m.masked ≡ false) × (m.start ≡ m.read) × (sleeps_at m.stage ≡ true) × (m.marked ≡ false)

@@ -13,7 +13,7 @@ use crate::last::{Armed, Bad, Indices, Last, Mode, SendRefusal, Signalled, TakeR
 use crate::machine::{Ending, Machine, Stage};
 use crate::next::next_machine;
 use crate::place::{Op, Side};
-use crate::ring::{free_in, used_in};
+use crate::ring::used_in;
 
 /// One end as a pure machine. The command under way names its next step, is fed what the step gave, and so on until it ends.
 #[derive(Clone, Copy)]
@@ -42,6 +42,8 @@ impl EndCore {
                 done: 0,
                 value: 0,
                 want: 0,
+                room: 0,
+                words: 0,
                 side,
                 stage: Stage::Idle,
                 ended: Ending::Fresh,
@@ -210,7 +212,7 @@ impl EndCore {
         }
     }
 
-    /// How the last command ended.
+    /// How the last command ended, also while a later one is under way.
     pub fn last(&self) -> Last
         ensures { result ≡ last_of self.now.machine }
     {
@@ -223,7 +225,7 @@ impl EndCore {
                 free: self.free(),
                 need: self.need(),
             },
-            Ending::Took => Last::Took { words: m.len },
+            Ending::Took => Last::Took { words: m.words },
             Ending::Empty => Last::Empty { at: 8 * m.read },
             Ending::CommittedQuiet => Last::Committed(Signalled::Quiet),
             Ending::CommittedRaised => Last::Committed(Signalled::Raised),
@@ -241,18 +243,18 @@ impl EndCore {
         }
     }
 
-    // The free bytes that the read index that was loaded leaves.
+    // The free bytes that a send found which had too little room.
     pub(crate) fn free(&self) -> u32
         ensures { result ≡ free_bytes self.now.machine }
     {
-        8 * free_in(self.machine.cells, self.machine.seen, self.machine.write)
+        8 * self.machine.room
     }
 
-    // The bytes of the packet under way, with its trailer.
+    // The bytes that its packet needs, with the trailer.
     pub(crate) fn need(&self) -> u32
         ensures { result ≡ need_bytes self.now.machine }
     {
-        8 * self.machine.len + 8
+        8 * self.machine.words + 8
     }
 
     // What is wrong with the packet that the end refused, or with its index.

@@ -43,8 +43,11 @@ fn fed_send_read(m: &mut Machine, v: u64)
         return stop(m, Ending::BadPeer, low_half(v));
     }
     let seen = named_cell(v);
+    let room = free_in(m.cells, seen, m.write);
     m.seen = seen;
-    if free_in(m.cells, seen, m.write) <= m.len + 1 {
+    if room <= m.len + 1 {
+        m.room = room;
+        m.words = m.len;
         return end(m, Ending::Full);
     }
     m.stage = Stage::SendCell;
@@ -156,6 +159,7 @@ fn fed_take_cell(m: &mut Machine, _v: u64)
         return;
     }
     m.read = step_ahead(m.cells, m.read, m.len + 1);
+    m.words = m.len;
     end(m, Ending::Took);
 }
 

@@ -1,8 +1,15 @@
 //! Laws of ends: each function does nothing, and its contract is a law.
-ghost use Rattle.std.specs.Prelude.{◌≡◌, ℕ, ◌*◌, ◌<◌};
+ghost use Rattle.std.specs.Prelude.{◌≡◌, ℕ, ◌*◌, ◌<◌, true, List};
 ghost use Rattle.ring_machine.specs.Inside.{IsInside, ChangesOnly};
 ghost use Rattle.ring_machine.specs.Places.{free, used, ahead};
-ghost use Rattle.ring_machine.specs.Steps.{next_of, call_at};
+ghost use Rattle.ring_machine.specs.Steps.{next_of, call_at, fed, is_busy_at};
+ghost use Rattle.ring_machine.specs.States.{Begins};
+ghost use Rattle.ring_machine.specs.Endings.{last_of, why_of};
+ghost use Rattle.ring_machine.specs.Causes.{Breaks};
+ghost use Rattle.ring_machine.specs.declared.last.Why.{Why};
+ghost use Rattle.ring_machine.specs.declared.machine.Machine.{Machine};
+ghost use Rattle.ring_machine.specs.declared.machine.Stage.TheVariants.{Stopped};
+ghost use Rattle.ring_machine.specs.declared.state.EndState.{EndState};
 
 use crate::end_core::EndCore;
 
@@ -23,4 +30,16 @@ pub fn counts_bytes()
     ensures free { (n r w : ℕ) → r < n → w < n → 8 * free n r w ≡ free (8 * n) (8 * r) (8 * w) }
     ensures used { (n r w : ℕ) → r < n → w < n → 8 * used n r w ≡ used (8 * n) (8 * r) (8 * w) }
     ensures ahead { (n i k : ℕ) → i < n → k < n → 8 * ahead n i k ≡ ahead (8 * n) (8 * i) (8 * k) }
+{}
+
+/// How the last call ended stands as it is where a later one begins, and after each of its steps but the last.
+pub fn last_stays(_core: &EndCore)
+    ensures begins { (s : EndState) (m : Machine) (p : List ℕ) → Begins s m p → last_of m ≡ last_of s.machine }
+    ensures feeds { (v : ℕ) → is_busy_at (fed _core.now.machine v).stage ≡ true → last_of (fed _core.now.machine v) ≡ last_of _core.now.machine }
+{}
+
+/// An end refuses a value that its step gave exactly where the value breaks a rule, and names the first rule that it breaks.
+pub fn refuses_by_cause(_core: &EndCore)
+    ensures cause { (v : ℕ) → is_busy_at _core.now.machine.stage ≡ true → (fed _core.now.machine v).stage ≡ Stopped → Breaks (why_of (fed _core.now.machine v)) _core.now.machine v }
+    ensures refusal { (v : ℕ) (why : Why) → Breaks why _core.now.machine v → ((fed _core.now.machine v).stage ≡ Stopped) × (why_of (fed _core.now.machine v) ≡ why) }
 {}

@@ -13,7 +13,7 @@ mod state;
 
 pub use end_core::EndCore;
 pub use last::{Armed, Bad, Indices, Last, Mode, SendRefusal, Signalled, TakeRefusal, Why};
-pub use laws::{counts_bytes, stays_inside, stores_by_call};
+pub use laws::{counts_bytes, last_stays, refuses_by_cause, stays_inside, stores_by_call};
 pub use machine::{Ending, Machine, Stage};
 pub use place::{Op, Place, Ring, Side};
 pub use ring::{

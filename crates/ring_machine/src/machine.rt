@@ -84,6 +84,10 @@ pub struct Machine {
     pub value: u32,
     /// The room in bytes that the last arm waits for, or 0.
     pub want: u32,
+    /// The free cells that the last send which had too little room found.
+    pub room: u32,
+    /// The words of the packet of the last call that took one, or that had too little room for it.
+    pub words: u32,
     /// Whose end it is.
     pub side: Side,
     /// The next step.

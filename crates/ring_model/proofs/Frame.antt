@@ -68,8 +68,8 @@ near_refl n f = record { write = refl; read = refl; cells = λ k h. refl }
 -- a send goes on where more cells are given back
 pub sending_more : (st : Stage) (n : ℕ) (f f' : ℕ → ℕ) (w r r' : ℕ) (e : EndState) → 0 < n → r ≤ r' → ((k : ℕ) → k < n → f' (5 + k) ≡ f (5 + k)) → Sending_at st n f w r e → Sending_at st n f' w r' e
 sending_more SendRead n f f' w r r' e wide le same t = t
-sending_more SendCell n f f' w r r' e wide le same t = record { packet = t.packet; whole = t.whole; room = omega (arith, t.room); stored = λ j h. same ((w + j) % n) (below n (w + j) wide) ∙ t.stored j h }
-sending_more SendWrite n f f' w r r' e wide le same t = record { packet = t.packet; whole = t.whole; room = omega (arith, t.room); stored = λ j h. same ((w + j) % n) (below n (w + j) wide) ∙ t.stored j h }
+sending_more SendCell n f f' w r r' e wide le same t = record { packet = t.packet; whole = t.whole; known = t.known; before = omega (arith, t.before); seen_is = t.seen_is; room = t.room; stored = λ j h. same ((w + j) % n) (below n (w + j) wide) ∙ t.stored j h }
+sending_more SendWrite n f f' w r r' e wide le same t = record { packet = t.packet; whole = t.whole; known = t.known; before = omega (arith, t.before); seen_is = t.seen_is; room = t.room; stored = λ j h. same ((w + j) % n) (below n (w + j) wide) ∙ t.stored j h }
 sending_more _ n f f' w r r' e wide le same t = t
 
 -- a ring is as its words are
@@ -95,7 +95,7 @@ ring_ext n f f' p c wide same r = record {
 -- a packet that is sent waits behind the others
 pub taking_more : (st : Stage) (n : ℕ) (c : EndState) (ws : List (List ℕ)) (x : List ℕ) → Taking_at st n c ws → Taking_at st n c (ws ++ x ∷ [])
 taking_more TakeFirst n c ws x t = record { first = t.first; mid = t.mid; rest = t.rest ++ x ∷ []; waiting_is = ap (λ (l : List (List ℕ)). l ++ x ∷ []) t.waiting_is ∙ append_assoc (t.first ∷ t.mid) t.rest (x ∷ []); seen = t.seen }
-taking_more TakeCell n c ws x t = record { first = t.first; rest = t.rest ++ x ∷ []; waiting_is = ap (λ (l : List (List ℕ)). l ++ x ∷ []) t.waiting_is; len = t.len; copied = t.copied }
+taking_more TakeCell n c ws x t = record { first = t.first; mid = t.mid; rest = t.rest ++ x ∷ []; waiting_is = ap (λ (l : List (List ℕ)). l ++ x ∷ []) t.waiting_is ∙ append_assoc (t.first ∷ t.mid) t.rest (x ∷ []); seen = t.seen; len = t.len; copied = t.copied }
 taking_more _ n c ws x t = t
 
 -- the call stores no packet and copies none
@@ -160,7 +160,7 @@ Tells e p past = (past ≡ e.past) ⊎ ((ev : Event (List ℕ)) × (past ≡ ev 
 -- where a take ended with Empty the end got all, and where a send of the packet q ended with Full there is no room for it
 pub record Rests (q : List ℕ) (e p : EndState) : Type 0 where
   pub empty : e.machine.stage ≡ Idle → e.machine.ended ≡ Empty → e.got ≡ p.sent
-  pub full : e.machine.stage ≡ Idle → e.machine.ended ≡ Full → (free e.machine.cells p.machine.start e.machine.write ≤ length q + 1) × (e.machine.seen ≡ p.machine.start) × (e.machine.len ≡ length q)
+  pub full : e.machine.stage ≡ Idle → e.machine.ended ≡ Full → (free e.machine.cells p.machine.start e.machine.write ≤ length q + 1) × (e.machine.room ≡ free e.machine.cells p.machine.start e.machine.write) × (e.machine.words ≡ length q)
 
 -- the two rings of an end after a step, its past, and that it goes on
 pub record Moves (n : ℕ) (fo fi : ℕ → ℕ) (mark : ℕ) (e p e' : EndState) : Type 0 where

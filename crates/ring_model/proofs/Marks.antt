@@ -7,11 +7,11 @@ use Rattle.ring_machine.specs.declared.machine.Stage.TheVariants.{ArmMark, MarkS
 use Rattle.ring_machine.specs.declared.machine.Ending.TheVariants.{FellAsleep, PeerMarkDown, PeerMarkUp}
 use Rattle.ring_machine.specs.declared.machine.Machine.{Machine}
 use Rattle.ring_machine.specs.declared.state.EndState.{EndState}
-use Rattle.ring_machine.specs.Steps.{ends, undoes, is_busy_at}
+use Rattle.ring_machine.specs.Steps.{ends, undoes}
 use Rattle.ring_machine.specs.States.{after}
 use Rattle.ring_model.specs.Ring.{is_marked}
 use Rattle.ring_model.proofs.Frame.{Near, near_refl, Moves, producer_same, consumer_same, ring_ext, no_rest, made}
-use Rattle.ring_model.proofs.Quiet.{Ready, Quiet, quiet, marked_at, wide}
+use Rattle.ring_model.proofs.Quiet.{Ready, Quiet, quiet, marked_at, unmarked, wide}
 use Rattle.ring_model.proofs.Sends.{moved, cond_true, cond_false}
 
 or_true : (b : Bool) → (b || true) ≡ true
@@ -52,7 +52,7 @@ module _ (fo fi : ℕ → ℕ) (mark pmark : ℕ) (e p : EndState) (r : Ready fo
               drained = ap is_drained added ∙ r.past.drained;
               word = r.past.word ∙ ap (λ (b : Bool). cond b 1 0) (sym (marked_at e ArmMark i));
             };
-            told = inr (Saw, added, peer_has v is up);
+            told = inr (Saw, added, (unmarked fo fi mark pmark e p r ArmMark i refl refl, peer_has v is up));
             rests = no_rest _ _ p refl;
             goes = λ n. (cc);
           })
@@ -81,7 +81,7 @@ module _ (fo fi : ℕ → ℕ) (mark pmark : ℕ) (e p : EndState) (r : Ready fo
               drained = ap is_drained added ∙ r.past.drained;
               word = r.past.word ∙ ap (λ (b : Bool). cond b 1 0) (sym (marked_at e PeerMark i));
             };
-            told = inr (Saw, added, peer_has v is up);
+            told = inr (Saw, added, (unmarked fo fi mark pmark e p r PeerMark i refl refl, peer_has v is up));
             rests = no_rest _ _ p refl;
             goes = λ n. (cc);
           })
@@ -101,7 +101,7 @@ module _ (fo fi : ℕ → ℕ) (mark pmark : ℕ) (e p : EndState) (r : Ready fo
           drained = r.past.drained;
           word = up ∙ ap (λ (b : Bool). cond b 1 0) (sym (or_true e.machine.marked));
         };
-        told = inr (Marked, refl, r.past.marked ∙ (sym (marked_at e MarkStore i) ∙ ap (λ (b : Bool). b || false) (r.sound.unmarked (ap is_busy_at i))));
+        told = inr (Marked, refl, unmarked fo fi mark pmark e p r MarkStore i refl refl);
         rests = no_rest _ _ p refl;
         goes = λ n. (cc);
       })

@@ -130,13 +130,13 @@ send_meets n x ws ws' q e p t b g idle call whole sent = by_ending t.machine.end
         let c : free e.machine.cells p.machine.start e.machine.write ≡ free n p.machine.start e.machine.write = ap (λ (k : ℕ). free k p.machine.start e.machine.write) b.fits.cells in
         omega (arith, r, c)
 
-    full_is : t.machine.ended ≡ Full → (room_for e p ≤ need_of q) × (8 * free t.machine.cells t.machine.seen t.machine.write ≡ room_for e p) × (t.machine.len ≡ length q) × (t.machine.write ≡ e.machine.write)
+    full_is : t.machine.ended ≡ Full → (room_for e p ≤ need_of q) × (8 * t.machine.room ≡ room_for e p) × (t.machine.words ≡ length q) × (t.machine.write ≡ e.machine.write)
     full_is i =
         let f = g.rests.full idle i in
         let w : t.machine.write ≡ e.machine.write = write_same n _ _ e t p b.out g.both.out (kept (ap is_sent i)) in
         let c : t.machine.cells ≡ e.machine.cells = g.both.fits.cells ∙ sym b.fits.cells in
         let z : free t.machine.cells p.machine.start t.machine.write ≡ free e.machine.cells p.machine.start e.machine.write = λ j. free (c j) p.machine.start (w j) in
-        (omega (arith, f.0, z), (λ j. 8 * free (c j) (f.1 j) (w j)), f.2, w)
+        (omega (arith, f.0, z), ap (λ (k : ℕ). 8 * k) (f.1 ∙ z), f.2, w)
 
     by_ending : (how : Ending) → t.machine.ended ≡ how → SendMeets (send_answer how t.machine) q e t p
     by_ending SentQuiet i = (roomy (ap is_sent i), appended (ap is_sent i))

@@ -1,11 +1,12 @@
 -- The steps of an end that change neither a list nor an index: those of a signal, a mask, a room, and the looks.
 use Rattle.std.proofs.Common.{◌≡◌, ℕ, ◌*◌, ◌%◌, ◌<◌, Bool, true, false, ◌||◌, cond, eqb, refl, sym, ap, ◌∙◌, subst, arith, inl}
+use Rattle.chan_run.specs.Runs.{has_marked}
 use Rattle.ring_machine.specs.declared.machine.Stage.{Stage}
 use Rattle.ring_machine.specs.declared.machine.Stage.TheVariants.{SendMask, SendLook, SendRaise, CommitFeature, CommitPending, CommitWrite, CommitRaise, ArmPending, ArmMask, ArmWrite, ArmRead, ArmUndoMask, ArmUndoPending, PollSignal, PollMask, PollPending, MarkRaise}
 use Rattle.ring_machine.specs.declared.machine.Machine.{Machine}
 use Rattle.ring_machine.specs.declared.state.EndState.{EndState}
 use Rattle.ring_machine.specs.Places.{low}
-use Rattle.ring_machine.specs.Steps.{IsSound, fed_at, makes_room, finds_room}
+use Rattle.ring_machine.specs.Steps.{IsSound, fed_at, is_busy_at, makes_room, finds_room}
 use Rattle.ring_machine.specs.States.{sent_after, got_after, past_after, after}
 use Rattle.ring_model.specs.Ring.{size, RingOk, PastOk, is_marked, is_marking_at}
 use Rattle.ring_model.proofs.Frame.{Near, Moves, producer_same, consumer_same, ring_ext, calm_sending, calm_taking, calm_goes, no_rest, past_kept, made, after_by, is_calm_at, tells_at}
@@ -42,6 +43,10 @@ marked_at e st i = ap (λ (s : Stage). e.machine.marked || is_marking_at s) (sym
 module _ (fo fi : ℕ → ℕ) (mark pmark : ℕ) (e p : EndState) (r : Ready fo fi mark pmark e p) where
   pub wide : 0 < e.machine.cells
   wide = omega (arith, r.sound.cells)
+
+  -- an end in a call hasn't marked itself, up to the store of its mark
+  pub unmarked : (st : Stage) → e.machine.stage ≡ st → is_busy_at st ≡ true → is_marking_at st ≡ false → has_marked e.past ≡ false
+  unmarked st i b n = r.past.marked ∙ (sym (marked_at e st i) ∙ (λ j. r.sound.unmarked (ap is_busy_at i ∙ b) j || n j))
 
   pub quiet : (fo' fi' : ℕ → ℕ) (v : ℕ) (st : Stage) → Near e.machine.cells fo fo' → Near e.machine.cells fi fi' → e.machine.stage ≡ st
       → Quiet st e v (fed_at st e.machine v) → Moves e.machine.cells fo' fi' mark e p (after e v)

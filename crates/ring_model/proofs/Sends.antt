@@ -62,7 +62,7 @@ module _ (fo fi : ℕ → ℕ) (mark pmark : ℕ) (e p : EndState) (r : Ready fo
 
       by_room : (b : Bool) → leb (free e.machine.cells (cell_of v) e.machine.write) (e.machine.len + 1) ≡ b → Moves e.machine.cells fo fi mark e p (after e v)
       by_room true h =
-          let m' : Machine = record (ends e.machine Full) { seen = cell_of v } in
+          let m' : Machine = record (ends e.machine Full) { seen = cell_of v; room = free e.machine.cells (cell_of v) e.machine.write; words = e.machine.len } in
           let most : free e.machine.cells (cell_of v) e.machine.write ≤ e.machine.len + 1 = grind (arith, nat_tests) in
           let it : IsPacket e.packet × (length e.packet ≡ e.machine.len) = subst (λ (st : Stage). Sending_at st e.machine.cells fo (size e.sent) (size r.out.given_back) e) i r.out.sending in
           moved fo fi mark v SendRead m' i (cond_true _ _ _ inside ∙ cond_true _ _ _ h)
@@ -71,7 +71,7 @@ module _ (fo fi : ℕ → ℕ) (mark pmark : ℕ) (e p : EndState) (r : Ready fo
             inn = consumer_same e.machine.cells fi p e _ r.inn refl refl refl tt;
             past = past_kept mark mark e _ r.past refl refl refl (marked_at e SendRead i) refl refl refl;
             told = inl refl;
-            rests = record { empty = λ a b. absurd (cc); full = λ a b. (omega (arith, most, room_is, it.1), cell_is, sym it.1) };
+            rests = record { empty = λ a b. absurd (cc); full = λ a b. (omega (arith, most, room_is, it.1), room_is, sym it.1) };
             goes = λ n. (cc);
           })
       by_room false h =
@@ -80,7 +80,7 @@ module _ (fo fi : ℕ → ℕ) (mark pmark : ℕ) (e p : EndState) (r : Ready fo
           let it : IsPacket e.packet × (length e.packet ≡ e.machine.len) = subst (λ (st : Stage). Sending_at st e.machine.cells fo (size e.sent) (size r.out.given_back) e) i r.out.sending in
           moved fo fi mark v SendRead m' i (cond_true _ _ _ inside ∙ cond_false _ _ _ h)
           (record {
-            out = producer_same e.machine.cells fo e _ p r.out refl refl (record { packet = it.0; whole = it.1; room = omega (arith, few, room_is, free_is, longer); stored = λ j k. absurd (omega arith) });
+            out = producer_same e.machine.cells fo e _ p r.out refl refl (record { packet = it.0; whole = it.1; known = size r.out.given_back; before = omega arith; seen_is = cell_is ∙ r.out.start; room = omega (arith, few, room_is, free_is, longer); stored = λ j k. absurd (omega arith) });
             inn = consumer_same e.machine.cells fi p e _ r.inn refl refl refl tt;
             past = past_kept mark mark e _ r.past refl refl refl (marked_at e SendRead i) refl refl refl;
             told = inl refl;
@@ -97,7 +97,7 @@ module _ (fo fi : ℕ → ℕ) (mark pmark : ℕ) (e p : EndState) (r : Ready fo
       → ((k : ℕ) → k ≢ 5 + ahead e.machine.cells e.machine.write e.machine.done → fo' k ≡ fo k) → Moves e.machine.cells fo' fi mark e p (after e v)
   store_cell v fo' i here else = by_kind (ltb e.machine.done e.machine.len) refl
     where
-      it : Sending e.machine.cells fo (size e.sent) (size r.out.given_back) e.machine.done e.machine.len e.packet
+      it : Sending e.machine.cells fo (size e.sent) (size r.out.given_back) e.machine.done e.machine.len e.machine.seen e.packet
       it = subst (λ (st : Stage). Sending_at st e.machine.cells fo (size e.sent) (size r.out.given_back) e) i r.out.sending
 
       at : ahead e.machine.cells e.machine.write e.machine.done ≡ (size e.sent + e.machine.done) % e.machine.cells
@@ -107,7 +107,7 @@ module _ (fo fi : ℕ → ℕ) (mark pmark : ℕ) (e p : EndState) (r : Ready fo
       head k h = else k (λ n. omega arith)
 
       kept : (k : ℕ) → size r.out.given_back ≤ k → k < size e.sent + e.machine.done → fo' (5 + k % e.machine.cells) ≡ fo (5 + k % e.machine.cells)
-      kept k lo hi = else (5 + k % e.machine.cells) (λ n. let same : k % e.machine.cells ≡ (size e.sent + e.machine.done) % e.machine.cells = omega (arith, at) in apart e.machine.cells k (size e.sent + e.machine.done) hi (omega (arith, it.room, r.sound.done)) same)
+      kept k lo hi = else (5 + k % e.machine.cells) (λ n. let same : k % e.machine.cells ≡ (size e.sent + e.machine.done) % e.machine.cells = omega (arith, at) in apart e.machine.cells k (size e.sent + e.machine.done) hi (omega (arith, it.room, it.before, r.sound.done)) same)
 
       shape : (m' : Machine) → m'.write ≡ e.machine.write → Sending_at m'.stage e.machine.cells fo' (size e.sent) (size r.out.given_back) (made SendCell e v m') → RingOk e.machine.cells fo' (made SendCell e v m') p
       shape m' ew sending = record {
@@ -143,7 +143,7 @@ module _ (fo fi : ℕ → ℕ) (mark pmark : ℕ) (e p : EndState) (r : Ready fo
           let again : record e.machine { done = e.machine.done + 1 } ≡ m' = λ j. record e.machine { stage = i j; done = e.machine.done + 1 } in
           moved fo' fi mark v SendCell m' i (cond_true _ _ _ h ∙ again)
           (record {
-            out = shape m' refl (record { packet = it.packet; whole = it.whole; room = it.room; stored = below_more (λ (j : ℕ). fo' (5 + (size e.sent + j) % e.machine.cells) ≡ get_or (e.packet ++ trailer (size e.sent % e.machine.cells) ∷ []) j 0) e.machine.done old word });
+            out = shape m' refl (record { packet = it.packet; whole = it.whole; known = it.known; before = it.before; seen_is = it.seen_is; room = it.room; stored = below_more (λ (j : ℕ). fo' (5 + (size e.sent + j) % e.machine.cells) ≡ get_or (e.packet ++ trailer (size e.sent % e.machine.cells) ∷ []) j 0) e.machine.done old word });
             inn = consumer_same e.machine.cells fi p e _ r.inn refl refl refl tt;
             past = past_kept mark mark e _ r.past refl refl refl (marked_at e SendCell i) refl refl refl;
             told = inl refl;
@@ -159,7 +159,7 @@ module _ (fo fi : ℕ → ℕ) (mark pmark : ℕ) (e p : EndState) (r : Ready fo
           below_more (λ (j : ℕ). fo' (5 + (size e.sent + j) % e.machine.cells) ≡ get_or (e.packet ++ trailer (size e.sent % e.machine.cells) ∷ []) j 0) e.machine.done old word in
           moved fo' fi mark v SendCell m' i (cond_false _ _ _ h)
           (record {
-            out = shape m' refl (record { packet = it.packet; whole = it.whole; room = it.room; stored = λ j k. stored j (omega (arith, all)) });
+            out = shape m' refl (record { packet = it.packet; whole = it.whole; known = it.known; before = it.before; seen_is = it.seen_is; room = it.room; stored = λ j k. stored j (omega (arith, all)) });
             inn = consumer_same e.machine.cells fi p e _ r.inn refl refl refl tt;
             past = past_kept mark mark e _ r.past refl refl refl (marked_at e SendCell i) refl refl refl;
             told = inl refl;
@@ -180,7 +180,7 @@ module _ (fo fi : ℕ → ℕ) (mark pmark : ℕ) (e p : EndState) (r : Ready fo
           got_is = r.out.got_is;
           sent_is = ap (λ (x : List (List ℕ)). x ++ e.packet ∷ []) r.out.sent_is ∙ append_assoc p.got r.out.waiting (e.packet ∷ []);
           packets = All-append IsPacket e.sent (e.packet ∷ []) r.out.packets (All-cons IsPacket e.packet [] it.packet (All-nil IsPacket));
-          room = omega (arith, it.room, it.whole, size-one e.sent e.packet);
+          room = omega (arith, it.room, it.before, it.whole, size-one e.sent e.packet);
           write = at;
           read = r.out.read;
           start = r.out.start;
@@ -207,7 +207,7 @@ module _ (fo fi : ℕ → ℕ) (mark pmark : ℕ) (e p : EndState) (r : Ready fo
       busy : e.machine.stage ≡ SendWrite → is_busy_at e.machine.stage ≡ true
       busy h = ap is_busy_at h
 
-      it : Sending e.machine.cells fo (size e.sent) (size r.out.given_back) (e.machine.len + 1) e.machine.len e.packet
+      it : Sending e.machine.cells fo (size e.sent) (size r.out.given_back) (e.machine.len + 1) e.machine.len e.machine.seen e.packet
       it = subst (λ (st : Stage). Sending_at st e.machine.cells fo (size e.sent) (size r.out.given_back) e) i r.out.sending
 
       at : ahead e.machine.cells e.machine.write (e.machine.len + 1) ≡ size (e.sent ++ e.packet ∷ []) % e.machine.cells

@@ -18,7 +18,7 @@ use Rattle.ring_model.specs.Ring.{size, stream, Seeing, Copying, Taking_at}
 use Rattle.ring_model.proofs.Turns.{below, ahead_mod, used_mod, index_here, cell_here}
 use Rattle.ring_model.proofs.Streams.{size-append, size-one, word_in}
 use Rattle.ring_model.proofs.Frame.{Moves, producer_same, consumer_same, sending_more, no_rest, past_kept, made, first_packet}
-use Rattle.ring_model.proofs.Quiet.{Ready, marked_at, wide}
+use Rattle.ring_model.proofs.Quiet.{Ready, marked_at, unmarked, wide}
 use Rattle.ring_model.proofs.Sends.{moved, cond_true, cond_false}
 
 leb_yes : (a b : ℕ) → a ≤ b → leb a b ≡ true
@@ -104,7 +104,7 @@ module _ (fo fi : ℕ → ℕ) (mark pmark : ℕ) (e p : EndState) (r : Ready fo
               drained = ap is_drained added ∙ ((λ j. r.past.seen j || r.past.drained j) ∙ or_swap e.machine.peer_marked e.machine.drained);
               word = r.past.word ∙ ap (λ (b : Bool). cond b 1 0) (sym (marked_at e TakeWrite i));
             };
-            told = inr (EmptyEvent, added, r.past.got ∙ (all ∙ sym r.peers.sent));
+            told = inr (EmptyEvent, added, (unmarked fo fi mark pmark e p r TakeWrite i refl refl, r.past.got ∙ (all ∙ sym r.peers.sent)));
             rests = record { empty = λ a b. all; full = λ a b. absurd (cc) };
             goes = λ n. (cc);
           })
@@ -136,7 +136,7 @@ module _ (fo fi : ℕ → ℕ) (mark pmark : ℕ) (e p : EndState) (r : Ready fo
       ∙ cond_true _ _ _ (both _ _ (leb_yes 2 (offset8_of v) (omega (arith, offset_is, packet.offset))) (leb_yes (offset8_of v) (len8_of v) (omega (arith, offset_is, len_is, packet.offset)))))
       (record {
         out = producer_same e.machine.cells fo e _ p r.out refl refl tt;
-        inn = consumer_same e.machine.cells fi p e _ r.inn refl refl refl (record { first = it.first; rest = it.mid ++ it.rest; waiting_is = waiting_is; len = len_is; copied = copied it.first (omega (arith, packet.two)) word });
+        inn = consumer_same e.machine.cells fi p e _ r.inn refl refl refl (record { first = it.first; mid = it.mid; rest = it.rest; waiting_is = it.waiting_is; seen = it.seen; len = len_is; copied = copied it.first (omega (arith, packet.two)) word });
         past = past_kept mark mark e _ r.past refl refl refl (marked_at e TakeFirst i) refl refl refl;
         told = inl refl;
         rests = no_rest _ _ p refl;
@@ -178,14 +178,14 @@ module _ (fo fi : ℕ → ℕ) (mark pmark : ℕ) (e p : EndState) (r : Ready fo
   pub take_cell : (v : ℕ) → e.machine.stage ≡ TakeCell → v ≡ fi (5 + ahead e.machine.cells e.machine.read e.machine.done) → Moves e.machine.cells fo fi mark e p (after e v)
   take_cell v i is = by_end (ltb (e.machine.done + 1) e.machine.len) refl
     where
-      it : Copying e r.inn.waiting
+      it : Copying e.machine.cells e r.inn.waiting
       it = subst (λ (st : Stage). Taking_at st e.machine.cells e r.inn.waiting) i r.inn.taking
 
       busy : e.machine.done < length it.first
       busy = omega (arith, (r.sound.copying i).1, it.len)
 
       word : v ≡ get_or it.first e.machine.done 0
-      word = is ∙ (ap (λ (n : ℕ). fi (5 + n)) (taken e.machine.done (omega (arith, r.sound.done, r.sound.len))) ∙ waiting_word it.first it.rest e.machine.done it.waiting_is busy)
+      word = is ∙ (ap (λ (n : ℕ). fi (5 + n)) (taken e.machine.done (omega (arith, r.sound.done, r.sound.len))) ∙ waiting_word it.first (it.mid ++ it.rest) e.machine.done it.waiting_is busy)
 
       copied : e.copied ++ v ∷ [] ≡ take (e.machine.done + 1) it.first
       copied = ap (λ (x : List ℕ). x ++ v ∷ []) it.copied ∙ (ap (λ (n : ℕ). take e.machine.done it.first ++ n ∷ []) word ∙ sym (take_more it.first e.machine.done 0 busy))
@@ -197,7 +197,7 @@ module _ (fo fi : ℕ → ℕ) (mark pmark : ℕ) (e p : EndState) (r : Ready fo
           moved fo fi mark pmark e p r fo fi mark v TakeCell m' i (cond_true _ _ _ h ∙ again)
           (record {
             out = producer_same e.machine.cells fo e _ p r.out refl refl tt;
-            inn = consumer_same e.machine.cells fi p e _ r.inn (cond_true _ _ _ h) refl refl (record { first = it.first; rest = it.rest; waiting_is = it.waiting_is; len = it.len; copied = copied });
+            inn = consumer_same e.machine.cells fi p e _ r.inn (cond_true _ _ _ h) refl refl (record { first = it.first; mid = it.mid; rest = it.rest; waiting_is = it.waiting_is; seen = it.seen ∙ ap (λ (l : List (List ℕ)). size (l ++ it.first ∷ it.mid) % e.machine.cells) (sym (cond_true _ _ _ h)); len = it.len; copied = copied });
             past = past_kept mark mark e _ r.past (cond_true _ _ _ h) refl (cond_true _ _ _ h) (marked_at e TakeCell i) refl refl refl;
             told = inl (cond_true _ _ _ h);
             rests = no_rest _ _ p refl;
@@ -206,19 +206,19 @@ module _ (fo fi : ℕ → ℕ) (mark pmark : ℕ) (e p : EndState) (r : Ready fo
       by_end false h =
           let all : e.machine.done + 1 ≡ e.machine.len = let b = (r.sound.copying i).1 in grind (arith, nat_tests) in
           let whole : e.copied ++ v ∷ [] ≡ it.first = copied ∙ (ap (λ (n : ℕ). take n it.first) (all ∙ it.len) ∙ take-length it.first) in
-          let m' : Machine = record (ends e.machine Took) { read = ahead e.machine.cells e.machine.read (e.machine.len + 1) } in
+          let m' : Machine = record (ends e.machine Took) { read = ahead e.machine.cells e.machine.read (e.machine.len + 1); words = e.machine.len } in
           let got_is : (made TakeCell e v m').got ≡ e.got ++ it.first ∷ [] = cond_false _ _ _ h ∙ ap (λ (x : List ℕ). e.got ++ x ∷ []) whole in
           let added : (made TakeCell e v m').past ≡ Got it.first ∷ e.past = cond_false _ _ _ h ∙ ap (λ (x : List ℕ). Got x ∷ e.past) whole in
-          let sent_is : p.sent ≡ (e.got ++ it.first ∷ []) ++ it.rest = r.inn.sent_is ∙ (ap (λ (x : List (List ℕ)). e.got ++ x) it.waiting_is ∙ sym (append_assoc e.got (it.first ∷ []) it.rest)) in
+          let sent_is : p.sent ≡ (e.got ++ it.first ∷ []) ++ (it.mid ++ it.rest) = r.inn.sent_is ∙ (ap (λ (x : List (List ℕ)). e.got ++ x) it.waiting_is ∙ sym (append_assoc e.got (it.first ∷ []) (it.mid ++ it.rest))) in
           moved fo fi mark pmark e p r fo fi mark v TakeCell m' i (cond_false _ _ _ h)
           (record {
             out = producer_same e.machine.cells fo e _ p r.out refl refl tt;
             inn = record {
               given_back = r.inn.given_back;
               since = r.inn.since ++ it.first ∷ [];
-              waiting = it.rest;
+              waiting = it.mid ++ it.rest;
               got_is = got_is ∙ (ap (λ (x : List (List ℕ)). x ++ it.first ∷ []) r.inn.got_is ∙ append_assoc r.inn.given_back r.inn.since (it.first ∷ []));
-              sent_is = sent_is ∙ ap (λ (x : List (List ℕ)). x ++ it.rest) (sym got_is);
+              sent_is = sent_is ∙ ap (λ (x : List (List ℕ)). x ++ (it.mid ++ it.rest)) (sym got_is);
               packets = r.inn.packets;
               room = r.inn.room;
               write = r.inn.write;
@@ -238,7 +238,7 @@ module _ (fo fi : ℕ → ℕ) (mark pmark : ℕ) (e p : EndState) (r : Ready fo
               drained = ap is_drained added ∙ r.past.drained;
               word = r.past.word ∙ ap (λ (b : Bool). cond b 1 0) (sym (marked_at e TakeCell i));
             };
-            told = inr (Got it.first, added, (it.rest, r.peers.sent ∙ (sent_is ∙ ap (λ (x : List (List ℕ)). (x ++ it.first ∷ []) ++ it.rest) (sym r.past.got))));
+            told = inr (Got it.first, added, (unmarked fo fi mark pmark e p r TakeCell i refl refl, (it.mid ++ it.rest, r.peers.sent ∙ (sent_is ∙ ap (λ (x : List (List ℕ)). (x ++ it.first ∷ []) ++ (it.mid ++ it.rest)) (sym r.past.got)))));
             rests = no_rest _ _ p refl;
             goes = λ n. (cc);
           })

@@ -23,17 +23,21 @@ abbrev pub stream : ℕ → ℕ → List (List ℕ) → List ℕ
 stream n at [] = []
 stream n at (p ∷ ps) = p ++ trailer (at % n) ∷ stream n (at + (length p + 1)) ps
 
--- A send that found room: `done` of the packet's cells and its trailer are stored. `w` cells were sent, and `r` cells were given back
-pub record Sending (n : ℕ) (f : ℕ → ℕ) (w r done len : ℕ) (p : List ℕ) : Type 0 where
+-- A send that found room: `done` of the packet's cells and its trailer are stored. `w` cells were sent, and `r` cells were given back. The read index that
+-- it loaded, `seen`, stands for no more than that, and left more room than the packet needs
+pub record Sending (n : ℕ) (f : ℕ → ℕ) (w r done len seen : ℕ) (p : List ℕ) : Type 0 where
   pub packet : IsPacket p
   pub whole : length p ≡ len
-  pub room : w + len + 1 < r + n
+  pub known : ℕ
+  pub before : known ≤ r
+  pub seen_is : seen ≡ known % n
+  pub room : w + len + 1 < known + n
   pub stored : (j : ℕ) → j < done → f (5 + (w + j) % n) ≡ slice_index (p ++ trailer (w % n) ∷ []) j
 
 abbrev pub Sending_at : Stage → ℕ → (ℕ → ℕ) → ℕ → ℕ → EndState → Type 0
 Sending_at SendRead n f w r e = IsPacket e.packet × (length e.packet ≡ e.machine.len)
-Sending_at SendCell n f w r e = Sending n f w r e.machine.done e.machine.len e.packet
-Sending_at SendWrite n f w r e = Sending n f w r (e.machine.len + 1) e.machine.len e.packet
+Sending_at SendCell n f w r e = Sending n f w r e.machine.done e.machine.len e.machine.seen e.packet
+Sending_at SendWrite n f w r e = Sending n f w r (e.machine.len + 1) e.machine.len e.machine.seen e.packet
 Sending_at _ n f w r e = Unit {0}
 
 -- a take that saw the write index behind the packets first and mid
@@ -44,17 +48,19 @@ pub record Seeing (n : ℕ) (e : EndState) (waiting : List (List ℕ)) : Type 0 
   pub waiting_is : waiting ≡ (first ∷ mid) ++ rest
   pub seen : e.machine.seen ≡ size (e.got ++ first ∷ mid) % n
 
--- a take that copies the first waiting packet
-pub record Copying (e : EndState) (waiting : List (List ℕ)) : Type 0 where
+-- a take that copies the first waiting packet, and saw the write index behind that and mid
+pub record Copying (n : ℕ) (e : EndState) (waiting : List (List ℕ)) : Type 0 where
   pub first : List ℕ
+  pub mid : List (List ℕ)
   pub rest : List (List ℕ)
-  pub waiting_is : waiting ≡ first ∷ rest
+  pub waiting_is : waiting ≡ (first ∷ mid) ++ rest
+  pub seen : e.machine.seen ≡ size (e.got ++ first ∷ mid) % n
   pub len : e.machine.len ≡ length first
   pub copied : e.copied ≡ take e.machine.done first
 
 abbrev pub Taking_at : Stage → ℕ → EndState → List (List ℕ) → Type 0
 Taking_at TakeFirst n e ws = Seeing n e ws
-Taking_at TakeCell n e ws = Copying e ws
+Taking_at TakeCell n e ws = Copying n e ws
 Taking_at _ n e ws = Unit {0}
 
 -- A ring of n cells stands for the packets that its producer sent and its consumer got. f 0 is the write word, f 1 the read word, and f (5 + k) the cell k

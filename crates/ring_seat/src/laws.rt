@@ -1,16 +1,18 @@
 //! Laws of the rule: each function does nothing, and its contract is a law.
-ghost use Rattle.std.specs.Prelude.{◌≡◌, ℕ, true, false, List, Some, slice_index};
+ghost use Rattle.std.specs.Prelude.{◌≡◌, ◌⊎◌, ℕ, true, false, List, Some, slice_index};
 ghost use Rattle.io_edge.specs.declared.side.Side.{Side};
 ghost use Rattle.io_edge.specs.declared.side.Side.TheVariants.{Guest, Host};
 ghost use Rattle.ring_machine.specs.declared.machine.Machine.{Machine};
-ghost use Rattle.ring_machine.specs.declared.machine.Stage.TheVariants.{Stopped};
+ghost use Rattle.ring_machine.specs.declared.machine.Stage.TheVariants.{Stopped, SendCell, SendWrite, TakeFirst, TakeCell};
 ghost use Rattle.ring_machine.specs.declared.state.EndState.{EndState};
 ghost use Rattle.ring_machine.specs.declared.place.Op.{Op};
 ghost use Rattle.ring_machine.specs.Places.{out_of, in_of, peer_of, mark_of};
 ghost use Rattle.ring_machine.specs.Steps.{next_of, is_arming_at, is_waking_at};
 ghost use Rattle.ring_machine.specs.States.{after, entered, Begins};
 ghost use Rattle.ring_core.specs.Told.{written, answer_in};
+ghost use Rattle.ring_machine.specs.declared.place.Ring.TheVariants.{ToHost, ToGuest};
 ghost use Rattle.ring_model.specs.Ring.{ring_in};
+ghost use Rattle.ring_model.specs.Spelled.{StandsFor, HasRoom, HasSeen};
 ghost use Rattle.ring_seat.specs.Rule.{ChannelInvariant, with_end};
 ghost use Rattle.ring_seat.specs.Waking.{WakeCause};
 
@@ -46,4 +48,25 @@ pub fn seen_marks_are_up()
 /// A drained end got all that its peer sent.
 pub fn drained_got_all()
     ensures { (n : ℕ) (ws : List ℕ) (ends : Side → EndState) (x : Side) → ChannelInvariant n ws ends → (ends x).machine.drained ≡ true → (ends x).got ≡ (ends (peer_of x)).sent }
+{}
+
+/// At each moment, also inside a call, each ring stands for the packets that its producer sent and its consumer got: its words are their indices, and its
+/// cells spell those that aren't given back yet, and then those that wait.
+pub fn rings_stand_for_lists()
+    ensures to_host { (n : ℕ) (ws : List ℕ) (ends : Side → EndState) → ChannelInvariant n ws ends → StandsFor n ws ToHost (ends Guest) (ends Host) }
+    ensures to_guest { (n : ℕ) (ws : List ℕ) (ends : Side → EndState) → ChannelInvariant n ws ends → StandsFor n ws ToGuest (ends Host) (ends Guest) }
+{}
+
+/// A send that found room and hasn't stored the write index yet: the read index that it loaded left more room than the packet needs, and the ring has no
+/// less now. The cells that it has stored hold the packet's words, and then its trailer.
+pub fn sends_have_room()
+    ensures guest { (n : ℕ) (ws : List ℕ) (ends : Side → EndState) → ChannelInvariant n ws ends → ((ends Guest).machine.stage ≡ SendCell) ⊎ ((ends Guest).machine.stage ≡ SendWrite) → HasRoom n ws ToHost (ends Guest) (ends Host) }
+    ensures host { (n : ℕ) (ws : List ℕ) (ends : Side → EndState) → ChannelInvariant n ws ends → ((ends Host).machine.stage ≡ SendCell) ⊎ ((ends Host).machine.stage ≡ SendWrite) → HasRoom n ws ToGuest (ends Host) (ends Guest) }
+{}
+
+/// A take that loaded the write index and isn't over: the cells from the read index to there spell the first of the packets that wait, and each word that
+/// it has copied is that of its cell.
+pub fn takes_see_packets()
+    ensures guest { (n : ℕ) (ws : List ℕ) (ends : Side → EndState) → ChannelInvariant n ws ends → ((ends Guest).machine.stage ≡ TakeFirst) ⊎ ((ends Guest).machine.stage ≡ TakeCell) → HasSeen n ws ToGuest (ends Host) (ends Guest) }
+    ensures host { (n : ℕ) (ws : List ℕ) (ends : Side → EndState) → ChannelInvariant n ws ends → ((ends Host).machine.stage ≡ TakeFirst) ⊎ ((ends Host).machine.stage ≡ TakeCell) → HasSeen n ws ToHost (ends Guest) (ends Host) }
 {}

@@ -2,6 +2,8 @@
 #![tactic(auto)]
 
 #[cfg(test)]
+mod call_steps_tests;
+#[cfg(test)]
 mod chan_run_tests;
 #[cfg(test)]
 mod check;

@@ -276,7 +276,8 @@ run =
     ∷ Guest (Sent (at 1 (Read 5))) ∷ Guest (Got (at 1 Began)) ∷ Host (Sent (at 1 Began)) ∷ Host (Got (at 1 Begin)) ∷ Guest (Sent (at 1 Begin)) ∷ []
 
 is_run : IsRun run
-is_run = (refl, (refl, (refl, (refl, (([], refl), ((at 1 Done ∷ [], refl), (refl, (refl, (([], refl), (refl, (([], refl), (refl, (([], refl), (refl, tt))))))))))))))
+is_run =
+    (refl, ((refl, refl), ((refl, refl), (refl, ((refl, ([], refl)), ((refl, (at 1 Done ∷ [], refl)), (refl, (refl, ((refl, ([], refl)), (refl, ((refl, ([], refl)), (refl, ((refl, ([], refl)), (refl, tt))))))))))))))
 
 asker_ends : AskerEnds speech plan (guest_of run) (7 ∷ [])
 asker_ends = record { encoded = (refl, (refl, tt)); replies = refl; end = inl (refl, refl) }

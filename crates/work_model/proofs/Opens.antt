@@ -174,7 +174,7 @@ module _ {P A Q R : Type 0} (s : Speech P A Q R) where
   next_answer asks p past e run order enc h =
       let t : List (Event P) = guest_of past in
       let u : List (Event P) = host_of past in
-      let here = front_map s.id_of _ _ (front_filter s.is_answer (got_of t ++ p ∷ []) (sent_of u) run.0) in
+      let here = front_map s.id_of _ _ (front_filter s.is_answer (got_of t ++ p ∷ []) (sent_of u) run.0.1) in
       let there = front_map s.id_of _ _ (front_filter s.waits _ _ (front_filter s.is_request (got_of u) (sent_of t) (host_front past run.1))) in
       let all = front_trans _ _ _ here (front_trans _ _ _ (in_order_now u order) there) in
       let ids : map (λ o. o.0) h.done ++ map (λ o. o.0) (open_of s asks t) ≡ map s.id_of (filter s.waits (requests_of s t)) =

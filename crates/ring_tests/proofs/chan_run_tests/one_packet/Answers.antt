@@ -8,7 +8,7 @@ use Rattle.ring_tests.proofs.chan_run_tests.one_packet.Goals as goal
 are_of_one_run : (p : List ℕ) (guest host : List (Event (List ℕ))) → guest ≡ Marked ∷ Sent p ∷ [] → host ≡ Empty ∷ Saw ∷ Got p ∷ [] → AreOfOneRun guest host
 are_of_one_run p guest host g h = record {
   turns = Host Empty ∷ Host Saw ∷ Guest Marked ∷ Host (Got p) ∷ Guest (Sent p) ∷ [];
-  run = (refl, (refl, (refl, (([], refl), (refl, tt)))));
+  run = ((refl, refl), ((refl, refl), (refl, ((refl, ([], refl)), (refl, tt)))));
   guest_is = sym g;
   host_is = sym h;
 }

@@ -1,0 +1,13 @@
+use Rattle.std.proofs.Common.{⊎_elim, arith}
+use Rattle.ring_model.proofs.Spelling.{takes_first, takes_cell}
+use Rattle.ring_seat.proofs.laws.takes_see_packets.Goals as goal
+
+pub returns-clause-guest : goal.returns-clause-guest
+returns-clause-guest c n ws ends i at =
+    let fits = i.channel.guest_fits in
+    ⊎_elim (takes_first n ws _ (omega (arith, fits.sound.cells, fits.cells)) _ _ i.channel.to_guest) (takes_cell n ws _ (omega (arith, fits.sound.cells, fits.cells)) _ _ i.channel.to_guest fits.sound.done) at
+
+pub returns-clause-host : goal.returns-clause-host
+returns-clause-host c n ws ends i at =
+    let fits = i.channel.host_fits in
+    ⊎_elim (takes_first n ws _ (omega (arith, fits.sound.cells, fits.cells)) _ _ i.channel.to_host) (takes_cell n ws _ (omega (arith, fits.sound.cells, fits.cells)) _ _ i.channel.to_host fits.sound.done) at
