@@ -5,9 +5,8 @@ top=$(cd "$(dirname "$0")/.." && pwd) || exit 70
 room=$(mktemp -d) || exit 70
 trap 'rm -rf "$room"' EXIT
 
-# The launcher builds the program where that is needed.
-"$top/vmbus" decode </dev/null || exit 70
 program=$top/crates/vmbus/out/vmbus
+[ -x "$program" ] || { echo "bench/run.sh: there is no program: run ./build first" >&2; exit 70; }
 
 # A disk whose blocks are written, and then read.
 awk 'BEGIN {

@@ -152,7 +152,7 @@ impl<S: Seatlike> End<S> {
         &self.parts.seat
     }
 
-    /// The seat, and the lists of what was sent and got.
+    /// The seat, and the lists of what was sent and got, which keep no room for more.
     pub fn into_parts(self) -> (S, Packets, Packets)
         ensures seat { result.0 ≡ self.seat }
         ensures sent { result.1.list ≡ self.state.sent }
@@ -163,11 +163,13 @@ impl<S: Seatlike> End<S> {
         let Parts {
             core: _,
             buf,
-            sent,
-            got,
+            mut sent,
+            mut got,
             past: _,
             seat,
         } = parts;
+        sent.trim();
+        got.trim();
         drop(buf);
         (seat, sent, got)
     }

@@ -87,6 +87,14 @@ impl Packets {
         self.ends.reserve(room.packets as usize)
     }
 
+    /// Gives the room that is left back to the allocator, where it takes it.
+    pub fn trim(&mut self)
+        ensures { self.new.list ≡ self.old.list }
+    {
+        self.words.shrink_to_fit();
+        self.ends.shrink_to_fit();
+    }
+
     /// The room that is left.
     pub fn room(&self) -> Room
         ensures { result ≡ self.now.room }

@@ -37,6 +37,11 @@ fn main(rt: HostRuntime) -> ExitCode {
     let alloc = rt.alloc();
     let words = match words(&rt) {
         Ok(words) => words,
+        Err(error) if error.kind() == io::ErrorKind::OutOfMemory => {
+            let _ = eprintln!(rt; "want of memory");
+            return ExitCode::from(5);
+        }
+        // Words that are no text are no command.
         Err(_) => Vec::new(alloc),
     };
     let mut source = StdSource::make(rt.reader());

@@ -2,7 +2,7 @@
 use Rattle.std.specs.Prelude.{ℕ, ◌≡◌, ◌⊎◌, ◌≤◌, ◌<◌, List, length, Option, Some, None}
 use Rattle.script_text.specs.declared.fault.ScriptFault.{ScriptFault}
 use Rattle.script_text.specs.declared.fault.Why6.TheVariants.{Limit}
-use Rattle.io_edge.specs.Edge.{HoldsWhole, IsLonger, Grows, GrowsByFront}
+use Rattle.io_edge.specs.Edge.{HoldsWhole, IsLonger, GaveMore, IsAtEnd, Grows, GrowsByFront}
 use Rattle.bus_model.specs.declared.channel_run.ChannelRun.{ChannelRun}
 use Rattle.bus_model.specs.declared.history.DeviceHistory.{DeviceHistory}
 use Rattle.vmbus_main.specs.declared.command.Command.{Command}
@@ -24,6 +24,11 @@ IsRefused None left fault = ⊥
 IsRefused (Some command) left fault =
     ((input : List ℕ) × IsInput left input × IsFault command input fault)
     ⊎ (IsLonger left most_bytes × (fault ≡ record { line = 0; why = Limit }))
+
+-- the input was read to its end, or past the last byte that one may have
+abbrev pub IsReadThrough : Option ScriptFault → Option (List ℕ) → Option (List ℕ) → Type 0
+IsReadThrough fault left rest =
+    IsAtEnd rest ⊎ ((fault ≡ Some (record { line = 0; why = Limit })) × GaveMore left rest most_bytes)
 
 -- the whole answer of the command was written
 abbrev pub IsWritten : Option Command → Option (List ℕ) → Option (List ℕ) → Option (List ℕ) → Option Controls → List ChannelRun → List DeviceHistory → Type 0

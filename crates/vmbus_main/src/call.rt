@@ -1,8 +1,8 @@
 //! The top call.
 ghost use Rattle.std.specs.Prelude.{◌≡◌, ◌≢◌, ◌↔◌, ◌⊎◌, ◌≤◌, ◌<◌, [], Some, None, MatchOption};
-ghost use Rattle.io_edge.specs.Edge.{Rose, HasRoom, IsAtEnd};
+ghost use Rattle.io_edge.specs.Edge.{Rose, HasRoom};
 ghost use Rattle.vmbus_main.specs.Words.{command_of};
-ghost use Rattle.vmbus_main.specs.Call.{IsRefused, IsWritten, IsWrittenInPart, TellsInput, TellsRefused};
+ghost use Rattle.vmbus_main.specs.Call.{IsReadThrough, IsRefused, IsWritten, IsWrittenInPart, TellsInput, TellsRefused};
 
 use crate::answer::{Answer, answer_input};
 use crate::command::command_of;
@@ -50,8 +50,8 @@ pub fn vmbus<R: Threads + Wait + Sync, S: Source, K: Sink, G: Gate>(
         → (Rose (K.faults sink.old) (K.faults sink.new) → ⊥) → (result.status ≡ 0) ⊎ (result.status ≡ 5) }
     // Where it tells an input that is refused, that is said, unless a read failed or memory was short.
     ensures exactly { TellsRefused (command_of words.now) (S.left source.old) → (result.status ≡ 2) ⊎ ((result.status ≡ 3) ⊎ (result.status ≡ 5)) }
-    // With status 0 the input was read to its end.
-    ensures ended { result.status ≡ 0 → IsAtEnd (S.left source.new) }
+    // With any status but 1, 3 and 5 the input was read to its end, or past the last byte that one may have: also where an early line of it is wrong.
+    ensures ended { result.status ≢ 1 → result.status ≢ 3 → result.status ≢ 5 → IsReadThrough result.fault (S.left source.old) (S.left source.new) }
     ensures later { (S.faults source.old ≤ S.faults source.new) × (K.faults sink.old ≤ K.faults sink.new) }
 {
     let Some(command) = command_of(words) else {
