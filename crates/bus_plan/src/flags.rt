@@ -15,12 +15,7 @@ fn want(wanted: &mut [bool], what: &What)
     match what {
         What::Ask { device, ask: _ } => wanted[*device as usize] = true,
         What::Shut { device } => wanted[*device as usize] = true,
-        What::Contact { .. } => {}
-        What::Offer { .. } => {}
-        What::RingSize { .. } => {}
-        What::Window { .. } => {}
-        What::Bad { .. } => {}
-        What::Phase => {}
+        _ => {}
     }
 }
 
@@ -41,13 +36,7 @@ fn close(closed: &mut [bool], what: &What)
 {
     match what {
         What::Shut { device } => closed[*device as usize] = true,
-        What::Ask { .. } => {}
-        What::Contact { .. } => {}
-        What::Offer { .. } => {}
-        What::RingSize { .. } => {}
-        What::Window { .. } => {}
-        What::Bad { .. } => {}
-        What::Phase => {}
+        _ => {}
     }
 }
 

@@ -69,12 +69,7 @@ fn deal(
             addresses.push(Address::Tried(tried))?;
             Ok(())
         }
-        What::Offer { .. } => Ok(()),
-        What::RingSize { .. } => Ok(()),
-        What::Window { .. } => Ok(()),
-        What::Bad { .. } => Ok(()),
-        What::Shut { .. } => Ok(()),
-        What::Phase => Ok(()),
+        _ => Ok(()),
     }
 }
 

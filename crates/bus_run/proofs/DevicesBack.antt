@@ -1,6 +1,6 @@
 -- The devices of a phase, once their channels have run.
-use Rattle.std.proofs.Common.{◌≡◌, ℕ, ◌+◌, ◌<◌, ◌≤◌, Bool, true, false, List, [], ◌∷◌, ◌++◌, length, length-append, append_assoc, take, drop, get_or, refl, ap, sym, ◌∙◌, subst, arith, slice_set}
-use Rattle.std.specs.Prelude.{map, All}
+use Rattle.std.proofs.Common.{◌≡◌, ℕ, ◌+◌, ◌*◌, ◌<◌, ◌≤◌, Bool, true, false, List, [], ◌∷◌, ◌++◌, length, length-append, append_assoc, take, drop, get_or, refl, ap, sym, ◌∙◌, subst, arith, slice_set, Result, Ok, Err}
+use Rattle.std.specs.Prelude.{map, All, IfOk, OnOk}
 use Rattle.std.specs.List.{flat_map}
 use Rattle.std.proofs.Math.ListN.{length-set}
 use Rattle.std.proofs.lemmas.List.{take_more, take_more_set, drop_more, drop-set-lt, append-nil, map-append, length-map, take_all}
@@ -12,12 +12,13 @@ use Rattle.bus_script.specs.declared.outcome.LineResult.{LineResult}
 use Rattle.bus_model.specs.Served.{Served, done_of}
 use Rattle.bus_model.specs.Run.{ChannelPhase, DevicePhase, CarriesIfOpened, outcomes_of}
 use Rattle.bus_model.specs.declared.channel_run.ChannelRun.{ChannelRun}
+use Rattle.phase_run.specs.Pairs.{Pairing, EachRuns}
 use Rattle.phase_run.specs.declared.pair.PairDone.{PairDone}
 use Rattle.ring_model.specs.Lists.{Lists}
-use Rattle.bus_run.specs.Desk.{spec_of, setup_of, desk_log, asks_of, IsKept, IsReady, OpenRan, DeviceRan, EachRan, DevicesRan}
-use Rattle.bus_run.specs.Opening.{DeskRan, OneIf, OneEach, ComesBack, held_of, held_from}
+use Rattle.bus_run.specs.Desk.{spec_of, setup_of, desk_log, asks_of, IsKept, IsReady, Suits, OpenRan, DeviceRan, EachRan, DevicesRan}
+use Rattle.bus_run.specs.Opening.{OpensDesk, DeskRan, OneIf, OneEach, ComesBack, AllCome, held_of, held_from}
 use Rattle.bus_run.specs.declared.desk.Desk.{Desk}
-use Rattle.bus_run.proofs.Opened.{held_long}
+use Rattle.bus_run.proofs.Opened.{each_ran, held_long}
 
 -- a device whose channel wasn't opened
 pub device_idle : (phase device : ℕ) (asks : List Ask) (old desk : Desk) (dones front rest : List PairDone) (settled : List ChannelRun) (results : List LineResult) (opened : Bool) → opened ≡ false → results ≡ [] → ComesBack opened asks old desk dones front rest
@@ -191,3 +192,22 @@ devices_end opened phase piles most i old desks dones settled settled' outcomes 
       },
       subst (All (IsReady most)) all so_far.ready,
     )
+
+-- all channels that were opened have run
+pub all_come : (opened : ℕ → Bool) (phase : ℕ) (piles : List (List Ask)) (old held : List Desk) (pairs : List Pairing) (dones : List PairDone) → All (IsReady (4096 * phase)) old → Suits 4096 old piles → held ≡ held_from opened 0 old
+    → OneEach OpensDesk opened (asks_of piles) 0 old pairs → EachRuns pairs dones → AllCome opened phase piles old held dones
+all_come opened phase piles old held pairs dones ready suits held_is opens runs = record {
+  ready = ready;
+  suits = suits;
+  held_is = held_is;
+  ran = each_ran opened (asks_of piles) 0 old pairs dones opens runs;
+}
+
+-- what follows where a call gives a value
+pub if_ok : {A E : Type 0} (P Q : A → Type 0) (r : Result A E) → ((a : A) → P a → Q a) → IfOk r P → IfOk r Q
+if_ok P Q (Ok a) follows is = follows a is
+if_ok P Q (Err e) follows is = tt
+
+pub on_ok : {A E : Type 0} (P Q : Type 0) (r : Result A E) → (P → Q) → OnOk r P → OnOk r Q
+on_ok P Q (Ok a) follows is = follows is
+on_ok P Q (Err e) follows is = tt

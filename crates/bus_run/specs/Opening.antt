@@ -1,5 +1,5 @@
 -- The devices of a phase while their channels have them.
-use Rattle.std.specs.Prelude.{ℕ, ◌≡◌, ◌+◌, Bool, true, false, List, [], ◌∷◌, ◌++◌, length}
+use Rattle.std.specs.Prelude.{ℕ, ◌≡◌, ◌+◌, ◌*◌, All, Bool, true, false, List, [], ◌∷◌, ◌++◌, length}
 use Rattle.script_lines.specs.Parts.{kind_of}
 use Rattle.script_lines.specs.declared.line.Ask.{Ask}
 use Rattle.hist_lock.specs.History.{entries_of}
@@ -11,7 +11,7 @@ use Rattle.end_work.specs.declared.device_seat.DeviceSeat.{DeviceSeat}
 use Rattle.end_work.specs.declared.device_seat.DeviceSeat.TheVariants.{Beat as BeatSeat, Down as DownSeat, Disk as DiskSeat}
 use Rattle.scsi_disk.specs.FiniteMap.{unwritten}
 use Rattle.util_ic.specs.Machines.{beat_start, down_start}
-use Rattle.bus_run.specs.Desk.{spec_of, subs_of, IsKept}
+use Rattle.bus_run.specs.Desk.{spec_of, subs_of, asks_of, IsKept, IsReady, Suits}
 use Rattle.bus_run.specs.declared.desk.Desk.{Desk}
 use Rattle.bus_run.specs.declared.desk.Desk.TheVariants.{Out, Beat as BeatDesk, Down as DownDesk, Disk as DiskDesk}
 
@@ -73,3 +73,10 @@ pub record ComesBack (opened : Bool) (asks : List Ask) (old held : Desk) (dones 
   pub kept : IsKept old
   pub dones_are : dones ≡ front ++ rest
   pub ran : OneIf opened (DeskRan asks old) front
+
+-- all channels that a phase opens of these devices have run, and the devices are held
+pub record AllCome (opened : ℕ → Bool) (phase : ℕ) (piles : List (List Ask)) (old held : List Desk) (dones : List PairDone) : Type 0 where
+  pub ready : All (IsReady (4096 * phase)) old
+  pub suits : Suits 4096 old piles
+  pub held_is : held ≡ held_from opened 0 old
+  pub ran : OneEach DeskRan opened (asks_of piles) 0 old dones

@@ -17,13 +17,7 @@ fn bad_by(device: usize, what: &What) -> Option<u64>
                 None
             }
         }
-        What::Contact { .. } => None,
-        What::Offer { .. } => None,
-        What::RingSize { .. } => None,
-        What::Window { .. } => None,
-        What::Ask { .. } => None,
-        What::Shut { .. } => None,
-        What::Phase => None,
+        _ => None,
     }
 }
 

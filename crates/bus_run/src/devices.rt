@@ -1,7 +1,8 @@
 //! The channels of a phase: all are opened, all run at once, and all are closed, in order of their relids.
 ghost use Rattle.std.specs.Prelude.{◌≡◌, ◌+◌, ◌*◌, ◌<◌, ◌≤◌, Bool, List, length, All, IfOk, OnOk};
 ghost use Rattle.bus_run.specs.Desk.{IsReady, DevicesRan, Suits, AreRings, asks_of, opened_by};
-ghost use Rattle.bus_run.specs.Opening.{OneEach, OpensDesk, held_from};
+ghost use Rattle.bus_run.specs.Opening.{AllCome, OneEach, OpensDesk, held_from};
+ghost use Rattle.bus_run.specs.declared.desk.Desk.{Desk as OneDesk};
 
 use crate::closing::close_device;
 use crate::desk::Desk;
@@ -10,7 +11,7 @@ use bus_model::ChannelRun;
 use bus_plan::{PartPlan, Piles};
 use bus_script::LineResult;
 use io_edge::Gate;
-use phase_run::Pair;
+use phase_run::{Pair, PairDone};
 use std::alloc::{AllocError, Global};
 use std::sync::Wait;
 use std::thread::Threads;
@@ -59,6 +60,41 @@ fn open_all(
     Ok(pairs)
 }
 
+/// Closes all channels of a phase, and answers the outcomes of each device's requests.
+fn close_all(
+    alloc: Global,
+    phase: u32,
+    plan: &PartPlan,
+    closed: &[bool],
+    done: Vec<PairDone>,
+    desks: &mut Vec<Desk>,
+    settled: &mut Vec<ChannelRun>,
+) -> Result<Piles<LineResult>, AllocError>
+    requires wanted { length plan.now.wanted.items ≡ length desks.old.items }
+    requires closed { length closed.now ≡ length desks.old.items }
+    requires few { length desks.old.items ≤ 16 }
+    requires come { (old : List OneDesk) × AllCome (opened_by closed.now plan.now.wanted.items) phase plan.now.asks old desks.old.items done.items }
+    ensures ran { IfOk result (λ outcomes. (old : List OneDesk) → AllCome (opened_by closed.now plan.now.wanted.items) phase plan.now.asks old desks.old.items done.items
+        → DevicesRan (opened_by closed.now plan.now.wanted.items) phase plan.now.asks old desks.new.items settled.old.items settled.new.items outcomes) }
+    ensures ready { OnOk result ((old : List OneDesk) → AllCome (opened_by closed.now plan.now.wanted.items) phase plan.now.asks old desks.old.items done.items → All (IsReady (4096 * (phase + 1))) desks.new.items) }
+{
+    let mut dones = done.into_iter();
+    let mut outcomes = Piles::none(alloc);
+    for i in 0..desks.len() {
+        let results = close_device(
+            alloc,
+            phase,
+            i as u32,
+            is_opened(closed, &plan.wanted, i),
+            &mut desks[i],
+            &mut dones,
+            settled,
+        )?;
+        outcomes.add(results)?;
+    }
+    Ok(outcomes)
+}
+
 /// Runs all channels that a phase opens, and answers the outcomes of each device's requests.
 pub fn run_devices<R: Threads + Wait + Sync, G: Gate>(
     rt: &R,
@@ -85,19 +121,5 @@ pub fn run_devices<R: Threads + Wait + Sync, G: Gate>(
     let pairs = open_all(alloc, phase, plan, closed, pages, desks)?;
     let mut done = Vec::with_capacity(alloc, pairs.len())?;
     phase_run::run_phase(rt, pairs, &mut done, gate);
-    let mut dones = done.into_iter();
-    let mut outcomes = Piles::none(alloc);
-    for i in 0..desks.len() {
-        let results = close_device(
-            alloc,
-            phase,
-            i as u32,
-            is_opened(closed, &plan.wanted, i),
-            &mut desks[i],
-            &mut dones,
-            settled,
-        )?;
-        outcomes.add(results)?;
-    }
-    Ok(outcomes)
+    close_all(alloc, phase, plan, closed, done, desks, settled)
 }

@@ -18,13 +18,7 @@ fn pages_by(device: usize, what: &What) -> Option<u32>
                 None
             }
         }
-        What::Contact { .. } => None,
-        What::Offer { .. } => None,
-        What::Window { .. } => None,
-        What::Bad { .. } => None,
-        What::Ask { .. } => None,
-        What::Shut { .. } => None,
-        What::Phase => None,
+        _ => None,
     }
 }
 

@@ -61,13 +61,7 @@ fn offer(
             desks.push(new_desk(alloc, *device, &bad)?)?;
             Ok(())
         }
-        What::Contact { .. } => Ok(()),
-        What::Bad { .. } => Ok(()),
-        What::RingSize { .. } => Ok(()),
-        What::Window { .. } => Ok(()),
-        What::Ask { .. } => Ok(()),
-        What::Shut { .. } => Ok(()),
-        What::Phase => Ok(()),
+        _ => Ok(()),
     }
 }
 

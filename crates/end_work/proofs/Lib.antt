@@ -1,3 +1,4 @@
 pub mod SeatLaws
 pub mod Opening
 pub mod Going
+pub mod NewEnds

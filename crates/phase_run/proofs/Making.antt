@@ -1,5 +1,6 @@
 -- The two workers of a channel are made.
-use Rattle.std.proofs.Common.{◌≡◌, ◌≤◌, ◌+◌, ℕ, length, filter, map, List, [], ◌∷◌, Option, Some, None, is_some, ap, sym, ◌∙◌, subst, arith}
+use Rattle.std.proofs.Common.{◌≡◌, ◌≤◌, ◌+◌, ◌*◌, ℕ, length, filter, map, List, [], ◌∷◌, Option, Some, None, is_some, Result, Ok, Err, ap, sym, ◌∙◌, subst, arith}
+use Rattle.std.specs.Prelude.{IfOk}
 use Rattle.std.specs.List.{AllByRecursion}
 use Rattle.script_lines.specs.declared.line.Ask.{Ask}
 use Rattle.bus_speech.specs.Speeches.{has_answer_on}
@@ -9,6 +10,7 @@ use Rattle.bus_script.specs.declared.outcome.Reply.{Reply}
 use Rattle.worker_core.specs.Asking.{Asking}
 use Rattle.worker_core.specs.Serving.{Serving}
 use Rattle.contact.specs.declared.kind.Kind.{Kind}
+use Rattle.io_edge.specs.declared.side.Side.{Side}
 use Rattle.io_edge.specs.declared.side.Side.TheVariants.{Guest, Host}
 use Rattle.work_model.specs.Channel.{count_of, held_of}
 use Rattle.work_model.specs.Roles.{side_that_asks}
@@ -24,7 +26,8 @@ use Rattle.end_work.specs.declared.device_seat.DeviceSeat.{DeviceSeat}
 use Rattle.end_work.specs.declared.worker.ChannelWorker.{ChannelWorker}
 use Rattle.end_work.specs.declared.worker.ChannelWorker.TheVariants.{Asks, Serves}
 use Rattle.end_work.proofs.Opening.{asks_length, starts_all}
-use Rattle.phase_run.specs.Pairs.{AreOnChannel, MadeFor, OpensWith, IsNewSeat}
+use Rattle.phase_run.specs.Agreeing.{HasCells}
+use Rattle.phase_run.specs.Pairs.{Pairing, AreOnChannel, MadeFor, OpensWith, IsNewSeat}
 
 -- where the one that serves made room for the start-up and the requests, it made room for all that the other one asks
 room_for : (kind : Kind) (asks : List Ask) (a : Asking Talked Reply) (s : Serving Talked DeviceSeat Ask Reply) → a.talk ≡ record { kind = kind; asks = asks } → s.starts ≡ length (filter (has_answer_on kind) (startup kind)) → s.come ≡ length asks
@@ -82,6 +85,15 @@ host_opens kind asks (Some seat) g h guest (Asks a) side new h_kind h_count h_st
 host_opens kind asks (Some seat) g h (Asks a) (Serves s) side new h_kind h_count h_stop g_kind g_asks made asked = (side, made_for kind asks seat g h a s g_kind g_asks h_kind h_count h_stop asked made)
 host_opens kind asks (Some seat) g h (Serves t) (Serves s) side new h_kind h_count h_stop g_kind g_asks made asked = absurd asked
 
+-- a new end of a ring of so many pages
+pub is_new : (e : Seen TableSeat) (cells : ℕ) (side : Side) → e.state ≡ new_end cells side → e.state ≡ new_end e.state.machine.cells side
+is_new e cells side is = is ∙ ap (λ n. new_end n side) (sym (ap (λ (s : EndState). s.machine.cells) is))
+
+pub has_size : (e : Seen TableSeat) (pages : ℕ) (side : Side) → e.state ≡ new_end (512 * pages) side → (1 ≤ pages) × (pages ≤ 16) → (512 ≤ e.state.machine.cells) × (e.state.machine.cells ≤ 8192)
+has_size e pages side is within =
+    let cells : e.state.machine.cells ≡ 512 * pages = ap (λ (s : EndState). s.machine.cells) is in
+    (omega (arith, cells, within.0), omega (arith, cells, within.1))
+
 -- the ends of one channel, which the workers have, and which are new
 pub pair_of : (g h : Seen TableSeat) (cells : ℕ) (guest host : ChannelWorker) → AreOfOneChannel g h → g.state ≡ new_end cells Guest → h.state ≡ new_end cells Host → ((end_at guest).state ≡ g.state) × ((end_at guest).seat ≡ g.seat)
     → ((end_at host).state ≡ h.state) × ((end_at host).seat ≡ h.seat) → AreRoles guest host → ArePair guest host
@@ -103,12 +115,26 @@ made_relid p None (Serves w) made = absurd made
 made_relid p (Some s) (Asks w) made = absurd made
 made_relid p (Some s) (Serves w) made = made.relid
 
--- both have the channel of the plans' relid, with new rings of so many cells
-pub on_channel : (relid cells : ℕ) (p q : Planned) (s t : Option DeviceSeat) (g h : Seen TableSeat) (guest host : ChannelWorker) → IsMade p s guest → IsMade q t host → p.relid ≡ relid → q.relid ≡ relid → g.state ≡ new_end cells Guest → h.state ≡ new_end cells Host
-    → (end_at guest).state ≡ g.state → (end_at host).state ≡ h.state → AreOnChannel relid cells (record { guest = guest; host = host })
-on_channel relid cells p q s t g h guest host p_made q_made p_relid q_relid g_new h_new at_g at_h = record {
-  guest_relid = made_relid p s guest p_made ∙ p_relid;
-  host_relid = made_relid q t host q_made ∙ q_relid;
-  guest_cells = ap (λ (s : EndState). s.machine.cells) (at_g ∙ g_new);
-  host_cells = ap (λ (s : EndState). s.machine.cells) (at_h ∙ h_new);
+-- the rings have as many cells as both ends of the channel
+pub has_cells : (cells : ℕ) (g h : Seen TableSeat) (guest host : ChannelWorker) → g.state ≡ new_end cells Guest → h.state ≡ new_end cells Host → (end_at guest).state ≡ g.state → (end_at host).state ≡ h.state → HasCells cells (record { guest = guest; host = host })
+has_cells cells g h guest host g_new h_new at_g at_h = record {
+  guest = ap (λ (s : EndState). s.machine.cells) (at_g ∙ g_new);
+  host = ap (λ (s : EndState). s.machine.cells) (at_h ∙ h_new);
 }
+
+-- a pair that was made for both plans is opened as any two such workers are
+pub made_opens : {E : Type 0} (kind : Kind) (asks : List Ask) (seat : Option DeviceSeat) (p q : Planned) (s t : Option DeviceSeat) (pair : Result Pairing E)
+    → ((guest host : ChannelWorker) → IsMade p s guest → IsMade q t host → OpensWith kind asks seat (record { guest = guest; host = host })) → IfOk pair (λ w. IsMade p s w.guest) → IfOk pair (λ w. IsMade q t w.host) → IfOk pair (OpensWith kind asks seat)
+made_opens kind asks seat p q s t (Ok w) opens p_made q_made = opens w.guest w.host p_made q_made
+made_opens kind asks seat p q s t (Err e) opens p_made q_made = tt
+
+-- and has the channel of the plans' relid
+pub on_channel : {E : Type 0} (relid cells : ℕ) (p q : Planned) (s t : Option DeviceSeat) (pair : Result Pairing E) → p.relid ≡ relid → q.relid ≡ relid → IfOk pair (λ w. IsMade p s w.guest) → IfOk pair (λ w. IsMade q t w.host) → IfOk pair (HasCells cells)
+    → IfOk pair (AreOnChannel relid cells)
+on_channel relid cells p q s t (Ok w) p_relid q_relid p_made q_made has = record {
+  guest_relid = made_relid p s w.guest p_made ∙ p_relid;
+  host_relid = made_relid q t w.host q_made ∙ q_relid;
+  guest_cells = has.guest;
+  host_cells = has.host;
+}
+on_channel relid cells p q s t (Err e) p_relid q_relid p_made q_made has = tt

@@ -1,3 +1,4 @@
 pub mod Pairs
+pub mod Agreeing
 pub mod Starting
 pub mod Beginning

@@ -3,10 +3,11 @@ ghost use Rattle.std.specs.Prelude.{◌≡◌, ◌≤◌, ◌*◌, [], length, m
 ghost use Rattle.script_lines.specs.Parts.{kind_asked};
 ghost use Rattle.script_lines.specs.declared.line.Ask.TheVariants.{Ic as AskedIc, Disk as AskedDisk};
 ghost use Rattle.contact.specs.declared.kind.Kind.TheVariants.{Disk as DiskKind};
-ghost use Rattle.io_edge.specs.declared.side.Side.TheVariants.{Host as HostSide};
+ghost use Rattle.io_edge.specs.declared.side.Side.TheVariants.{Guest as GuestSide, Host as HostSide};
 ghost use Rattle.work_model.specs.Roles.{side_that_asks};
-ghost use Rattle.end_work.specs.Plans.{AllCarried, guest_planned, host_planned};
+ghost use Rattle.end_work.specs.Plans.{AllCarried, CanPlan, HasSeat, IsMade, guest_planned, host_planned};
 ghost use Rattle.end_work.specs.Seats.{served_at, kind_at, left_at, at_guest, at_host};
+ghost use Rattle.phase_run.specs.Agreeing.{Agree, HasCells};
 ghost use Rattle.phase_run.specs.Pairs.{AreOnChannel, IsNewSeat, Opens, OpensWith};
 
 use crate::Pair;
@@ -99,6 +100,31 @@ fn host_plan(relid: u32, kind: Kind, window: u32, count: u32, asks: Vec<IcAsk>) 
     }
 }
 
+// Makes the two workers of a new channel, whose plans agree.
+fn make_pair(
+    alloc: Global,
+    pages: u32,
+    guest_seat: GuestSeat,
+    guest_plan: GuestPlan,
+    host_seat: HostSeat,
+    host_plan: HostPlan,
+) -> Result<Pair, AllocError>
+    requires pages { (1 ≤ pages) × (pages ≤ 16) }
+    requires guest { CanPlan GuestSide (guest_planned guest_plan) }
+    requires guest_seat { HasSeat GuestSide (guest_planned guest_plan) (at_guest guest_seat) }
+    requires host { CanPlan HostSide (host_planned host_plan) }
+    requires host_seat { HasSeat HostSide (host_planned host_plan) (at_host host_seat) }
+    requires roles { Agree (guest_planned guest_plan) (at_guest guest_seat) (host_planned host_plan) (at_host host_seat) }
+    ensures guest { IfOk result (λ pair. IsMade (guest_planned guest_plan) (at_guest guest_seat) pair.guest) }
+    ensures host { IfOk result (λ pair. IsMade (host_planned host_plan) (at_host host_seat) pair.host) }
+    ensures cells { IfOk result (HasCells (512 * pages)) }
+{
+    let (guest_end, host_end) = ChannelMem::make(alloc, pages, 0)?;
+    let guest = GuestWorker::make(alloc, guest_end, guest_seat, guest_plan)?;
+    let host = HostWorker::make(alloc, host_end, host_seat, host_plan)?;
+    Ok(Pair { guest, host })
+}
+
 // Opens the channel of a service, which the guest serves.
 fn open_service(
     alloc: Global,
@@ -120,12 +146,9 @@ fn open_service(
 {
     let count = asks.len() as u32;
     let requests = ic_requests(alloc, kind, asks)?;
-    let (guest_end, host_end) = ChannelMem::make(alloc, pages, 0)?;
-    let plan = guest_plan(relid, kind, window, count, Vec::new(alloc));
-    let guest = GuestWorker::make(alloc, guest_end, seat, plan)?;
-    let plan = host_plan(relid, kind, window, count, requests);
-    let host = HostWorker::make(alloc, host_end, HostSeat::None, plan)?;
-    Ok(Pair { guest, host })
+    let guest = guest_plan(relid, kind, window, count, Vec::new(alloc));
+    let host = host_plan(relid, kind, window, count, requests);
+    make_pair(alloc, pages, seat, guest, HostSeat::None, host)
 }
 
 // Opens the channel of a disk, which the host serves.
@@ -149,12 +172,9 @@ fn open_disk(
 {
     let count = asks.len() as u32;
     let requests = disk_requests(alloc, kind, asks)?;
-    let (guest_end, host_end) = ChannelMem::make(alloc, pages, 0)?;
-    let plan = guest_plan(relid, kind, window, count, requests);
-    let guest = GuestWorker::make(alloc, guest_end, GuestSeat::None, plan)?;
-    let plan = host_plan(relid, kind, window, count, Vec::new(alloc));
-    let host = HostWorker::make(alloc, host_end, seat, plan)?;
-    Ok(Pair { guest, host })
+    let guest = guest_plan(relid, kind, window, count, requests);
+    let host = host_plan(relid, kind, window, count, Vec::new(alloc));
+    make_pair(alloc, pages, GuestSeat::None, guest, seat, host)
 }
 
 /// Opens a channel whose rings have so many pages, with its two workers, and takes all memory that they need.

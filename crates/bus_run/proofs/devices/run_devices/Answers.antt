@@ -1,9 +1,11 @@
-use Rattle.std.proofs.Common.{◌≡◌, ◌+◌, ◌*◌, ◌<◌, ◌≤◌, ◌∙◌, ap, sym, subst, arith, length, slice_set, get_or}
-use Rattle.std.specs.Vec.Iter.{into_iter_items}
-use Rattle.bus_run.specs.Desk.{asks_of, IsReady, DeviceRan, opened_by}
-use Rattle.bus_run.specs.Opening.{DeskRan, OpensDesk, OneEach, ComesBack}
-use Rattle.bus_run.proofs.Opened.{each_few, each_ran, held_long}
-use Rattle.bus_run.proofs.DevicesBack.{DevicesSoFar, device_ready, next_comes, devices_start, devices_more, devices_end}
+use Rattle.std.proofs.Common.{◌+◌, ◌*◌, ap, arith, length, List}
+use Rattle.std.specs.Prelude.{All}
+use Rattle.bus_script.specs.declared.outcome.LineResult.{LineResult}
+use Rattle.bus_run.specs.Desk.{asks_of, IsReady, DevicesRan, opened_by}
+use Rattle.bus_run.specs.Opening.{OpensDesk, AllCome}
+use Rattle.bus_run.specs.declared.desk.Desk.{Desk}
+use Rattle.bus_run.proofs.Opened.{each_few, held_long}
+use Rattle.bus_run.proofs.DevicesBack.{all_come, if_ok, on_ok}
 use Rattle.bus_run.proofs.devices.run_devices.Goals as goal
 
 pub run_phase-requires-clause-few : goal.run_phase-requires-clause-few
@@ -11,73 +13,44 @@ run_phase-requires-clause-few g c κs within =
     let opened = opened_by c.args.closed.now c.args.plan.now.wanted.items in
     omega (arith, each_few OpensDesk opened (asks_of c.args.plan.now.asks) 0 c.args.desks.now.items c.in_ok-pairs.pairs.items c.in_ok-pairs.ensures.opens, c.requires.few)
 
-pub loop-i-init : goal.loop-i-init
-loop-i-init g c =
-    let opened = opened_by c.args.closed.now c.args.plan.now.wanted.items in
-    let piles = c.args.plan.now.asks in
-    let old = c.args.desks.now.items in
-    let settled = c.args.settled.now.items in
-    let dones = into_iter_items c.into_iter-dones.result in
-    let most = 4096 * (c.args.phase + 1) in
-    let ran = each_ran opened (asks_of piles) 0 old c.in_ok-pairs.pairs.items c.run_phase.new.done.items c.in_ok-pairs.ensures.opens c.run_phase.ensures in
-    subst (λ o. DevicesSoFar opened c.args.phase piles most 0 old c.open_all.new.desks.items dones settled settled o) (sym c.none-outcomes.ensures)
-    (devices_start opened c.args.phase piles most old c.open_all.new.desks.items dones settled c.in_ok-pairs.ensures.held (subst (OneEach DeskRan opened (asks_of piles) 0 old) (sym c.into_iter-dones.ensures.rest) ran))
+pub close_all-requires-clause-wanted : goal.close_all-requires-clause-wanted
+close_all-requires-clause-wanted g c =
+    omega (arith, c.requires.wanted, ap length c.in_ok-pairs.ensures.held, held_long (opened_by c.args.closed.now c.args.plan.now.wanted.items) 0 c.args.desks.now.items)
 
-pub close_device-requires-clause-comes : goal.close_device-requires-clause-comes
-close_device-requires-clause-comes g c =
-    let i = c.loop-i.i in
-    let d = c.index_mut.result.now in
-    let old = c.args.desks.now.items in
-    let piles = c.args.plan.now.asks in
-    let opened = opened_by c.args.closed.now c.args.plan.now.wanted.items in
-    let so_far = c.loop-i.invariant in
-    let less : i < length old = omega (arith, c.loop-i-test.true, c.len-i-end.ensures, ap length c.in_ok-pairs.ensures.held, held_long opened 0 old) in
-    let within : i < length c.loop-i.desks.items = omega (arith, less, so_far.count) in
-    let next = next_comes opened c.args.phase piles _ i old c.loop-i.desks.items (into_iter_items c.loop-i.dones) c.args.settled.now.items c.loop-i.settled.items c.loop-i.outcomes d so_far within c.index_mut.ensures.value (c.requires.ready i d less).kept in
-    let flag : c.is_opened.result ≡ opened i = c.is_opened.ensures ∙ ap (λ w. opened_by c.args.closed.now w i) c.deref.ensures.value in
-    (asks_of piles i, get_or old i d, next.0, next.1, subst (λ b. ComesBack b (asks_of piles i) (get_or old i d) d (into_iter_items c.loop-i.dones) next.0 next.1) (sym flag) next.2)
+pub close_all-requires-clause-closed : goal.close_all-requires-clause-closed
+close_all-requires-clause-closed g c =
+    omega (arith, c.requires.closed, ap length c.in_ok-pairs.ensures.held, held_long (opened_by c.args.closed.now c.args.plan.now.wanted.items) 0 c.args.desks.now.items)
 
-pub loop-i-preserved : goal.loop-i-preserved
-loop-i-preserved g c =
-    let i = c.loop-i.i in
-    let d = c.index_mut.result.now in
-    let old = c.args.desks.now.items in
-    let phase = c.args.phase in
-    let piles = c.args.plan.now.asks in
-    let opened = opened_by c.args.closed.now c.args.plan.now.wanted.items in
-    let so_far = c.loop-i.invariant in
-    let most = 4096 * (phase + 1) in
-    let less : i < length old = omega (arith, c.loop-i-test.true, c.len-i-end.ensures, ap length c.in_ok-pairs.ensures.held, held_long opened 0 old) in
-    let within : i < length c.loop-i.desks.items = omega (arith, less, so_far.count) in
-    let ready = c.requires.ready i d less in
-    let o = get_or old i d in
-    let dones = into_iter_items c.loop-i.dones in
-    let left = into_iter_items c.close_device.new.dones in
-    let next = next_comes opened phase piles most i old c.loop-i.desks.items dones c.args.settled.now.items c.loop-i.settled.items c.loop-i.outcomes d so_far within c.index_mut.ensures.value ready.kept in
-    let flag : c.is_opened.result ≡ opened i = c.is_opened.ensures ∙ ap (λ w. opened_by c.args.closed.now w i) c.deref.ensures.value in
-    let comes = subst (λ b. ComesBack b (asks_of piles i) o d dones next.0 next.1) (sym flag) next.2 in
-    let new = c.close_device.new.desk in
-    let settled = c.loop-i.settled.items in
-    let settled' = c.close_device.new.settled.items in
-    let results = c.in_ok-results.results.items in
-    let ran = subst (λ b. DeviceRan b phase i (asks_of piles i) o new settled settled' results) flag (c.in_ok-results.ensures.ran (asks_of piles i) o next.0 next.1 comes) in
-    let rest : left ≡ next.1 = c.in_ok-results.ensures.rest (asks_of piles i) o next.0 next.1 comes in
-    let more : 4096 * phase + 4096 ≡ most = omega arith in
-    let kept = subst (λ n. IsReady n new) more (device_ready (opened i) phase i (4096 * phase) 4096 (asks_of piles i) o new settled settled' results ran ready.few (c.requires.suits.few i less)) in
-    let comes_next = subst (OneEach DeskRan opened (asks_of piles) (i + 1) _) (sym rest) next.3 in
-    subst (λ l. DevicesSoFar opened phase piles most (i + 1) old (slice_set c.loop-i.desks.items i new) left c.args.settled.now.items settled' l) (sym c.in_ok-add.ensures)
-    (devices_more opened phase piles most i old c.loop-i.desks.items dones left c.args.settled.now.items settled settled' c.loop-i.outcomes d new results so_far within ran kept comes_next)
+pub close_all-requires-clause-few : goal.close_all-requires-clause-few
+close_all-requires-clause-few g c =
+    omega (arith, c.requires.few, ap length c.in_ok-pairs.ensures.held, held_long (opened_by c.args.closed.now c.args.plan.now.wanted.items) 0 c.args.desks.now.items)
+
+pub close_all-requires-clause-come : goal.close_all-requires-clause-come
+close_all-requires-clause-come g c = (
+  c.args.desks.now.items,
+  all_come (opened_by c.args.closed.now c.args.plan.now.wanted.items) c.args.phase c.args.plan.now.asks c.args.desks.now.items c.open_all.new.desks.items c.in_ok-pairs.pairs.items c.run_phase.new.done.items c.requires.ready c.requires.suits c.in_ok-pairs.ensures.held
+      c.in_ok-pairs.ensures.opens c.run_phase.ensures,
+)
 
 pub returns-clause-ran : goal.returns-clause-ran
 returns-clause-ran g c =
     let opened = opened_by c.args.closed.now c.args.plan.now.wanted.items in
+    let come = all_come opened c.args.phase c.args.plan.now.asks c.args.desks.now.items c.open_all.new.desks.items c.in_ok-pairs.pairs.items c.run_phase.new.done.items c.requires.ready c.requires.suits c.in_ok-pairs.ensures.held c.in_ok-pairs.ensures.opens
+    c.run_phase.ensures in
     let old = c.args.desks.now.items in
-    let over : length c.loop-i.desks.items ≤ c.loop-i.i = omega (arith, c.loop-i-test.false, c.len-i-end.ensures, ap length c.in_ok-pairs.ensures.held, held_long opened 0 old, c.loop-i.invariant.count) in
-    (devices_end opened c.args.phase c.args.plan.now.asks _ c.loop-i.i old c.loop-i.desks.items (into_iter_items c.loop-i.dones) c.args.settled.now.items c.loop-i.settled.items c.loop-i.outcomes c.loop-i.invariant over).0
+    let piles = c.args.plan.now.asks in
+    let new = c.close_all.new.desks.items in
+    let settled = c.close_all.new.settled.items in
+    let ran : List (List LineResult) → Type 0 = λ outcomes. DevicesRan opened c.args.phase piles old new c.args.settled.now.items settled outcomes in
+    if_ok (λ outcomes. (olds : List Desk) → AllCome opened c.args.phase piles olds c.open_all.new.desks.items c.run_phase.new.done.items → DevicesRan opened c.args.phase piles olds new c.args.settled.now.items settled outcomes) ran c.close_all.result
+    (λ outcomes all. all old come) c.close_all.ensures.ran
 
 pub returns-clause-ready : goal.returns-clause-ready
 returns-clause-ready g c =
     let opened = opened_by c.args.closed.now c.args.plan.now.wanted.items in
-    let old = c.args.desks.now.items in
-    let over : length c.loop-i.desks.items ≤ c.loop-i.i = omega (arith, c.loop-i-test.false, c.len-i-end.ensures, ap length c.in_ok-pairs.ensures.held, held_long opened 0 old, c.loop-i.invariant.count) in
-    (devices_end opened c.args.phase c.args.plan.now.asks _ c.loop-i.i old c.loop-i.desks.items (into_iter_items c.loop-i.dones) c.args.settled.now.items c.loop-i.settled.items c.loop-i.outcomes c.loop-i.invariant over).1
+    let come = all_come opened c.args.phase c.args.plan.now.asks c.args.desks.now.items c.open_all.new.desks.items c.in_ok-pairs.pairs.items c.run_phase.new.done.items c.requires.ready c.requires.suits c.in_ok-pairs.ensures.held c.in_ok-pairs.ensures.opens
+    c.run_phase.ensures in
+    let most = 4096 * (c.args.phase + 1) in
+    let new = c.close_all.new.desks.items in
+    on_ok ((olds : List Desk) → AllCome opened c.args.phase c.args.plan.now.asks olds c.open_all.new.desks.items c.run_phase.new.done.items → All (IsReady most) new) (All (IsReady most) new) c.close_all.result
+    (λ all. all c.args.desks.now.items come) c.close_all.ensures.ready

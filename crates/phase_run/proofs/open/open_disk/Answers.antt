@@ -2,27 +2,24 @@ use Rattle.std.proofs.Common.{◌∙◌, ◌*◌, ap, None}
 use Rattle.work_model.specs.Roles.{side_that_asks}
 use Rattle.end_work.specs.Plans.{Planned, guest_planned, host_planned}
 use Rattle.end_work.specs.Seats.{at_host}
-use Rattle.phase_run.proofs.Making.{on_channel, host_roles, host_opens, pair_of}
+use Rattle.phase_run.proofs.Making.{host_roles, host_opens, made_opens, on_channel}
 use Rattle.phase_run.proofs.open.open_disk.Goals as goal
 
-pub invariant_of-result : goal.invariant_of-result
-invariant_of-result c =
-    pair_of c.in_ok-guest_end.guest_end c.in_ok-guest_end.host_end _ c.in_ok-guest.guest c.in_ok-host.host c.in_ok-guest_end.ensures.one_channel c.in_ok-guest_end.ensures.guest c.in_ok-guest_end.ensures.host
-    c.in_ok-guest.ensures.end c.in_ok-host.ensures.end
-    (host_roles c.args.kind c.args.asks.now (at_host c.args.seat) (guest_planned c.guest_plan-plan.result) (host_planned c.host_plan-plan.result) c.in_ok-guest.guest c.in_ok-host.host c.requires.seat
-    (ap (λ (p : Planned). p.kind) c.host_plan-plan.ensures) (ap (λ (p : Planned). p.count) c.host_plan-plan.ensures) (ap (λ (p : Planned). p.stop) c.host_plan-plan.ensures)
-    (ap (λ (p : Planned). p.kind) c.guest_plan-plan.ensures) (ap (λ (p : Planned). p.asks) c.guest_plan-plan.ensures ∙ c.in_ok-requests.ensures)
-    c.in_ok-host.ensures.made c.in_ok-guest.ensures.made)
+pub make_pair-requires-clause-roles : goal.make_pair-requires-clause-roles
+make_pair-requires-clause-roles c guest host asked served =
+    host_roles c.args.kind c.args.asks.now (at_host c.args.seat) (guest_planned c.guest_plan-guest.result) (host_planned c.host_plan-host.result) guest host c.requires.seat
+    (ap (λ (p : Planned). p.kind) c.host_plan-host.ensures) (ap (λ (p : Planned). p.count) c.host_plan-host.ensures) (ap (λ (p : Planned). p.stop) c.host_plan-host.ensures)
+    (ap (λ (p : Planned). p.kind) c.guest_plan-guest.ensures) (ap (λ (p : Planned). p.asks) c.guest_plan-guest.ensures ∙ c.in_ok-requests.ensures) served asked
 
 pub returns-clause-opens : goal.returns-clause-opens
 returns-clause-opens c =
-    host_opens c.args.kind c.args.asks.now (at_host c.args.seat) (guest_planned c.guest_plan-plan.result) (host_planned c.host_plan-plan.result) c.in_ok-guest.guest c.in_ok-host.host (ap side_that_asks c.requires.disk) c.requires.seat
-    (ap (λ (p : Planned). p.kind) c.host_plan-plan.ensures) (ap (λ (p : Planned). p.count) c.host_plan-plan.ensures) (ap (λ (p : Planned). p.stop) c.host_plan-plan.ensures)
-    (ap (λ (p : Planned). p.kind) c.guest_plan-plan.ensures) (ap (λ (p : Planned). p.asks) c.guest_plan-plan.ensures ∙ c.in_ok-requests.ensures)
-    c.in_ok-host.ensures.made c.in_ok-guest.ensures.made
+    made_opens c.args.kind c.args.asks.now (at_host c.args.seat) (guest_planned c.guest_plan-guest.result) (host_planned c.host_plan-host.result) None (at_host c.args.seat) c.make_pair.result
+    (λ guest host asked served. host_opens c.args.kind c.args.asks.now (at_host c.args.seat) (guest_planned c.guest_plan-guest.result) (host_planned c.host_plan-host.result) guest host (ap side_that_asks c.requires.disk) c.requires.seat
+    (ap (λ (p : Planned). p.kind) c.host_plan-host.ensures) (ap (λ (p : Planned). p.count) c.host_plan-host.ensures) (ap (λ (p : Planned). p.stop) c.host_plan-host.ensures)
+    (ap (λ (p : Planned). p.kind) c.guest_plan-guest.ensures) (ap (λ (p : Planned). p.asks) c.guest_plan-guest.ensures ∙ c.in_ok-requests.ensures) served asked)
+    c.make_pair.ensures.guest c.make_pair.ensures.host
 
 pub returns-clause-channel : goal.returns-clause-channel
 returns-clause-channel c =
-    on_channel c.args.relid (512 * c.args.pages) (guest_planned c.guest_plan-plan.result) (host_planned c.host_plan-plan.result) None (at_host c.args.seat) c.in_ok-guest_end.guest_end c.in_ok-guest_end.host_end c.in_ok-guest.guest c.in_ok-host.host
-    c.in_ok-guest.ensures.made c.in_ok-host.ensures.made (ap (λ (p : Planned). p.relid) c.guest_plan-plan.ensures) (ap (λ (p : Planned). p.relid) c.host_plan-plan.ensures) c.in_ok-guest_end.ensures.guest c.in_ok-guest_end.ensures.host
-    c.in_ok-guest.ensures.end.0 c.in_ok-host.ensures.end.0
+    on_channel c.args.relid (512 * c.args.pages) (guest_planned c.guest_plan-guest.result) (host_planned c.host_plan-host.result) None (at_host c.args.seat) c.make_pair.result
+    (ap (λ (p : Planned). p.relid) c.guest_plan-guest.ensures) (ap (λ (p : Planned). p.relid) c.host_plan-host.ensures) c.make_pair.ensures.guest c.make_pair.ensures.host c.make_pair.ensures.cells

@@ -1,0 +1,17 @@
+-- Two plans that agree, and the channel of the workers that are made for them.
+use Rattle.std.specs.Prelude.{ℕ, ◌≡◌, Option}
+use Rattle.end_work.specs.Pairs.{AreRoles}
+use Rattle.end_work.specs.Plans.{Planned, IsMade}
+use Rattle.end_work.specs.Workers.{end_at}
+use Rattle.end_work.specs.declared.device_seat.DeviceSeat.{DeviceSeat}
+use Rattle.end_work.specs.declared.worker.ChannelWorker.{ChannelWorker}
+use Rattle.phase_run.specs.Pairs.{Pairing}
+
+-- whichever workers are made for the plans, one asks, and the other makes room for all that it asks
+abbrev pub Agree : Planned → Option DeviceSeat → Planned → Option DeviceSeat → Type 0
+Agree p s q t = (guest host : ChannelWorker) → IsMade p s guest → IsMade q t host → AreRoles guest host
+
+-- the rings of the workers' channel have so many cells
+pub record HasCells (cells : ℕ) (p : Pairing) : Type 0 where
+  pub guest : (end_at p.guest).state.machine.cells ≡ cells
+  pub host : (end_at p.host).state.machine.cells ≡ cells
