@@ -78,10 +78,14 @@ fn refusals(rt: HostRuntime) {
         Event::WantClose,
         Event::WantRescind,
     ] {
-        check(&rt, guest.event(event) == Err(StateFault {
-                state: State::Offered,
-                event
-            }));
+        check(
+            &rt,
+            guest.event(event)
+                == Err(StateFault {
+                    state: State::Offered,
+                    event,
+                }),
+        );
         check(&rt, guest.state() == State::Offered);
     }
     let mut host = ChanState::make(Side::Host);
@@ -92,10 +96,14 @@ fn refusals(rt: HostRuntime) {
         Event::ReleaseSeen,
         Event::RescindSeen,
     ] {
-        check(&rt, host.event(event) == Err(StateFault {
-                state: State::Opened,
-                event
-            }));
+        check(
+            &rt,
+            host.event(event)
+                == Err(StateFault {
+                    state: State::Opened,
+                    event,
+                }),
+        );
         check(&rt, host.state() == State::Opened);
     }
 }

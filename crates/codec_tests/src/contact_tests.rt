@@ -22,29 +22,38 @@ const V3_0: Version = Version(196_608);
 
 const V2_4: Version = Version(131_076);
 
+// Each version, and the one that is tried after it.
+const NEXT: [(Version, Option<Version>); 7] = [
+    (V5_2, Some(V5_1)),
+    (V5_1, Some(V5_0)),
+    (V5_0, Some(V4_1)),
+    (V4_1, Some(V4_0)),
+    (V4_0, Some(V3_0)),
+    (V3_0, Some(V2_4)),
+    (V2_4, None),
+];
+
+// A host's highest version, the version that it is asked for, and whether it accepts that.
+const ASKED: [(Version, Version, bool); 6] = [
+    (V5_2, V5_2, true),
+    (V5_1, V5_2, false),
+    (V2_4, V2_4, true),
+    (V5_2, Version(327_683), false),
+    (V5_2, Version(131_072), false),
+    (Version(4_294_967_295), V3_0, true),
+];
+
 #[test]
-fn versions(rt: HostRuntime) -> Result<(), Fail> {
-    check(&rt, next_version(V5_2) == Some(V5_1));
-    check(&rt, next_version(V5_1) == Some(V5_0));
-    check(&rt, next_version(V5_0) == Some(V4_1));
-    check(&rt, next_version(V4_1) == Some(V4_0));
-    check(&rt, next_version(V4_0) == Some(V3_0));
-    check(&rt, next_version(V3_0) == Some(V2_4));
-    check(&rt, next_version(V2_4) == None);
-    for (highest, asked, accepts) in [
-        (V5_2, V5_2, true),
-        (V5_1, V5_2, false),
-        (V2_4, V2_4, true),
-        (V5_2, Version(327_683), false),
-        (V5_2, Version(131_072), false),
-        (Version(4_294_967_295), V3_0, true),
-    ] {
+fn versions(rt: HostRuntime) {
+    for (version, next) in NEXT {
+        check(&rt, next_version(version) == next);
+    }
+    for (highest, asked, accepts) in ASKED {
         check(&rt, host_accepts(highest, asked) == accepts);
     }
     check(&rt, agree(V5_2, V4_0) == V4_0);
     check(&rt, agree(V3_0, V5_1) == V3_0);
     check(&rt, agree(V2_4, V2_4) == V2_4);
-    Ok(())
 }
 
 // An offer's class id, the number in its instance id, its relid and its connection.
@@ -64,13 +73,20 @@ fn parts(m: &Msg) -> ([u8; 16], u8, u32, u32) {
 // The message offers a device of this kind, with this relid.
 fn check_offer(rt: &impl Abort, m: &Msg, kind: Kind, relid: u32) {
     check(rt, matches!(m, Msg::OfferChannel { .. }));
-    check(rt, read_offer(m) == Ok(Offered {
-            relid,
-            kind,
-            sub: 0
-        }));
+    check(
+        rt,
+        read_offer(m)
+            == Ok(Offered {
+                relid,
+                kind,
+                sub: 0,
+            }),
+    );
     let (_, instance, number, connection) = parts(m);
-    check(rt, (u32::from(instance), number, connection) == (relid, relid, relid));
+    check(
+        rt,
+        (u32::from(instance), number, connection) == (relid, relid, relid),
+    );
 }
 
 #[test]
@@ -82,22 +98,35 @@ fn all_kinds(rt: HostRuntime) -> Result<(), Fail> {
     check_offer(&rt, &messages[2], Kind::Disk, 3);
     check_offer(&rt, &messages[3], Kind::Net, 4);
     let scsi = parts(&messages[2]).0;
-    check(&rt, &scsi[..8] == [0xd9, 0x63, 0x61, 0xba, 0xa1, 0x04, 0x29, 0x4d].as_slice());
-    check(&rt, &scsi[8..] == [0xb6, 0x05, 0x72, 0xe2, 0xff, 0xb1, 0xdc, 0x7f].as_slice());
+    check(
+        &rt,
+        &scsi[..8] == [0xd9, 0x63, 0x61, 0xba, 0xa1, 0x04, 0x29, 0x4d].as_slice(),
+    );
+    check(
+        &rt,
+        &scsi[8..] == [0xb6, 0x05, 0x72, 0xe2, 0xff, 0xb1, 0xdc, 0x7f].as_slice(),
+    );
     Ok(())
 }
 
 #[test]
 fn unknown_class(rt: HostRuntime) {
     let mut m = offer(Kind::Net, 9, 3);
-    check(&rt, read_offer(&m) == Ok(Offered {
-            relid: 9,
-            kind: Kind::Net,
-            sub: 3
-        }));
+    check(
+        &rt,
+        read_offer(&m)
+            == Ok(Offered {
+                relid: 9,
+                kind: Kind::Net,
+                sub: 3,
+            }),
+    );
     if let Msg::OfferChannel { if_type, .. } = &mut m {
         *if_type = [7; 16];
     }
     check(&rt, matches!(m, Msg::OfferChannel { .. }));
-    check(&rt, read_offer(&m) == Err(OfferFault::Class { id: [7; 16] }));
+    check(
+        &rt,
+        read_offer(&m) == Err(OfferFault::Class { id: [7; 16] }),
+    );
 }

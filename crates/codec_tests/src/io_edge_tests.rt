@@ -65,7 +65,10 @@ fn reads_whole(rt: HostRuntime) -> Result<(), Fail> {
         }
     }
     let mut sure = SureSource::make(text.to_vec(rt.alloc())?);
-    check(&rt, read_all(rt.alloc(), &mut sure, 15)?.as_slice() == text.as_slice());
+    check(
+        &rt,
+        read_all(rt.alloc(), &mut sure, 15)?.as_slice() == text.as_slice(),
+    );
     Ok(())
 }
 
@@ -103,9 +106,15 @@ fn writes(rt: HostRuntime) -> Result<(), Fail> {
 #[test]
 fn std_edges(rt: HostRuntime) -> Result<(), Fail> {
     let mut source = StdSource::make(b"abc".as_slice());
-    check(&rt, read_all(rt.alloc(), &mut source, 3)?.as_slice() == b"abc".as_slice());
+    check(
+        &rt,
+        read_all(rt.alloc(), &mut source, 3)?.as_slice() == b"abc".as_slice(),
+    );
     let mut broken = StdSource::make(Breaks { left: 40_000 });
-    check(&rt, read_all(rt.alloc(), &mut broken, 50_000).err() == Some(ReadFault::Fault));
+    check(
+        &rt,
+        read_all(rt.alloc(), &mut broken, 50_000).err() == Some(ReadFault::Fault),
+    );
 
     let mut sink = StdSink::make(Vec::new(rt.alloc()));
     write_all(&mut sink, b"abc")?;

@@ -1,4 +1,4 @@
-//! Tests.
+//! Tests of the codecs' public calls: outside vectors, and each call once.
 #![tactic(auto)]
 
 #[cfg(test)]

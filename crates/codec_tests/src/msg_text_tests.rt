@@ -5,7 +5,6 @@ use msg_text::decode_text;
 use script_text::{ParseFault, ScriptFault, Why6};
 use std::alloc::Global;
 use std::process::Abort;
-use std::test::Fail;
 
 // Messages as Linux's structs lay them out, one of each kind, and then bytes that are none.
 const LINES: &[u8] =
@@ -85,44 +84,76 @@ fn fault(alloc: Global, bytes: &[u8]) -> Option<ScriptFault> {
 }
 
 fn refused(rt: &(impl Abort + AllocGlobal), bytes: &[u8], line: u32, why: Why6) {
-    check(rt, fault(rt.alloc(), bytes) == Some(ScriptFault { line, why }));
+    check(
+        rt,
+        fault(rt.alloc(), bytes) == Some(ScriptFault { line, why }),
+    );
+}
+
+// These lines are printed as this text.
+fn printed(rt: &(impl Abort + AllocGlobal), lines: &[u8], text: &[u8]) {
+    match decode_text(rt.alloc(), lines) {
+        Ok(found) => check(rt, found.as_slice() == text),
+        Err(_) => check(rt, false),
+    }
+}
+
+// A piece, so many times, and then the end.
+fn repeated(rt: &(impl Abort + AllocGlobal), piece: &[u8], count: u32, end: &[u8]) -> Vec<u8> {
+    let mut bytes = Vec::new(rt.alloc());
+    for _ in 0..count {
+        check(rt, bytes.extend_from_slice(piece).is_ok());
+    }
+    check(rt, bytes.extend_from_slice(end).is_ok());
+    bytes
 }
 
 #[test]
-fn prints(rt: HostRuntime) -> Result<(), Fail> {
-    check(&rt, decode_text(rt.alloc(), LINES)?.as_slice() == PRINTED);
-    check(&rt, decode_text(rt.alloc(), b"")?.as_slice() == b"".as_slice());
+fn prints(rt: HostRuntime) {
+    printed(&rt, LINES, PRINTED);
+    printed(&rt, b"", b"");
     let rows =
         b"0f000000000000000100000001000000\n0F0000000000000001000000010000\r\n0f00000000000000010000000100000000";
     let text = b"1 VERSION_RESPONSE supported 1 state 0 conn 1\n2 short 15 need 16\n3 long 17\n";
-    check(&rt, decode_text(rt.alloc(), rows)?.as_slice() == text.as_slice());
-    let unknown = decode_text(rt.alloc(), b"1600000000000000030000000500000005")?;
-    check(&rt, unknown.as_slice() == b"1 unknown 22\n".as_slice());
-    Ok(())
+    printed(&rt, rows, text);
+    printed(
+        &rt,
+        b"1600000000000000030000000500000005",
+        b"1 unknown 22\n",
+    );
 }
 
 #[test]
-fn refuses(rt: HostRuntime) -> Result<(), Fail> {
+fn refuses(rt: HostRuntime) {
     refused(&rt, b"00\n\n", 2, Why6::Form);
     refused(&rt, b"000", 1, Why6::Form);
     refused(&rt, b"0g", 1, Why6::Form);
     refused(&rt, b"00 ", 1, Why6::Form);
     refused(&rt, b"00\r", 1, Why6::Form);
-    let mut digits = vec![in rt.alloc(); b'a'; 1024]?;
-    check(&rt, fault(rt.alloc(), &digits) == None);
-    digits.push(b'a')?;
-    refused(&rt, &digits, 1, Why6::Form);
-    digits.push(b'a')?;
-    refused(&rt, &digits, 1, Why6::Limit);
-    let mut lines = Vec::new(rt.alloc());
-    for _ in 0..20_000u32 {
-        lines.extend_from_slice(b"00\n")?;
-    }
-    check(&rt, fault(rt.alloc(), &lines) == None);
-    let mut over = lines.clone()?;
-    over.extend_from_slice(b"00")?;
-    refused(&rt, &over, 20_001, Why6::Limit);
-    lines.extend_from_slice(b"\n")?;
-    refused(&rt, &lines, 20_001, Why6::Form);
-    Ok(())
+}
+
+#[test]
+fn limits(rt: HostRuntime) {
+    check(
+        &rt,
+        fault(rt.alloc(), &repeated(&rt, b"a", 1024, b"")) == None,
+    );
+    refused(&rt, &repeated(&rt, b"a", 1025, b""), 1, Why6::Form);
+    refused(&rt, &repeated(&rt, b"a", 1026, b""), 1, Why6::Limit);
+    check(
+        &rt,
+        fault(rt.alloc(), &repeated(&rt, b"00\n", 20_000, b"")) == None,
+    );
+    refused(
+        &rt,
+        &repeated(&rt, b"00\n", 20_000, b"00"),
+        20_001,
+        Why6::Limit,
+    );
+    refused(
+        &rt,
+        &repeated(&rt, b"00\n", 20_000, b"\n"),
+        20_001,
+        Why6::Form,
+    );
 }

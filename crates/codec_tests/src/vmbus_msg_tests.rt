@@ -1,6 +1,7 @@
 //! Messages made of the structs of Linux, and bytes that are none.
 
 use crate::check::check;
+use std::process::Abort;
 use vmbus_msg::{FieldName, Msg, MsgFault, decode, decode_and_encode, encode, encode_and_decode};
 
 // A message of each type, and the shortest and the longest of a page list.
@@ -250,6 +251,17 @@ const WRONG: [(&[u8], MsgFault); 31] = [
     ),
 ];
 
+// A version response, and a byte more.
+const RESPONSE: [u8; 17] = [15, 0, 0, 0, 0, 0, 0, 0, 1, 0, 0, 0, 1, 0, 0, 0, 0];
+
+const TEARDOWN: Msg = Msg::GpadlTeardown {
+    padding: 0,
+    relid: 3,
+    gpadl: 0xe1e10,
+};
+
+const TEARDOWN_BYTES: [u8; 16] = [11, 0, 0, 0, 0, 0, 0, 0, 3, 0, 0, 0, 0x10, 0x1e, 0x0e, 0];
+
 // Whether bytes are a message, and it has these bytes.
 fn comes_back(bytes: &[u8]) -> bool {
     let mut out = [0; 240];
@@ -259,52 +271,78 @@ fn comes_back(bytes: &[u8]) -> bool {
     }
 }
 
+// Whether bytes are no message, for this reason.
+fn is_refused(bytes: &[u8], fault: MsgFault) -> bool {
+    match decode(bytes) {
+        Ok(_) => false,
+        Err(found) => found == fault,
+    }
+}
+
+// What a version response says.
+fn response(bytes: &[u8]) -> Option<(u8, u8, u32)> {
+    match decode(bytes) {
+        Ok(
+            Msg::VersionResponse {
+                supported,
+                state,
+                conn,
+                ..
+            },
+        ) => Some((supported, state, conn)),
+        _ => None,
+    }
+}
+
+// The relid and the handle of a GPADL_TEARDOWN that was encoded and decoded.
+fn teardown_again(m: &Msg) -> Option<(u32, u32)> {
+    match encode_and_decode(m) {
+        Ok(Msg::GpadlTeardown { relid, gpadl, .. }) => Some((relid, gpadl)),
+        _ => None,
+    }
+}
+
+fn check_messages(rt: &impl Abort, messages: &[&[u8]]) {
+    for bytes in messages {
+        check(rt, comes_back(bytes));
+    }
+}
+
+fn check_wrong(rt: &impl Abort, rows: &[(&[u8], MsgFault)]) {
+    for (bytes, fault) in rows {
+        check(rt, is_refused(bytes, *fault));
+    }
+}
+
 #[test]
 fn messages_of_linux_come_back(rt: HostRuntime) {
-    for bytes in MESSAGES {
-        check(&rt, comes_back(bytes));
-    }
+    check_messages(&rt, &MESSAGES);
 }
 
 #[test]
 fn wrong_bytes_are_refused(rt: HostRuntime) {
-    for (bytes, fault) in WRONG {
-        check(&rt, decode(bytes).err() == Some(fault));
-    }
+    check_wrong(&rt, &WRONG);
 }
 
 #[test]
 fn a_version_response_has_one_length(rt: HostRuntime) {
-    let bytes = [15, 0, 0, 0, 0, 0, 0, 0, 1, 0, 0, 0, 1, 0, 0, 0, 0];
-    let Ok(
-        Msg::VersionResponse {
-            supported,
-            state,
-            conn,
-            ..
-        },
-    ) = decode(&bytes[..16])
-    else {
-        panic!(rt; "refused");
-    };
-    check(&rt, supported == 1 && state == 0 && conn == 1);
-    check(&rt, decode(&bytes[..15]).err() == Some(MsgFault::Short { have: 15, need: 16 }));
-    check(&rt, decode(&bytes).err() == Some(MsgFault::Long { have: 17 }));
+    check(&rt, response(&RESPONSE[..16]) == Some((1, 0, 1)));
+    check(
+        &rt,
+        is_refused(&RESPONSE[..15], MsgFault::Short { have: 15, need: 16 }),
+    );
+    check(&rt, is_refused(&RESPONSE, MsgFault::Long { have: 17 }));
 }
 
 #[test]
-fn a_message_comes_back_and_the_buffer_stays(rt: HostRuntime) {
-    let m = Msg::GpadlTeardown {
-        padding: 0,
-        relid: 3,
-        gpadl: 0xe1e10,
-    };
-    let Ok(Msg::GpadlTeardown { relid, gpadl, .. }) = encode_and_decode(&m) else {
-        panic!(rt; "refused");
-    };
-    check(&rt, relid == 3 && gpadl == 0xe1e10);
+fn a_message_comes_back(rt: HostRuntime) {
+    check(&rt, teardown_again(&TEARDOWN) == Some((3, 0xe1e10)));
+}
+
+#[test]
+fn the_buffer_stays(rt: HostRuntime) {
     let mut out = [0xee; 240];
-    check(&rt, encode(&m, &mut out) == 16);
-    check(&rt, &out[..16] == &[11, 0, 0, 0, 0, 0, 0, 0, 3, 0, 0, 0, 0x10, 0x1e, 0x0e, 0][..]);
+    check(&rt, encode(&TEARDOWN, &mut out) == 16);
+    check(&rt, out.starts_with(&TEARDOWN_BYTES));
     check(&rt, out[16] == 0xee && out[239] == 0xee);
 }

@@ -3,6 +3,7 @@
 ghost use Rattle.std.specs.Prelude.{◌≡◌};
 
 use crate::check::check;
+use std::process::Abort;
 use wire_table::{Checked, Field, Layout, LayoutFault, fields};
 
 const MARKED: Layout<3> = Layout {
@@ -43,29 +44,29 @@ struct Marked {
     length: usize,
 }
 
-fn marked_table() -> Checked<3>
+fn marked_table(rt: &impl Abort) -> Checked<3>
     ensures { result.layout ≡ MARKED }
 {
     let Ok(table) = MARKED.check() else {
-        unreachable!()
+        panic!(rt; "refused");
     };
     table
 }
 
-fn write_marked(out: &mut [u8; 24], id: &[u8; 16]) {
-    let table = marked_table();
+fn write_marked(rt: &impl Abort, out: &mut [u8; 24], id: &[u8; 16]) {
+    let table = marked_table(rt);
     fields!(put table in out: num 0 = 0x0403_0201u32, num 1 = 0x0605u16, raw 6 = id, num 2 = 0x0807u16);
 }
 
-fn read_marked(bytes: &[u8; 24]) -> Marked {
-    let table = marked_table();
+fn read_marked(rt: &impl Abort, bytes: &[u8; 24]) -> Marked {
+    let table = marked_table(rt);
     fields!(get table in bytes: Marked { kind: u32 0, mark: u16 1, id: raw 6, end: u16 2, length: is (bytes.len()) })
 }
 
 #[test]
 fn a_table_reads_what_it_writes(rt: HostRuntime) {
     let mut bytes = [0xee; 24];
-    write_marked(&mut bytes, &[9; 16]);
+    write_marked(&rt, &mut bytes, &[9; 16]);
     let want = [
         1u8, 2, 3, 4, 5, 6, 9, 9, 9, 9, 9, 9, 9, 9, 9, 9, 9, 9, 9, 9, 9, 9, 7, 8,
     ];
@@ -76,7 +77,7 @@ fn a_table_reads_what_it_writes(rt: HostRuntime) {
         id,
         end,
         length,
-    } = read_marked(&bytes);
+    } = read_marked(&rt, &bytes);
     check(&rt, kind == 0x0403_0201);
     check(&rt, mark == 0x0605);
     check(&rt, id == [9; 16]);
@@ -87,14 +88,18 @@ fn a_table_reads_what_it_writes(rt: HostRuntime) {
 #[test]
 fn a_wrong_layout_is_refused(rt: HostRuntime) {
     let Err(first) = OVERLAPPING.check() else {
-        unreachable!()
+        panic!(rt; "accepted");
     };
-    check(&rt, first == LayoutFault::Overlap {
-            first: 1,
-            second: 2
-        });
+    check(
+        &rt,
+        first
+            == LayoutFault::Overlap {
+                first: 1,
+                second: 2,
+            },
+    );
     let Err(second) = LONG.check() else {
-        unreachable!()
+        panic!(rt; "accepted");
     };
     check(&rt, second == LayoutFault::PastEnd { field: 1 });
 }

@@ -1,14 +1,14 @@
 //! A whole stay on the bus against a host made by hand, and refusals.
+ghost use Rattle.std.specs.Prelude.{◌≡◌, []};
+
 use crate::check::check;
-use guest_end::{ControlFault, GuestControl};
 use bus_script::parse;
 use chan_state::{Event, State, StateFault};
 use contact::{Kind, Part, Version, offer};
 use gpadl::GpadlFault;
+use guest_end::{ControlFault, GuestControl};
 use mail_box::MailBox;
-use std::alloc::Global;
 use std::process::Abort;
-use std::test::Fail;
 use vmbus_msg::Msg;
 
 // Two heartbeat devices in the first phase, of which one is closed in it, and the other one in the
@@ -18,7 +18,9 @@ const SCRIPT: &[u8] =
 
 // What the tests tell messages by: the type, and then relid or version, handle, and the ring to the
 // guest or the number of frames.
-fn told(m: &Msg) -> (u32, u32, u32, u32) {
+type Told = (u32, u32, u32, u32);
+
+fn told(m: &Msg) -> Told {
     match m {
         Msg::RequestOffers { .. } => (3, 0, 0, 0),
         Msg::OpenChannel {
@@ -47,264 +49,369 @@ fn first_page(m: &Msg) -> Option<u64> {
     }
 }
 
-fn response(supported: u8) -> Msg {
-    Msg::VersionResponse {
-        padding: 0,
-        supported,
-        state: 0,
-        padding2: 0,
-        conn: 1,
+// A message of the host, by the fields that the tests give it.
+#[derive(Clone, Copy)]
+enum Said {
+    Response { supported: u8 },
+    Offer { kind: Kind, relid: u32, sub: u16 },
+    Delivered,
+    Created { relid: u32, gpadl: u32 },
+    Opened { relid: u32, status: u32 },
+    Torndown { gpadl: u32 },
+    Rescind { relid: u32 },
+    Unloaded,
+    Close { relid: u32 },
+}
+
+fn message(said: Said) -> Msg {
+    let padding = 0;
+    match said {
+        Said::Response { supported } => Msg::VersionResponse {
+            padding,
+            supported,
+            state: 0,
+            padding2: 0,
+            conn: 1,
+        },
+        Said::Offer { kind, relid, sub } => offer(kind, relid, sub),
+        Said::Delivered => Msg::AllOffersDelivered { padding },
+        Said::Created { relid, gpadl } => Msg::GpadlCreated {
+            padding,
+            relid,
+            gpadl,
+            status: 0,
+        },
+        Said::Opened { relid, status } => Msg::OpenChannelResult {
+            padding,
+            relid,
+            openid: relid,
+            status,
+        },
+        Said::Torndown { gpadl } => Msg::GpadlTorndown { padding, gpadl },
+        Said::Rescind { relid } => Msg::RescindChannelOffer { padding, relid },
+        Said::Unloaded => Msg::UnloadResponse { padding },
+        Said::Close { relid } => Msg::CloseChannel { padding, relid },
     }
 }
 
-fn created(relid: u32, gpadl: u32) -> Msg {
-    Msg::GpadlCreated {
-        padding: 0,
-        relid,
-        gpadl,
-        status: 0,
-    }
+// What the guest is given, or what is so then.
+#[derive(Clone, Copy)]
+enum Step {
+    // It begins the next part, which is this one.
+    Begin(Part),
+    // It takes a message.
+    Feed(Said),
+    // A message is refused so, and nothing comes of it.
+    Refuse(Said, ControlFault),
+    // The channel with this relid is so.
+    IsAt(u32, Option<State>),
+    // The part is done, or not.
+    IsDone(bool),
+    // This version is agreed.
+    Agreed(u32),
+    // The list's message that was sent last begins with this page.
+    FirstPage(u64),
+    // All parts are done. So many messages were sent, and so many taken.
+    Ended(usize, usize),
+    // So many messages were taken.
+    Taken(usize),
 }
 
-fn opened(relid: u32, status: u32) -> Msg {
-    Msg::OpenChannelResult {
-        padding: 0,
-        relid,
-        openid: relid,
-        status,
-    }
+// A guest of the script.
+fn guest_of(rt: &(impl Abort + AllocGlobal), script: &[u8]) -> GuestControl {
+    let Ok(script) = parse(rt.alloc(), script) else {
+        panic!(rt; "no script");
+    };
+    let Ok(guest) = GuestControl::make(rt.alloc(), &script) else {
+        panic!(rt; "no guest");
+    };
+    guest
 }
 
-fn torndown(gpadl: u32) -> Msg {
-    Msg::GpadlTorndown { padding: 0, gpadl }
-}
-
-fn delivered() -> Msg {
-    Msg::AllOffersDelivered { padding: 0 }
-}
-
-// Begins the next part, which is this one, and sends these messages.
-fn begin(
-    rt: &impl Abort,
-    alloc: Global,
-    guest: &mut GuestControl,
-    part: Part,
-    sends: &[(u32, u32, u32, u32)],
-) -> Result<(), Fail> {
-    let mut post = MailBox::make(alloc, 64)?;
-    let next = guest.next_part().ok_or("no part is left")?;
-    check(rt, next == part);
-    check(rt, guest.part().is_none() || guest.done());
-    guest.begin(next, &mut post)?;
-    check(rt, guest.part() == Some(part));
-    check_sent(rt, post, sends)
-}
-
-// Takes a message, and sends these.
-fn feed(
-    rt: &impl Abort,
-    alloc: Global,
-    guest: &mut GuestControl,
-    m: Msg,
-    sends: &[(u32, u32, u32, u32)],
-) -> Result<(), Fail> {
-    let mut post = MailBox::make(alloc, 64)?;
-    check(rt, guest.feed(&m, &mut post) == Ok(()));
-    check_sent(rt, post, sends)
-}
-
-// A message is refused so, and nothing comes of it.
-fn refuse(
-    rt: &impl Abort,
-    alloc: Global,
-    guest: &mut GuestControl,
-    m: Msg,
-    fault: ControlFault,
-) -> Result<(), Fail> {
-    let mut post = MailBox::make(alloc, 64)?;
-    let fed = guest.fed().len();
-    check(rt, guest.feed(&m, &mut post) == Err(fault));
-    check(rt, guest.fed().len() == fed);
-    check_sent(rt, post, &[])
+// An empty box.
+fn empty_box(rt: &(impl Abort + AllocGlobal)) -> MailBox
+    ensures { result ≡ record { size = 64; queue = [] } }
+{
+    let Ok(post) = MailBox::make(rt.alloc(), 64) else {
+        panic!(rt; "no box");
+    };
+    post
 }
 
 // These messages are in the box, and no other.
-fn check_sent(
-    rt: &impl Abort,
-    mut post: MailBox,
-    sends: &[(u32, u32, u32, u32)],
-) -> Result<(), Fail> {
+fn check_sent(rt: &impl Abort, post: &mut MailBox, sends: &[Told]) {
     for want in sends {
-        let m = post.take().ok_or("a message is missing")?;
-        check(rt, told(&m) == *want);
+        check(rt, post.take().as_ref().map(told) == Some(*want));
     }
     check(rt, post.take().is_none());
-    Ok(())
+}
+
+fn begin(rt: &(impl Abort + AllocGlobal), guest: &mut GuestControl, part: Part, sends: &[Told]) {
+    let mut post = empty_box(rt);
+    let Some(next) = guest.next_part() else {
+        panic!(rt; "no part is left");
+    };
+    check(rt, next == part);
+    check(rt, guest.part().is_none() || guest.done());
+    check(rt, guest.begin(next, &mut post).is_ok());
+    check(rt, guest.part() == Some(part));
+    check_sent(rt, &mut post, sends);
+}
+
+fn feed(rt: &(impl Abort + AllocGlobal), guest: &mut GuestControl, m: &Msg, sends: &[Told]) {
+    let mut post = empty_box(rt);
+    check(rt, guest.feed(m, &mut post) == Ok(()));
+    check_sent(rt, &mut post, sends);
+}
+
+fn refuse(rt: &(impl Abort + AllocGlobal), guest: &mut GuestControl, m: &Msg, fault: ControlFault) {
+    let mut post = empty_box(rt);
+    let fed = guest.fed().len();
+    check(rt, guest.feed(m, &mut post) == Err(fault));
+    check(rt, guest.fed().len() == fed);
+    check_sent(rt, &mut post, &[]);
+}
+
+fn take(rt: &(impl Abort + AllocGlobal), guest: &mut GuestControl, step: Step, sends: &[Told]) {
+    match step {
+        Step::Begin(part) => begin(rt, guest, part, sends),
+        Step::Feed(said) => feed(rt, guest, &message(said), sends),
+        Step::Refuse(said, fault) => refuse(rt, guest, &message(said), fault),
+        Step::IsAt(relid, state) => check(rt, guest.state(relid) == state),
+        Step::IsDone(done) => check(rt, guest.done() == done),
+        Step::Agreed(version) => check(rt, guest.version() == Some(Version(version))),
+        Step::FirstPage(page) => {
+            check(rt, guest.posted().last().and_then(first_page) == Some(page));
+        }
+        Step::Ended(posted, fed) => {
+            check(rt, guest.done() && guest.next_part().is_none());
+            check(
+                rt,
+                (guest.posted().len(), guest.fed().len()) == (posted, fed),
+            );
+        }
+        Step::Taken(fed) => check(rt, guest.fed().len() == fed),
+    }
+}
+
+// A guest of the script takes these steps in turn; each sends the messages beside it.
+fn take_all(rt: &(impl Abort + AllocGlobal), steps: &[(Step, &[Told])]) {
+    let mut guest = guest_of(rt, SCRIPT);
+    check(
+        rt,
+        guest.part().is_none() && guest.version().is_none() && !guest.done(),
+    );
+    for (step, sends) in steps {
+        take(rt, &mut guest, *step, sends);
+    }
 }
 
 const GPADL: u32 = 0xe1e10;
 
-#[test]
-fn whole_stay(rt: HostRuntime) -> Result<(), Fail> {
-    let alloc = rt.alloc();
-    let script = parse(alloc, SCRIPT).ok().ok_or("no script")?;
-    let mut guest = GuestControl::make(alloc, &script)?;
-    check(&rt, guest.part().is_none() && guest.version().is_none() && !guest.done());
-    begin(
-        &rt,
-        alloc,
-        &mut guest,
-        Part::Contact,
-        &[(14, 0x5_0001, 0, 0)],
-    )?;
-    feed(&rt, alloc, &mut guest, response(0), &[(14, 0x5_0000, 0, 0)])?;
-    feed(&rt, alloc, &mut guest, response(0), &[(14, 0x4_0001, 0, 0)])?;
-    feed(&rt, alloc, &mut guest, response(0), &[(14, 0x4_0000, 0, 0)])?;
-    feed(&rt, alloc, &mut guest, response(1), &[(3, 0, 0, 0)])?;
-    check(&rt, guest.version() == Some(Version(0x4_0000)));
-    feed(&rt, alloc, &mut guest, offer(Kind::Beat, 1, 0), &[])?;
-    feed(&rt, alloc, &mut guest, offer(Kind::Down, 2, 0), &[])?;
-    check(&rt, !guest.done());
-    feed(&rt, alloc, &mut guest, delivered(), &[])?;
-    check(&rt, guest.done());
-    check(&rt, guest.state(2) == Some(State::Offered));
-    check(&rt, guest.state(3) == None);
-
-    begin(
-        &rt,
-        alloc,
-        &mut guest,
-        Part::PhaseStart(0),
-        &[(8, 1, GPADL, 4)],
-    )?;
-    feed(
-        &rt,
-        alloc,
-        &mut guest,
-        created(1, GPADL),
-        &[(5, 1, GPADL, 2)],
-    )?;
-    check(&rt, guest.state(1) == Some(State::Opening));
-    let second = [(8, 2, GPADL + 1, 26), (9, 0, GPADL + 1, 8)];
-    feed(&rt, alloc, &mut guest, opened(1, 0), &second)?;
-    check(&rt, guest.posted().last().and_then(first_page) == Some(30));
-    feed(
-        &rt,
-        alloc,
-        &mut guest,
-        created(2, GPADL + 1),
-        &[(5, 2, GPADL + 1, 17)],
-    )?;
-    check(&rt, !guest.done());
-    feed(&rt, alloc, &mut guest, opened(2, 0), &[])?;
-    check(&rt, guest.done());
-    check(&rt, guest.state(2) == Some(State::Opened));
-
-    let close_first = [(7, 1, 0, 0), (11, 1, GPADL, 0)];
-    begin(&rt, alloc, &mut guest, Part::PhaseEnd(0), &close_first)?;
-    let close_second = [(7, 2, 0, 0), (11, 2, GPADL + 1, 0)];
-    feed(&rt, alloc, &mut guest, torndown(GPADL), &close_second)?;
-    check(&rt, guest.state(2) == Some(State::Closing));
-    feed(&rt, alloc, &mut guest, torndown(GPADL + 1), &[])?;
-    check(&rt, guest.state(1) == Some(State::Closed));
-
-    let again = [(8, 2, GPADL + 2, 26), (9, 0, GPADL + 2, 8)];
-    begin(&rt, alloc, &mut guest, Part::PhaseStart(1), &again)?;
-    check(&rt, guest.posted().last().and_then(first_page) == Some(64));
-    feed(
-        &rt,
-        alloc,
-        &mut guest,
-        created(2, GPADL + 2),
-        &[(5, 2, GPADL + 2, 17)],
-    )?;
-    feed(&rt, alloc, &mut guest, opened(2, 0), &[])?;
-    let close_again = [(7, 2, 0, 0), (11, 2, GPADL + 2, 0)];
-    begin(&rt, alloc, &mut guest, Part::PhaseEnd(1), &close_again)?;
-    feed(&rt, alloc, &mut guest, torndown(GPADL + 2), &[])?;
-    begin(&rt, alloc, &mut guest, Part::Unload, &[(16, 0, 0, 0)])?;
-    feed(
-        &rt,
-        alloc,
-        &mut guest,
-        Msg::UnloadResponse { padding: 0 },
+const STAY: [(Step, &[Told]); 37] = [
+    (Step::Begin(Part::Contact), &[(14, 0x5_0001, 0, 0)]),
+    (
+        Step::Feed(Said::Response { supported: 0 }),
+        &[(14, 0x5_0000, 0, 0)],
+    ),
+    (
+        Step::Feed(Said::Response { supported: 0 }),
+        &[(14, 0x4_0001, 0, 0)],
+    ),
+    (
+        Step::Feed(Said::Response { supported: 0 }),
+        &[(14, 0x4_0000, 0, 0)],
+    ),
+    (Step::Feed(Said::Response { supported: 1 }), &[(3, 0, 0, 0)]),
+    (Step::Agreed(0x4_0000), &[]),
+    (
+        Step::Feed(Said::Offer {
+            kind: Kind::Beat,
+            relid: 1,
+            sub: 0,
+        }),
         &[],
-    )?;
-    check(&rt, guest.done() && guest.next_part().is_none());
-    check(&rt, (guest.posted().len(), guest.fed().len()) == (20, 17));
-    Ok(())
+    ),
+    (
+        Step::Feed(Said::Offer {
+            kind: Kind::Down,
+            relid: 2,
+            sub: 0,
+        }),
+        &[],
+    ),
+    (Step::IsDone(false), &[]),
+    (Step::Feed(Said::Delivered), &[]),
+    (Step::IsDone(true), &[]),
+    (Step::IsAt(2, Some(State::Offered)), &[]),
+    (Step::IsAt(3, None), &[]),
+    (Step::Begin(Part::PhaseStart(0)), &[(8, 1, GPADL, 4)]),
+    (
+        Step::Feed(Said::Created {
+            relid: 1,
+            gpadl: GPADL,
+        }),
+        &[(5, 1, GPADL, 2)],
+    ),
+    (Step::IsAt(1, Some(State::Opening)), &[]),
+    (
+        Step::Feed(Said::Opened {
+            relid: 1,
+            status: 0,
+        }),
+        &[(8, 2, GPADL + 1, 26), (9, 0, GPADL + 1, 8)],
+    ),
+    (Step::FirstPage(30), &[]),
+    (
+        Step::Feed(Said::Created {
+            relid: 2,
+            gpadl: GPADL + 1,
+        }),
+        &[(5, 2, GPADL + 1, 17)],
+    ),
+    (Step::IsDone(false), &[]),
+    (
+        Step::Feed(Said::Opened {
+            relid: 2,
+            status: 0,
+        }),
+        &[],
+    ),
+    (Step::IsDone(true), &[]),
+    (Step::IsAt(2, Some(State::Opened)), &[]),
+    (
+        Step::Begin(Part::PhaseEnd(0)),
+        &[(7, 1, 0, 0), (11, 1, GPADL, 0)],
+    ),
+    (
+        Step::Feed(Said::Torndown { gpadl: GPADL }),
+        &[(7, 2, 0, 0), (11, 2, GPADL + 1, 0)],
+    ),
+    (Step::IsAt(2, Some(State::Closing)), &[]),
+    (Step::Feed(Said::Torndown { gpadl: GPADL + 1 }), &[]),
+    (Step::IsAt(1, Some(State::Closed)), &[]),
+    (
+        Step::Begin(Part::PhaseStart(1)),
+        &[(8, 2, GPADL + 2, 26), (9, 0, GPADL + 2, 8)],
+    ),
+    (Step::FirstPage(64), &[]),
+    (
+        Step::Feed(Said::Created {
+            relid: 2,
+            gpadl: GPADL + 2,
+        }),
+        &[(5, 2, GPADL + 2, 17)],
+    ),
+    (
+        Step::Feed(Said::Opened {
+            relid: 2,
+            status: 0,
+        }),
+        &[],
+    ),
+    (
+        Step::Begin(Part::PhaseEnd(1)),
+        &[(7, 2, 0, 0), (11, 2, GPADL + 2, 0)],
+    ),
+    (Step::Feed(Said::Torndown { gpadl: GPADL + 2 }), &[]),
+    (Step::Begin(Part::Unload), &[(16, 0, 0, 0)]),
+    (Step::Feed(Said::Unloaded), &[]),
+    (Step::Ended(20, 17), &[]),
+];
+
+const REFUSALS: [(Step, &[Told]); 22] = [
+    (Step::Begin(Part::Contact), &[(14, 0x5_0001, 0, 0)]),
+    (
+        Step::Refuse(Said::Close { relid: 9 }, ControlFault::Unasked { kind: 7 }),
+        &[],
+    ),
+    (
+        Step::Refuse(
+            Said::Created { relid: 9, gpadl: 1 },
+            ControlFault::Relid { value: 9 },
+        ),
+        &[],
+    ),
+    (
+        Step::Refuse(
+            Said::Torndown { gpadl: GPADL },
+            ControlFault::Gpadl(GpadlFault::Handle { id: GPADL }),
+        ),
+        &[],
+    ),
+    (Step::Feed(Said::Response { supported: 7 }), &[]),
+    (Step::Feed(Said::Delivered), &[]),
+    (
+        Step::Feed(Said::Offer {
+            kind: Kind::Beat,
+            relid: 1,
+            sub: 0,
+        }),
+        &[],
+    ),
+    (Step::IsAt(1, None), &[]),
+    (Step::Feed(Said::Response { supported: 1 }), &[(3, 0, 0, 0)]),
+    (
+        Step::Feed(Said::Offer {
+            kind: Kind::Down,
+            relid: 1,
+            sub: 0,
+        }),
+        &[],
+    ),
+    (Step::IsAt(1, None), &[]),
+    (
+        Step::Feed(Said::Offer {
+            kind: Kind::Beat,
+            relid: 2,
+            sub: 0,
+        }),
+        &[],
+    ),
+    (Step::IsAt(1, None), &[]),
+    (
+        Step::Feed(Said::Offer {
+            kind: Kind::Beat,
+            relid: 1,
+            sub: 1,
+        }),
+        &[],
+    ),
+    (Step::IsAt(1, None), &[]),
+    (Step::Feed(Said::Delivered), &[]),
+    (Step::IsAt(1, None), &[]),
+    (
+        Step::Feed(Said::Offer {
+            kind: Kind::Beat,
+            relid: 1,
+            sub: 0,
+        }),
+        &[],
+    ),
+    (
+        Step::Refuse(
+            Said::Opened {
+                relid: 1,
+                status: 0,
+            },
+            ControlFault::State(StateFault {
+                state: State::Offered,
+                event: Event::ResultSeen { status: 0 },
+            }),
+        ),
+        &[],
+    ),
+    (Step::Feed(Said::Rescind { relid: 1 }), &[(13, 1, 0, 0)]),
+    (Step::IsAt(1, Some(State::Released)), &[]),
+    (Step::Taken(10), &[]),
+];
+
+#[test]
+fn whole_stay(rt: HostRuntime) {
+    take_all(&rt, &STAY);
 }
 
 #[test]
-fn refusals(rt: HostRuntime) -> Result<(), Fail> {
-    let alloc = rt.alloc();
-    let script = parse(alloc, SCRIPT).ok().ok_or("no script")?;
-    let mut guest = GuestControl::make(alloc, &script)?;
-    begin(
-        &rt,
-        alloc,
-        &mut guest,
-        Part::Contact,
-        &[(14, 0x5_0001, 0, 0)],
-    )?;
-    let unasked = Msg::CloseChannel {
-        padding: 0,
-        relid: 9,
-    };
-    refuse(
-        &rt,
-        alloc,
-        &mut guest,
-        unasked,
-        ControlFault::Unasked { kind: 7 },
-    )?;
-    refuse(
-        &rt,
-        alloc,
-        &mut guest,
-        created(9, 1),
-        ControlFault::Relid { value: 9 },
-    )?;
-    let handle = GpadlFault::Handle { id: GPADL };
-    refuse(
-        &rt,
-        alloc,
-        &mut guest,
-        torndown(GPADL),
-        ControlFault::Gpadl(handle),
-    )?;
-    feed(&rt, alloc, &mut guest, response(7), &[])?;
-    feed(&rt, alloc, &mut guest, delivered(), &[])?;
-    feed(&rt, alloc, &mut guest, offer(Kind::Beat, 1, 0), &[])?;
-    check(&rt, guest.state(1) == None);
-    feed(&rt, alloc, &mut guest, response(1), &[(3, 0, 0, 0)])?;
-    for m in [
-        offer(Kind::Down, 1, 0),
-        offer(Kind::Beat, 2, 0),
-        offer(Kind::Beat, 1, 1),
-        delivered(),
-    ] {
-        feed(&rt, alloc, &mut guest, m, &[])?;
-        check(&rt, guest.state(1) == None);
-    }
-    feed(&rt, alloc, &mut guest, offer(Kind::Beat, 1, 0), &[])?;
-    let state = StateFault {
-        state: State::Offered,
-        event: Event::ResultSeen { status: 0 },
-    };
-    refuse(
-        &rt,
-        alloc,
-        &mut guest,
-        opened(1, 0),
-        ControlFault::State(state),
-    )?;
-    let rescind = Msg::RescindChannelOffer {
-        padding: 0,
-        relid: 1,
-    };
-    feed(&rt, alloc, &mut guest, rescind, &[(13, 1, 0, 0)])?;
-    check(&rt, guest.state(1) == Some(State::Released));
-    check(&rt, guest.fed().len() == 10);
-    Ok(())
+fn refusals(rt: HostRuntime) {
+    take_all(&rt, &REFUSALS);
 }

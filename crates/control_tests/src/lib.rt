@@ -1,4 +1,4 @@
-//! Tests.
+//! Tests of the guest's control: a whole stay on the bus, and each refusal.
 #![tactic(auto)]
 
 #[cfg(test)]

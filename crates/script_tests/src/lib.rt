@@ -1,4 +1,4 @@
-//! Tests.
+//! Tests of the script's public calls: scripts read or refused, and reports byte for byte.
 #![tactic(auto)]
 
 #[cfg(test)]
