@@ -3,8 +3,8 @@ ghost use Rattle.std.specs.Prelude.{◌≡◌, ◌≤◌, length, IfOk};
 ghost use Rattle.contact.specs.declared.kind.Kind.TheVariants.{Beat, Down, Disk as DiskKind};
 
 use crate::check::check;
-use bus_talk::{KindTalk, is_askable};
 use bus_script::{Ask, Reply};
+use bus_talk::{KindTalk, is_askable};
 use chan_talk::Talk;
 use contact::Kind;
 use hist_lock::Machine;
@@ -28,7 +28,7 @@ fn talk_of(rt: &impl Abort, alloc: Global, kind: Kind, ask: Ask) -> Result<KindT
 }
 
 /// Wants a packet of this first word and id with these first bytes of its payload, and zeros behind them up to 64 bytes.
-fn check(rt: &impl Abort, packet: &[u64], first: u64, id: u64, front: &[u8])
+fn is_packet(rt: &impl Abort, packet: &[u64], first: u64, id: u64, front: &[u8])
     requires { length front.now ≤ 64 }
 {
     check(rt, packet.len() >= 10);
@@ -45,35 +45,61 @@ const ASKS: u64 = 0x0001_000a_0002_0006;
 
 const DONE: u64 = 0x000a_0002_000b;
 
+/// The k-th packet of a disk's start-up begins with these bytes, and what comes back with those.
+fn starts(rt: &impl Abort, talk: &KindTalk, k: u32, asked: [u8; 14], back: &[u8])
+    requires { length back.now ≤ 64 }
+{
+    check(rt, (talk.count(), talk.starts()) == (4, 4));
+    check(rt, k < 4);
+    let mut words = [0; 384];
+    let len = talk.encode(k, 40, &mut words);
+    let packet = &words[..len];
+    is_packet(rt, packet, ASKS, 40, &asked);
+    check(rt, talk.is_waiting(packet) && talk.read(packet).is_none());
+    let mut out = [0; 384];
+    let len = talk.write_fixed(packet, &mut out);
+    check(rt, len > 0);
+    is_packet(rt, &out[..len], DONE, 40, back);
+    check(rt, talk.result(k, &out[..len]).is_none());
+}
+
 #[test]
 fn disks_start_up(rt: HostRuntime) -> Result<(), Fail> {
     let talk = KindTalk::make(Kind::Disk, Vec::with_capacity(rt.alloc(), 0)?);
-    check(&rt, (talk.count(), talk.starts()) == (4, 4));
-    let rows: [(u8, [u8; 2]); 4] = [(7, [0, 0]), (9, [2, 6]), (10, [0, 0]), (8, [0, 0])];
-    for k in 0..4 {
-        let (operation, version) = rows[k as usize];
-        let mut words = [0; 384];
-        let len = talk.encode(k, 40, &mut words);
-        let packet = &words[..len];
-        let mut front = [operation, 0, 0, 0, 1, 0, 0, 0, 0, 0, 0, 0, 0, 0];
-        front[12..14].copy_from_slice(&version);
-        check(&rt, packet, ASKS, 40, &front);
-        check(&rt, talk.is_waiting(packet) && talk.read(packet).is_none());
-        let mut out = [0; 384];
-        let back = talk.write_fixed(packet, &mut out);
-        check(&rt, back > 0);
-        front[0] = 1;
-        if operation == 10 {
-            // At most 3 sub-channels, flags 1, at most 4,096 bytes.
-            let most = [
-                1, 0, 0, 0, 1, 0, 0, 0, 0, 0, 0, 0, 0, 0, 0, 0, 3, 0, 0, 0, 1, 0, 0, 0, 0, 16,
-            ];
-            check(&rt, &out[..back], DONE, 40, &most);
-        } else {
-            check(&rt, &out[..back], DONE, 40, &front);
-        }
-        check(&rt, talk.result(k, &out[..back]).is_none());
-    }
+    let t = &talk;
+    starts(
+        &rt,
+        t,
+        0,
+        [7, 0, 0, 0, 1, 0, 0, 0, 0, 0, 0, 0, 0, 0],
+        &[1, 0, 0, 0, 1],
+    );
+    let version = [1, 0, 0, 0, 1, 0, 0, 0, 0, 0, 0, 0, 2, 6];
+    starts(
+        &rt,
+        t,
+        1,
+        [9, 0, 0, 0, 1, 0, 0, 0, 0, 0, 0, 0, 2, 6],
+        &version,
+    );
+    // At most 3 sub-channels, flags 1, at most 4,096 bytes.
+    let most = [
+        1, 0, 0, 0, 1, 0, 0, 0, 0, 0, 0, 0, 0, 0, 0, 0, 3, 0, 0, 0, 1, 0, 0, 0, 0, 16,
+    ];
+    starts(
+        &rt,
+        t,
+        2,
+        [10, 0, 0, 0, 1, 0, 0, 0, 0, 0, 0, 0, 0, 0],
+        &most,
+    );
+    starts(
+        &rt,
+        t,
+        3,
+        [8, 0, 0, 0, 1, 0, 0, 0, 0, 0, 0, 0, 0, 0],
+        &[1, 0, 0, 0, 1],
+    );
     Ok(())
 }
 
@@ -128,8 +154,11 @@ fn disks_write_and_read(rt: HostRuntime) -> Result<(), Fail> {
         3, 0, 0, 0, 1, 0, 0, 0, 0, 0, 0, 0, 52, 0, 0, 0, 0, 0, 0, 0, 10, 20, 0, 0, 0, 2, 0, 0,
         0x2a, 0, 0, 0, 0, 3, 0, 0, 1,
     ];
-    check(&rt, &words, 0x0001_004a_0002_0006, 77, &front);
-    check(&rt, (words[10], words[73]) == (0x0909_0909_0909_0909, 0x0909_0909_0909_0909));
+    is_packet(&rt, &words, 0x0001_004a_0002_0006, 77, &front);
+    check(
+        &rt,
+        (words[10], words[73]) == (0x0909_0909_0909_0909, 0x0909_0909_0909_0909),
+    );
     let read = command([0x28, 0, 0, 0, 0, 3, 0, 0, 1, 0], &[]);
     let talk = talk_of(&rt, rt.alloc(), Kind::Disk, read)?;
     match disk_round(&rt, &mut disk, &talk, &mut words) {
@@ -144,7 +173,10 @@ fn disks_write_and_read(rt: HostRuntime) -> Result<(), Fail> {
         }
         _ => panic!(rt; "no check"),
     }
-    check(&rt, !is_askable(Kind::Disk, &command([0x28, 0, 0, 0, 0, 5, 0, 0, 5, 0], &[])));
+    check(
+        &rt,
+        !is_askable(Kind::Disk, &command([0x28, 0, 0, 0, 0, 5, 0, 0, 5, 0], &[])),
+    );
     check(&rt, !is_askable(Kind::Beat, &command([0; 10], &[])));
     Ok(())
 }

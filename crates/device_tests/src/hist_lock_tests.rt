@@ -1,6 +1,7 @@
 //! A small machine and its calls.
 use crate::check::check;
-use hist_lock::{HistLock, Machine};
+use hist_lock::{HistLock, HistSeat, History, Machine};
+use std::process::Abort;
 use std::test::Fail;
 
 /// Adds up what it is asked to, round the end of 32 bits. Its setup is the sum that it begins with.
@@ -37,24 +38,33 @@ impl Machine for Adder {
     }
 }
 
+/// Asks the adder, and wants this serial, this sum, and so many calls left.
+fn asked(rt: &impl Abort, seat: &mut HistSeat<Adder>, request: u32, want: (u32, u32, u32)) {
+    check(rt, seat.left() > 0);
+    let receipt = seat.with(rt, request);
+    check(rt, (receipt.serial, receipt.reply, seat.left()) == want);
+}
+
+/// The seat, the request and the reply of an entry.
+fn entry(history: &History<Adder>, at: usize) -> Option<(u32, u32, u32)> {
+    match history.entries().get(at) {
+        Some(e) => Some((e.seat, e.request, e.reply)),
+        None => None,
+    }
+}
+
 #[test]
 fn one_seat(rt: HostRuntime) -> Result<(), Fail> {
     let state = Adder { base: 7, sum: 7 };
     let mut seats = HistLock::make(rt.alloc(), state, &[3])?;
     check(&rt, seats.len() == 1);
-    for (serial, request, reply, left) in [(0, 1, 8, 2), (1, 4_294_967_295, 7, 1), (2, 0, 7, 0)] {
-        check(&rt, seats[0].left() > 0);
-        let receipt = seats[0].with(&rt, request);
-        check(&rt, receipt.serial == serial);
-        check(&rt, receipt.reply == reply);
-        check(&rt, seats[0].left() == left);
-    }
+    asked(&rt, &mut seats[0], 1, (0, 8, 2));
+    asked(&rt, &mut seats[0], 4_294_967_295, (1, 7, 1));
+    asked(&rt, &mut seats[0], 0, (2, 7, 0));
     let (state, history) = HistLock::close(seats);
-    check(&rt, state.sum == 7);
-    check(&rt, state.base == 7);
-    let entries = history.entries();
-    check(&rt, entries.len() == 3);
-    check(&rt, (entries[1].seat, entries[1].request, entries[1].reply) == (0, 4_294_967_295, 7));
+    check(&rt, (state.base, state.sum) == (7, 7));
+    check(&rt, history.entries().len() == 3);
+    check(&rt, entry(&history, 1) == Some((0, 4_294_967_295, 7)));
     Ok(())
 }
 
@@ -70,24 +80,17 @@ fn no_calls(rt: HostRuntime) -> Result<(), Fail> {
 #[test]
 fn a_lock_opened_again(rt: HostRuntime) -> Result<(), Fail> {
     let mut seats = HistLock::make(rt.alloc(), Adder { base: 5, sum: 5 }, &[1])?;
-    check(&rt, seats[0].left() > 0);
-    let first = seats[0].with(&rt, 1);
-    check(&rt, (first.serial, first.reply) == (0, 6));
+    asked(&rt, &mut seats[0], 1, (0, 6, 0));
     let (state, history) = HistLock::close(seats);
     check(&rt, history.entries().len() < 9);
     let mut seats = HistLock::reopen(rt.alloc(), state, history, &[2])?;
     check(&rt, seats.len() == 1);
-    for (serial, request, reply, left) in [(1, 10, 16, 1), (2, 20, 36, 0)] {
-        check(&rt, seats[0].left() > 0);
-        let receipt = seats[0].with(&rt, request);
-        check(&rt, (receipt.serial, receipt.reply) == (serial, reply));
-        check(&rt, seats[0].left() == left);
-    }
+    asked(&rt, &mut seats[0], 10, (1, 16, 1));
+    asked(&rt, &mut seats[0], 20, (2, 36, 0));
     let (state, history) = HistLock::close(seats);
     check(&rt, (state.base, state.sum) == (5, 36));
-    let entries = history.entries();
-    check(&rt, entries.len() == 3);
-    check(&rt, (entries[0].request, entries[0].reply) == (1, 6));
-    check(&rt, (entries[2].request, entries[2].reply) == (20, 36));
+    check(&rt, history.entries().len() == 3);
+    check(&rt, entry(&history, 0) == Some((0, 1, 6)));
+    check(&rt, entry(&history, 2) == Some((0, 20, 36)));
     Ok(())
 }

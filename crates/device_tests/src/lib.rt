@@ -1,10 +1,12 @@
-//! Tests.
+//! Tests of the devices: their packets against those of Linux's own structs, their replies, and each public call once.
 #![tactic(auto)]
 
 #[cfg(test)]
 mod bus_talk_tests;
 #[cfg(test)]
 mod check;
+#[cfg(test)]
+mod hex;
 #[cfg(test)]
 mod hist_lock_tests;
 #[cfg(test)]

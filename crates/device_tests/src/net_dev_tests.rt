@@ -1,194 +1,158 @@
 //! NVSP messages against those that Linux's structs make, and the station against its tables.
-ghost use Rattle.std.specs.Prelude.{◌<◌, ◌≤◌, length};
+ghost use Rattle.std.specs.Prelude.{◌≤◌, length};
 
 use crate::check::check;
-use net_dev::{NetReply, Nvsp, NvspFault, Station, decode_nvsp, encode_and_decode_nvsp, encode_nvsp};
+use crate::hex::unhex;
 use hist_lock::Machine;
+use net_dev::{
+    NetReply, Nvsp, NvspFault, Station, decode_nvsp, encode_and_decode_nvsp, encode_nvsp,
+};
 use rndis_msg::{Rndis, RndisFault, Small};
 use std::process::Abort;
 use std::test::Fail;
 
-fn digit(c: u8) -> u8
-    ensures { result < 16 }
-{
-    if c >= b'a' && c <= b'f' {
-        c - b'a' + 10
-    } else if c >= b'0' && c <= b'9' {
-        c - b'0'
-    } else {
-        0
-    }
-}
-
-// The bytes of hexadecimal digits, at the front of a buffer, and how many there are.
-fn bytes_of(rt: &impl Abort, digits: &str, out: &mut [u8; 64]) -> usize
-    ensures { result ≤ 64 }
-{
-    let digits = digits.as_bytes();
-    let len = digits.len() / 2;
-    check(rt, len <= 64);
-    for i in 0..len {
-        out[i] = 16 * digit(digits[2 * i]) + digit(digits[2 * i + 1]);
-    }
-    len
-}
-
-// The digits are the message, read and written.
+// The digits, with zeros behind them up to 40 bytes, are the message, read and written.
 fn is_both_ways(rt: &impl Abort, digits: &str, want: Nvsp) {
     let mut bytes = [0; 64];
-    let len = bytes_of(rt, digits, &mut bytes);
-    check(rt, len == 40);
-    check(rt, decode_nvsp(&bytes[..len]) == Ok(want));
+    check(rt, unhex(rt, digits, &mut bytes) <= 40);
+    check(rt, decode_nvsp(&bytes[..40]) == Ok(want));
     // What follows, a Remote NDIS message, isn't looked at.
     bytes[41] = 7;
     check(rt, decode_nvsp(&bytes) == Ok(want));
     let mut out = [0xee; 40];
     encode_nvsp(&want, &mut out);
-    check(rt, out[..] == bytes[..len]);
+    check(rt, out[..] == bytes[..40]);
     check(rt, encode_and_decode_nvsp(&want) == Ok(want));
 }
 
 #[test]
-fn messages_are_those_of_linux(rt: HostRuntime) -> Result<(), Fail> {
-    let rows: [(&str, Nvsp); 13] = [
-        (
-            "01000000020000000200000000000000000000000000000000000000000000000000000000000000",
-            Nvsp::Init { min: 2, max: 2 },
-        ),
-        (
-            "01000000020003000200030000000000000000000000000000000000000000000000000000000000",
-            Nvsp::Init {
-                min: 196610,
-                max: 196610,
-            },
-        ),
-        (
-            "01000000000004000000040000000000000000000000000000000000000000000000000000000000",
-            Nvsp::Init {
-                min: 262144,
-                max: 262144,
-            },
-        ),
-        (
-            "01000000000005000000050000000000000000000000000000000000000000000000000000000000",
-            Nvsp::Init {
-                min: 327680,
-                max: 327680,
-            },
-        ),
-        (
-            "02000000000000000000000002000000000000000000000000000000000000000000000000000000",
-            Nvsp::InitComplete {
-                version: 0,
-                mdl_chain_length: 0,
-                status: 2,
-            },
-        ),
-        (
-            "65000000111e0e00feca000000000000000000000000000000000000000000000000000000000000",
-            Nvsp::ReceiveBuffer {
-                gpadl: 925201,
-                id: 51966,
-            },
-        ),
-        (
-            "68000000121e0e000000000000000000000000000000000000000000000000000000000000000000",
-            Nvsp::SendBuffer {
-                gpadl: 925202,
-                id: 0,
-            },
-        ),
-        (
-            "6b00000000000000ffffffff00000000000000000000000000000000000000000000000000000000",
-            Nvsp::RndisPacket {
-                channel_type: 0,
-                section_index: 4294967295,
-                section_size: 0,
-            },
-        ),
-        (
-            "6b00000001000000ffffffff00000000000000000000000000000000000000000000000000000000",
-            Nvsp::RndisPacket {
-                channel_type: 1,
-                section_index: 4294967295,
-                section_size: 0,
-            },
-        ),
-        (
-            "6c000000010000000000000000000000000000000000000000000000000000000000000000000000",
-            Nvsp::RndisPacketComplete { status: 1 },
-        ),
-        (
-            "64000000060000001e00000000000000000000000000000000000000000000000000000000000000",
-            Nvsp::NdisVersion {
-                major: 6,
-                minor: 30,
-            },
-        ),
-        (
-            "660000000100000002000000030000001406000005000000641e0000000000000000000000000000",
-            Nvsp::ReceiveBufferComplete {
-                status: 1,
-                count: 2,
-                offset: 3,
-                sub_alloc_size: 1556,
-                num_sub_allocs: 5,
-                end_offset: 7780,
-            },
-        ),
-        (
-            "69000000010000000018000000000000000000000000000000000000000000000000000000000000",
-            Nvsp::SendBufferComplete {
-                status: 1,
-                section_size: 6144,
-            },
-        ),
-    ];
-    for (digits, want) in rows {
-        is_both_ways(&rt, digits, want);
-    }
-    Ok(())
+fn messages_are_those_of_linux(rt: HostRuntime) {
+    is_both_ways(&rt, "010000000200000002", Nvsp::Init { min: 2, max: 2 });
+    is_both_ways(
+        &rt,
+        "0100000002000300020003",
+        Nvsp::Init {
+            min: 196610,
+            max: 196610,
+        },
+    );
+    is_both_ways(
+        &rt,
+        "0100000000000400000004",
+        Nvsp::Init {
+            min: 262144,
+            max: 262144,
+        },
+    );
+    is_both_ways(
+        &rt,
+        "0100000000000500000005",
+        Nvsp::Init {
+            min: 327680,
+            max: 327680,
+        },
+    );
+    is_both_ways(
+        &rt,
+        "02000000000000000000000002",
+        Nvsp::InitComplete {
+            version: 0,
+            mdl_chain_length: 0,
+            status: 2,
+        },
+    );
+    is_both_ways(
+        &rt,
+        "65000000111e0e00feca",
+        Nvsp::ReceiveBuffer {
+            gpadl: 925201,
+            id: 51966,
+        },
+    );
+    is_both_ways(
+        &rt,
+        "68000000121e0e",
+        Nvsp::SendBuffer {
+            gpadl: 925202,
+            id: 0,
+        },
+    );
+    is_both_ways(
+        &rt,
+        "6b00000000000000ffffffff",
+        Nvsp::RndisPacket {
+            channel_type: 0,
+            section_index: 4294967295,
+            section_size: 0,
+        },
+    );
+    is_both_ways(
+        &rt,
+        "6b00000001000000ffffffff",
+        Nvsp::RndisPacket {
+            channel_type: 1,
+            section_index: 4294967295,
+            section_size: 0,
+        },
+    );
+    is_both_ways(&rt, "6c00000001", Nvsp::RndisPacketComplete { status: 1 });
+    is_both_ways(
+        &rt,
+        "64000000060000001e",
+        Nvsp::NdisVersion {
+            major: 6,
+            minor: 30,
+        },
+    );
+    is_both_ways(
+        &rt,
+        "660000000100000002000000030000001406000005000000641e",
+        Nvsp::ReceiveBufferComplete {
+            status: 1,
+            count: 2,
+            offset: 3,
+            sub_alloc_size: 1556,
+            num_sub_allocs: 5,
+            end_offset: 7780,
+        },
+    );
+    is_both_ways(
+        &rt,
+        "69000000010000000018",
+        Nvsp::SendBufferComplete {
+            status: 1,
+            section_size: 6144,
+        },
+    );
+}
+
+// Bytes that begin with this number are refused so.
+fn is_unknown(rt: &impl Abort, kind: u32) {
+    let mut bytes = [0; 40];
+    bytes[..4].copy_from_slice(&kind.to_le_bytes());
+    check(rt, decode_nvsp(&bytes) == Err(NvspFault::Unknown { kind }));
 }
 
 #[test]
-fn other_bytes_are_refused(rt: HostRuntime) -> Result<(), Fail> {
-    let rows: [(&str, NvspFault); 7] = [
-        (
-            "00000000000000000000000000000000000000000000000000000000000000000000000000000000",
-            NvspFault::Unknown { kind: 0 },
-        ),
-        (
-            "63000000000000000000000000000000000000000000000000000000000000000000000000000000",
-            NvspFault::Unknown { kind: 99 },
-        ),
-        (
-            "6a000000000000000000000000000000000000000000000000000000000000000000000000000000",
-            NvspFault::Unknown { kind: 106 },
-        ),
-        (
-            "7d000000000000000000000000000000000000000000000000000000000000000000000000000000",
-            NvspFault::Unknown { kind: 125 },
-        ),
-        (
-            "85000000000000000000000000000000000000000000000000000000000000000000000000000000",
-            NvspFault::Unknown { kind: 133 },
-        ),
-        (
-            "ffffffff000000000000000000000000000000000000000000000000000000000000000000000000",
-            NvspFault::Unknown { kind: 4294967295 },
-        ),
-        ("01", NvspFault::Short { have: 1, need: 40 }),
-    ];
-    for (digits, want) in rows {
-        let mut bytes = [0; 64];
-        let len = bytes_of(&rt, digits, &mut bytes);
-        check(&rt, decode_nvsp(&bytes[..len]) == Err(want));
-    }
+fn other_bytes_are_refused(rt: HostRuntime) {
+    is_unknown(&rt, 0);
+    is_unknown(&rt, 99);
+    is_unknown(&rt, 106);
+    is_unknown(&rt, 125);
+    is_unknown(&rt, 133);
+    is_unknown(&rt, 4_294_967_295);
+    let short = NvspFault::Short { have: 1, need: 40 };
+    check(&rt, decode_nvsp(&[1]) == Err(short));
+    let short = NvspFault::Short { have: 39, need: 40 };
+    check(&rt, decode_nvsp(&[0; 39]) == Err(short));
+}
+
+#[test]
+fn faults_have_texts(rt: HostRuntime) -> Result<(), Fail> {
     let text = NvspFault::Unknown { kind: 106 }.to_string(rt.alloc())?;
     check(&rt, text.as_str() == "unknown 106");
-    let want = NvspFault::Short { have: 39, need: 40 };
-    check(&rt, want.to_string(rt.alloc())?.as_str() == "short 39 need 40");
-    check(&rt, decode_nvsp(&[0; 39]) == Err(want));
+    let text = NvspFault::Short { have: 39, need: 40 }.to_string(rt.alloc())?;
+    check(&rt, text.as_str() == "short 39 need 40");
     Ok(())
 }
 
@@ -232,58 +196,70 @@ fn gives(rt: &impl Abort, reply: &NetReply, want: u32, value: &[u8]) {
     }
 }
 
+// The device answers a query for this object by these bytes.
+fn queried(rt: &impl Abort, device: &mut Station, oid: u32, value: &[u8]) {
+    gives(rt, &device.apply(&query(oid)), 0, value);
+}
+
 #[test]
-fn queries_give_the_table(rt: HostRuntime) -> Result<(), Fail> {
+fn queries_give_the_table(rt: HostRuntime) {
     let mut device = Station::make(MAC, STATION);
-    let zero = [0; 4];
+    let d = &mut device;
     let list = [
         1, 1, 1, 0, 2, 1, 1, 0, 3, 1, 1, 0, 4, 1, 1, 0, 6, 1, 1, 0, 7, 1, 1, 0, 0x0e, 1, 1, 0,
         0x14, 1, 1, 0, 1, 1, 1, 1, 2, 1, 1, 1,
     ];
-    let rows: [(u32, &[u8]); 10] = [
-        (0x0001_0101, &list),
-        (0x0001_0102, &zero),
-        (0x0001_0103, &zero),
-        (0x0001_0104, &zero),
-        (0x0001_0106, &[0xdc, 5, 0, 0]),
-        (0x0001_0107, &[0x80, 0x96, 0x98, 0]),
-        (0x0001_010e, &zero),
-        (0x0001_0114, &zero),
-        (0x0101_0101, &MAC),
-        (0x0101_0102, &MAC),
-    ];
-    for (oid, value) in rows {
-        gives(&rt, &device.apply(&query(oid)), 0, value);
+    queried(&rt, d, 0x0001_0101, &list);
+    queried(&rt, d, 0x0001_0102, &[0; 4]);
+    queried(&rt, d, 0x0001_0103, &[0; 4]);
+    queried(&rt, d, 0x0001_0104, &[0; 4]);
+    queried(&rt, d, 0x0001_0106, &[0xdc, 5, 0, 0]);
+    queried(&rt, d, 0x0001_0107, &[0x80, 0x96, 0x98, 0]);
+    queried(&rt, d, 0x0001_010e, &[0; 4]);
+    queried(&rt, d, 0x0001_0114, &[0; 4]);
+    queried(&rt, d, 0x0101_0101, &MAC);
+    queried(&rt, d, 0x0101_0102, &MAC);
+    gives(&rt, &d.apply(&query(0x0001_ffff)), 0xc000_00bb, &[]);
+}
+
+// The device answers a set by this status, and its packet filter is this one then.
+fn is_set(
+    rt: &impl Abort,
+    device: &mut Station,
+    request: &Result<Rndis, RndisFault>,
+    want: u32,
+    filter: u8,
+) {
+    match device.apply(request).back {
+        Some(Rndis::SetComplete { request_id, status }) => {
+            check(rt, (request_id, status) == (8, want));
+        }
+        _ => panic!(rt; "another answer"),
     }
-    gives(&rt, &device.apply(&query(0x0001_ffff)), 0xc000_00bb, &[]);
-    // The packet filter is set by 4 bytes, and a reset puts 0 in its place.
-    let rows: [(u32, &[u8], u32, u8); 4] = [
-        (0x0001_010e, &[0x2d, 0, 0, 0], 0, 0x2d),
-        (0x0001_010e, &[1, 2, 3], 0xc001_0015, 0x2d),
-        (0x0101_0103, &[1, 2, 3, 4], 0xc000_00bb, 0x2d),
-        (0x0001_010e, &[3, 0, 0, 0], 0, 3),
-    ];
-    for (oid, value, want, filter) in rows {
-        check(&rt, value.len() < 5);
-        let reply = device.apply(&set(oid, value));
-        check(&rt, matches!(reply.back, Some(Rndis::SetComplete { request_id: 8, status }) if status == want));
-        gives(
-            &rt,
-            &device.apply(&query(0x0001_010e)),
-            0,
-            &[filter, 0, 0, 0],
-        );
+    queried(rt, device, 0x0001_010e, &[filter, 0, 0, 0]);
+}
+
+// The packet filter is set by 4 bytes, and a reset puts 0 in its place.
+#[test]
+fn sets_change_the_filter(rt: HostRuntime) {
+    let mut device = Station::make(MAC, STATION);
+    let d = &mut device;
+    is_set(&rt, d, &set(0x0001_010e, &[0x2d, 0, 0, 0]), 0, 0x2d);
+    is_set(&rt, d, &set(0x0001_010e, &[1, 2, 3]), 0xc001_0015, 0x2d);
+    is_set(&rt, d, &set(0x0101_0103, &[1, 2, 3, 4]), 0xc000_00bb, 0x2d);
+    is_set(&rt, d, &set(0x0001_010e, &[3, 0, 0, 0]), 0, 3);
+    match d.apply(&Ok(Rndis::Reset)).back {
+        Some(
+            Rndis::ResetComplete {
+                status,
+                addressing_reset,
+            },
+        ) => {
+            check(&rt, (status, addressing_reset) == (0, 0));
+        }
+        _ => panic!(&rt; "another answer"),
     }
-    let reply = device.apply(&Ok(Rndis::Reset));
-    check(&rt, matches!(
-            reply.back,
-            Some(Rndis::ResetComplete {
-                status: 0,
-                addressing_reset: 0
-            })
-        ));
-    gives(&rt, &device.apply(&query(0x0001_010e)), 0, &zero);
-    Ok(())
+    queried(&rt, d, 0x0001_010e, &[0; 4]);
 }
 
 // A copy of what any machine answers.
@@ -291,40 +267,41 @@ fn served<M: Machine>(machine: &mut M, request: &M::Request) -> M::Reply {
     M::copy(&machine.apply(request))
 }
 
+// A frame is answered by this one, or by none.
+fn echoes(rt: &impl Abort, device: &mut Station, frame: &[u8], want: Option<&[u8]>)
+    requires { length frame.now ≤ 1514 }
+{
+    let request = Ok(Rndis::Packet {
+        body: Small::of(frame),
+    });
+    let reply = served(device, &request);
+    check(rt, reply.status == 1);
+    match (reply.back, want) {
+        (Some(Rndis::Packet { body }), Some(bytes)) => check(rt, body.bytes() == bytes),
+        (None, None) => {}
+        _ => panic!(rt; "{frame:?}"),
+    }
+}
+
 #[test]
-fn frames_come_back(rt: HostRuntime) -> Result<(), Fail> {
+fn frames_come_back(rt: HostRuntime) {
     let mut device = Station::make(MAC, STATION);
+    let d = &mut device;
     let all = [
         0xff, 0xff, 0xff, 0xff, 0xff, 0xff, 2, 0, 0, 0, 0, 1, 8, 0, 5,
     ];
     let one = [2, 0, 0, 0, 0, 0xfe, 2, 0, 0, 0, 0, 1, 8, 0, 5];
     let other = [2, 0, 0, 0, 0, 0xaa, 2, 0, 0, 0, 0, 1, 8, 0, 5];
     let back = [2, 0, 0, 0, 0, 1, 2, 0, 0, 0, 0, 0xfe, 8, 0, 5];
-    let rows: [(&[u8], Option<&[u8]>); 5] = [
-        (&all, Some(&back)),
-        (&one, Some(&back)),
-        (&one[..14], Some(&back[..14])),
-        (&one[..13], None),
-        (&other, None),
-    ];
-    for (frame, want) in rows {
-        check(&rt, frame.len() <= 15);
-        let request = Ok(Rndis::Packet {
-            body: Small::of(frame),
-        });
-        let reply = served(&mut device, &request);
-        check(&rt, reply.status == 1);
-        match (reply.back, want) {
-            (Some(Rndis::Packet { body }), Some(bytes)) => check(&rt, body.bytes() == bytes),
-            (None, None) => {}
-            _ => panic!(rt; "{frame:?}"),
-        }
-    }
-    Ok(())
+    echoes(&rt, d, &all, Some(&back));
+    echoes(&rt, d, &one, Some(&back));
+    echoes(&rt, d, &one[..14], Some(&back[..14]));
+    echoes(&rt, d, &one[..13], None);
+    echoes(&rt, d, &other, None);
 }
 
 #[test]
-fn other_messages_have_their_rows(rt: HostRuntime) -> Result<(), Fail> {
+fn an_initialize_is_completed(rt: HostRuntime) {
     let mut device = Station::make(MAC, STATION);
     let reply = device.apply(&Ok(Rndis::Initialize {
         request_id: 3,
@@ -342,28 +319,36 @@ fn other_messages_have_their_rows(rt: HostRuntime) -> Result<(), Fail> {
             ];
             check(&rt, out[..len] == want[..]);
         }
-        None => panic!(rt; "no answer"),
+        None => panic!(&rt; "no answer"),
     }
-    let reply = device.apply(&Ok(Rndis::Keepalive { request_id: 4 }));
-    check(&rt, matches!(
-            reply.back,
-            Some(Rndis::KeepaliveComplete {
-                request_id: 4,
-                status: 0
-            })
-        ));
-    let reply = device.apply(&Ok(Rndis::Halt { request_id: 5 }));
-    check(&rt, reply.status == 1 && reply.back.is_none());
-    let rows = [
-        Err(RndisFault::Unknown { kind: 9 }),
-        Ok(Rndis::KeepaliveComplete {
-            request_id: 4,
-            status: 0,
-        }),
-    ];
-    for request in rows {
-        let reply = device.apply(&request);
-        check(&rt, reply.status == 2 && reply.back.is_none());
+}
+
+// The device answers by this status, and by no message.
+fn has_no_answer(
+    rt: &impl Abort,
+    device: &mut Station,
+    request: &Result<Rndis, RndisFault>,
+    want: u32,
+) {
+    let reply = device.apply(request);
+    check(rt, reply.status == want && reply.back.is_none());
+}
+
+#[test]
+fn other_messages_have_their_rows(rt: HostRuntime) {
+    let mut device = Station::make(MAC, STATION);
+    let d = &mut device;
+    match d.apply(&Ok(Rndis::Keepalive { request_id: 4 })).back {
+        Some(Rndis::KeepaliveComplete { request_id, status }) => {
+            check(&rt, (request_id, status) == (4, 0));
+        }
+        _ => panic!(&rt; "another answer"),
     }
-    Ok(())
+    has_no_answer(&rt, d, &Ok(Rndis::Halt { request_id: 5 }), 1);
+    has_no_answer(&rt, d, &Err(RndisFault::Unknown { kind: 9 }), 2);
+    let complete = Rndis::KeepaliveComplete {
+        request_id: 4,
+        status: 0,
+    };
+    has_no_answer(&rt, d, &Ok(complete), 2);
 }

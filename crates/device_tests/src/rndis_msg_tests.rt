@@ -5,33 +5,10 @@ ghost use Rattle.std.specs.Prelude.{◌<◌, ◌≤◌};
 mod vectors;
 
 use crate::check::check;
+use crate::hex::unhex;
 use rndis_msg::{FieldName, Rndis, RndisFault, Small, decode, encode, encode_and_decode};
+use std::alloc::Global;
 use std::process::Abort;
-use std::test::Fail;
-
-fn digit(c: u8) -> u8
-    ensures { result < 16 }
-{
-    if c >= b'a' && c <= b'f' {
-        c - b'a' + 10
-    } else if c >= b'0' && c <= b'9' {
-        c - b'0'
-    } else {
-        0
-    }
-}
-
-// The bytes of hexadecimal digits, at the front of a buffer, and how many there are.
-fn bytes_of(rt: &impl Abort, digits: &[u8], out: &mut [u8; 1600]) -> usize
-    ensures { result ≤ 1600 }
-{
-    let len = digits.len() / 2;
-    check(rt, len <= 1600);
-    for i in 0..len {
-        out[i] = 16 * digit(digits[2 * i]) + digit(digits[2 * i + 1]);
-    }
-    len
-}
 
 // The type and the values of a message, and how many there are.
 fn values(m: &Rndis) -> (u32, [u32; 9], usize)
@@ -121,7 +98,7 @@ fn is(rt: &impl Abort, m: &Rndis, text: &str) {
     for (i, word) in text.split(' ').enumerate() {
         if let Some(digits) = word.strip_prefix('=') {
             let mut bytes = [0; 1600];
-            let len = bytes_of(rt, digits.as_bytes(), &mut bytes);
+            let len = unhex(rt, digits, &mut bytes);
             check(rt, body(m) == &bytes[..len]);
             found = i;
         } else {
@@ -132,46 +109,57 @@ fn is(rt: &impl Abort, m: &Rndis, text: &str) {
     check(rt, found == count + 1);
 }
 
+// The bytes of a line are its message, or are refused by its fault.
+fn reads(rt: &impl Abort, alloc: Global, line: &str) {
+    let Some((digits, text)) = line.split_once(": ") else {
+        panic!(rt; "{line}")
+    };
+    let mut bytes = [0; 1600];
+    let len = unhex(rt, digits, &mut bytes);
+    match decode(&bytes[..len]) {
+        Ok(m) => is(rt, &m, text),
+        Err(fault) => match fault.to_string(alloc) {
+            Ok(got) => check(rt, text == got.as_str()),
+            Err(_) => panic!(rt; "no memory"),
+        },
+    }
+}
+
 #[test]
-fn reads_what_linux_writes(rt: HostRuntime) -> Result<(), Fail> {
+fn reads_what_linux_writes(rt: HostRuntime) {
     let mut lines = 0u32;
     for line in vectors::WRITTEN.lines().chain(vectors::READ.lines()) {
-        let Some((digits, text)) = line.split_once(": ") else {
-            panic!(rt; "{line}")
-        };
-        let mut bytes = [0; 1600];
-        let len = bytes_of(&rt, digits.as_bytes(), &mut bytes);
-        match decode(&bytes[..len]) {
-            Ok(m) => is(&rt, &m, text),
-            Err(fault) => check(&rt, text == fault.to_string(rt.alloc())?.as_str()),
-        }
-        lines = lines.saturating_add(1u32);
+        reads(&rt, rt.alloc(), line);
+        lines = lines.saturating_add(1);
     }
     check(&rt, lines == 264);
-    Ok(())
+}
+
+// The message of a line is written as its bytes, and no byte behind them changes.
+fn writes(rt: &impl Abort, line: &str) {
+    let digits = line.split(':').next().unwrap_or("");
+    let mut bytes = [0; 1600];
+    let len = unhex(rt, digits, &mut bytes);
+    let Ok(m) = decode(&bytes[..len]) else {
+        panic!(rt; "{line}")
+    };
+    let mut out = [0xee; 1600];
+    let written = encode(&m.again(), &mut out);
+    check(rt, written == len);
+    check(rt, out[..written] == bytes[..len]);
+    check(rt, out[written] == 0xee);
+    check(rt, encode_and_decode(&m).is_ok());
 }
 
 #[test]
-fn writes_what_linux_reads(rt: HostRuntime) -> Result<(), Fail> {
+fn writes_what_linux_reads(rt: HostRuntime) {
     for line in vectors::WRITTEN.lines() {
-        let mut bytes = [0; 1600];
-        let digits = line.split(':').next().unwrap_or("");
-        let len = bytes_of(&rt, digits.as_bytes(), &mut bytes);
-        let Ok(m) = decode(&bytes[..len]) else {
-            panic!(rt; "{line}")
-        };
-        let mut out = [0xee; 1600];
-        let written = encode(&m.again(), &mut out);
-        check(&rt, written == len);
-        check(&rt, out[..written] == bytes[..len]);
-        check(&rt, out[written] == 0xee);
-        check(&rt, encode_and_decode(&m).is_ok());
+        writes(&rt, line);
     }
-    Ok(())
 }
 
 #[test]
-fn a_buffer_grows_to_a_frame(rt: HostRuntime) -> Result<(), Fail> {
+fn a_buffer_grows_to_a_frame(rt: HostRuntime) {
     let mut body = Small::empty();
     check(&rt, body.bytes().is_empty());
     body.extend(&[1, 2]);
@@ -179,66 +167,54 @@ fn a_buffer_grows_to_a_frame(rt: HostRuntime) -> Result<(), Fail> {
     check(&rt, body.again().bytes().len() == 1514);
     let mut out = [0xee; 1600];
     check(&rt, encode(&Rndis::Packet { body }, &mut out) == 1558);
-    check(&rt, out[44..47] == [1, 2, 3] && out[1557..1559] == [3, 0xee]);
+    check(
+        &rt,
+        out[44..47] == [1, 2, 3] && out[1557..1559] == [3, 0xee],
+    );
     let Ok(Rndis::Packet { body }) = decode(&out) else {
         panic!(rt; "another message")
     };
     check(&rt, body.bytes() == &out[44..1558]);
-    Ok(())
+}
+
+// A packet's bytes with another byte at a place, of which so many are given, are read or refused so.
+fn faults(
+    rt: &impl Abort,
+    bytes: [u8; 1600],
+    place: usize,
+    value: u8,
+    given: usize,
+    want: Option<RndisFault>,
+)
+    requires place { place < 1600 }
+    requires given { given ≤ 1600 }
+{
+    let mut bytes = bytes;
+    bytes[place] = value;
+    check(rt, decode(&bytes[..given]).err() == want);
 }
 
 // The faults of packets of 46 bytes with a buffer of 2, at the edges.
 #[test]
-fn refuses_by_the_first_cause(rt: HostRuntime) -> Result<(), Fail> {
+fn refuses_by_the_first_cause(rt: HostRuntime) {
     let mut out = [0; 1600];
-    let len = encode(
-        &Rndis::Packet {
-            body: Small::of(&[7, 8]),
-        },
-        &mut out,
-    );
-    check(&rt, len == 46);
-    // The place of a byte, its new value, how many bytes are given, and the fault.
-    let rows: [(usize, u8, usize, Option<RndisFault>); 9] = [
-        (0, 1, 46, None),
-        (0, 1, 50, None),
-        (0, 1, 7, Some(RndisFault::Short { have: 7, need: 8 })),
-        (0, 9, 46, Some(RndisFault::Unknown { kind: 9 })),
-        (4, 43, 46, Some(RndisFault::Short { have: 43, need: 44 })),
-        (0, 1, 45, Some(RndisFault::Short { have: 45, need: 46 })),
-        (
-            8,
-            35,
-            46,
-            Some(RndisFault::Field {
-                name: FieldName::Offset,
-                value: 35,
-            }),
-        ),
-        (
-            12,
-            3,
-            46,
-            Some(RndisFault::Field {
-                name: FieldName::Length,
-                value: 3,
-            }),
-        ),
-        // In 32 bits the end would wrap to byte 44.
-        (
-            11,
-            0xff,
-            46,
-            Some(RndisFault::Field {
-                name: FieldName::Length,
-                value: 2,
-            }),
-        ),
-    ];
-    for (place, value, given, want) in rows {
-        let mut bytes = out;
-        bytes[place] = value;
-        check(&rt, decode(&bytes[..given]).err() == want);
-    }
-    Ok(())
+    let body = Small::of(&[7, 8]);
+    check(&rt, encode(&Rndis::Packet { body }, &mut out) == 46);
+    faults(&rt, out, 0, 1, 46, None);
+    faults(&rt, out, 0, 1, 50, None);
+    let short = RndisFault::Short { have: 7, need: 8 };
+    faults(&rt, out, 0, 1, 7, Some(short));
+    faults(&rt, out, 0, 9, 46, Some(RndisFault::Unknown { kind: 9 }));
+    let short = RndisFault::Short { have: 43, need: 44 };
+    faults(&rt, out, 4, 43, 46, Some(short));
+    let short = RndisFault::Short { have: 45, need: 46 };
+    faults(&rt, out, 0, 1, 45, Some(short));
+    faults(&rt, out, 8, 35, 46, Some(field(FieldName::Offset, 35)));
+    faults(&rt, out, 12, 3, 46, Some(field(FieldName::Length, 3)));
+    // In 32 bits the end would wrap to byte 44.
+    faults(&rt, out, 11, 0xff, 46, Some(field(FieldName::Length, 2)));
+}
+
+fn field(name: FieldName, value: u64) -> RndisFault {
+    RndisFault::Field { name, value }
 }

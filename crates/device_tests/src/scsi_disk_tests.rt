@@ -2,8 +2,8 @@
 ghost use Rattle.std.specs.Prelude.{◌≤◌, length};
 
 use crate::check::check;
-use scsi_disk::{Chunk, Disk, DiskReply, DiskRequest};
 use hist_lock::Machine;
+use scsi_disk::{Chunk, Disk, DiskReply, DiskRequest};
 use std::process::Abort;
 use std::test::Fail;
 
@@ -30,7 +30,7 @@ fn good(rt: &impl Abort, disk: &mut Disk, cdb: [u8; 10], out: &[u8], back: &[u8]
 }
 
 /// Serves a command, and wants this check.
-fn check(rt: &impl Abort, disk: &mut Disk, cdb: [u8; 10], out: &[u8], want: (u8, u8, u8))
+fn refused(rt: &impl Abort, disk: &mut Disk, cdb: [u8; 10], out: &[u8], want: (u8, u8, u8))
     requires { length out.now ≤ 4096 }
 {
     let reply = disk.apply(&ask(cdb, out));
@@ -58,95 +58,46 @@ fn answers_each_command(rt: HostRuntime) -> Result<(), Fail> {
     Ok(())
 }
 
+/// No such operation, a wrong field of the command, a place past the end, and a block that can't be read.
+const CODE: (u8, u8, u8) = (5, 0x20, 0);
+
+const FIELD: (u8, u8, u8) = (5, 0x24, 0);
+
+const RANGE: (u8, u8, u8) = (5, 0x21, 0);
+
+const MEDIUM: (u8, u8, u8) = (3, 0x11, 0);
+
 #[test]
 fn refuses_by_the_first_cause(rt: HostRuntime) -> Result<(), Fail> {
     let mut disk = Disk::make(rt.alloc(), 64, &[9, 9])?;
     let d = &mut disk;
-    for code in [0x03, 0x08, 0x88, 0x8a, 0x9e, 0xff] {
-        check(&rt, d, [code, 0, 0, 0, 0, 0, 0, 0, 0, 0], &[], (5, 0x20, 0));
-    }
-    check(
-        &rt,
-        d,
-        [0x12, 1, 0, 0, 36, 0, 0, 0, 0, 0],
-        &[],
-        (5, 0x24, 0),
-    );
-    check(
-        &rt,
-        d,
-        [0x12, 0, 0x83, 0, 36, 0, 0, 0, 0, 0],
-        &[],
-        (5, 0x24, 0),
-    );
+    refused(&rt, d, [0x03, 0, 0, 0, 0, 0, 0, 0, 0, 0], &[], CODE);
+    refused(&rt, d, [0x08, 0, 0, 0, 0, 0, 0, 0, 0, 0], &[], CODE);
+    refused(&rt, d, [0x88, 0, 0, 0, 0, 0, 0, 0, 0, 0], &[], CODE);
+    refused(&rt, d, [0x8a, 0, 0, 0, 0, 0, 0, 0, 0, 0], &[], CODE);
+    refused(&rt, d, [0x9e, 0, 0, 0, 0, 0, 0, 0, 0, 0], &[], CODE);
+    refused(&rt, d, [0xff, 0, 0, 0, 0, 0, 0, 0, 0, 0], &[], CODE);
+    refused(&rt, d, [0x12, 1, 0, 0, 36, 0, 0, 0, 0, 0], &[], FIELD);
+    refused(&rt, d, [0x12, 0, 0x83, 0, 36, 0, 0, 0, 0, 0], &[], FIELD);
     // Nine blocks are too many before they are past the end.
-    check(
+    refused(&rt, d, [0x28, 0, 0, 0, 0, 60, 0, 0, 9, 0], &[], FIELD);
+    refused(&rt, d, [0x2a, 0, 0, 0, 0, 60, 0, 0, 9, 0], &[], FIELD);
+    refused(&rt, d, [0x2a, 0, 0, 0, 0, 3, 0, 0, 1, 0], &[0; 511], FIELD);
+    refused(&rt, d, [0x2a, 0, 0, 0, 0, 3, 0, 0, 0, 0], &[0; 512], FIELD);
+    refused(&rt, d, [0x28, 0, 0, 0, 0, 63, 0, 0, 2, 0], &[], RANGE);
+    refused(&rt, d, [0x28, 0, 0, 0, 0, 65, 0, 0, 0, 0], &[], RANGE);
+    refused(
         &rt,
         d,
-        [0x28, 0, 0, 0, 0, 60, 0, 0, 9, 0],
+        [0x28, 0, 255, 255, 255, 255, 0, 0, 1, 0],
         &[],
-        (5, 0x24, 0),
+        RANGE,
     );
-    check(
-        &rt,
-        d,
-        [0x2a, 0, 0, 0, 0, 60, 0, 0, 9, 0],
-        &[],
-        (5, 0x24, 0),
-    );
-    check(
-        &rt,
-        d,
-        [0x2a, 0, 0, 0, 0, 3, 0, 0, 1, 0],
-        &[0; 511],
-        (5, 0x24, 0),
-    );
-    check(
-        &rt,
-        d,
-        [0x2a, 0, 0, 0, 0, 3, 0, 0, 0, 0],
-        &[0; 512],
-        (5, 0x24, 0),
-    );
-    check(
-        &rt,
-        d,
-        [0x28, 0, 0, 0, 0, 63, 0, 0, 2, 0],
-        &[],
-        (5, 0x21, 0),
-    );
-    check(
-        &rt,
-        d,
-        [0x28, 0, 0, 0, 0, 65, 0, 0, 0, 0],
-        &[],
-        (5, 0x21, 0),
-    );
-    check(
-        &rt,
-        d,
-        [0x28, 0, 0xff, 0xff, 0xff, 0xff, 0, 0, 1, 0],
-        &[],
-        (5, 0x21, 0),
-    );
-    check(
-        &rt,
-        d,
-        [0x2a, 0, 0, 0, 0, 64, 0, 0, 1, 0],
-        &[0; 512],
-        (5, 0x21, 0),
-    );
-    for lba in 8..10 {
-        check(
-            &rt,
-            d,
-            [0x28, 0, 0, 0, 0, lba, 0, 0, 2, 0],
-            &[],
-            (3, 0x11, 0),
-        );
-    }
+    refused(&rt, d, [0x2a, 0, 0, 0, 0, 64, 0, 0, 1, 0], &[0; 512], RANGE);
+    refused(&rt, d, [0x28, 0, 0, 0, 0, 8, 0, 0, 2, 0], &[], MEDIUM);
+    refused(&rt, d, [0x28, 0, 0, 0, 0, 9, 0, 0, 2, 0], &[], MEDIUM);
     // Past the end comes before the bad block.
-    check(&rt, d, [0x28, 0, 0, 0, 1, 9, 0, 0, 1, 0], &[], (5, 0x21, 0));
+    refused(&rt, d, [0x28, 0, 0, 0, 1, 9, 0, 0, 1, 0], &[], RANGE);
     Ok(())
 }
 
@@ -168,6 +119,6 @@ fn reads_what_was_written(rt: HostRuntime) -> Result<(), Fail> {
     good(&rt, d, [0x28, 0, 0, 0, 0, 56, 0, 0, 8, 0], &[], &most);
     // A bad block takes what is written and stays unreadable.
     good(&rt, d, [0x2a, 0, 0, 0, 0, 9, 0, 0, 1, 0], &[1; 512], &[]);
-    check(&rt, d, [0x28, 0, 0, 0, 0, 9, 0, 0, 1, 0], &[], (3, 0x11, 0));
+    refused(&rt, d, [0x28, 0, 0, 0, 0, 9, 0, 0, 1, 0], &[], MEDIUM);
     Ok(())
 }

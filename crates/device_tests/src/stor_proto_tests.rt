@@ -1,14 +1,13 @@
 //! Storage packets against those that Linux's own structs make.
-ghost use Rattle.std.specs.Prelude.{◌≡◌, ◌≤◌, length};
+ghost use Rattle.std.specs.Prelude.{◌≡◌, ◌<◌, ◌≤◌, length};
 
 use crate::check::check;
+use scsi_disk::{Chunk, Command, DiskReply, DiskRequest};
+use std::process::Abort;
 use stor_proto::{
     FieldName, Operation, SrbStop, Vstor, VstorFault, answer, decode_vstor, encode_vstor, srb_ask,
     srb_done, srb_reply, srb_request, srb_stop, start_up,
 };
-use scsi_disk::{Chunk, Command, DiskReply, DiskRequest};
-use std::process::Abort;
-use std::test::Fail;
 
 /// A packet of 64 bytes that begins with these and has zeros behind them.
 fn packet(front: &[u8]) -> [u8; 64]
@@ -35,57 +34,58 @@ fn read(rt: &impl Abort, front: &[u8]) -> Vstor
     }
 }
 
-#[test]
-fn answers_the_start_up(rt: HostRuntime) -> Result<(), Fail> {
-    // The operation, and the first bytes of its request and of its answer after the flags.
-    let rows: [(u8, [u8; 6], [u8; 6]); 12] = [
-        (7, [0, 0, 0, 0, 0, 0], [0, 0, 0, 0, 0, 0]),
-        (8, [0, 0, 0, 0, 9, 0], [0, 0, 0, 0, 9, 0]),
-        (11, [0, 0, 0, 0, 0, 0], [0, 0, 0, 0, 0, 0]),
-        (9, [0, 0, 0, 0, 0x02, 6], [0, 0, 0, 0, 0x02, 6]),
-        (9, [0, 0, 0, 0, 0x00, 6], [0, 0, 0, 0, 0x00, 6]),
-        (9, [0, 0, 0, 0, 0x01, 5], [0, 0, 0, 0, 0x01, 5]),
-        (9, [0, 0, 0, 0, 0x00, 0], [1, 0, 0, 0, 0x00, 0]),
-        (13, [0, 0, 0, 0, 0, 0], [0, 0, 0, 0, 0, 0]),
-        (13, [0, 0, 0, 0, 3, 0], [0, 0, 0, 0, 3, 0]),
-        (13, [0, 0, 0, 0, 4, 0], [1, 0, 0, 0, 4, 0]),
-        (2, [0, 0, 0, 0, 0, 0], [1, 0, 0, 0, 0, 0]),
-        (1, [5, 0, 0, 0, 0, 0], [1, 0, 0, 0, 0, 0]),
-    ];
-    for (operation, ask, want) in rows {
-        let mut request = [0; 14];
-        request[0] = operation;
-        request[4] = 1;
-        request[8..14].copy_from_slice(&ask);
-        let mut reply = [0; 14];
-        reply[0] = 1;
-        reply[4] = 1;
-        reply[8..14].copy_from_slice(&want);
-        let p = read(&rt, &request);
-        check(&rt, p.operation != 3);
-        check(&rt, Operation::of(p.operation).is_some());
-        check(&rt, answer(&p) == read(&rt, &reply));
-    }
-    Ok(())
+/// What is asked in the start-up and its answer, by the operation and the first bytes of both after the flags.
+fn answered(rt: &impl Abort, operation: u8, ask: [u8; 6], want: [u8; 6]) {
+    let mut request = [0; 14];
+    request[0] = operation;
+    request[4] = 1;
+    request[8..].copy_from_slice(&ask);
+    let mut reply = [0; 14];
+    reply[0] = 1;
+    reply[4] = 1;
+    reply[8..].copy_from_slice(&want);
+    let p = read(rt, &request);
+    check(rt, p.operation != 3);
+    check(rt, Operation::of(p.operation).is_some());
+    check(rt, answer(&p) == read(rt, &reply));
 }
 
 #[test]
-fn begins_as_linux_does(rt: HostRuntime) -> Result<(), Fail> {
-    let begin = start_up(Operation::BeginInitialization, 0);
-    check(&rt, begin == read(&rt, &[7, 0, 0, 0, 1]));
-    let version = start_up(Operation::QueryProtocolVersion, 0x0602);
-    check(&rt, version == read(&rt, &[9, 0, 0, 0, 1, 0, 0, 0, 0, 0, 0, 0, 2, 6]));
-    let properties = start_up(Operation::QueryProperties, 0);
-    check(&rt, properties == read(&rt, &[10, 0, 0, 0, 1]));
-    let end = start_up(Operation::EndInitialization, 0);
-    check(&rt, end == read(&rt, &[8, 0, 0, 0, 1]));
-    let subs = start_up(Operation::CreateSubChannels, 2);
-    check(&rt, subs == read(&rt, &[13, 0, 0, 0, 1, 0, 0, 0, 0, 0, 0, 0, 2]));
-    Ok(())
+fn answers_the_start_up(rt: HostRuntime) {
+    answered(&rt, 7, [0, 0, 0, 0, 0, 0], [0, 0, 0, 0, 0, 0]);
+    answered(&rt, 8, [0, 0, 0, 0, 9, 0], [0, 0, 0, 0, 9, 0]);
+    answered(&rt, 11, [0, 0, 0, 0, 0, 0], [0, 0, 0, 0, 0, 0]);
+    answered(&rt, 9, [0, 0, 0, 0, 0x02, 6], [0, 0, 0, 0, 0x02, 6]);
+    answered(&rt, 9, [0, 0, 0, 0, 0x00, 6], [0, 0, 0, 0, 0x00, 6]);
+    answered(&rt, 9, [0, 0, 0, 0, 0x01, 5], [0, 0, 0, 0, 0x01, 5]);
+    answered(&rt, 9, [0, 0, 0, 0, 0x00, 0], [1, 0, 0, 0, 0x00, 0]);
+    answered(&rt, 13, [0, 0, 0, 0, 0, 0], [0, 0, 0, 0, 0, 0]);
+    answered(&rt, 13, [0, 0, 0, 0, 3, 0], [0, 0, 0, 0, 3, 0]);
+    answered(&rt, 13, [0, 0, 0, 0, 4, 0], [1, 0, 0, 0, 4, 0]);
+    answered(&rt, 2, [0, 0, 0, 0, 0, 0], [1, 0, 0, 0, 0, 0]);
+    answered(&rt, 1, [5, 0, 0, 0, 0, 0], [1, 0, 0, 0, 0, 0]);
+}
+
+/// The guest asks this in the start-up.
+fn starts(rt: &impl Abort, operation: Operation, first: u16, want: &[u8])
+    requires { length want.now ≤ 64 }
+{
+    check(rt, start_up(operation, first) == read(rt, want));
 }
 
 #[test]
-fn tells_its_properties(rt: HostRuntime) -> Result<(), Fail> {
+fn begins_as_linux_does(rt: HostRuntime) {
+    starts(&rt, Operation::BeginInitialization, 0, &[7, 0, 0, 0, 1]);
+    let version = [9, 0, 0, 0, 1, 0, 0, 0, 0, 0, 0, 0, 2, 6];
+    starts(&rt, Operation::QueryProtocolVersion, 0x0602, &version);
+    starts(&rt, Operation::QueryProperties, 0, &[10, 0, 0, 0, 1]);
+    starts(&rt, Operation::EndInitialization, 0, &[8, 0, 0, 0, 1]);
+    let subs = [13, 0, 0, 0, 1, 0, 0, 0, 0, 0, 0, 0, 2];
+    starts(&rt, Operation::CreateSubChannels, 2, &subs);
+}
+
+#[test]
+fn tells_its_properties(rt: HostRuntime) {
     let p = read(
         &rt,
         &[10, 0, 0, 0, 1, 0, 0, 0, 0, 0, 0, 0, 7, 7, 7, 7, 7, 7, 7, 7],
@@ -95,25 +95,32 @@ fn tells_its_properties(rt: HostRuntime) -> Result<(), Fail> {
         1, 0, 0, 0, 1, 0, 0, 0, 0, 0, 0, 0, 7, 7, 7, 7, 3, 0, 7, 7, 1, 0, 0, 0, 0, 0x10, 0, 0,
     ];
     check(&rt, answer(&p) == read(&rt, &want));
-    Ok(())
+}
+
+/// A packet that begins with these bytes is refused so.
+fn refused(rt: &impl Abort, front: &[u8], want: VstorFault)
+    requires { length front.now ≤ 64 }
+{
+    check(rt, decode_vstor(&packet(front)) == Err(want));
 }
 
 #[test]
-fn refuses_by_the_first_cause(rt: HostRuntime) -> Result<(), Fail> {
+fn refuses_by_the_first_cause(rt: HostRuntime) {
     let short = VstorFault::Short { have: 63, need: 64 };
     check(&rt, decode_vstor(&[0; 63]) == Err(short));
-    for number in [0, 4, 12, 14] {
-        let want = VstorFault::Operation {
-            value: number as u32,
-        };
-        check(&rt, decode_vstor(&packet(&[number, 0, 0, 0, 1, 0, 0, 0, 5])) == Err(want));
-    }
+    let front = [0, 0, 0, 0, 1, 0, 0, 0, 5];
+    refused(&rt, &front, VstorFault::Operation { value: 0 });
+    let front = [4, 0, 0, 0, 1, 0, 0, 0, 5];
+    refused(&rt, &front, VstorFault::Operation { value: 4 });
+    let front = [12, 0, 0, 0, 1, 0, 0, 0, 5];
+    refused(&rt, &front, VstorFault::Operation { value: 12 });
+    let front = [14, 0, 0, 0, 1, 0, 0, 0, 5];
+    refused(&rt, &front, VstorFault::Operation { value: 14 });
     let status = VstorFault::Field {
         name: FieldName::Status,
         value: 0x0100_0005,
     };
-    check(&rt, decode_vstor(&packet(&[3, 0, 0, 0, 1, 0, 0, 0, 5, 0, 0, 1])) == Err(status));
-    Ok(())
+    refused(&rt, &[3, 0, 0, 0, 1, 0, 0, 0, 5, 0, 0, 1], status);
 }
 
 /// An srb's packet: the operation, and the srb from its status on.
@@ -168,14 +175,21 @@ const WRITE: [u8; 23] = [
     0, 0, 0, 0, 0, 0, 10, 20, 0, 0, 0, 2, 0, 0, 0x2a, 0, 0, 0, 0, 3, 0, 0, 1,
 ];
 
+/// The guest asks for a command by an srb of these bytes.
+fn asks(rt: &impl Abort, cdb: [u8; 10], out: &[u8], want: &[u8])
+    requires out { length out.now ≤ 4096 }
+    requires want { length want.now ≤ 50 }
+{
+    check(rt, ask(rt, cdb, out) == srb(rt, 3, want));
+}
+
 #[test]
-fn asks_as_linux_does(rt: HostRuntime) -> Result<(), Fail> {
-    check(&rt, ask(&rt, [0; 10], &[]) == srb(&rt, 3, &READY));
-    check(&rt, ask(&rt, [0x12, 0, 0, 0, 36, 0, 0, 0, 0, 0], &[]) == srb(&rt, 3, &INQUIRY));
-    check(&rt, ask(&rt, [0x25, 0, 0, 0, 0, 0, 0, 0, 0, 0], &[]) == srb(&rt, 3, &CAPACITY));
-    check(&rt, ask(&rt, [0x28, 0, 0, 0, 0, 63, 0, 0, 1, 0], &[]) == srb(&rt, 3, &READ));
-    check(&rt, ask(&rt, [0x2a, 0, 0, 0, 0, 3, 0, 0, 1, 0], &[9; 512]) == srb(&rt, 3, &WRITE));
-    Ok(())
+fn asks_as_linux_does(rt: HostRuntime) {
+    asks(&rt, [0; 10], &[], &READY);
+    asks(&rt, [0x12, 0, 0, 0, 36, 0, 0, 0, 0, 0], &[], &INQUIRY);
+    asks(&rt, [0x25, 0, 0, 0, 0, 0, 0, 0, 0, 0], &[], &CAPACITY);
+    asks(&rt, [0x28, 0, 0, 0, 0, 63, 0, 0, 1, 0], &[], &READ);
+    asks(&rt, [0x2a, 0, 0, 0, 0, 3, 0, 0, 1, 0], &[9; 512], &WRITE);
 }
 
 /// The disk's request in an srb with 600 bytes behind it has this data.
@@ -193,26 +207,34 @@ fn requested(rt: &impl Abort, front: [u8; 23], data: &[u8]) {
     }
 }
 
+/// The srb of a read with another byte at a place is stopped by this status.
+fn stopped(rt: &impl Abort, place: usize, value: u8, status: u8)
+    requires { place < 23 }
+{
+    let mut front = READ;
+    front[place] = value;
+    let p = srb(rt, 3, &front);
+    check(rt, p.operation == 3);
+    match srb_request(&p, Chunk::empty()) {
+        Ok(_) => panic!(rt; "{place}"),
+        Err(stop) => check(rt, stop == SrbStop { status }),
+    }
+    front[0] = status;
+    let stop = srb_stop(&p, status);
+    check(rt, stop == srb(rt, 1, &front));
+    check(rt, srb_done(&stop, &[]).is_none());
+}
+
 #[test]
-fn reads_requests(rt: HostRuntime) -> Result<(), Fail> {
+fn reads_requests(rt: HostRuntime) {
     // The data of a write is as long as the srb says, and a read has none.
     requested(&rt, WRITE, &[9; 512]);
     requested(&rt, READ, &[]);
-    // Path, target, lun; and a command of 17 bytes, for another device or not.
-    for (place, value, status) in [(3, 1, 0x20), (4, 1, 0x20), (5, 1, 0x20), (6, 17, 4)] {
-        let mut front = READ;
-        front[place] = value;
-        let p = srb(&rt, 3, &front);
-        check(&rt, p.operation == 3);
-        match srb_request(&p, Chunk::empty()) {
-            Ok(_) => panic!(rt; "{place}"),
-            Err(stop) => check(&rt, stop == SrbStop { status }),
-        }
-        front[0] = status;
-        check(&rt, srb_stop(&p, status) == srb(&rt, 1, &front));
-        check(&rt, srb_done(&srb_stop(&p, status), &[]).is_none());
-    }
-    Ok(())
+    // Path, target, lun; and a command of 17 bytes.
+    stopped(&rt, 3, 1, 0x20);
+    stopped(&rt, 4, 1, 0x20);
+    stopped(&rt, 5, 1, 0x20);
+    stopped(&rt, 6, 17, 4);
 }
 
 /// What comes back of a request with this reply: the answer's srb, and the reply that is read in it.
@@ -243,7 +265,7 @@ fn replies(rt: &impl Abort, ask: &[u8], reply: &DiskReply, want: &[u8], back: &[
 }
 
 #[test]
-fn replies_as_linux_reads(rt: HostRuntime) -> Result<(), Fail> {
+fn replies_as_linux_reads(rt: HostRuntime) {
     let mut good = CAPACITY;
     good[0] = 1;
     // More bytes than the reply has came back.
@@ -268,5 +290,4 @@ fn replies_as_linux_reads(rt: HostRuntime) -> Result<(), Fail> {
         0x84, 2, 0, 0, 0, 0, 10, 18, 1, 0, 0, 0, 0, 0, 0x70, 0, 3, 0, 0, 0, 0, 10, 0, 0, 0, 0, 0x11,
     ];
     replies(&rt, &READ, &reply, &want, &[]);
-    Ok(())
 }

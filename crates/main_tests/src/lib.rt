@@ -1,6 +1,8 @@
-//! Tests.
+//! Tests of the top call on worked inputs: what it writes, what it refuses, faults of its source and sink, and one report whatever the threads' order.
 #![tactic(auto)]
 
+#[cfg(test)]
+mod call;
 #[cfg(test)]
 mod check;
 #[cfg(test)]

@@ -1,12 +1,11 @@
 //! Workers on threads of their own: two guests that run at once, and one report whatever the threads' order.
+use crate::call::{answers, call, sink_of, source_of};
 use crate::check::check;
-use vmbus_main::*;
-use crate::vmbus_main_tests::{ROOM, answers, one_word};
-use io_edge::{Gate, Side, SureSink, SureSource};
-use std::alloc::{AllocError, AllocGlobal};
+use io_edge::{Gate, Side};
+use std::alloc::AllocGlobal;
+use std::process::Abort;
 use std::sync::Wait;
 use std::sync::atomic::{AtomicU64, Ordering};
-use std::test::*;
 use std::thread::Threads;
 
 // A hold that lasts longer has failed.
@@ -67,23 +66,25 @@ end requests 4 done 4 rescinded 0
 ";
 
 #[test]
-fn two_guests_run_at_once(rt: HostRuntime) -> Result<(), Fail> {
-    let alloc = rt.alloc();
-    let words = one_word(alloc, b"run")?;
+fn two_guests_run_at_once(rt: HostRuntime) {
     let gate = TwoGuests {
         first: AtomicU64::new(0),
         second: AtomicU64::new(0),
         failed: AtomicU64::new(0),
     };
-    let mut source = SureSource::make(TWO_DISKS.to_vec(alloc)?);
-    let mut sink = SureSink::make(alloc, ROOM)?;
-    let outcome = vmbus(&rt, alloc, &words, &mut source, &mut sink, &gate);
+    let mut sink = sink_of(&rt);
+    let outcome = call(
+        &rt,
+        b"run",
+        &mut source_of(&rt, TWO_DISKS),
+        &mut sink,
+        &gate,
+    );
     check(&rt, outcome.status == 0);
     check(&rt, sink.bytes() == TWO_DISKS_REPORT);
     check(&rt, gate.first.load(Ordering::SeqCst) == 1);
     check(&rt, gate.second.load(Ordering::SeqCst) == 1);
     check(&rt, gate.failed.load(Ordering::SeqCst) == 0);
-    Ok(())
 }
 
 /// Sixteen channels at once, of each kind.
@@ -149,18 +150,17 @@ end requests 20 done 20 rescinded 0
 ";
 
 // How many of the runs give the report.
-fn same_reports(rt: &(impl Threads + Wait + Sync + AllocGlobal)) -> Result<u32, AllocError> {
+fn same_reports(rt: &(impl Threads + Wait + Sync + Abort + AllocGlobal)) -> u32 {
     let mut same = 0u32;
     for _ in 0..RUNS {
-        if answers(rt, b"run", SIXTEEN, SIXTEEN_REPORT)? == (0, true) {
+        if answers(rt, b"run", SIXTEEN, 0, SIXTEEN_REPORT) {
             same = same.wrapping_add(1);
         }
     }
-    Ok(same)
+    same
 }
 
 #[test]
-fn a_thousand_runs_give_one_report(rt: HostRuntime) -> Result<(), Fail> {
-    check(&rt, same_reports(&rt)? == RUNS);
-    Ok(())
+fn a_thousand_runs_give_one_report(rt: HostRuntime) {
+    check(&rt, same_reports(&rt) == RUNS);
 }

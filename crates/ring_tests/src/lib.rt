@@ -1,4 +1,4 @@
-//! Tests.
+//! Tests of the rings: what one end and both ends do, beside answers that were worked out by hand, and each public call once.
 #![tactic(auto)]
 
 #[cfg(test)]

@@ -11,5 +11,8 @@ fn decisions_of_the_signal(rt: HostRuntime) {
     check(&rt, raise_on_write(96, 0, 96));
     check(&rt, !raise_on_write(96, 1, 96));
     check(&rt, !raise_on_write(96, 0, 0));
-    check(&rt, !raises(0) && !raises(95) && raises(96) && raises(191) && !raises(192));
+    check(
+        &rt,
+        !raises(0) && !raises(95) && raises(96) && raises(191) && !raises(192),
+    );
 }

@@ -4,8 +4,8 @@ ghost use Rattle.ring_machine.specs.States.{IsPacket};
 ghost use Rattle.ring_model.specs.Pair.{IsPair};
 
 use crate::check::check;
-use ring_model::{Settled, SoloPair, finish};
 use ring_core::{Room, SendRefusal, Side, Signalled, TakeRefusal};
+use ring_model::{Settled, SoloPair, finish};
 use std::alloc::{AllocError, Global};
 use std::test::Fail;
 
@@ -141,7 +141,10 @@ fn packets_come_as_they_went(rt: HostRuntime) -> Result<(), Fail> {
     let mut pair = opened(rt.alloc())?;
     let long = packet(rt.alloc(), 510, 7)?;
     let short = packet(rt.alloc(), 3, 9)?;
-    check(&rt, goes_round(&mut pair, long.as_slice(), short.as_slice()));
+    check(
+        &rt,
+        goes_round(&mut pair, long.as_slice(), short.as_slice()),
+    );
     let settled = finish(pair);
     check(&rt, settles(&settled, long.as_slice()));
     Ok(())
@@ -152,8 +155,14 @@ fn a_full_ring_refuses_until_a_commit(rt: HostRuntime) -> Result<(), Fail> {
     let mut pair = opened(rt.alloc())?;
     let long = packet(rt.alloc(), 510, 7)?;
     let short = packet(rt.alloc(), 2, 9)?;
-    check(&rt, stays_full(&mut pair, long.as_slice(), short.as_slice()));
+    check(
+        &rt,
+        stays_full(&mut pair, long.as_slice(), short.as_slice()),
+    );
     check(&rt, commit(&mut pair, Side::Host) == Some(Signalled::Quiet));
-    check(&rt, passes(&mut pair, Side::Guest, Side::Host, short.as_slice()));
+    check(
+        &rt,
+        passes(&mut pair, Side::Guest, Side::Host, short.as_slice()),
+    );
     Ok(())
 }

@@ -3,11 +3,11 @@ ghost use Rattle.std.specs.Prelude.{◌≡◌, ◌∷◌, [], IfOk};
 ghost use Rattle.ring_machine.specs.Places.{IsPlaceOf};
 
 use crate::check::check;
-use ring_rows::{may_begin, may_send, may_take};
 use ring_core::{
     Bad, Change, End, Packets, Place, Ring, Room, Seatlike, SendRefusal, Side, Signalled, SoloMem,
     TakeRefusal, ToldMem, Why,
 };
+use ring_rows::{may_begin, may_send, may_take};
 use std::alloc::{AllocError, Global};
 use std::test::Fail;
 
@@ -187,7 +187,10 @@ fn packets_in_no_form_stop_an_end(rt: HostRuntime) -> Result<(), Fail> {
         offset8: 4,
         len8: 3,
     };
-    check(&rt, stops(rt.alloc(), 96, 0x0000_0003_0004_0006, outside, 2)?);
+    check(
+        &rt,
+        stops(rt.alloc(), 96, 0x0000_0003_0004_0006, outside, 2)?,
+    );
     let index = Bad::Index { value: 4097 };
     check(&rt, stops(rt.alloc(), 4097, 0, index, 1)?);
     Ok(())
@@ -216,7 +219,10 @@ fn a_wrong_read_index_stops_a_sender(rt: HostRuntime) -> Result<(), Fail> {
     check(&rt, refuses_send(&mut e, p.as_slice(), refusal));
     check(&rt, steps(&e) == 1);
     let why = Why::BadPeer { index: 4096 };
-    check(&rt, refuses_send(&mut e, p.as_slice(), SendRefusal::Stopped { why }));
+    check(
+        &rt,
+        refuses_send(&mut e, p.as_slice(), SendRefusal::Stopped { why }),
+    );
     check(&rt, steps(&e) == 1);
     Ok(())
 }
@@ -279,7 +285,10 @@ fn room_is_made_and_used(rt: HostRuntime) -> Result<(), Fail> {
         words: 1024,
     };
     let mut e = solo_end(rt.alloc(), Side::Guest, room)?;
-    check(&rt, has_room(e.spare_sent(), 2, 1024) && has_room(e.spare_got(), 2, 1024));
+    check(
+        &rt,
+        has_room(e.spare_sent(), 2, 1024) && has_room(e.spare_got(), 2, 1024),
+    );
     let before = e.spare_sent();
     check(&rt, sends(&mut e, &[FIRST, 7, 9], Signalled::Quiet));
     let after = e.spare_sent();
@@ -308,7 +317,10 @@ fn packets_go_across_both_ways(rt: HostRuntime) -> Result<(), Fail> {
     check(&rt, takes(&mut g, &[FIRST, 1, 2]));
     let (_, sent, got) = g.into_parts();
     check(&rt, sent.len() == 2 && got.len() == 1);
-    check(&rt, holds(&sent, 1, &[FIRST, 8, 10]) && holds(&got, 0, &[FIRST, 1, 2]));
+    check(
+        &rt,
+        holds(&sent, 1, &[FIRST, 8, 10]) && holds(&got, 0, &[FIRST, 1, 2]),
+    );
     Ok(())
 }
 

@@ -4,9 +4,9 @@ ghost use Rattle.ring_machine.specs.declared.machine.Stage.TheVariants.{Idle};
 ghost use Rattle.ring_seat.specs.Settling.{AreOfOneChannel, IsSameEnd};
 
 use crate::check::check;
-use ring_seat::{ChannelMem, GuestEnd, HostEnd, Settled, Sleeper, TableSeat, finish};
 use ring_core::{Armed, End, Room, SendRefusal, Signalled, TakeRefusal};
 use ring_rows::{may_send, may_take};
+use ring_seat::{ChannelMem, GuestEnd, HostEnd, Settled, Sleeper, TableSeat, finish};
 use std::alloc::{AllocError, Global};
 use std::sync::Wait;
 use std::test::Fail;
@@ -140,7 +140,10 @@ fn a_full_ring_refuses_a_second_packet(rt: HostRuntime) -> Result<(), Fail> {
     let long = packet(rt.alloc(), 510, 7)?;
     let short = packet(rt.alloc(), 2, 9)?;
     let full = Some(Err(SendRefusal::Full { free: 8, need: 24 }));
-    check(&rt, send(&mut guest, long.as_slice()) == Some(Ok(Signalled::Quiet)));
+    check(
+        &rt,
+        send(&mut guest, long.as_slice()) == Some(Ok(Signalled::Quiet)),
+    );
     check(&rt, send(&mut guest, short.as_slice()) == full);
     check(&rt, takes(&mut host, long.as_slice()));
     check(&rt, finds_none(&mut host));

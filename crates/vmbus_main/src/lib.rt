@@ -9,4 +9,3 @@ mod run;
 
 pub use call::vmbus;
 pub use outcome::{Controls, Outcome};
-

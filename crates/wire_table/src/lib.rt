@@ -14,4 +14,3 @@ mod little;
 pub use field::{Field, Layout, LayoutFault};
 pub use layout::Checked;
 pub use little::{array_at, get_at, number, put_at, put_bytes, spell};
-

@@ -1,28 +1,30 @@
 //! The workers of a heartbeat's channel, by their own calls.
-ghost use Rattle.std.specs.Prelude.{◌≡◌, IfOk};
+ghost use Rattle.std.specs.Prelude.{◌≡◌};
 ghost use Rattle.end_work.specs.Workers.{IsLive};
 ghost use Rattle.io_edge.specs.declared.side.Side.TheVariants.{Guest as GuestSide, Host as HostSide};
 ghost use Rattle.ring_seat.specs.Seats.{new_end};
 
 use crate::check::check;
-use end_work::{GuestPlan, GuestSeat, GuestWorker, HostPlan, HostSeat, HostWorker};
 use bus_script::Reply;
 use contact::Kind;
+use end_work::{GuestPlan, GuestSeat, GuestWorker, HostPlan, HostSeat, HostWorker};
 use hist_lock::HistLock;
 use io_edge::NoGate;
 use ring_seat::{ChannelMem, GuestEnd, HostEnd};
-use std::alloc::Global;
-use std::test::Fail;
+use std::alloc::AllocGlobal;
+use std::process::Abort;
+use std::sync::Wait;
 use std::thread::join;
 use util_ic::{BeatMachine, IcAsk};
 use worker_core::{Ended, Turn};
 
 // A guest that serves two heartbeats.
-fn guest_of(alloc: Global, end: GuestEnd) -> Result<GuestWorker, Fail>
+fn guest_of(rt: &(impl Abort + AllocGlobal), end: GuestEnd) -> GuestWorker
     requires { end.state ≡ new_end 512 GuestSide }
-    ensures { IfOk result IsLive }
+    ensures { IsLive result }
 {
-    let mut seats = HistLock::make(alloc, BeatMachine::make(), &[2])?;
+    let alloc = rt.alloc();
+    let mut seats = HistLock::make(alloc, BeatMachine::make(), &[2]).expect(rt, "memory");
     let Some(seat) = seats.pop() else {
         unreachable!()
     };
@@ -35,14 +37,16 @@ fn guest_of(alloc: Global, end: GuestEnd) -> Result<GuestWorker, Fail>
         count: 2,
         disk: Vec::new(alloc),
     };
-    Ok(GuestWorker::make(alloc, end, GuestSeat::Beat(seat), plan)?)
+    GuestWorker::make(alloc, end, GuestSeat::Beat(seat), plan).expect(rt, "memory")
 }
 
 // A host that asks for the heartbeats 7 and 8.
-fn host_of(alloc: Global, end: HostEnd) -> Result<HostWorker, Fail>
+fn host_of(rt: &(impl Abort + AllocGlobal), end: HostEnd) -> HostWorker
     requires { end.state ≡ new_end 512 HostSide }
-    ensures { IfOk result IsLive }
+    ensures { IsLive result }
 {
+    let alloc = rt.alloc();
+    let asks = [IcAsk::Beat { seq: 7 }, IcAsk::Beat { seq: 8 }];
     let plan = HostPlan {
         relid: 1,
         kind: Kind::Beat,
@@ -51,9 +55,18 @@ fn host_of(alloc: Global, end: HostEnd) -> Result<HostWorker, Fail>
         window: 1,
         count: 2,
         stop: None,
-        asks: [IcAsk::Beat { seq: 7 }, IcAsk::Beat { seq: 8 }].to_vec(alloc)?,
+        asks: asks.to_vec(alloc).expect(rt, "memory"),
     };
-    Ok(HostWorker::make(alloc, end, HostSeat::None, plan)?)
+    HostWorker::make(alloc, end, HostSeat::None, plan).expect(rt, "memory")
+}
+
+// Both workers of one channel.
+fn workers(rt: &(impl Abort + AllocGlobal)) -> (GuestWorker, HostWorker)
+    ensures guest { IsLive result.0 }
+    ensures host { IsLive result.1 }
+{
+    let (guest_end, host_end) = ChannelMem::make(rt.alloc(), 1, 0).expect(rt, "memory");
+    (guest_of(rt, guest_end), host_of(rt, host_end))
 }
 
 // The sequence number of a heartbeat's reply.
@@ -64,37 +77,63 @@ fn seq_of(reply: &Reply) -> Option<u64> {
     }
 }
 
-#[test]
-fn workers_run_on_two_threads(rt: HostRuntime) -> Result<(), Fail> {
-    let (guest_end, host_end) = ChannelMem::make(rt.alloc(), 1, 0)?;
-    let guest = guest_of(rt.alloc(), guest_end)?;
-    let host = host_of(rt.alloc(), host_end)?;
-    let run = &rt;
-    let (guest, host) = join(
-        run,
-        move || guest.run(run, &NoGate),
-        move || host.run(run, &NoGate),
-    );
-    check(&rt, guest.ended == Ended::PeerMarked);
-    check(&rt, host.ended == Ended::Marked);
-    check(&rt, guest.serials.as_slice() == [0, 1].as_slice());
-    check(&rt, guest.replies.is_empty());
-    check(&rt, matches!(guest.seat, GuestSeat::Beat(_)));
-    check(&rt, host.serials.is_empty());
-    check(&rt, host.replies.len() == 2);
-    check(&rt, seq_of(&host.replies[0]) == Some(8));
-    check(&rt, seq_of(&host.replies[1]) == Some(9));
-    check(&rt, matches!(host.seat, HostSeat::None));
-    Ok(())
+// The guest serves both, and ends after the host.
+fn run_guest(rt: &(impl Wait + Abort), guest: GuestWorker)
+    requires { IsLive guest }
+{
+    let done = guest.run(rt, &NoGate);
+    check(rt, done.ended == Ended::PeerMarked);
+    check(rt, done.serials.as_slice() == [0, 1].as_slice());
+    check(rt, done.replies.is_empty());
+    check(rt, matches!(done.seat, GuestSeat::Beat(_)));
+}
+
+// The host has both replies, and ends.
+fn run_host(rt: &(impl Wait + Abort), host: HostWorker)
+    requires { IsLive host }
+{
+    let done = host.run(rt, &NoGate);
+    check(rt, done.ended == Ended::Marked);
+    check(rt, done.serials.is_empty());
+    check(rt, done.replies.len() == 2);
+    check(rt, seq_of(&done.replies[0]) == Some(8));
+    check(rt, seq_of(&done.replies[1]) == Some(9));
+    check(rt, matches!(done.seat, HostSeat::None));
 }
 
 #[test]
-fn workers_take_turns(rt: HostRuntime) -> Result<(), Fail> {
-    let (guest_end, host_end) = ChannelMem::make(rt.alloc(), 1, 0)?;
-    let mut guest = guest_of(rt.alloc(), guest_end)?;
-    let mut host = host_of(rt.alloc(), host_end)?;
+fn workers_run_on_two_threads(rt: HostRuntime) {
+    let (guest, host) = workers(&rt);
+    let run = &rt;
+    join(
+        run,
+        move ||
+            requires { IsLive guest }
+        { run_guest(run, guest) },
+        move ||
+            requires { IsLive host }
+        { run_host(run, host) },
+    );
+}
+
+// A turn of the guest.
+fn turn_guest(rt: &impl Wait, guest: &mut GuestWorker) -> Turn
+    requires { IsLive guest.old }
+{
+    guest.turn(rt, &NoGate)
+}
+
+// A turn of the host.
+fn turn_host(rt: &impl Wait, host: &mut HostWorker) -> Turn
+    requires { IsLive host.old }
+{
+    host.turn(rt, &NoGate)
+}
+
+#[test]
+fn workers_take_turns(rt: HostRuntime) {
+    let (mut guest, mut host) = workers(&rt);
     // The guest has nothing to serve yet, and falls asleep. The host sends its start-up.
-    check(&rt, guest.turn(&rt, &NoGate) == Turn::Idle);
-    check(&rt, host.turn(&rt, &NoGate) == Turn::Moved);
-    Ok(())
+    check(&rt, turn_guest(&rt, &mut guest) == Turn::Idle);
+    check(&rt, turn_host(&rt, &mut host) == Turn::Moved);
 }

@@ -1,4 +1,4 @@
-//! Tests.
+//! Tests of the workers: both ends of a channel on two threads and by turns, and the channels of a phase.
 #![tactic(auto)]
 
 #[cfg(test)]

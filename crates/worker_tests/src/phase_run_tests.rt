@@ -6,31 +6,32 @@ ghost use Rattle.script_lines.specs.Requests.{IsCarried};
 ghost use Rattle.script_lines.specs.WellFormed.{CanGo};
 
 use crate::check::check;
-use phase_run::{Pair, PairDone, open_pair, run_pair, run_phase};
 use bus_script::{Ask, Reply};
 use contact::Kind;
 use end_work::DeviceSeat;
 use hist_lock::HistLock;
 use io_edge::NoGate;
+use phase_run::{Pair, PairDone, open_pair, run_pair, run_phase};
 use ring_core::Packets;
 use scsi_disk::{Chunk, Command, Disk, DiskReply, DiskRequest};
-use std::alloc::Global;
+use std::alloc::AllocGlobal;
 use std::process::Abort;
-use std::test::Fail;
+use std::sync::Wait;
 use util_ic::{BeatMachine, DownMachine, IcAsk};
 
 // The heartbeats 7, 8 and 9.
-fn beats(alloc: Global) -> Result<Pair, Fail> {
+fn beats(rt: &(impl Abort + AllocGlobal)) -> Pair {
+    let alloc = rt.alloc();
     let asks = [
         Ask::Ic(IcAsk::Beat { seq: 7 }),
         Ask::Ic(IcAsk::Beat { seq: 8 }),
         Ask::Ic(IcAsk::Beat { seq: 9 }),
     ];
-    let mut seats = HistLock::make(alloc, BeatMachine::make(), &[3])?;
+    let mut seats = HistLock::make(alloc, BeatMachine::make(), &[3]).expect(rt, "memory");
     let Some(seat) = seats.pop() else {
         unreachable!()
     };
-    Ok(open_pair(alloc, Kind::Beat, 1, 1, 2, DeviceSeat::Beat(seat), &asks)?)
+    open_pair(alloc, Kind::Beat, 1, 1, 2, DeviceSeat::Beat(seat), &asks).expect(rt, "memory")
 }
 
 // A shutdown with these flags.
@@ -46,13 +47,14 @@ fn down(flags: u32) -> Ask
 }
 
 // Two shutdowns, and a hibernation between them.
-fn downs(alloc: Global) -> Result<Pair, Fail> {
+fn downs(rt: &(impl Abort + AllocGlobal)) -> Pair {
+    let alloc = rt.alloc();
     let asks = [down(0), down(4), down(1)];
-    let mut seats = HistLock::make(alloc, DownMachine::make(), &[3])?;
+    let mut seats = HistLock::make(alloc, DownMachine::make(), &[3]).expect(rt, "memory");
     let Some(seat) = seats.pop() else {
         unreachable!()
     };
-    Ok(open_pair(alloc, Kind::Down, 2, 2, 1, DeviceSeat::Down(seat), &asks)?)
+    open_pair(alloc, Kind::Down, 2, 2, 1, DeviceSeat::Down(seat), &asks).expect(rt, "memory")
 }
 
 // Whether this is a read or a write that a disk's channel carries.
@@ -84,17 +86,19 @@ fn command(rt: &impl Abort, front: [u8; 10], out: &[u8]) -> Ask
 }
 
 // Block 3 is written and read, and block 5 can't be read.
-fn blocks(rt: &impl Abort, alloc: Global) -> Result<Pair, Fail> {
+fn blocks(rt: &(impl Abort + AllocGlobal)) -> Pair {
+    let alloc = rt.alloc();
     let asks = [
         command(rt, [0x2a, 0, 0, 0, 0, 3, 0, 0, 1, 0], &[9; 512]),
         command(rt, [0x28, 0, 0, 0, 0, 3, 0, 0, 1, 0], &[]),
         command(rt, [0x28, 0, 0, 0, 0, 5, 0, 0, 1, 0], &[]),
     ];
-    let mut seats = HistLock::make(alloc, Disk::make(alloc, 64, &[5])?, &[3])?;
+    let disk = Disk::make(alloc, 64, &[5]).expect(rt, "memory");
+    let mut seats = HistLock::make(alloc, disk, &[3]).expect(rt, "memory");
     let Some(seat) = seats.pop() else {
         unreachable!()
     };
-    Ok(open_pair(alloc, Kind::Disk, 3, 1, 4, DeviceSeat::Disk(seat), &asks)?)
+    open_pair(alloc, Kind::Disk, 3, 1, 4, DeviceSeat::Disk(seat), &asks).expect(rt, "memory")
 }
 
 // Whether two lists have the same packets, so many.
@@ -108,11 +112,17 @@ fn are_same(left: &Packets, right: &Packets, count: usize) -> bool {
 }
 
 // Each packet of either end was got as it was sent, so many in each direction, and the calls have the serials 0 to 2.
-fn check(rt: &impl Abort, done: &PairDone, count: usize)
+fn check_pair(rt: &impl Abort, done: &PairDone, count: usize)
     ensures { vec_len done.now.replies ≡ 3 }
 {
-    check(rt, are_same(done.settled.guest_sent(), done.settled.host_got(), count));
-    check(rt, are_same(done.settled.host_sent(), done.settled.guest_got(), count));
+    check(
+        rt,
+        are_same(done.settled.guest_sent(), done.settled.host_got(), count),
+    );
+    check(
+        rt,
+        are_same(done.settled.host_sent(), done.settled.guest_got(), count),
+    );
     check(rt, done.serials.as_slice() == [0, 1, 2].as_slice());
     check(rt, done.replies.len() == 3);
 }
@@ -127,7 +137,7 @@ fn ic(rt: &impl Abort, reply: &Reply) -> (u32, u64) {
 
 // A heartbeat's sequence number comes back one greater.
 fn check_beats(rt: &impl Abort, done: &PairDone) {
-    check(rt, done, 4);
+    check_pair(rt, done, 4);
     for (i, seq) in [8, 9, 10].iter().enumerate() {
         check(rt, ic(rt, &done.replies[i]) == (0, *seq));
     }
@@ -135,14 +145,14 @@ fn check_beats(rt: &impl Abort, done: &PairDone) {
 
 // A guest refuses to hibernate.
 fn check_downs(rt: &impl Abort, done: &PairDone) {
-    check(rt, done, 4);
+    check_pair(rt, done, 4);
     for (i, status) in [0, 0x8000_4005, 0].iter().enumerate() {
         check(rt, ic(rt, &done.replies[i]) == (*status, 0));
     }
 }
 
 fn check_blocks(rt: &impl Abort, done: &PairDone) {
-    check(rt, done, 7);
+    check_pair(rt, done, 7);
     match &done.replies[0] {
         Reply::Disk(DiskReply::Good(back)) => check(rt, back.bytes().is_empty()),
         _ => panic!(rt; "not written"),
@@ -159,29 +169,35 @@ fn check_blocks(rt: &impl Abort, done: &PairDone) {
     }
 }
 
-#[test]
-fn pairs_by_turns(rt: HostRuntime) -> Result<(), Fail> {
-    let done = run_pair(&rt, &NoGate, beats(rt.alloc())?);
-    check_beats(&rt, &done);
-    let done = run_pair(&rt, &NoGate, downs(rt.alloc())?);
-    check_downs(&rt, &done);
-    let done = run_pair(&rt, &NoGate, blocks(&rt, rt.alloc())?);
-    check_blocks(&rt, &done);
-    Ok(())
+// What the workers of a channel come to, by turns on this thread.
+fn run(rt: &impl Wait, pair: Pair) -> PairDone {
+    run_pair(rt, &NoGate, pair)
 }
 
 #[test]
-fn a_phase_on_threads(rt: HostRuntime) -> Result<(), Fail> {
-    let alloc = rt.alloc();
-    let mut pairs = Vec::with_capacity(alloc, 3)?;
-    pairs.push(beats(alloc)?)?;
-    pairs.push(downs(alloc)?)?;
-    pairs.push(blocks(&rt, alloc)?)?;
-    let mut done = Vec::with_capacity(alloc, 3)?;
-    run_phase(&rt, pairs, &mut done, &NoGate);
+fn pairs_by_turns(rt: HostRuntime) {
+    check_beats(&rt, &run(&rt, beats(&rt)));
+    check_downs(&rt, &run(&rt, downs(&rt)));
+    check_blocks(&rt, &run(&rt, blocks(&rt)));
+}
+
+// The three channels of a phase.
+fn pairs(rt: &(impl Abort + AllocGlobal)) -> Vec<Pair>
+    ensures { vec_len result ≡ 3 }
+{
+    let mut pairs = Vec::with_capacity(rt.alloc(), 3).expect(rt, "memory");
+    pairs.push_reserved(beats(rt));
+    pairs.push_reserved(downs(rt));
+    pairs.push_reserved(blocks(rt));
+    pairs
+}
+
+#[test]
+fn a_phase_on_threads(rt: HostRuntime) {
+    let mut done = Vec::with_capacity(rt.alloc(), 3).expect(&rt, "memory");
+    run_phase(&rt, pairs(&rt), &mut done, &NoGate);
     check(&rt, done.len() == 3);
     check_beats(&rt, &done[0]);
     check_downs(&rt, &done[1]);
     check_blocks(&rt, &done[2]);
-    Ok(())
 }

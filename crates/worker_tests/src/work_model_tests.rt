@@ -1,8 +1,8 @@
 //! Which end asks, and that each law can be had.
 use crate::check::check;
-use work_model::{laws, side_that_asks};
 use contact::Kind;
 use io_edge::Side;
+use work_model::{laws, side_that_asks};
 
 #[test]
 fn hosts_ask_services_and_guests_ask_devices(rt: HostRuntime) {
