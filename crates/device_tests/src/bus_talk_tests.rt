@@ -139,46 +139,86 @@ fn command(front: [u8; 10], out: &[u8]) -> Ask
     })
 }
 
-#[test]
-fn disks_write_and_read(rt: HostRuntime) -> Result<(), Fail> {
-    let mut disk = Disk::make(rt.alloc(), 64, &[5])?;
-    let mut words = [0; 384];
-    let write = command([0x2a, 0, 0, 0, 0, 3, 0, 0, 1, 0], &[9; 512]);
-    let talk = talk_of(&rt, rt.alloc(), Kind::Disk, write)?;
-    match disk_round(&rt, &mut disk, &talk, &mut words) {
-        Some(Reply::Disk(DiskReply::Good(back))) => check(&rt, back.bytes().is_empty()),
+/// The talk of a disk's channel on which this command is asked.
+fn disk_talk(rt: &impl Abort, alloc: Global, front: [u8; 10], out: &[u8]) -> KindTalk
+    requires { length out.now ≤ 4096 }
+    ensures { result.kind ≡ DiskKind }
+{
+    match talk_of(rt, alloc, Kind::Disk, command(front, out)) {
+        Ok(talk) => talk,
+        Err(_) => panic!(rt; "no memory"),
+    }
+}
+
+/// What the guest reads in the answer is these bytes.
+fn gives(rt: &impl Abort, disk: &mut Disk, talk: &KindTalk, words: &mut [u64], want: &[u8])
+    requires kind { talk.now.kind ≡ DiskKind }
+    requires words { length words.old ≡ 384 }
+{
+    match disk_round(rt, disk, talk, words) {
+        Some(Reply::Disk(DiskReply::Good(back))) => check(rt, back.bytes() == want),
         _ => panic!(rt; "no good reply"),
     }
+}
+
+/// What the guest reads in the answer is the check of a block that can't be read.
+fn fails(rt: &impl Abort, disk: &mut Disk, talk: &KindTalk)
+    requires { talk.now.kind ≡ DiskKind }
+{
+    let mut words = [0; 384];
+    match disk_round(rt, disk, talk, &mut words) {
+        Some(Reply::Disk(DiskReply::Check { key, asc, ascq })) => {
+            check(rt, (key, asc, ascq) == (3, 0x11, 0));
+        }
+        _ => panic!(rt; "no check"),
+    }
+}
+
+/// A block is written.
+fn writes(rt: &impl Abort, disk: &mut Disk, talk: &KindTalk)
+    requires { talk.now.kind ≡ DiskKind }
+{
+    let mut words = [0; 384];
+    gives(rt, disk, talk, &mut words, &[]);
     // 64 bytes and 512 of data are 72 words.
     let front = [
         3, 0, 0, 0, 1, 0, 0, 0, 0, 0, 0, 0, 52, 0, 0, 0, 0, 0, 0, 0, 10, 20, 0, 0, 0, 2, 0, 0,
         0x2a, 0, 0, 0, 0, 3, 0, 0, 1,
     ];
-    is_packet(&rt, &words, 0x0001_004a_0002_0006, 77, &front);
-    check(
+    is_packet(rt, &words, 0x0001_004a_0002_0006, 77, &front);
+    check(rt, words[10] == 0x0909_0909_0909_0909);
+    check(rt, words[73] == 0x0909_0909_0909_0909);
+}
+
+/// The block that was written is read.
+fn reads(rt: &impl Abort, disk: &mut Disk, talk: &KindTalk)
+    requires { talk.now.kind ≡ DiskKind }
+{
+    let mut words = [0; 384];
+    gives(rt, disk, talk, &mut words, &[9; 512]);
+}
+
+#[test]
+fn disks_write_and_read(rt: HostRuntime) -> Result<(), Fail> {
+    let mut disk = Disk::make(rt.alloc(), 64, &[5])?;
+    let write = [0x2a, 0, 0, 0, 0, 3, 0, 0, 1, 0];
+    writes(
         &rt,
-        (words[10], words[73]) == (0x0909_0909_0909_0909, 0x0909_0909_0909_0909),
+        &mut disk,
+        &disk_talk(&rt, rt.alloc(), write, &[9; 512]),
     );
-    let read = command([0x28, 0, 0, 0, 0, 3, 0, 0, 1, 0], &[]);
-    let talk = talk_of(&rt, rt.alloc(), Kind::Disk, read)?;
-    match disk_round(&rt, &mut disk, &talk, &mut words) {
-        Some(Reply::Disk(DiskReply::Good(back))) => check(&rt, back.bytes() == [9; 512].as_slice()),
-        _ => panic!(rt; "no good reply"),
-    }
-    let bad = command([0x28, 0, 0, 0, 0, 5, 0, 0, 1, 0], &[]);
-    let talk = talk_of(&rt, rt.alloc(), Kind::Disk, bad)?;
-    match disk_round(&rt, &mut disk, &talk, &mut words) {
-        Some(Reply::Disk(DiskReply::Check { key, asc, ascq })) => {
-            check(&rt, (key, asc, ascq) == (3, 0x11, 0));
-        }
-        _ => panic!(rt; "no check"),
-    }
-    check(
-        &rt,
-        !is_askable(Kind::Disk, &command([0x28, 0, 0, 0, 0, 5, 0, 0, 5, 0], &[])),
-    );
-    check(&rt, !is_askable(Kind::Beat, &command([0; 10], &[])));
+    let read = [0x28, 0, 0, 0, 0, 3, 0, 0, 1, 0];
+    reads(&rt, &mut disk, &disk_talk(&rt, rt.alloc(), read, &[]));
+    let bad = [0x28, 0, 0, 0, 0, 5, 0, 0, 1, 0];
+    fails(&rt, &mut disk, &disk_talk(&rt, rt.alloc(), bad, &[]));
     Ok(())
+}
+
+#[test]
+fn some_commands_are_not_asked(rt: HostRuntime) {
+    let long = command([0x28, 0, 0, 0, 0, 5, 0, 0, 5, 0], &[]);
+    check(&rt, !is_askable(Kind::Disk, &long));
+    check(&rt, !is_askable(Kind::Beat, &command([0; 10], &[])));
 }
 
 /// A channel's start-up is answered, whatever else is asked.

@@ -1,5 +1,5 @@
 //! NVSP messages against those that Linux's structs make, and the station against its tables.
-ghost use Rattle.std.specs.Prelude.{◌≤◌, length};
+ghost use Rattle.std.specs.Prelude.{◌≡◌, ◌≤◌, length};
 
 use crate::check::check;
 use crate::hex::unhex;
@@ -11,17 +11,31 @@ use rndis_msg::{Rndis, RndisFault, Small};
 use std::process::Abort;
 use std::test::Fail;
 
+// The bytes that hexadecimal digits spell, with zeros after them.
+fn spelled(rt: &impl Abort, digits: &str) -> [u8; 64] {
+    let mut bytes = [0; 64];
+    unhex(rt, digits, &mut bytes);
+    bytes
+}
+
+// The first bytes of a buffer.
+fn front(bytes: &[u8; 64], len: usize) -> &[u8]
+    requires { len ≤ 64 }
+    ensures { length result.now ≡ len }
+{
+    &bytes[..len]
+}
+
 // The digits, with zeros behind them up to 40 bytes, are the message, read and written.
 fn is_both_ways(rt: &impl Abort, digits: &str, want: Nvsp) {
-    let mut bytes = [0; 64];
-    check(rt, unhex(rt, digits, &mut bytes) <= 40);
-    check(rt, decode_nvsp(&bytes[..40]) == Ok(want));
+    let mut bytes = spelled(rt, digits);
+    check(rt, decode_nvsp(front(&bytes, 40)) == Ok(want));
     // What follows, a Remote NDIS message, isn't looked at.
     bytes[41] = 7;
     check(rt, decode_nvsp(&bytes) == Ok(want));
     let mut out = [0xee; 40];
     encode_nvsp(&want, &mut out);
-    check(rt, out[..] == bytes[..40]);
+    check(rt, &out[..] == front(&bytes, 40));
     check(rt, encode_and_decode_nvsp(&want) == Ok(want));
 }
 
