@@ -35,6 +35,10 @@ start_asks Disk (suc (suc (suc zero))) lt = ap is_some (ap disk_asks (disk_start
 start_asks Disk (suc (suc (suc (suc k)))) lt = absurd (omega arith)
 start_asks Net k lt = absurd (omega arith)
 
+-- the start-up is part of what is asked
+pub starts_within : (kind : Kind) (asks : List Want) → length (startup kind) ≤ length (startup kind ++ asks)
+starts_within kind asks = omega (arith, length-append (startup kind) asks)
+
 -- what stands at a place of the start-up
 start_at : (kind : Kind) (asks : List Want) (k : ℕ) (a : Want) → k < length (startup kind) → slice_get (startup kind ++ asks) k ≡ Some a → a ≡ Starts k
 start_at Beat asks zero a lt h = cc

@@ -186,11 +186,13 @@ fn said(kind: Kind, packet: &[u64]) -> Option<Reply>
 }
 
 impl Talk for KindTalk {
-    ghost use Rattle.std.specs.Prelude.{refl, []};
+    ghost use Rattle.std.specs.Prelude.{refl, [], length, map};
     ghost use Rattle.bus_speech.specs.Speeches.{answer_on, speech_of};
     ghost use Rattle.bus_speech.specs.Talks.{asks_of};
+    ghost use Rattle.bus_speech.specs.Wants.{startup};
+    ghost use Rattle.bus_speech.specs.declared.want.Want.TheVariants.{Script};
     ghost use Rattle.bus_speech.proofs.SpeechLaws.{keeps};
-    ghost use Rattle.bus_speech.proofs.TalkLaws.{listed_answer};
+    ghost use Rattle.bus_speech.proofs.TalkLaws.{listed_answer, starts_within};
 
     type Ask = Want;
 
@@ -208,6 +210,10 @@ impl Talk for KindTalk {
 
     ghost asks = { asks_of };
 
+    ghost starts = { λ s. length (startup s.kind) };
+
+    ghost within = { λ s. starts_within s.kind (map Script s.asks) };
+
     ghost message = { λ s p r back. [] };
 
     ghost answer = { λ s p r. answer_on s.kind p r };
@@ -216,10 +222,7 @@ impl Talk for KindTalk {
         count_starts(self.kind) + self.asks.len() as u32
     }
 
-    fn starts(&self) -> u32
-        ensures value { result ≡ length (startup self.now.kind) }
-        ensures within { result ≤ length (asks_of self.now) }
-    {
+    fn starts(&self) -> u32 {
         count_starts(self.kind)
     }
 

@@ -29,6 +29,11 @@ pub trait Talk: Drop {
     /// What the end that asks has to ask in this phase, in order: the start-up first.
     ghost asks: { Self → List Self.Ask };
 
+    /// How many of these are the start-up's, which stand first.
+    ghost starts: { Self → ℕ };
+
+    ghost within: { (s : Self) → starts s ≤ length (asks s) };
+
     /// The words of the message that goes back before an answer, under an id of the serving end's, and the words of the answer.
     ghost message: { Self → List ℕ → Self.Reply → ℕ → List ℕ };
 
@@ -40,9 +45,9 @@ pub trait Talk: Drop {
     fn count(&self) -> u32
         ensures { result ≡ length (asks self.now) };
 
-    /// How many of these are the start-up's, which stand first.
+    /// How many of these are the start-up's.
     fn starts(&self) -> u32
-        ensures { result ≤ length (asks self.now) };
+        ensures { result ≡ starts self.now };
 
     /// Whether the k-th ask has an answer.
     fn has_answer(&self, k: u32) -> bool

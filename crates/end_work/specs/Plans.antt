@@ -76,11 +76,13 @@ abbrev pub HasSeat : Side → Planned → Option DeviceSeat → Type 0
 HasSeat side p None = side ≡ side_that_asks p.kind
 HasSeat side p (Some s) = (kind_at s ≡ p.kind) × (served_at s ≡ []) × (p.count ≤ left_at s)
 
--- a worker that asks was made for this plan
+-- a worker that asks was made for this plan: its start-up is the kind's, and its table has a place for each request that may be open
 pub record AsksFor (p : Planned) (w : Asking Talked Reply) : Type 0 where
   pub can : AllByRecursion (IsAskable p.kind) p.asks
   pub talk : w.talk ≡ record { kind = p.kind; asks = p.asks }
   pub relid : w.relid ≡ p.relid
+  pub starts : w.starts ≡ length (startup p.kind)
+  pub window : length w.table ≡ p.window
 
 -- and one that serves, with this seat
 pub record ServesFor (p : Planned) (seat : DeviceSeat) (w : Serving Talked DeviceSeat Ask Reply) : Type 0 where

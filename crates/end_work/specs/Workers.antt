@@ -29,6 +29,11 @@ abbrev pub seat_at : ChannelWorker → Option DeviceSeat
 seat_at (Asks w) = None
 seat_at (Serves w) = Some w.desk.seat
 
+-- how many requests it can have open, where it asks
+abbrev pub HasWindow : ℕ → ChannelWorker → Type 0
+HasWindow n (Asks w) = length w.table ≡ n
+HasWindow n (Serves w) = Unit {0}
+
 -- it has not ended
 abbrev pub IsLive : ChannelWorker → Type 0
 IsLive w = (end_at w).state.machine.marked ≡ false
@@ -48,7 +53,7 @@ abbrev pub Caused : Turn → ChannelWorker → ChannelWorker → Type 0
 Caused turn (Asks v) (Asks w) = AskCause turn v.end w.end
 Caused turn (Asks v) (Serves w) = ⊥
 Caused turn (Serves v) (Asks w) = ⊥
-Caused turn (Serves v) (Serves w) = ServeCause turn v w
+Caused turn (Serves v) (Serves w) = ServeCause turn v.end w.end
 
 -- the same worker later
 abbrev pub GoesOn : ChannelWorker → ChannelWorker → Type 0

@@ -114,6 +114,8 @@ fn make_asker(
     ensures can { IfOk result (λ w. AllByRecursion (IsAskable kind) asks.items) }
     ensures talk { IfOk result (λ w. w.talk ≡ record { kind = kind; asks = asks.items }) }
     ensures relid { IfOk result (λ w. w.relid ≡ relid) }
+    ensures starts { IfOk result (λ w. w.starts ≡ length (startup kind)) }
+    ensures window { IfOk result (λ w. length w.table ≡ window) }
     ensures end { IfOk result (λ w. (w.end.state ≡ end.state) × (w.end.seat ≡ end.seat)) }
 {
     all_can(kind, &asks);

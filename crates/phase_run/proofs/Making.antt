@@ -20,7 +20,7 @@ use Rattle.ring_seat.specs.Seats.{new_end}
 use Rattle.ring_seat.specs.Settling.{AreOfOneChannel}
 use Rattle.ring_seat.specs.declared.table_seat.TableSeat.{TableSeat}
 use Rattle.end_work.specs.Pairs.{AreRoles, ArePair}
-use Rattle.end_work.specs.Workers.{end_at, relid_at}
+use Rattle.end_work.specs.Workers.{end_at, relid_at, HasWindow}
 use Rattle.end_work.specs.Plans.{Planned, AsksFor, ServesFor, IsMade}
 use Rattle.end_work.specs.declared.device_seat.DeviceSeat.{DeviceSeat}
 use Rattle.end_work.specs.declared.worker.ChannelWorker.{ChannelWorker}
@@ -115,6 +115,13 @@ made_relid p None (Serves w) made = absurd made
 made_relid p (Some s) (Asks w) made = absurd made
 made_relid p (Some s) (Serves w) made = made.relid
 
+-- and its window
+made_window : (p : Planned) (seat : Option DeviceSeat) (w : ChannelWorker) → IsMade p seat w → HasWindow p.window w
+made_window p None (Asks w) made = made.window
+made_window p None (Serves w) made = absurd made
+made_window p (Some s) (Asks w) made = absurd made
+made_window p (Some s) (Serves w) made = tt
+
 -- the rings have as many cells as both ends of the channel
 pub has_cells : (cells : ℕ) (g h : Seen TableSeat) (guest host : ChannelWorker) → g.state ≡ new_end cells Guest → h.state ≡ new_end cells Host → (end_at guest).state ≡ g.state → (end_at host).state ≡ h.state → HasCells cells (record { guest = guest; host = host })
 has_cells cells g h guest host g_new h_new at_g at_h = record {
@@ -128,13 +135,15 @@ pub made_opens : {E : Type 0} (kind : Kind) (asks : List Ask) (seat : Option Dev
 made_opens kind asks seat p q s t (Ok w) opens p_made q_made = opens w.guest w.host p_made q_made
 made_opens kind asks seat p q s t (Err e) opens p_made q_made = tt
 
--- and has the channel of the plans' relid
-pub on_channel : {E : Type 0} (relid cells : ℕ) (p q : Planned) (s t : Option DeviceSeat) (pair : Result Pairing E) → p.relid ≡ relid → q.relid ≡ relid → IfOk pair (λ w. IsMade p s w.guest) → IfOk pair (λ w. IsMade q t w.host) → IfOk pair (HasCells cells)
-    → IfOk pair (AreOnChannel relid cells)
-on_channel relid cells p q s t (Ok w) p_relid q_relid p_made q_made has = record {
+-- and has the channel of the plans' relid, with their window
+pub on_channel : {E : Type 0} (relid cells window : ℕ) (p q : Planned) (s t : Option DeviceSeat) (pair : Result Pairing E) → p.relid ≡ relid → q.relid ≡ relid → p.window ≡ window → q.window ≡ window
+    → IfOk pair (λ w. IsMade p s w.guest) → IfOk pair (λ w. IsMade q t w.host) → IfOk pair (HasCells cells) → IfOk pair (AreOnChannel relid cells window)
+on_channel relid cells window p q s t (Ok w) p_relid q_relid p_window q_window p_made q_made has = record {
   guest_relid = made_relid p s w.guest p_made ∙ p_relid;
   host_relid = made_relid q t w.host q_made ∙ q_relid;
   guest_cells = has.guest;
   host_cells = has.host;
+  guest_window = subst (λ n. HasWindow n w.guest) p_window (made_window p s w.guest p_made);
+  host_window = subst (λ n. HasWindow n w.host) q_window (made_window q t w.host q_made);
 }
-on_channel relid cells p q s t (Err e) p_relid q_relid p_made q_made has = tt
+on_channel relid cells window p q s t (Err e) p_relid q_relid p_window q_window p_made q_made has = tt

@@ -67,12 +67,12 @@ both_whole a s asked served lists side both =
     (is_whole_of asked.ended whole.0, is_whole_of served.ended whole.1)
 
 asks_all : (s : Speech (List ℕ) Want Ask Reply) (how : Ended) (asks : List Want) (past : List (Event (List ℕ))) (told : List Reply) → is_whole how ≡ true → AsksBy s how asks past told → AsksAll s asks past told
-asks_all s Marked asks past told whole by = by
+asks_all s Marked asks past told whole by = by.0
 asks_all s PeerMarked asks past told whole by = by.0
 asks_all s (Room packets words left) asks past told whole by = absurd (cc (whole))
 
 ends_all : (s : Speech (List ℕ) Want Ask Reply) (how : Ended) (w : Serving Talked DeviceSeat Ask Reply) (past : List (Event (List ℕ))) (calls : List Served) → is_whole how ≡ true → EndsBy s how w past calls → EndsAll s w past calls
-ends_all s Marked w past calls whole by = by
+ends_all s Marked w past calls whole by = by.0
 ends_all s PeerMarked w past calls whole by = by.0
 ends_all s (Room packets words left) w past calls whole by = absurd (cc (whole))
 

@@ -9,7 +9,7 @@ use Rattle.bus_speech.specs.Talks.{Talked}
 use Rattle.bus_speech.specs.Wants.{startup, IsAskable}
 use Rattle.contact.specs.declared.kind.Kind.{Kind}
 use Rattle.end_work.specs.Seats.{served_at, kind_at, left_at, IsSameSeat, at_guest, at_host}
-use Rattle.end_work.specs.Workers.{end_at, relid_at}
+use Rattle.end_work.specs.Workers.{end_at, relid_at, HasWindow}
 use Rattle.end_work.specs.declared.device_seat.DeviceSeat.{DeviceSeat}
 use Rattle.end_work.specs.declared.guest_seat.GuestSeat.{GuestSeat}
 use Rattle.end_work.specs.declared.host_seat.HostSeat.{HostSeat}
@@ -49,12 +49,14 @@ OpensAt kind asks seat (Serves s) (Serves t) = ⊥
 abbrev pub Opens : Kind → List Ask → DeviceSeat → Pairing → Type 0
 Opens kind asks seat p = OpensAt kind asks seat p.guest p.host
 
--- both workers have the channel of this relid, whose rings have so many cells
-pub record AreOnChannel (relid cells : ℕ) (p : Pairing) : Type 0 where
+-- both workers have the channel of this relid, whose rings have so many cells, and so many requests can be open on it
+pub record AreOnChannel (relid cells window : ℕ) (p : Pairing) : Type 0 where
   pub guest_relid : relid_at p.guest ≡ relid
   pub host_relid : relid_at p.host ≡ relid
   pub guest_cells : (end_at p.guest).state.machine.cells ≡ cells
   pub host_cells : (end_at p.host).state.machine.cells ≡ cells
+  pub guest_window : HasWindow window p.guest
+  pub host_window : HasWindow window p.host
 
 -- there is a seat, a new one of a device of this kind, with so many calls at least
 abbrev pub IsNewSeat : Kind → ℕ → Option DeviceSeat → Type 0

@@ -142,7 +142,7 @@ fn open_service(
     requires asks { AllCarried kind asks.now }
     requires seat { IsNewSeat kind (length asks.now) (at_guest seat) }
     ensures opens { IfOk result (OpensWith kind asks.now (at_guest seat)) }
-    ensures channel { IfOk result (AreOnChannel relid (512 * pages)) }
+    ensures channel { IfOk result (AreOnChannel relid (512 * pages) window) }
 {
     let count = asks.len() as u32;
     let requests = ic_requests(alloc, kind, asks)?;
@@ -168,7 +168,7 @@ fn open_disk(
     requires asks { AllCarried kind asks.now }
     requires seat { IsNewSeat kind (length asks.now) (at_host seat) }
     ensures opens { IfOk result (OpensWith kind asks.now (at_host seat)) }
-    ensures channel { IfOk result (AreOnChannel relid (512 * pages)) }
+    ensures channel { IfOk result (AreOnChannel relid (512 * pages) window) }
 {
     let count = asks.len() as u32;
     let requests = disk_requests(alloc, kind, asks)?;
@@ -195,7 +195,7 @@ pub fn open_pair(
     requires fresh { served_at seat ≡ [] }
     requires left { length asks.now ≤ left_at seat }
     ensures opens { IfOk result (Opens kind asks.now seat) }
-    ensures channel { IfOk result (AreOnChannel relid (512 * pages)) }
+    ensures channel { IfOk result (AreOnChannel relid (512 * pages) window) }
 {
     match seat {
         DeviceSeat::Beat(seat) => {

@@ -17,7 +17,7 @@ use Rattle.work_model.specs.Channel.{AskerBreaks}
 use Rattle.work_model.specs.Workers.{ask_of, Apart, AskerKept}
 use Rattle.work_model.proofs.Opens.{by_test}
 use Rattle.work_model.proofs.Asking.{asker_accepted, asker_sent, asker_told, asker_answered, asker_stray, asker_open, asker_empty, asker_marked, asker_saw, asker_settled, asker_stopped}
-use Rattle.worker_core.specs.Line.{ArmedFor, SleepsFor}
+use Rattle.worker_core.specs.Line.{SleepsFor}
 use Rattle.worker_core.specs.Asking.{Asking, IsAsking, AsksAll, Holds, HasSettled, answer_of, ask_at, asked_in, waits_in, waits_under, want_by, pending, AsksOn, AsksBy}
 use Rattle.worker_core.specs.declared.asker.Hold.{Hold}
 use Rattle.worker_core.specs.declared.asker.Hold.TheVariants.{Done, Place, Answer, Room}
@@ -100,7 +100,7 @@ module _ {T A Q R : Type 0} (s : Speech (List ℕ) A Q R) (keeps : Keeps s) (sin
     within = h.within;
     places = h.places;
     asked = h.asked;
-    saw = λ e. ap has_seen is ∙ h.saw e;
+    saw = ap has_seen is ∙ h.saw;
     rests = λ e. not_both end'.state.machine.asleep awake e;
   }
 
@@ -110,7 +110,7 @@ module _ {T A Q R : Type 0} (s : Speech (List ℕ) A Q R) (keeps : Keeps s) (sin
     within = h.within;
     places = h.places;
     asked = h.asked;
-    saw = λ e. ap has_seen is;
+    saw = ap has_seen is;
     rests = λ e. not_both end'.state.machine.asleep awake e;
   }
 
@@ -122,7 +122,7 @@ module _ {T A Q R : Type 0} (s : Speech (List ℕ) A Q R) (keeps : Keeps s) (sin
     within = h.within;
     places = h.places;
     asked = h.asked;
-    saw = λ e. ap has_seen is ∙ h.saw e;
+    saw = ap has_seen is ∙ h.saw;
     rests = rests;
   }
 
@@ -141,7 +141,7 @@ module _ {T A Q R : Type 0} (s : Speech (List ℕ) A Q R) (keeps : Keeps s) (sin
         within = h.within;
         places = λ id k e. h.places id k (kept_if (id == s.id_of p) (request_of w.table id) k (sym (set id) ∙ e));
         asked = h.asked;
-        saw = λ e. ap has_seen is ∙ h.saw e;
+        saw = ap has_seen is ∙ h.saw;
         rests = λ e. not_both end'.state.machine.asleep awake e;
       }
 
@@ -161,7 +161,7 @@ module _ {T A Q R : Type 0} (s : Speech (List ℕ) A Q R) (keeps : Keeps s) (sin
         within = h.within;
         places = h.places;
         asked = h.asked;
-        saw = λ e. ap has_seen is ∙ h.saw e;
+        saw = ap has_seen is ∙ h.saw;
         rests = λ e. not_both end'.state.machine.asleep awake e;
       }
 
@@ -207,7 +207,7 @@ module _ {T A Q R : Type 0} (s : Speech (List ℕ) A Q R) (keeps : Keeps s) (sin
         within = omega (arith, slice_get_within asks w.next a at);
         places = h.places;
         asked = λ j e. some_none j (sym e);
-        saw = λ e. ap has_seen is ∙ h.saw e;
+        saw = ap has_seen is ∙ h.saw;
         rests = λ e. not_both end'.state.machine.asleep awake e;
       }
 
@@ -227,7 +227,7 @@ module _ {T A Q R : Type 0} (s : Speech (List ℕ) A Q R) (keeps : Keeps s) (sin
         within = omega (arith, slice_get_within asks w.next a at);
         places = h.places;
         asked = λ j e. some_none j (sym e ∙ none);
-        saw = λ e. ap has_seen is ∙ h.saw e;
+        saw = ap has_seen is ∙ h.saw;
         rests = λ e. not_both end'.state.machine.asleep awake e;
       }
 
@@ -249,7 +249,7 @@ module _ {T A Q R : Type 0} (s : Speech (List ℕ) A Q R) (keeps : Keeps s) (sin
       rw is (asker_stopped s plan (Marked ∷ w.end.state.past) (drop w.next asks) (waits_in (drop w.next asks) w.waiting) (asked_in asks w.table) [] w.told k drained (drained_seen w.end.state.past drained, follows_unmarked w.end.state.past unmarked))
 
   pub drains : (end' : Seen TableSeat) → end'.state.past ≡ Empty ∷ w.end.state.past → IsAsking s asks w → w.seen ≡ true → is_drained end'.state.past ≡ true
-  drains end' is h seen = ap is_drained is ∙ ap (λ b. b || is_drained w.end.state.past) (h.saw seen)
+  drains end' is h seen = ap is_drained is ∙ ap (λ b. b || is_drained w.end.state.past) (h.saw ∙ seen)
 
   pub breaks : IsAsking s asks w → AskerBreaks s asks w.end.state.past w.told
   breaks h = record { encoded = h.kept.encoded; replies = h.kept.says }
@@ -273,28 +273,16 @@ module _ {T A Q R : Type 0} (s : Speech (List ℕ) A Q R) (keeps : Keeps s) (sin
     within = omega (arith, next);
     places = λ id k e. some_none k (sym e ∙ (ap (λ t. request_of t id) table ∙ none_in n id));
     asked = λ id e. some_none id (sym e ∙ waiting);
-    saw = λ e. not_both w.seen seen e;
+    saw = ap has_seen past ∙ sym seen;
     rests = λ e. not_both w.end.state.machine.asleep awake e;
   }
 
-  -- it fell asleep
-  pub sleeps_now : (end' : Seen TableSeat) (hold' : Hold) → Holds s asks hold' w → ArmedFor (want_by hold') w.end end' → end'.state.machine.asleep ≡ true → Holds s asks hold' (record w { end = end'; hold = hold' }) × SleepsFor (want_by hold') end'
-  sleeps_now end' hold' holds armed asleep = (holds_in hold' holds, record { before = w.end; after = end'; armed = armed; asleep = asleep; since = refl })
-    where
-      holds_in : (hold : Hold) → Holds s asks hold w → Holds s asks hold (record w { end = end'; hold = hold' })
-      holds_in Done h = h
-      holds_in Place h = h
-      holds_in Answer h = h
-      holds_in (Room need) h = h
-
-  pub sleeps_on : (end' : Seen TableSeat) → end'.state.past ≡ w.end.state.past → Holds s asks w.hold w × SleepsFor (want_by w.hold) w.end → Holds s asks w.hold (record w { end = end' }) × SleepsFor (want_by w.hold) end'
-  sleeps_on end' is h = (holds_in w.hold h.0, record { before = h.1.before; after = h.1.after; armed = h.1.armed; asleep = h.1.asleep; since = is ∙ h.1.since })
-    where
-      holds_in : (hold : Hold) → Holds s asks hold w → Holds s asks hold (record w { end = end' })
-      holds_in Done h = h
-      holds_in Place h = h
-      holds_in Answer h = h
-      holds_in (Room need) h = h
+  -- why nothing is sent doesn't lie with the end
+  pub holds_on : (end' : Seen TableSeat) (hold hold' : Hold) → Holds s asks hold w → Holds s asks hold (record w { end = end'; hold = hold' })
+  holds_on end' Done hold' h = h
+  holds_on end' Place hold' h = h
+  holds_on end' Answer hold' h = h
+  holds_on end' (Room need) hold' h = h
 
   pub need_in : (hold : Hold) → Holds s asks hold w → IsNeed (want_by hold)
   need_in Done h = tt
@@ -303,7 +291,7 @@ module _ {T A Q R : Type 0} (s : Speech (List ℕ) A Q R) (keeps : Keeps s) (sin
   need_in (Room need) h = (h.4, h.5)
 
 pub ask_trans : {T R : Type 0} (u v w : Asking T R) → AsksOn u v → AsksOn v w → AsksOn u w
-ask_trans u v w a b = record { talk = b.talk ∙ a.talk; relid = b.relid ∙ a.relid; end = record { seat = b.end.seat ∙ a.end.seat; side = b.end.side ∙ a.end.side } }
+ask_trans u v w a b = record { talk = b.talk ∙ a.talk; relid = b.relid ∙ a.relid; starts = b.starts ∙ a.starts; window = b.window ∙ a.window; end = record { seat = b.end.seat ∙ a.end.seat; side = b.end.side ∙ a.end.side } }
 
 -- what it gives at its end is what was asked of it at its beginning
 pub asks_on : {T A Q R : Type 0} (sp : T → Speech (List ℕ) A Q R) (asks : T → List A) (how : Ended) (u w : Asking T R) (past : List (Event (List ℕ))) (told : List R) → AsksOn u w

@@ -18,9 +18,10 @@ use Rattle.work_model.specs.Workers.{ServerKept}
 use Rattle.work_model.proofs.Opens.{by_test, filter_yes, filter_no}
 use Rattle.work_model.proofs.Counts.{calls_left}
 use Rattle.work_model.proofs.Serving.{server_took, server_served, server_passed, server_gave, server_quiet, server_new, server_ends, server_breaks}
-use Rattle.worker_core.specs.Line.{ArmedFor}
+use Rattle.worker_core.specs.Line.{SleepsFor}
 use Rattle.worker_core.specs.Owed.{is_nil, need_of}
-use Rattle.worker_core.specs.Serving.{Desk, Serving, IsServing, Rests, ServesPacket, Orders, EndsAll, BreaksOff, EndsBy, ServesOn, has_served}
+use Rattle.worker_core.specs.Rooms.{SentAtMost}
+use Rattle.worker_core.specs.Serving.{Desk, Serving, IsServing, Rests, ServesPacket, Orders, EndsAll, BreaksOff, EndsBy, LacksRoom, ServesOn, has_served, marked_by}
 use Rattle.worker_core.specs.declared.ended.Ended.{Ended}
 use Rattle.worker_core.specs.declared.ended.Ended.TheVariants.{Marked as EndedMarked, PeerMarked, Room}
 
@@ -53,13 +54,13 @@ module _ {T S A Q R : Type 0} (s : Speech (List ℕ) A Q R) (keeps : Keeps s) (w
             (subst (λ l. ServerKept s w.desk.held w.serve (Got p ∷ w.end.state.past) w.desk.calls w.desk.owed w.desk.left l) (sym rest) k);
         within = omega (arith, h.within, ap length more, length-append got (p ∷ []));
         started = omega (arith, h.started, less, waited_more p (got_of w.end.state.past), ap (λ l. length (filter s.waits (filter s.is_request (got_of l)))) is);
-        saw = λ e. ap has_seen is ∙ h.saw e;
+        saw = ap has_seen is ∙ h.saw;
         rests = λ e. not_both end'.state.machine.asleep awake e;
       }
 
   -- nothing was sent or got
   pub quiet_kept : (end' : Seen TableSeat) (seen' : Bool) (want' : Option ℕ) (e : Event (List ℕ)) → end'.state.past ≡ e ∷ w.end.state.past → sent_of (e ∷ w.end.state.past) ≡ sent_of w.end.state.past
-      → got_of (e ∷ w.end.state.past) ≡ got_of w.end.state.past → end'.state.got ≡ w.end.state.got → end'.state.machine.asleep ≡ false → (seen' ≡ true → has_seen (e ∷ w.end.state.past) ≡ true)
+      → got_of (e ∷ w.end.state.past) ≡ got_of w.end.state.past → end'.state.got ≡ w.end.state.got → end'.state.machine.asleep ≡ false → has_seen (e ∷ w.end.state.past) ≡ seen'
       → IsServing s w → IsServing s (record w { end = end'; seen = seen'; want = want' })
   quiet_kept end' seen' want' e is same same' got awake saw h =
       let k = server_quiet s keeps w.desk.held w.serve w.end.state.past e w.desk.calls w.desk.owed w.desk.left (drop w.served w.end.state.got) same same' h.kept in
@@ -68,7 +69,7 @@ module _ {T S A Q R : Type 0} (s : Speech (List ℕ) A Q R) (keeps : Keeps s) (w
             (subst (λ l. ServerKept s w.desk.held w.serve (e ∷ w.end.state.past) w.desk.calls w.desk.owed w.desk.left (drop w.served l)) (sym got) k);
         within = omega (arith, h.within, ap length got);
         started = omega (arith, h.started, ap (λ l. length (filter s.waits (filter s.is_request (got_of l)))) is, ap (λ l. length (filter s.waits (filter s.is_request l))) same');
-        saw = λ b. ap has_seen is ∙ saw b;
+        saw = ap has_seen is ∙ saw;
         rests = λ b. not_both end'.state.machine.asleep awake b;
       }
 
@@ -81,7 +82,7 @@ module _ {T S A Q R : Type 0} (s : Speech (List ℕ) A Q R) (keeps : Keeps s) (w
             (subst (λ l. ServerKept s w.desk.held w.serve w.end.state.past w.desk.calls w.desk.owed w.desk.left (drop w.served l)) (sym got) h.kept);
         within = omega (arith, h.within, ap length got);
         started = omega (arith, h.started, ap (λ l. length (filter s.waits (filter s.is_request (got_of l)))) is);
-        saw = λ b. ap has_seen is ∙ h.saw b;
+        saw = ap has_seen is ∙ h.saw;
         rests = rests;
       }
 
@@ -97,7 +98,7 @@ module _ {T S A Q R : Type 0} (s : Speech (List ℕ) A Q R) (keeps : Keeps s) (w
             (subst (λ l. ServerKept s w.desk.held w.serve (Sent p ∷ w.end.state.past) w.desk.calls (drop 1 w.desk.owed) w.desk.left (drop w.served l)) (sym got) k);
         within = omega (arith, h.within, ap length got);
         started = omega (arith, h.started, ap (λ l. length (filter s.waits (filter s.is_request (got_of l)))) is);
-        saw = λ b. ap has_seen is ∙ h.saw b;
+        saw = ap has_seen is ∙ h.saw;
         rests = λ b. not_both end'.state.machine.asleep awake b;
       })
 
@@ -181,21 +182,21 @@ module _ {T S A Q R : Type 0} (s : Speech (List ℕ) A Q R) (keeps : Keeps s) (w
 
   -- none waited after the mark was seen
   pub drains : (end' : Seen TableSeat) → end'.state.past ≡ Empty ∷ w.end.state.past → IsServing s w → w.seen ≡ true → is_drained end'.state.past ≡ true
-  drains end' is h seen = ap is_drained is ∙ ap (λ b. b || is_drained w.end.state.past) (h.saw seen)
+  drains end' is h seen = ap is_drained is ∙ ap (λ b. b || is_drained w.end.state.past) (h.saw ∙ seen)
 
-  -- it fell asleep
-  pub rests_now : (end' : Seen TableSeat) (want' : Option ℕ) → want' ≡ need_of w.desk.owed → ArmedFor want' w.end end' → end'.state.machine.asleep ≡ true → end'.state.got ≡ w.end.state.got
-      → (is_nil w.desk.owed ≡ true → w.served ≡ length w.end.state.got) → Rests (record w { end = end'; want = want' })
-  rests_now end' want' want armed asleep got all =
-      record { want = want; armed = record { before = w.end; after = end'; armed = armed; asleep = asleep; since = refl }; served = λ e. all e ∙ ap length (sym got) }
+  -- it sleeps
+  pub rests_at : (end' : Seen TableSeat) (want' : Option ℕ) → want' ≡ need_of w.desk.owed → SleepsFor want' end' → end'.state.got ≡ w.end.state.got → (is_nil w.desk.owed ≡ true → w.served ≡ length w.end.state.got)
+      → Rests (record w { end = end'; want = want' })
+  rests_at end' want' want armed got all = record { want = want; armed = armed; served = λ e. all e ∙ ap length (sym got) }
 
-  -- it sleeps on
-  pub rests_on : (end' : Seen TableSeat) → end'.state.past ≡ w.end.state.past → end'.state.got ≡ w.end.state.got → Rests w → Rests (record w { end = end' })
-  rests_on end' is got h = record {
-    want = h.want;
-    armed = record { before = h.armed.before; after = h.armed.after; armed = h.armed.armed; asleep = h.armed.asleep; since = is ∙ h.armed.since };
-    served = λ e. h.served e ∙ ap length (sym got);
-  }
+  -- a mark ends it, whether the other end's mark was seen or not
+  pub ends_by : (seen : Bool) (past : List (Event (List ℕ))) → EndsAll s w past w.desk.calls → has_marked past ≡ true → has_seen past ≡ seen → EndsBy s (marked_by seen) w past w.desk.calls
+  ends_by true past all marked saw = (all, marked, saw)
+  ends_by false past all marked saw = (all, marked, saw)
+
+  pub lacks_none : (seen : Bool) → SentAtMost (length (got_of w.end.state.past)) w.end.state.past → LacksRoom (marked_by seen) w
+  lacks_none true sent = sent
+  lacks_none false sent = sent
 
   pub breaks : IsServing s w → BreaksOff s w w.end.state.past w.desk.calls
   breaks h = server_breaks s w.desk.held w.serve w.end.state.past w.desk.calls w.desk.owed w.desk.left (drop w.served w.end.state.got) h.kept
@@ -206,7 +207,7 @@ module _ {T S A Q R : Type 0} (s : Speech (List ℕ) A Q R) (keeps : Keeps s) (w
     kept = rw (past, got, calls, owed, left, served) (server_new s keeps w.desk.held w.serve);
     within = omega (arith, served);
     started = omega (arith, missing);
-    saw = λ e. not_both w.seen seen e;
+    saw = ap has_seen past ∙ sym seen;
     rests = λ e. not_both w.end.state.machine.asleep awake e;
   }
 
@@ -251,6 +252,6 @@ module _ {T S Q R : Type 0} (same : S → S → Type 0) where
   ends_on {A = A} sp how u w past calls on h = by how (subst (λ t. EndsBy (sp t) how w past calls) on.talk h)
     where
       by : (how : Ended) → EndsBy (sp u.desk.talk) how w past calls → EndsBy (sp u.desk.talk) how u past calls
-      by EndedMarked h = λ plan is. h plan (orders_on (sp u.desk.talk) plan u w on is)
-      by PeerMarked h = (λ plan is. h.0 plan (orders_on (sp u.desk.talk) plan u w on is), h.1)
+      by EndedMarked h = (λ plan is. h.0 plan (orders_on (sp u.desk.talk) plan u w on is), h.1, h.2)
+      by PeerMarked h = (λ plan is. h.0 plan (orders_on (sp u.desk.talk) plan u w on is), h.1, h.2)
       by (Room packets words left) h = subst (λ b. ServerBreaks (sp u.desk.talk) b u.serve past calls) on.held (subst (λ n. ServerBreaks (sp u.desk.talk) w.desk.held n past calls) on.serve h)

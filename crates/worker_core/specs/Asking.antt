@@ -2,7 +2,7 @@
 use Rattle.std.specs.Prelude.{ℕ, ◌≡◌, ◌<◌, ◌≤◌, ◌+◌, ◌*◌, ◌^◌, ◌==◌, Bool, true, false, List, [], ◌∷◌, length, drop, Option, Some, None, IsSome, All, is_some, slice_get}
 use Rattle.std.specs.List.{count_by}
 use Rattle.chan_run.specs.declared.event.Event.{Event}
-use Rattle.chan_run.specs.Runs.{has_seen}
+use Rattle.chan_run.specs.Runs.{has_marked, has_seen}
 use Rattle.ring_core.specs.Seen.{Seen}
 use Rattle.ring_seat.specs.Settling.{IsSameEnd}
 use Rattle.ring_seat.specs.declared.table_seat.TableSeat.{TableSeat}
@@ -57,12 +57,19 @@ abbrev pub waits_under : Option ℕ → ℕ → Bool
 waits_under None id = false
 waits_under (Some w) id = w == id
 
--- why nothing more is sent: all was, no id is free, an answer of the start-up is missing, or the packet of the next ask waits for the room that it needs
+-- the id of the next ask: 0 where it has no answer
+abbrev pub id_in : Option ℕ → ℕ
+id_in None = 0
+id_in (Some id) = id
+
+-- why nothing more is sent: all was; or the next ask has no id yet, and none is free, or an answer of the start-up is missing; or its packet waits for the
+-- room that it needs
 abbrev pub Holds : {T A Q R : Type 0} → Speech (List ℕ) A Q R → List A → Hold → Asking T R → Type 0
 Holds s asks HoldDone w = w.next ≡ length asks
-Holds s asks HoldPlace w = All IsSome w.table
-Holds s asks HoldAnswer w = (w.next ≤ w.starts) × (0 < count_by is_some w.table)
-Holds {A = A} s asks (HoldRoom need) w = (a : A) × (id : ℕ) × (slice_get asks w.next ≡ Some a) × (need ≡ 8 * length (s.encode id a) + 8) × (24 ≤ need) × (need ≤ 3080)
+Holds s asks HoldPlace w = (w.waiting ≡ None) × All IsSome w.table
+Holds s asks HoldAnswer w = (w.waiting ≡ None) × (w.next ≤ w.starts) × (0 < count_by is_some w.table)
+Holds {A = A} s asks (HoldRoom need) w =
+    (a : A) × (slice_get asks w.next ≡ Some a) × (is_some w.waiting ≡ s.has_answer a) × (need ≡ 8 * length (s.encode (id_in w.waiting) a) + 8) × (24 ≤ need) × (need ≤ 3080)
 
 -- the room in bytes that the next packet waits for
 abbrev pub want_by : Hold → Option ℕ
@@ -75,7 +82,7 @@ pub record IsAsking {T A Q R : Type 0} (s : Speech (List ℕ) A Q R) (asks : Lis
   pub within : w.next ≤ length asks
   pub places : (id k : ℕ) → request_of w.table id ≡ Some k → k < length asks
   pub asked : (id : ℕ) → w.waiting ≡ Some id → (a : A) × (slice_get asks w.next ≡ Some a) × (s.has_answer a ≡ true) × (id < 2 ^ 64)
-  pub saw : w.seen ≡ true → has_seen w.end.state.past ≡ true
+  pub saw : has_seen w.end.state.past ≡ w.seen
   pub rests : w.end.state.machine.asleep ≡ true → Holds s asks w.hold w × SleepsFor (want_by w.hold) w.end
 
 -- what a request says to an answer
@@ -91,10 +98,10 @@ HasSettled asks w = (w.next ≡ length asks) × (count_by is_some w.table ≡ 0)
 abbrev pub AsksAll : {A Q R : Type 0} → Speech (List ℕ) A Q R → List A → List (Event (List ℕ)) → List R → Type 0
 AsksAll {A = A} s asks past told = (plan : Plan A) → asks_of s plan ≡ asks → AskerEnds s plan past told
 
--- what a worker gives that ended so
+-- what a worker gives that ended so: it marked its end, and had seen the other end's mark or not
 abbrev pub AsksBy : {A Q R : Type 0} → Speech (List ℕ) A Q R → Ended → List A → List (Event (List ℕ)) → List R → Type 0
-AsksBy s Marked asks past told = AsksAll s asks past told
-AsksBy s PeerMarked asks past told = AsksAll s asks past told × (has_seen past ≡ true)
+AsksBy s Marked asks past told = AsksAll s asks past told × (has_marked past ≡ true) × (has_seen past ≡ false)
+AsksBy s PeerMarked asks past told = AsksAll s asks past told × (has_marked past ≡ true) × (has_seen past ≡ true)
 AsksBy s (Room packets words left) asks past told = AskerBreaks s asks past told
 
 -- its table is empty
@@ -126,10 +133,12 @@ abbrev pub AskedBy : {T A Q R : Type 0} → Speech (List ℕ) A Q R → List A �
 AskedBy s asks AskedSent w = Unit {0}
 AskedBy s asks (AskedHeld hold) w = Holds s asks hold w
 
--- the same worker
+-- the same worker, with as many places in its table
 pub record AsksOn {T R : Type 0} (old new : Asking T R) : Type 0 where
   pub talk : new.talk ≡ old.talk
   pub relid : new.relid ≡ old.relid
+  pub starts : new.starts ≡ old.starts
+  pub window : length new.table ≡ length old.table
   pub end : IsSameEnd old.end new.end
 
 -- a request that waits stands in the table already

@@ -1,5 +1,5 @@
 -- Why a turn moved, or left the end asleep: what the turn itself did.
-use Rattle.std.specs.Prelude.{ℕ, ◌≡◌, ◌+◌, ◌⊎◌, true, false, List, ◌∷◌}
+use Rattle.std.specs.Prelude.{ℕ, ◌≡◌, ◌⊎◌, true, false, List, ◌∷◌}
 use Rattle.chan_run.specs.declared.event.Event.{Event}
 use Rattle.chan_run.specs.declared.event.Event.TheVariants.{Sent, Got, Empty, Saw}
 use Rattle.ring_machine.specs.declared.machine.Ending.{Ending}
@@ -8,7 +8,6 @@ use Rattle.ring_machine.specs.Endings.{is_dozed}
 use Rattle.ring_core.specs.Seen.{Seen}
 use Rattle.ring_seat.specs.declared.table_seat.TableSeat.{TableSeat}
 use Rattle.worker_core.specs.Line.{PolledOnce}
-use Rattle.worker_core.specs.Serving.{Serving}
 use Rattle.worker_core.specs.declared.asker.Asked.{Asked}
 use Rattle.worker_core.specs.declared.asker.Asked.TheVariants.{Sent as AskedSent, Held as AskedHeld}
 use Rattle.worker_core.specs.declared.ended.Turn.{Turn}
@@ -89,24 +88,13 @@ TakesOrArms Moved before e = HasTaken before e ⊎ FoundWork (Empty ∷ before) 
 TakesOrArms Idle before e = FellAsleep (Empty ∷ before) e
 TakesOrArms (TurnEnded how) before e = Unit {0}
 
--- a turn that sends what is owed after this past; or takes or arms
+-- a turn of the serving worker, awake, after this past: it sent what is owed; or took a packet; or none came, and it armed
 abbrev pub GivesOrTakes : Turn → List (Event (List ℕ)) → Seen TableSeat → Type 0
 GivesOrTakes Moved before e = HasSent before e ⊎ TakesOrArms Moved before e
 GivesOrTakes Idle before e = TakesOrArms Idle before e
 GivesOrTakes (TurnEnded how) before e = Unit {0}
 
--- one packet more is served of those that came, and nothing is owed for it
-pub record HasServed {T S Q R : Type 0} (old new : Serving T S Q R) : Type 0 where
-  pub one : new.served ≡ old.served + 1
-  pub past : new.end.state.past ≡ old.end.state.past
-
--- a turn of the serving worker, awake: it served a packet that came; or sent what it owes, took a packet, or armed
-abbrev pub ServerActs : {T S Q R : Type 0} → Turn → Serving T S Q R → Serving T S Q R → Type 0
-ServerActs Moved old new = HasServed old new ⊎ GivesOrTakes Moved old.end.state.past new.end
-ServerActs Idle old new = GivesOrTakes Idle old.end.state.past new.end
-ServerActs (TurnEnded how) old new = Unit {0}
-
 -- why a turn of the serving worker went so
-pub record ServeCause {T S Q R : Type 0} (turn : Turn) (old new : Serving T S Q R) : Type 0 where
-  pub asleep : old.end.state.machine.asleep ≡ true → Polls turn old.end new.end
-  pub awake : old.end.state.machine.asleep ≡ false → ServerActs turn old new
+pub record ServeCause (turn : Turn) (old new : Seen TableSeat) : Type 0 where
+  pub asleep : old.state.machine.asleep ≡ true → Polls turn old new
+  pub awake : old.state.machine.asleep ≡ false → GivesOrTakes turn old.state.past new

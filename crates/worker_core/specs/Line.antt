@@ -12,7 +12,7 @@ use Rattle.ring_machine.specs.declared.state.EndState.{EndState}
 use Rattle.ring_machine.specs.Endings.{want_of}
 use Rattle.ring_core.specs.Seen.{Seen}
 use Rattle.ring_machine.specs.States.{IsPacket, entered}
-use Rattle.ring_machine.specs.Steps.{arm_begun, poll_begun}
+use Rattle.ring_machine.specs.Steps.{poll_begun}
 use Rattle.ring_core.specs.Told.{Ran}
 use Rattle.ring_seat.specs.Seats.{state_in}
 use Rattle.ring_seat.specs.Settling.{IsSameEnd}
@@ -76,17 +76,10 @@ polled_by false = NoSignal
 abbrev pub PolledOnce : Seen TableSeat → Seen TableSeat → Type 0
 PolledOnce old new = Ran (entered old.state (poll_begun old.state.machine) []) new.state (Some (state_in old.seat.seat.me.0)) (Some (state_in new.seat.seat.me.0)) None None
 
--- it armed for this room
-abbrev pub ArmedFor : Option ℕ → Seen TableSeat → Seen TableSeat → Type 0
-ArmedFor want old new = Ran (entered old.state (arm_begun old.state.machine (want_of want)) []) new.state (Some (state_in old.seat.seat.me.0)) (Some (state_in new.seat.seat.me.0)) None None
-
--- it is asleep, since an arm that waits for this room, and did nothing since
+-- it is asleep, and waits for this room
 pub record SleepsFor (want : Option ℕ) (e : Seen TableSeat) : Type 0 where
-  pub before : Seen TableSeat
-  pub after : Seen TableSeat
-  pub armed : ArmedFor want before after
-  pub asleep : after.state.machine.asleep ≡ true
-  pub since : e.state.past ≡ after.state.past
+  pub asleep : e.state.machine.asleep ≡ true
+  pub want_is : e.state.machine.want ≡ want_of want
 
 -- the next packet lacks the room of the list of what was got
 pub record LacksTake (packets words : ℕ) (e : Seen TableSeat) : Type 0 where

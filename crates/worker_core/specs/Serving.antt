@@ -1,7 +1,7 @@
 -- The serving worker, as contracts see it.
 use Rattle.std.specs.Prelude.{ℕ, ◌≡◌, ◌≤◌, ◌+◌, Bool, true, false, ◌==◌, ◌⊎◌, List, [], ◌∷◌, ◌++◌, length, filter, drop, Option, Some, None, is_some}
 use Rattle.chan_run.specs.declared.event.Event.{Event}
-use Rattle.chan_run.specs.Runs.{got_of, has_seen}
+use Rattle.chan_run.specs.Runs.{got_of, has_marked, has_seen}
 use Rattle.hist_lock.specs.Seat.{Call}
 use Rattle.io_edge.specs.declared.side.Side.{Side}
 use Rattle.ring_core.specs.Seen.{Seen}
@@ -68,7 +68,7 @@ pub record IsServing {T S A Q R : Type 0} (s : Speech (List ℕ) A Q R) (w : Ser
   pub kept : ServerKept s w.desk.held w.serve w.end.state.past w.desk.calls w.desk.owed w.desk.left (drop w.served w.end.state.got)
   pub within : w.served ≤ length w.end.state.got
   pub started : w.starts ≤ w.missing + length (filter s.waits (filter s.is_request (got_of w.end.state.past)))
-  pub saw : w.seen ≡ true → has_seen w.end.state.past ≡ true
+  pub saw : has_seen w.end.state.past ≡ w.seen
   pub rests : w.end.state.machine.asleep ≡ true → Rests w
 
 -- all that is to be served was
@@ -90,11 +90,16 @@ EndsAll {A = A} s w past calls = (plan : Plan A) → Orders s plan w → ServerE
 abbrev pub BreaksOff : {T S A Q R : Type 0} → Speech (List ℕ) A Q R → Serving T S Q R → List (Event (List ℕ)) → List (Call Q R) → Type 0
 BreaksOff s w past calls = ServerBreaks s w.desk.held w.serve past calls
 
--- what a worker gives that ended so
+-- what a worker gives that ended so: it marked its end, and had seen the other end's mark or not
 abbrev pub EndsBy : {T S A Q R : Type 0} → Speech (List ℕ) A Q R → Ended → Serving T S Q R → List (Event (List ℕ)) → List (Call Q R) → Type 0
-EndsBy s Marked w past calls = EndsAll s w past calls
-EndsBy s PeerMarked w past calls = EndsAll s w past calls × (has_seen past ≡ true)
+EndsBy s Marked w past calls = EndsAll s w past calls × (has_marked past ≡ true) × (has_seen past ≡ false)
+EndsBy s PeerMarked w past calls = EndsAll s w past calls × (has_marked past ≡ true) × (has_seen past ≡ true)
 EndsBy s (Room packets words left) w past calls = BreaksOff s w past calls
+
+-- how a worker has ended that marked its end, by whether it had seen the other end's mark
+abbrev pub marked_by : Bool → Ended
+marked_by true = PeerMarked
+marked_by false = Marked
 
 -- How much it sent; and where a packet that is owed, or the next one that comes, lacks the room of the list that it would grow, more came than room was
 -- made for

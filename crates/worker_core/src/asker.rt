@@ -1,13 +1,13 @@
 //! The worker of the end that asks.
 ghost use Rattle.std.specs.Prelude.{◌≡◌, ◌<◌, ◌≤◌, ◌+◌, [], ◌∷◌, ℕ, length, replicate, slice_get, All, IsSome, Some, None, true, false, IfOk, count_by, is_some};
-ghost use Rattle.chan_run.specs.Runs.{got_of, has_seen, is_drained};
+ghost use Rattle.chan_run.specs.Runs.{got_of, is_drained};
 ghost use Rattle.ring_seat.specs.Seats.{new_end};
 ghost use Rattle.ring_seat.specs.Settling.{IsSameEnd};
 ghost use Rattle.work_model.specs.Channel.{AskerBreaks};
-ghost use Rattle.worker_core.specs.declared.ended.Ended.TheVariants.{Room as RoomEnd};
+ghost use Rattle.worker_core.specs.declared.ended.Ended.TheVariants.{Marked as MarkedEnd, PeerMarked as PeerMarkedEnd, Room as RoomEnd};
 ghost use Rattle.worker_core.specs.Causes.{Arms, AskCause, AskerActs, AsksOne, AsksOrArms, Polls};
 ghost use Rattle.worker_core.specs.Line.{IsReady, HasTakeRoom, LacksTake, TookOne};
-ghost use Rattle.worker_core.specs.Asking.{AsksAll, AsksBy, AskTurns, AskLacks, AsksOn, AskEnds, Holds, HasSettled, HasNone, waits_under, want_by, AskedBy};
+ghost use Rattle.worker_core.specs.Asking.{AsksBy, AskTurns, AskLacks, AsksOn, AskEnds, Holds, HasSettled, HasNone, waits_under, want_by, AskedBy};
 ghost use Rattle.worker_core.specs.Rooms.{CameOver, HasReserved, LacksFor, SentAtMost};
 
 use crate::ended::{Ended, Turn};
@@ -91,6 +91,7 @@ impl<T: Talk> Asker<T> {
         requires room { HasTakeRoom self.old.end }
         ensures took { TookOne result self.old.end.state self.new.end.state }
         ensures drained { result ≡ false → self.old.seen ≡ true → is_drained self.new.end.state.past ≡ true }
+        ensures seen { self.new.seen ≡ self.old.seen }
         ensures ready { IsReady self.new.end }
         ensures on { AsksOn self.old self.new }
     {
@@ -118,7 +119,7 @@ impl<T: Talk> Asker<T> {
         requires answers { (a : T.Ask) → slice_get (T.asks self.old.talk) self.old.next ≡ Some a → (T.speech self.old.talk).has_answer a ≡ true }
         ensures next { (self.new.next ≡ self.old.next) × (self.new.end ≡ self.old.end) }
         ensures waits { result ≡ true → (id : ℕ) × (self.new.waiting ≡ Some id) }
-        ensures full { result ≡ false → All IsSome self.new.table }
+        ensures full { result ≡ false → (self.new.waiting ≡ None) × All IsSome self.new.table }
         ensures on { AsksOn self.old self.new }
     {
         match self.table.accept(self.next) {
@@ -260,7 +261,8 @@ impl<T: Talk> Asker<T> {
     fn finish(&mut self)
         requires ready { IsReady self.old.end }
         requires settled { HasSettled (T.asks self.old.talk) self.old }
-        ensures ends { AsksAll (T.speech self.new.talk) (T.asks self.new.talk) self.new.end.state.past self.new.told }
+        requires unseen { self.old.seen ≡ false }
+        ensures ends { AsksBy (T.speech self.new.talk) MarkedEnd (T.asks self.new.talk) self.new.end.state.past self.new.told }
         ensures none { HasNone self.new.table }
         ensures sent { SentAtMost (length (T.asks self.new.talk)) self.new.end.state.past }
         ensures on { AsksOn self.old self.new }
@@ -272,8 +274,7 @@ impl<T: Talk> Asker<T> {
     fn give_up(&mut self)
         requires ready { IsReady self.old.end }
         requires drained { is_drained self.old.end.state.past ≡ true }
-        ensures ends { AsksAll (T.speech self.new.talk) (T.asks self.new.talk) self.new.end.state.past self.new.told }
-        ensures seen { has_seen self.new.end.state.past ≡ true }
+        ensures ends { AsksBy (T.speech self.new.talk) PeerMarkedEnd (T.asks self.new.talk) self.new.end.state.past self.new.told }
         ensures none { HasNone self.new.table }
         ensures sent { SentAtMost (length (T.asks self.new.talk)) self.new.end.state.past }
         ensures on { AsksOn self.old self.new }
@@ -369,6 +370,8 @@ impl<T: Talk> Asker<T> {
         requires side { side ≡ end.state.machine.side }
         ensures talk { IfOk result (λ w. w.talk ≡ talk) }
         ensures relid { IfOk result (λ w. w.relid ≡ relid) }
+        ensures starts { IfOk result (λ w. w.starts ≡ T.starts talk) }
+        ensures window { IfOk result (λ w. length w.table ≡ window) }
         ensures end { IfOk result (λ w. (w.end.state ≡ end.state) × (w.end.seat ≡ end.seat)) }
     {
         let mut port = Port::over(end);

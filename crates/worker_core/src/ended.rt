@@ -15,7 +15,7 @@ pub enum Ended {
 /// How a turn went.
 #[derive(Clone, Copy, Debug, PartialEq, Eq)]
 pub enum Turn {
-    /// It sent or took a packet, served one, woke, or found work as it armed.
+    /// It sent or took a packet, woke, or found work as it armed.
     Moved,
     /// The end is asleep, and what is still to be sent waits.
     Idle,

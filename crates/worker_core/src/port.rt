@@ -2,11 +2,12 @@
 ghost use Rattle.std.specs.Prelude.{◌≡◌, ◌<◌, ◌≤◌, ◌+◌, ◌*◌, ◌++◌, [], ◌∷◌, ℕ, List, true, false, not, length, slice_get, Some, OnOk, MatchOption, if◌then◌else◌};
 ghost use Rattle.chan_run.specs.declared.event.Event.TheVariants.{Sent, Marked};
 ghost use Rattle.chan_run.specs.Runs.{got_of, has_marked};
+ghost use Rattle.ring_machine.specs.Endings.{want_of};
 ghost use Rattle.ring_machine.specs.States.{IsPacket};
 ghost use Rattle.ring_seat.specs.Seats.{new_end};
 ghost use Rattle.worker_core.specs.Owed.{IsNeed};
 ghost use Rattle.worker_core.specs.Rooms.{GotInto, SentInto};
-ghost use Rattle.worker_core.specs.Line.{IsReady, Stays, TookOne, looked, look_of, is_asleep, armed_by, polled_by, ArmedFor, PolledOnce, HasTakeRoom, LacksTake};
+ghost use Rattle.worker_core.specs.Line.{IsReady, Stays, TookOne, looked, look_of, is_asleep, armed_by, polled_by, PolledOnce, HasTakeRoom, LacksTake};
 
 use ring_core::{Armed, End, Room};
 use ring_seat::{Sleeper, TableSeat};
@@ -165,7 +166,7 @@ impl Port {
         ensures asleep { self.new.state.machine.asleep ≡ is_asleep result }
         ensures ended { self.new.state.machine.ended ≡ armed_by result }
         ensures unmarked { self.new.state.machine.marked ≡ false }
-        ensures armed { ArmedFor want self.old self.new }
+        ensures want { self.new.state.machine.asleep ≡ true → self.new.state.machine.want ≡ want_of want }
         ensures stays { Stays self.old self.new }
         ensures lists { (self.new.state.got ≡ self.old.state.got) × (self.new.spare_got ≡ self.old.spare_got) × (self.new.spare_sent ≡ self.old.spare_sent) }
     {
@@ -181,6 +182,7 @@ impl Port {
         ensures asleep { self.new.state.machine.asleep ≡ not result }
         ensures ended { self.new.state.machine.ended ≡ polled_by result }
         ensures polled { PolledOnce self.old self.new }
+        ensures want { self.new.state.machine.asleep ≡ true → self.new.state.machine.want ≡ self.old.state.machine.want }
         ensures unmarked { self.new.state.machine.marked ≡ false }
         ensures past { self.new.state.past ≡ self.old.state.past }
         ensures stays { Stays self.old self.new }

@@ -1,14 +1,14 @@
 //! The worker of the end that serves.
 ghost use Rattle.std.specs.Prelude.{◌≡◌, ◌<◌, ◌≤◌, ◌+◌, ◌*◌, ◌⊎◌, [], ◌∷◌, length, drop, map, Some, None, true, false, IfOk, if◌then◌else◌, ℕ};
-ghost use Rattle.chan_run.specs.Runs.{got_of, has_seen, is_drained};
+ghost use Rattle.chan_run.specs.Runs.{got_of, is_drained};
 ghost use Rattle.ring_seat.specs.Seats.{new_end};
 ghost use Rattle.ring_seat.specs.Settling.{IsSameEnd};
-ghost use Rattle.worker_core.specs.Causes.{Arms, GivesOne, GivesOrTakes, Polls, ServeCause, ServerActs, TakesOrArms};
+ghost use Rattle.worker_core.specs.Causes.{Arms, GivesOne, GivesOrTakes, Polls, ServeCause, TakesOrArms};
 ghost use Rattle.worker_core.specs.Line.{IsReady, HasTakeRoom, LacksTake, TookOne};
 ghost use Rattle.worker_core.specs.Owed.{is_nil, LacksSend};
 ghost use Rattle.worker_core.specs.Rooms.{CameOver, LacksFor, SentAtMost, ServesInRoom};
-ghost use Rattle.worker_core.specs.Serving.{EndsAll, EndsBy, LacksRoom, Turns, GaveOne, ServeEnds, ServesOn, BreaksOff, has_served};
-ghost use Rattle.worker_core.specs.declared.ended.Ended.TheVariants.{Room as RoomEnd};
+ghost use Rattle.worker_core.specs.Serving.{EndsBy, LacksRoom, Turns, GaveOne, ServeEnds, ServesOn, BreaksOff, has_served, marked_by};
+ghost use Rattle.worker_core.specs.declared.ended.Ended.TheVariants.{PeerMarked as PeerMarkedEnd, Room as RoomEnd};
 
 use crate::desk::Desk;
 use crate::ended::{Ended, Turn};
@@ -121,18 +121,19 @@ impl<T: Talk, S: Seat<T>> Server<T, S> {
     }
 
     // Ends here, since the plan says so.
-    fn stop(&mut self)
+    fn stop(&mut self) -> Ended
         requires ready { IsReady self.old.end }
         requires stops { self.old.stops ≡ true }
         requires owed { self.old.desk.owed ≡ [] }
         requires served { self.old.served ≡ length self.old.end.state.got }
         requires all { has_served self.old.desk.left ≡ true }
         requires started { self.old.missing ≡ 0 }
-        ensures ends { EndsAll (T.speech self.new.desk.talk) self.new self.new.end.state.past self.new.desk.calls }
-        ensures sent { SentAtMost (length (got_of self.new.end.state.past)) self.new.end.state.past }
+        ensures ends { EndsBy (T.speech self.new.desk.talk) result self.new self.new.end.state.past self.new.desk.calls }
+        ensures room { LacksRoom result self.new }
         ensures on { ServesOn S.same self.old self.new }
     {
         self.port.mark();
+        marked_by(self.seen)
     }
 
     // Ends after the other end.
@@ -141,9 +142,8 @@ impl<T: Talk, S: Seat<T>> Server<T, S> {
         requires owed { self.old.desk.owed ≡ [] }
         requires served { self.old.served ≡ length self.old.end.state.got }
         requires drained { is_drained self.old.end.state.past ≡ true }
-        ensures ends { EndsAll (T.speech self.new.desk.talk) self.new self.new.end.state.past self.new.desk.calls }
+        ensures ends { EndsBy (T.speech self.new.desk.talk) PeerMarkedEnd self.new self.new.end.state.past self.new.desk.calls }
         ensures sent { SentAtMost (length (got_of self.new.end.state.past)) self.new.end.state.past }
-        ensures seen { has_seen self.new.end.state.past ≡ true }
         ensures on { ServesOn S.same self.old self.new }
     {
         self.port.mark();
@@ -240,30 +240,42 @@ impl<T: Talk, S: Seat<T>> Server<T, S> {
         ensures on { ServesOn S.same self.old self.new }
     {
         if self.stops && self.missing == 0 && self.desk.has_served() {
-            self.stop();
-            return Turn::Ended(Ended::Marked);
+            return Turn::Ended(self.stop());
         }
         self.take_or_rest()
     }
 
-    // A turn of an end that is awake: what is owed is sent first, and then the next packet is served.
+    // Serves what came, until something is owed for it.
+    fn serve_on<R: Wait, G: Gate>(&mut self, rt: &R, gate: &G)
+        requires ready { IsReady self.old.end }
+        requires owed { self.old.desk.owed ≡ [] }
+        ensures end { self.new.end ≡ self.old.end }
+        ensures served { is_nil self.new.desk.owed ≡ true → self.new.served ≡ length self.new.end.state.got }
+        ensures on { ServesOn S.same self.old self.new }
+    {
+        while self.has_unserved() {
+            self.serve_next(rt, gate);
+            if !self.desk.is_clear() {
+                return;
+            }
+        }
+    }
+
+    // A turn of an end that is awake: what is owed is sent first, and where nothing is what came is served.
     fn work<R: Wait, G: Gate>(&mut self, rt: &R, gate: &G) -> Turn
         requires ready { IsReady self.old.end }
         ensures turns { Turns (T.speech self.new.desk.talk) result self.new }
-        ensures cause { ServerActs result self.old self.new }
+        ensures cause { GivesOrTakes result self.old.end.state.past self.new.end }
         ensures on { ServesOn S.same self.old self.new }
     {
         if !self.desk.is_clear() {
             return self.give_or_take();
         }
-        if !self.has_unserved() {
-            return self.stop_or_take();
+        self.serve_on(rt, gate);
+        if !self.desk.is_clear() {
+            return self.give_or_take();
         }
-        self.serve_next(rt, gate);
-        if self.desk.is_clear() {
-            return Turn::Moved;
-        }
-        self.give_or_take()
+        self.stop_or_take()
     }
 
     // A turn of an end that is asleep.
@@ -339,7 +351,7 @@ impl<T: Talk, S: Seat<T>> Server<T, S> {
     pub fn turn<R: Wait, G: Gate>(&mut self, rt: &R, gate: &G) -> Turn
         requires unmarked { self.old.end.state.machine.marked ≡ false }
         ensures turns { Turns (T.speech self.new.desk.talk) result self.new }
-        ensures cause { ServeCause result self.old self.new }
+        ensures cause { ServeCause result self.old.end self.new.end }
         ensures room { ServeEnds (self.new.starts + self.new.come) result self.new.end.state.past }
         ensures on { ServesOn S.same self.old self.new }
     {
@@ -406,6 +418,17 @@ impl<T: Talk, S: Seat<T>> Server<T, S> {
             }
         }
         unreachable!()
+    }
+}
+
+/// How a worker has ended that marked its end, by whether it had seen the other end's mark.
+fn marked_by(seen: bool) -> Ended
+    ensures { result ≡ marked_by seen }
+{
+    if seen {
+        Ended::PeerMarked
+    } else {
+        Ended::Marked
     }
 }
 

@@ -15,7 +15,7 @@ pub(crate) struct Echo {
     pub(crate) asks: Vec<u64>,
     pub(crate) starts: u32,
     ghost few: { asks.len < 2 ^ 32 },
-    ghost within: { starts ≤ asks.len },
+    ghost within: { starts ≤ length asks.items },
 }
 
 // Writes three words.
@@ -54,6 +54,10 @@ impl Talk for Echo {
     ghost answers = { λ s p. refl };
 
     ghost asks = { λ s. s.asks.items };
+
+    ghost starts = { λ s. s.starts };
+
+    ghost within = { λ s. s.within };
 
     ghost message = { λ s p r back. [] };
 

@@ -20,5 +20,6 @@ returns-clause-opens c =
 
 pub returns-clause-channel : goal.returns-clause-channel
 returns-clause-channel c =
-    on_channel c.args.relid (512 * c.args.pages) (guest_planned c.guest_plan-guest.result) (host_planned c.host_plan-host.result) (at_guest c.args.seat) None c.make_pair.result
-    (ap (λ (p : Planned). p.relid) c.guest_plan-guest.ensures) (ap (λ (p : Planned). p.relid) c.host_plan-host.ensures) c.make_pair.ensures.guest c.make_pair.ensures.host c.make_pair.ensures.cells
+    on_channel c.args.relid (512 * c.args.pages) c.args.window (guest_planned c.guest_plan-guest.result) (host_planned c.host_plan-host.result) (at_guest c.args.seat) None c.make_pair.result
+    (ap (λ (p : Planned). p.relid) c.guest_plan-guest.ensures) (ap (λ (p : Planned). p.relid) c.host_plan-host.ensures)
+    (ap (λ (p : Planned). p.window) c.guest_plan-guest.ensures) (ap (λ (p : Planned). p.window) c.host_plan-host.ensures) c.make_pair.ensures.guest c.make_pair.ensures.host c.make_pair.ensures.cells

@@ -1,5 +1,5 @@
 use Rattle.std.proofs.Common.{ap, ◌∙◌, length}
-use Rattle.chan_run.specs.Runs.{is_drained, has_seen}
+use Rattle.chan_run.specs.Runs.{is_drained, has_marked, has_seen}
 use Rattle.chan_run.proofs.Pasts.{drained_seen}
 use Rattle.worker_core.proofs.AskSteps.{marks_drained}
 use Rattle.worker_core.proofs.RoomLaws.{sent_marked}
@@ -9,21 +9,22 @@ pub returns-clause-ends : goal.returns-clause-ends
 returns-clause-ends g c =
     let v = c.self.view_is in
     let l = c.self.invariant (ap (λ w. w.end.state.machine.marked) v ∙ c.requires.ready.unmarked) in
-    marks_drained (g.T.Talk.speech c.self.inside.talk) (g.T.Talk.keeps c.self.inside.talk) (g.T.Talk.answers c.self.inside.talk) (g.T.Talk.asks c.self.inside.talk) (record {
-      talk = c.self.inside.talk;
-      end = c.self.inside.port;
-      table = c.self.inside.table;
-      next = c.self.inside.next;
-      waiting = c.self.inside.waiting;
-      told = c.self.inside.replies.items;
-      starts = c.self.inside.starts;
-      seen = c.self.inside.seen;
-      hold = c.self.inside.hold;
-      relid = c.self.inside.relid;
-    }) _ c.mark.ensures.past (ap (λ w. is_drained w.end.state.past) v ∙ c.requires.drained) c.mark.ensures.first l.live
-
-pub returns-clause-seen : goal.returns-clause-seen
-returns-clause-seen g c = ap has_seen c.mark.ensures.past ∙ drained_seen c.self.inside.port.state.past (ap (λ w. is_drained w.end.state.past) c.self.view_is ∙ c.requires.drained)
+    let drained = ap (λ w. is_drained w.end.state.past) v ∙ c.requires.drained in (
+      marks_drained (g.T.Talk.speech c.self.inside.talk) (g.T.Talk.keeps c.self.inside.talk) (g.T.Talk.answers c.self.inside.talk) (g.T.Talk.asks c.self.inside.talk) (record {
+        talk = c.self.inside.talk;
+        end = c.self.inside.port;
+        table = c.self.inside.table;
+        next = c.self.inside.next;
+        waiting = c.self.inside.waiting;
+        told = c.self.inside.replies.items;
+        starts = c.self.inside.starts;
+        seen = c.self.inside.seen;
+        hold = c.self.inside.hold;
+        relid = c.self.inside.relid;
+      }) _ c.mark.ensures.past drained c.mark.ensures.first l.live,
+      ap has_marked c.mark.ensures.past,
+      ap has_seen c.mark.ensures.past ∙ drained_seen c.self.inside.port.state.past drained,
+    )
 
 pub returns-clause-sent : goal.returns-clause-sent
 returns-clause-sent g c =

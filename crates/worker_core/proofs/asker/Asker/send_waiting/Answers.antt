@@ -1,6 +1,6 @@
-use Rattle.std.proofs.Common.{◌+◌, ◌*◌, ap, ◌∙◌, length, arith, sym}
+use Rattle.std.proofs.Common.{◌+◌, ◌*◌, ap, ◌∙◌, length, arith, sym, is_some}
 use Rattle.std.proofs.lemmas.Option.{slice_get_within}
-use Rattle.worker_core.specs.Asking.{pending}
+use Rattle.worker_core.specs.Asking.{id_in, pending}
 use Rattle.worker_core.proofs.AskSteps.{sent_kept}
 use Rattle.worker_core.proofs.RoomLaws.{ask_sent, got_same}
 use Rattle.worker_core.proofs.asker.Asker.send_waiting.Goals as goal
@@ -27,4 +27,4 @@ returns-then-not-send-clause-asked g c =
     let l = c.self.invariant (ap (λ w. w.end.state.machine.marked) v ∙ c.requires.ready.unmarked) in
     let waits = ap (λ w. w.waiting) v ∙ c.requires.waits in
     let at = l.live.asked c.args.id waits in
-    (at.0, c.args.id, at.1, c.need.ensures.value ∙ ap (λ p. 8 * length p + 8) (c.encode.ensures.value at.0 at.1), c.need.ensures.most.0, c.need.ensures.most.1)
+    (at.0, at.1, ap is_some waits ∙ sym at.2, c.need.ensures.value ∙ ap (λ p. 8 * length p + 8) (c.encode.ensures.value at.0 at.1 ∙ ap (λ o. (g.T.Talk.speech c.self.inside.talk).encode (id_in o) at.0) (sym waits)), c.need.ensures.most.0, c.need.ensures.most.1)

@@ -1,6 +1,7 @@
-use Rattle.std.proofs.Common.{◌≡◌, ◌+◌, ◌*◌, ◌<◌, ap, sym, ◌∙◌, length, subst, arith, false, Some}
+use Rattle.std.proofs.Common.{◌≡◌, ◌+◌, ◌*◌, ◌<◌, ap, sym, ◌∙◌, length, subst, arith, false, Some, is_some}
 use Rattle.std.specs.Prelude.{slice_get}
 use Rattle.std.proofs.lemmas.Option.{slice_get_within}
+use Rattle.worker_core.specs.Asking.{id_in}
 use Rattle.worker_core.proofs.AskSteps.{at_least, told_kept}
 use Rattle.worker_core.proofs.RoomLaws.{ask_sent, got_same}
 use Rattle.worker_core.proofs.asker.Asker.tell.Goals as goal
@@ -25,4 +26,6 @@ returns-then-not-send-clause-asked g c =
     let v = c.self.view_is in
     let l = c.self.invariant (ap (λ w. w.end.state.machine.marked) v ∙ c.requires.ready.unmarked) in
     let at = at_least (g.T.Talk.asks c.self.inside.talk) c.self.inside.next (subst (λ w. w.next < length (g.T.Talk.asks w.talk)) (sym v) c.requires.next) in
-    (at.0, 0, at.1, c.need.ensures.value ∙ ap (λ p. 8 * length p + 8) (c.encode.ensures.value at.0 at.1), c.need.ensures.most.0, c.need.ensures.most.1)
+    let none = ap (λ w. w.waiting) v ∙ c.requires.none in
+    let answers = subst (λ w. (a : g.row.T-Ask.Denot) → slice_get (g.T.Talk.asks w.talk) w.next ≡ Some a → (g.T.Talk.speech w.talk).has_answer a ≡ false) (sym v) c.requires.answers at.0 at.1 in
+    (at.0, at.1, ap is_some none ∙ sym answers, c.need.ensures.value ∙ ap (λ p. 8 * length p + 8) (c.encode.ensures.value at.0 at.1 ∙ ap (λ o. (g.T.Talk.speech c.self.inside.talk).encode (id_in o) at.0) (sym none)), c.need.ensures.most.0, c.need.ensures.most.1)
