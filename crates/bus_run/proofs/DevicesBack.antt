@@ -16,8 +16,9 @@ use Rattle.phase_run.specs.Pairs.{Pairing, EachRuns}
 use Rattle.phase_run.specs.declared.pair.PairDone.{PairDone}
 use Rattle.ring_model.specs.Lists.{Lists}
 use Rattle.bus_run.specs.Desk.{spec_of, setup_of, desk_log, asks_of, IsKept, IsReady, Suits, OpenRan, DeviceRan, EachRan, DevicesRan}
-use Rattle.bus_run.specs.Opening.{OpensDesk, DeskRan, OneIf, OneEach, ComesBack, AllCome, held_of, held_from}
+use Rattle.bus_run.specs.Opening.{OpensAt, DeskRan, RanAt, OneIf, OneEach, ComesBack, AllCome, held_of, held_from}
 use Rattle.bus_run.specs.declared.desk.Desk.{Desk}
+use Rattle.bus_run.specs.declared.settings.Settings.{Settings}
 use Rattle.bus_run.proofs.Opened.{each_ran, held_long}
 
 -- a device whose channel wasn't opened
@@ -99,17 +100,17 @@ pub record DevicesSoFar (opened : ℕ → Bool) (phase : ℕ) (piles : List (Lis
   pub ready : All (IsReady most) (take i desks)
   pub rest : drop i desks ≡ held_from opened i (drop i old)
   pub count : length desks ≡ length old
-  pub comes : OneEach DeskRan opened (asks_of piles) i (drop i old) dones
+  pub comes : OneEach RanAt opened (asks_of piles) i (drop i old) dones
 
 -- what comes back for the next device, and what comes behind it
 pub next_comes : (opened : ℕ → Bool) (phase : ℕ) (piles : List (List Ask)) (most i : ℕ) (old desks : List Desk) (dones : List PairDone) (settled settled' : List ChannelRun) (outcomes : List (List LineResult)) (desk : Desk) → DevicesSoFar opened phase piles most i old desks dones settled settled' outcomes
     → i < length desks → desk ≡ get_or desks i desk → IsKept (get_or old i desk)
-    → (front : List PairDone) × (rest : List PairDone) × ComesBack (opened i) (asks_of piles i) (get_or old i desk) desk dones front rest × OneEach DeskRan opened (asks_of piles) (i + 1) (drop (i + 1) old) rest
+    → (front : List PairDone) × (rest : List PairDone) × ComesBack (opened i) (asks_of piles i) (get_or old i desk) desk dones front rest × OneEach RanAt opened (asks_of piles) (i + 1) (drop (i + 1) old) rest
 next_comes opened phase piles most i old desks dones settled settled' outcomes desk so_far less is kept =
     let within : i < length old = omega (arith, less, so_far.count) in
     let left : drop i old ≡ get_or old i desk ∷ drop (i + 1) old = drop_more old i desk within in
     let heads : get_or desks i desk ∷ drop (i + 1) desks ≡ held_of (opened i) (get_or old i desk) ∷ held_from opened (i + 1) (drop (i + 1) old) = sym (drop_more desks i desk less) ∙ so_far.rest ∙ ap (held_from opened i) left in
-    let here : OneEach DeskRan opened (asks_of piles) i (get_or old i desk ∷ drop (i + 1) old) dones = subst (λ l. OneEach DeskRan opened (asks_of piles) i l dones) left so_far.comes in
+    let here : OneEach RanAt opened (asks_of piles) i (get_or old i desk ∷ drop (i + 1) old) dones = subst (λ l. OneEach RanAt opened (asks_of piles) i l dones) left so_far.comes in
     (here.0, here.1, record { held_is = is ∙ ap (λ (l : List Desk). get_or l 0 desk) heads; kept = kept; dones_are = here.2; ran = here.3 }, here.4)
 
 each_push : (opened : ℕ → Bool) (asks : ℕ → List Ask) (phase place at : ℕ) (channels : List ChannelPhase) (devices : List DevicePhase) (c : ChannelPhase) (d : DevicePhase) → EachRan opened asks phase place channels devices → at ≡ place + length channels
@@ -126,7 +127,7 @@ mapped_more f xs ys x y same one = map-append f xs (x ∷ []) ∙ ap (λ l. l ++
 
 pub devices_more : (opened : ℕ → Bool) (phase : ℕ) (piles : List (List Ask)) (most i : ℕ) (old desks : List Desk) (dones rest : List PairDone) (settled settled' settled'' : List ChannelRun) (outcomes : List (List LineResult)) (desk new : Desk) (results : List LineResult)
     → DevicesSoFar opened phase piles most i old desks dones settled settled' outcomes → i < length desks → DeviceRan (opened i) phase i (asks_of piles i) (get_or old i desk) new settled' settled'' results → IsReady most new
-    → OneEach DeskRan opened (asks_of piles) (i + 1) (drop (i + 1) old) rest → DevicesSoFar opened phase piles most (i + 1) old (slice_set desks i new) rest settled settled'' (outcomes ++ results ∷ [])
+    → OneEach RanAt opened (asks_of piles) (i + 1) (drop (i + 1) old) rest → DevicesSoFar opened phase piles most (i + 1) old (slice_set desks i new) rest settled settled'' (outcomes ++ results ∷ [])
 devices_more opened phase piles most i old desks dones rest settled settled' settled'' outcomes desk new results so_far less ran ready comes =
     let o : Desk = get_or old i desk in
     let c : ChannelPhase = record { device = i; kind = spec_of o; opened = opened i; runs = ran.runs; served = ran.served } in
@@ -153,7 +154,7 @@ devices_more opened phase piles most i old desks dones rest settled settled' set
       comes = comes;
     }
 
-pub devices_start : (opened : ℕ → Bool) (phase : ℕ) (piles : List (List Ask)) (most : ℕ) (old desks : List Desk) (dones : List PairDone) (settled : List ChannelRun) → desks ≡ held_from opened 0 old → OneEach DeskRan opened (asks_of piles) 0 old dones
+pub devices_start : (opened : ℕ → Bool) (phase : ℕ) (piles : List (List Ask)) (most : ℕ) (old desks : List Desk) (dones : List PairDone) (settled : List ChannelRun) → desks ≡ held_from opened 0 old → OneEach RanAt opened (asks_of piles) 0 old dones
     → DevicesSoFar opened phase piles most 0 old desks dones settled settled []
 devices_start opened phase piles most old desks dones settled held comes = record {
   channels = [];
@@ -194,13 +195,13 @@ devices_end opened phase piles most i old desks dones settled settled' outcomes 
     )
 
 -- all channels that were opened have run
-pub all_come : (opened : ℕ → Bool) (phase : ℕ) (piles : List (List Ask)) (old held : List Desk) (pairs : List Pairing) (dones : List PairDone) → All (IsReady (4096 * phase)) old → Suits 4096 old piles → held ≡ held_from opened 0 old
-    → OneEach OpensDesk opened (asks_of piles) 0 old pairs → EachRuns pairs dones → AllCome opened phase piles old held dones
-all_come opened phase piles old held pairs dones ready suits held_is opens runs = record {
+pub all_come : (settings : List Settings) (opened : ℕ → Bool) (phase : ℕ) (piles : List (List Ask)) (old held : List Desk) (pairs : List Pairing) (dones : List PairDone) → All (IsReady (4096 * phase)) old → Suits 4096 old piles → held ≡ held_from opened 0 old
+    → OneEach (OpensAt settings) opened (asks_of piles) 0 old pairs → EachRuns pairs dones → AllCome opened phase piles old held dones
+all_come settings opened phase piles old held pairs dones ready suits held_is opens runs = record {
   ready = ready;
   suits = suits;
   held_is = held_is;
-  ran = each_ran opened (asks_of piles) 0 old pairs dones opens runs;
+  ran = each_ran settings opened (asks_of piles) 0 old pairs dones opens runs;
 }
 
 -- what follows where a call gives a value

@@ -4,7 +4,7 @@ pub mod SeatEnds
 pub mod Opened
 pub mod DevicesBack
 pub mod Asking
-pub mod RingSizes
+pub mod SettingLines
 pub mod BadPlaces
 pub mod PhaseRun
 pub mod Phases

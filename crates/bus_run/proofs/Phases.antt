@@ -22,7 +22,8 @@ use Rattle.bus_run.specs.declared.desk.Desk.{Desk}
 use Rattle.bus_run.specs.declared.runner.Runner.{Runner}
 use Rattle.scsi_disk.specs.DiskModel.{DiskState}
 use Rattle.bus_run.specs.Desk.{spec_of, setup_of, setup_for, desk_log, IsFresh, IsReady}
-use Rattle.bus_run.specs.Whole.{PhaseRan, AreFresh, setups_from, RingsOf, parts_left, NextWithin, behind, RunsOn, RunsSoFar}
+use Rattle.bus_run.specs.Settings.{SettingsOf}
+use Rattle.bus_run.specs.Whole.{PhaseRan, AreFresh, setups_from, parts_left, NextWithin, behind, RunsOn, RunsSoFar}
 use Rattle.bus_run.proofs.Opened.{desk_there}
 
 -- new devices
@@ -184,9 +185,9 @@ runs_on kinds all phase earlier part left desks desks' settled settled' results 
     subst (λ l. RunFrom kinds 0 [] all (map (λ k. []) kinds) l after (results' ++ r)) settled_are (subst (λ l. RunFrom kinds 0 [] all (map (λ k. []) kinds) (settled ++ (ran.runs ++ s)) after l) results_are whole)
 
 -- no phase ran
-pub start : (lines : List Line) (r : Runner) → AreFresh lines (offered lines) r.desks.items → RingsOf lines (length r.desks.items) r.pages.items → r.closed.items ≡ replicate (length r.desks.items) false → r.phase ≡ 0 → r.next ≡ Some 0 → r.settled.items ≡ [] → r.results.items ≡ []
+pub start : (lines : List Line) (r : Runner) → AreFresh lines (offered lines) r.desks.items → SettingsOf lines (length r.desks.items) r.settings.items → r.closed.items ≡ replicate (length r.desks.items) false → r.phase ≡ 0 → r.next ≡ Some 0 → r.settled.items ≡ [] → r.results.items ≡ []
     → RunsSoFar lines r
-start lines r fresh rings none phase next settled results = record {
+start lines r fresh settings none phase next settled results = record {
   earlier = [];
   runs = λ s after told run.
       subst (λ l. RunFrom (offered lines) 0 [] (parts lines) (map (λ k. []) (offered lines)) (l ++ s) after (r.results.items ++ told)) (sym settled)
@@ -200,7 +201,7 @@ start lines r fresh rings none phase next settled results = record {
   kinds = fresh.kinds_are;
   setups = fresh.setups_are;
   ready = λ k d less. record { kept = (fresh.ready k d less).kept; few = omega (arith, (fresh.ready k d less).few) };
-  rings = rings;
+  settings = settings;
   closed = λ k less. let within : k < length r.desks.items = omega (arith, less, ap length none, length-replicate (length r.desks.items) false) in ap (λ l. slice_index_or l k false) none ∙ get_or-replicate (length r.desks.items) k false false within;
   closed_count = ap length none ∙ length-replicate (length r.desks.items) false;
 }
@@ -210,8 +211,8 @@ pub go_on : (lines part : List Line) (old new : Runner) (at : ℕ) (next : Optio
     → MatchOption next (parts (drop at lines) ≡ part ∷ []) (λ n. parts (drop at lines) ≡ part ∷ parts (drop n (drop at lines))) → MatchOption next ⊤ (λ n. n ≤ length (drop at lines))
     → ((earlier : List Line) → AreMarked (closed_by earlier) old.closed.items → PhaseRan old.phase earlier part old.desks.items new.desks.items old.settled.items new.settled.items old.results.items new.results.items)
     → ((earlier : List Line) → AreMarked (closed_by earlier) old.closed.items → AreMarked (closed_by (earlier ++ part)) new.closed.items)
-    → length new.closed.items ≡ length old.closed.items → All (IsReady (4096 * (old.phase + 1))) new.desks.items → new.phase ≡ old.phase + 1 → new.next ≡ behind at next → new.pages.items ≡ old.pages.items → RunsSoFar lines new
-go_on lines part old new at next so_far here few split within ran closed count ready phase moved pages =
+    → length new.closed.items ≡ length old.closed.items → All (IsReady (4096 * (old.phase + 1))) new.desks.items → new.phase ≡ old.phase + 1 → new.next ≡ behind at next → new.settings.items ≡ old.settings.items → RunsSoFar lines new
+go_on lines part old new at next so_far here few split within ran closed count ready phase moved settings =
     let cut : parts (drop at lines) ≡ part ∷ parts_left lines (behind at next) = part_next lines part at next split in
     let left : part ∷ parts_left lines (behind at next) ≡ drop old.phase (parts lines) = sym cut ∙ ap (parts_left lines) (sym here) ∙ so_far.left in
     let one = ran so_far.earlier so_far.closed in
@@ -231,7 +232,7 @@ go_on lines part old new at next so_far here few split within ran closed count r
       kinds = one.kinds ∙ so_far.kinds;
       setups = one.setups ∙ so_far.setups;
       ready = subst (λ p. All (IsReady (4096 * p)) new.desks.items) (sym phase) ready;
-      rings = subst (λ n. RingsOf lines n new.pages.items) (sym desks) (subst (RingsOf lines (length old.desks.items)) (sym pages) so_far.rings);
+      settings = subst (λ n. SettingsOf lines n new.settings.items) (sym desks) (subst (SettingsOf lines (length old.desks.items)) (sym settings) so_far.settings);
       closed = closed so_far.earlier so_far.closed;
       closed_count = count ∙ so_far.closed_count ∙ sym desks;
     }

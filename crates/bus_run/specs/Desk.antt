@@ -103,11 +103,6 @@ pub record Suits (most : ℕ) (desks : List Desk) (piles : List (List Ask)) : Ty
   pub kinds : (k : ℕ) → k < length desks → AllCarried (kind_of (slice_index_or (map spec_of desks) k Beat)) (slice_index_or piles k [])
   pub few : (k : ℕ) → k < length desks → length (slice_index_or piles k []) ≤ most
 
--- each ring has 1 to 16 pages of data
-pub record AreRings (pages : List ℕ) : Type 0 where
-  pub some : (k : ℕ) → k < length pages → 1 ≤ slice_index_or pages k 1
-  pub most : (k : ℕ) → k < length pages → slice_index_or pages k 1 ≤ 16
-
 -- a device is opened where a line of the phase wants it and no earlier phase closed it
 abbrev pub opened_by : List Bool → List Bool → ℕ → Bool
 opened_by closed wanted k = not (slice_index_or closed k false) && slice_index_or wanted k false

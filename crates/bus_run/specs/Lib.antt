@@ -1,3 +1,4 @@
 pub mod Desk
+pub mod Settings
 pub mod Opening
 pub mod Whole

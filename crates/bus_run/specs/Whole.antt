@@ -1,11 +1,11 @@
 -- A phase, and the phases that are left.
-use Rattle.std.specs.Prelude.{ℕ, ◌≡◌, ◌+◌, ◌*◌, ◌<◌, ◌≤◌, List, [], ◌∷◌, ◌++◌, length, map, drop, All, Option, Some, None, slice_index_or}
+use Rattle.std.specs.Prelude.{ℕ, ◌≡◌, ◌+◌, ◌*◌, ◌<◌, ◌≤◌, List, [], ◌∷◌, ◌++◌, length, map, drop, All, Option, Some, None}
 use Rattle.script_lines.specs.declared.line.Line.{Line}
 use Rattle.script_lines.specs.declared.line.What.{What}
 use Rattle.script_lines.specs.declared.line.What.TheVariants.{Contact as IsContact, Offer as IsOffer, Bad as IsBad, RingSize as IsRingSize, Window as IsWindow, Ask as IsAsk, Shut as IsShut, Phase as IsPhase}
 use Rattle.script_lines.specs.declared.line.DeviceSpec.{DeviceSpec}
 use Rattle.bus_script.specs.declared.outcome.LineResult.{LineResult}
-use Rattle.script_lines.specs.Parts.{parts, offered, ring_pages_of, blocks_of, bads_of}
+use Rattle.script_lines.specs.Parts.{parts, offered, blocks_of, bads_of}
 use Rattle.script_lines.specs.WellFormed.{IsDevice}
 use Rattle.bus_model.specs.Logs.{Recorded}
 use Rattle.bus_model.specs.Run.{PhaseRuns, RunFrom}
@@ -14,6 +14,7 @@ use Rattle.bus_plan.specs.Flags.{AreMarked, closed_by}
 use Rattle.scsi_disk.specs.DiskModel.{DiskState}
 use Rattle.bus_run.specs.declared.desk.Desk.{Desk}
 use Rattle.bus_run.specs.declared.runner.Runner.{Runner}
+use Rattle.bus_run.specs.Settings.{SettingsOf}
 use Rattle.bus_run.specs.Desk.{spec_of, setup_of, setup_for, desk_log, IsReady}
 
 -- a phase went by, behind these earlier lines
@@ -49,11 +50,6 @@ pub record AreFresh (lines : List Line) (kinds : List DeviceSpec) (desks : List 
   pub logs : map desk_log desks ≡ map (λ k. []) kinds
   pub ready : All (IsReady 0) desks
 
--- the rings of so many devices are as big as the lines say
-pub record RingsOf (lines : List Line) (devices : ℕ) (pages : List ℕ) : Type 0 where
-  pub count : length pages ≡ devices
-  pub each : (k : ℕ) → k < devices → slice_index_or pages k 1 ≡ ring_pages_of k lines
-
 -- the phases that are left, where the next one begins at this line
 abbrev pub parts_left : List Line → Option ℕ → List (List Line)
 parts_left lines None = []
@@ -85,6 +81,6 @@ pub record RunsSoFar (lines : List Line) (r : Runner) : Type 0 where
   pub kinds : map spec_of r.desks.items ≡ offered lines
   pub setups : map setup_of r.desks.items ≡ setups_from lines 0 (offered lines)
   pub ready : All (IsReady (4096 * r.phase)) r.desks.items
-  pub rings : RingsOf lines (length r.desks.items) r.pages.items
+  pub settings : SettingsOf lines (length r.desks.items) r.settings.items
   pub closed : AreMarked (closed_by earlier) r.closed.items
   pub closed_count : length r.closed.items ≡ length r.desks.items

@@ -1,12 +1,14 @@
 //! The channels of a phase: all are opened, all run at once, and all are closed, in order of their relids.
 ghost use Rattle.std.specs.Prelude.{◌≡◌, ◌+◌, ◌*◌, ◌<◌, ◌≤◌, Bool, List, length, All, IfOk, OnOk};
-ghost use Rattle.bus_run.specs.Desk.{IsReady, DevicesRan, Suits, AreRings, asks_of, opened_by};
-ghost use Rattle.bus_run.specs.Opening.{AllCome, OneEach, OpensDesk, held_from};
+ghost use Rattle.bus_run.specs.Desk.{IsReady, DevicesRan, Suits, asks_of, opened_by};
+ghost use Rattle.bus_run.specs.Opening.{AllCome, OneEach, OpensAt, held_from};
+ghost use Rattle.bus_run.specs.Settings.{HasLimits};
 ghost use Rattle.bus_run.specs.declared.desk.Desk.{Desk as OneDesk};
 
 use crate::closing::close_device;
 use crate::desk::Desk;
 use crate::opening::open_device;
+use crate::settings::Settings;
 use bus_model::ChannelRun;
 use bus_plan::{PartPlan, Piles};
 use bus_script::LineResult;
@@ -31,18 +33,18 @@ fn open_all(
     phase: u32,
     plan: &PartPlan,
     closed: &[bool],
-    pages: &[u32],
+    settings: &[Settings],
     desks: &mut Vec<Desk>,
 ) -> Result<Vec<Pair>, AllocError>
     requires ready { All (IsReady (4096 * phase)) desks.old.items }
     requires suits { Suits 4096 desks.old.items plan.now.asks }
     requires wanted { length plan.now.wanted.items ≡ length desks.old.items }
     requires closed { length closed.now ≡ length desks.old.items }
-    requires pages { length pages.now ≡ length desks.old.items }
-    requires rings { AreRings pages.now }
+    requires settings { length settings.now ≡ length desks.old.items }
+    requires limits { All HasLimits settings.now }
     requires few { length desks.old.items ≤ 16 }
     requires phase { phase ≤ 20000 }
-    ensures opens { IfOk result (λ pairs. OneEach OpensDesk (opened_by closed.now plan.now.wanted.items) (asks_of plan.now.asks) 0 desks.old.items pairs.items) }
+    ensures opens { IfOk result (λ pairs. OneEach (OpensAt settings.now) (opened_by closed.now plan.now.wanted.items) (asks_of plan.now.asks) 0 desks.old.items pairs.items) }
     ensures held { OnOk result (desks.new.items ≡ held_from (opened_by closed.now plan.now.wanted.items) 0 desks.old.items) }
 {
     let mut pairs = Vec::new(alloc);
@@ -50,7 +52,7 @@ fn open_all(
         open_device(
             alloc,
             i as u32,
-            pages[i],
+            &settings[i],
             is_opened(closed, &plan.wanted, i),
             plan.asks.get(i),
             &mut desks[i],
@@ -103,7 +105,7 @@ pub fn run_devices<R: Threads + Wait + Sync, G: Gate>(
     phase: u32,
     plan: &PartPlan,
     closed: &[bool],
-    pages: &[u32],
+    settings: &[Settings],
     desks: &mut Vec<Desk>,
     settled: &mut Vec<ChannelRun>,
 ) -> Result<Piles<LineResult>, AllocError>
@@ -111,14 +113,14 @@ pub fn run_devices<R: Threads + Wait + Sync, G: Gate>(
     requires suits { Suits 4096 desks.old.items plan.now.asks }
     requires wanted { length plan.now.wanted.items ≡ length desks.old.items }
     requires closed { length closed.now ≡ length desks.old.items }
-    requires pages { length pages.now ≡ length desks.old.items }
-    requires rings { AreRings pages.now }
+    requires settings { length settings.now ≡ length desks.old.items }
+    requires limits { All HasLimits settings.now }
     requires few { length desks.old.items ≤ 16 }
     requires phase { phase ≤ 20000 }
     ensures ran { IfOk result (λ outcomes. DevicesRan (opened_by closed.now plan.now.wanted.items) phase plan.now.asks desks.old.items desks.new.items settled.old.items settled.new.items outcomes) }
     ensures ready { OnOk result (All (IsReady (4096 * (phase + 1))) desks.new.items) }
 {
-    let pairs = open_all(alloc, phase, plan, closed, pages, desks)?;
+    let pairs = open_all(alloc, phase, plan, closed, settings, desks)?;
     let mut done = Vec::with_capacity(alloc, pairs.len())?;
     phase_run::run_phase(rt, pairs, &mut done, gate);
     close_all(alloc, phase, plan, closed, done, desks, settled)

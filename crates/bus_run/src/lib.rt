@@ -8,8 +8,8 @@ mod devices;
 mod lock;
 mod opening;
 mod phase;
-mod rings;
 mod runner;
+mod settings;
 
 pub use desk::Desk;
-pub use runner::{Ran, Runner, run_script};
+pub use runner::{Ran, Runner};

@@ -4,10 +4,12 @@ ghost use Rattle.script_lines.specs.Parts.{kind_of};
 ghost use Rattle.end_work.specs.Plans.{AllCarried};
 ghost use Rattle.phase_run.specs.Pairs.{Pairing};
 ghost use Rattle.bus_run.specs.Desk.{spec_of, desk_log, IsKept};
+ghost use Rattle.bus_run.specs.Settings.{HasLimits};
 ghost use Rattle.bus_run.specs.Opening.{IsSeatFor, OpensDesk, OneIf, held_of};
 
 use crate::desk::Desk;
 use crate::lock::open_seat;
+use crate::settings::Settings;
 use bus_script::Ask;
 use end_work::DeviceSeat;
 use phase_run::{Pair, open_pair};
@@ -41,31 +43,40 @@ fn seat_for(alloc: Global, desk: Desk, quota: u32) -> Result<DeviceSeat, AllocEr
     }
 }
 
-/// The two workers of a device's channel, with a seat for as many calls as it is asked. A channel has one request open at a time.
+/// The two workers of a device's channel, with a seat for as many calls as it is asked. Relids count from 1, in order of the devices.
 fn open_desk(
     alloc: Global,
-    relid: u32,
-    pages: u32,
+    device: u32,
+    settings: &Settings,
     asks: &[Ask],
     desk: Desk,
 ) -> Result<Pair, AllocError>
     requires kept { IsKept desk }
     requires asks { AllCarried (kind_of (spec_of desk)) asks.now }
     requires few { length asks.now ≤ 4096 }
-    requires pages { (1 ≤ pages) × (pages ≤ 16) }
+    requires limits { HasLimits settings.now }
+    requires device { device + 1 < 2 ^ 32 }
     requires room { length (desk_log desk) + length asks.now < 2 ^ 32 }
-    ensures { IfOk result (OpensDesk asks.now desk) }
+    ensures { IfOk result (OpensDesk device settings.now asks.now desk) }
 {
     let kind = desk.kind();
     let seat = seat_for(alloc, desk, asks.len() as u32)?;
-    open_pair(alloc, kind, relid, pages, 1, seat, asks)
+    open_pair(
+        alloc,
+        kind,
+        device + 1,
+        settings.pages,
+        settings.window,
+        seat,
+        asks,
+    )
 }
 
-/// Opens the channel of a device in a phase, if the phase opens it. Relids count from 1, in order of the devices.
+/// Opens the channel of a device in a phase, if the phase opens it.
 pub fn open_device(
     alloc: Global,
     device: u32,
-    pages: u32,
+    settings: &Settings,
     opened: bool,
     asks: &[Ask],
     desk: &mut Desk,
@@ -74,18 +85,18 @@ pub fn open_device(
     requires kept { IsKept desk.old }
     requires asks { AllCarried (kind_of (spec_of desk.old)) asks.now }
     requires few { length asks.now ≤ 4096 }
-    requires pages { (1 ≤ pages) × (pages ≤ 16) }
+    requires limits { HasLimits settings.now }
     requires device { device + 1 < 2 ^ 32 }
     requires room { length (desk_log desk.old) + length asks.now < 2 ^ 32 }
     ensures held { OnOk result (desk.new ≡ held_of opened desk.old) }
-    ensures pair { OnOk result ((front : List Pairing) × (pairs.new.items ≡ pairs.old.items ++ front) × OneIf opened (OpensDesk asks.now desk.old) front) }
+    ensures pair { OnOk result ((front : List Pairing) × (pairs.new.items ≡ pairs.old.items ++ front) × OneIf opened (OpensDesk device settings.now asks.now desk.old) front) }
 {
     if !opened {
         return Ok(());
     }
     let subs = desk.subs();
     let whole = mem::replace(desk, Desk::Out { subs });
-    let pair = open_desk(alloc, device + 1, pages, asks, whole)?;
+    let pair = open_desk(alloc, device, settings, asks, whole)?;
     pairs.push(pair)?;
     Ok(())
 }

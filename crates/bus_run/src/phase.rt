@@ -4,11 +4,13 @@ ghost use Rattle.script_lines.specs.declared.line.Line.{Line as OneLine};
 ghost use Rattle.script_lines.specs.Parts.{asks_in};
 ghost use Rattle.script_lines.specs.WellFormed.{AllRight, AllGo};
 ghost use Rattle.bus_plan.specs.Flags.{AreMarked, closed_by};
-ghost use Rattle.bus_run.specs.Desk.{spec_of, IsReady, AreRings};
+ghost use Rattle.bus_run.specs.Desk.{spec_of, IsReady};
+ghost use Rattle.bus_run.specs.Settings.{HasLimits};
 ghost use Rattle.bus_run.specs.Whole.{PhaseRan};
 
 use crate::desk::Desk;
 use crate::devices::run_devices;
+use crate::settings::Settings;
 use bus_model::ChannelRun;
 use bus_plan::{mark_closed, plan_part, tell};
 use bus_script::{Line, LineResult};
@@ -24,7 +26,7 @@ pub fn run_phase<R: Threads + Wait + Sync, G: Gate>(
     alloc: Global,
     phase: u32,
     part: &[Line],
-    pages: &[u32],
+    settings: &[Settings],
     closed: &mut [bool],
     desks: &mut Vec<Desk>,
     settled: &mut Vec<ChannelRun>,
@@ -36,8 +38,8 @@ pub fn run_phase<R: Threads + Wait + Sync, G: Gate>(
     requires asks { asks_in part.now ≤ 4096 }
     requires earlier { (earlier : List OneLine) × AreMarked (closed_by earlier) closed.old }
     requires closed { length closed.old ≡ length desks.old.items }
-    requires pages { length pages.now ≡ length desks.old.items }
-    requires rings { AreRings pages.now }
+    requires settings { length settings.now ≡ length desks.old.items }
+    requires limits { All HasLimits settings.now }
     requires few { length desks.old.items ≤ 16 }
     requires phase { phase ≤ 20000 }
     ensures ran { OnOk result ((earlier : List OneLine) → AreMarked (closed_by earlier) closed.old → PhaseRan phase earlier part.now desks.old.items desks.new.items settled.old.items settled.new.items results.old.items results.new.items) }
@@ -46,7 +48,9 @@ pub fn run_phase<R: Threads + Wait + Sync, G: Gate>(
     ensures count { OnOk result (length closed.new ≡ length closed.old) }
 {
     let plan = plan_part(alloc, closed, part)?;
-    let outcomes = run_devices(rt, gate, alloc, phase, &plan, closed, pages, desks, settled)?;
+    let outcomes = run_devices(
+        rt, gate, alloc, phase, &plan, closed, settings, desks, settled,
+    )?;
     tell(&outcomes, &plan.addresses, results)?;
     mark_closed(closed, part);
     Ok(())

@@ -13,7 +13,7 @@ ghost use Rattle.bus_run.specs.Whole.{AreFresh, CanMake, RunsSoFar, behind, setu
 use crate::bads::bad_places;
 use crate::desk::{Desk, history_of, new_desk};
 use crate::phase::run_phase;
-use crate::rings::all_ring_pages;
+use crate::settings::{Settings, all_settings};
 use bus_model::{ChannelRun, DeviceHistory};
 use bus_plan::first_part;
 use bus_script::{Line, LineResult, Script, What};
@@ -36,7 +36,7 @@ pub struct Ran {
 #[derive(Drop)]
 pub struct Runner {
     desks: Vec<Desk>,
-    pages: Vec<u32>,
+    settings: Vec<Settings>,
     closed: Vec<bool>,
     phase: u32,
     // where the lines of the next phase begin
@@ -110,11 +110,11 @@ impl Runner {
     {
         let lines = script.lines();
         let desks = new_desks(alloc, lines)?;
-        let pages = all_ring_pages(alloc, desks.len(), lines)?;
+        let settings = all_settings(alloc, desks.len(), lines)?;
         let closed = vec![in alloc; false; desks.len()]?;
         Ok(Runner {
             desks,
-            pages,
+            settings,
             closed,
             phase: 0,
             next: Some(0),
@@ -161,7 +161,7 @@ impl Runner {
             alloc,
             self.phase,
             part,
-            &self.pages,
+            &self.settings,
             &mut self.closed,
             &mut self.desks,
             &mut self.settled,
@@ -190,22 +190,4 @@ impl Runner {
             results,
         })
     }
-}
-
-/// Runs a script, phase by phase.
-pub fn run_script<R: Threads + Wait + Sync, G: Gate>(
-    rt: &R,
-    gate: &G,
-    alloc: Global,
-    script: &Script,
-) -> Result<Ran, AllocError>
-    ensures run { IfOk result (λ ran. IsBusRun script.now ran.settled.items ran.histories.items ran.results.items) }
-    ensures each { IfOk result (λ ran. length ran.results.items ≡ count_by prints script.now) }
-{
-    let mut runner = Runner::make(alloc, script)?;
-    while runner.has_next() {
-        runner.run_next(rt, gate, alloc, script)?;
-    }
-    let ran = runner.end(alloc)?;
-    Ok(ran)
 }

@@ -1,5 +1,5 @@
 -- What the workers of a channel leave.
-use Rattle.std.specs.Prelude.{◌≡◌, ◌+◌, false, [], length, map, Option, Some, None}
+use Rattle.std.specs.Prelude.{◌≡◌, ◌+◌, false, [], length, map, take, Option, Some, None}
 use Rattle.script_lines.specs.declared.line.Ask.{Ask}
 use Rattle.bus_script.specs.declared.outcome.Reply.{Reply}
 use Rattle.bus_speech.specs.Speeches.{speech_of}
@@ -7,8 +7,8 @@ use Rattle.bus_speech.specs.Talks.{Talked, asks_of}
 use Rattle.chan_run.specs.Runs.{got_of}
 use Rattle.ring_seat.specs.Settling.{IsSameEnd}
 use Rattle.worker_core.specs.Asking.{Asking, AsksBy}
-use Rattle.worker_core.specs.Rooms.{SentAtMost, LacksFor}
-use Rattle.worker_core.specs.Serving.{Serving, EndsBy}
+use Rattle.worker_core.specs.Rooms.{SentAtMost, LacksFor, ServeLacksFor}
+use Rattle.worker_core.specs.Serving.{Serving, EndsBy, calls_behind, is_asked}
 use Rattle.worker_core.specs.declared.ended.Ended.{Ended}
 use Rattle.end_work.specs.Seats.{served_at, device_place, at_guest, at_host}
 use Rattle.end_work.specs.declared.device_seat.DeviceSeat.{DeviceSeat}
@@ -27,16 +27,17 @@ pub record LeavesAsked (w : Asking Talked Reply) (d : WorkerDone) : Type 0 where
   pub seat : d.seat ≡ None
   pub serials : d.serials.items ≡ []
 
--- the worker that serves has ended so, with these calls of its seat and their serials; it has no replies
+-- the worker that serves has ended so, with these calls of its seat, behind those that the seat had made before, and their serials; it has no replies
 pub record LeavesServed (w : Serving Talked DeviceSeat Ask Reply) (d : WorkerDone) : Type 0 where
   pub back : DeviceSeat
   pub seat : d.seat ≡ Some back
-  pub serves : EndsBy (speech_of w.desk.talk.kind) d.ended w d.end.state.past (served_at back)
-  pub serials : d.serials.items ≡ map (λ c. c.serial) (served_at back)
+  pub serves : EndsBy (speech_of w.desk.talk.kind) d.ended w d.end.state.past (calls_behind w.desk.before (served_at back))
+  pub before : take (length w.desk.before) (served_at back) ≡ w.desk.before
+  pub serials : d.serials.items ≡ map (λ c. c.serial) (calls_behind w.desk.before (served_at back))
   pub end : IsSameEnd w.end d.end
   pub place : device_place back ≡ device_place w.desk.seat
   pub sent : SentAtMost (length (got_of d.end.state.past)) d.end.state.past
-  pub room : LacksFor (w.starts + w.come) d.ended d.end.state.past
+  pub room : ServeLacksFor (is_asked (speech_of w.desk.talk.kind)) (w.starts + w.come) w.serve w.stops d.ended d.end.state.past
   pub replies : d.replies.items ≡ []
 
 abbrev pub Leaves : ChannelWorker → WorkerDone → Type 0
@@ -60,4 +61,4 @@ StandsAsking (Some how) w =
 abbrev pub StandsServing : Option Ended → Serving Talked DeviceSeat Ask Reply → Type 0
 StandsServing None w = w.end.state.machine.marked ≡ false
 StandsServing (Some how) w =
-    EndsBy (speech_of w.desk.talk.kind) how w w.end.state.past w.desk.calls × SentAtMost (length (got_of w.end.state.past)) w.end.state.past × LacksFor (w.starts + w.come) how w.end.state.past
+    EndsBy (speech_of w.desk.talk.kind) how w w.end.state.past w.desk.calls × SentAtMost (length (got_of w.end.state.past)) w.end.state.past × ServeLacksFor (is_asked (speech_of w.desk.talk.kind)) (w.starts + w.come) w.serve w.stops how w.end.state.past

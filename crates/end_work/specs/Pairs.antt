@@ -1,16 +1,27 @@
 -- The two workers of a channel.
-use Rattle.std.specs.Prelude.{◌≤◌, ◌+◌, length}
-use Rattle.bus_speech.specs.Talks.{asks_of}
+use Rattle.std.specs.Prelude.{◌≡◌, ◌≤◌, ◌+◌, false, length}
+use Rattle.script_lines.specs.declared.line.Ask.{Ask}
+use Rattle.bus_script.specs.declared.outcome.Reply.{Reply}
+use Rattle.bus_speech.specs.Talks.{Talked, asks_of}
 use Rattle.ring_seat.specs.Settling.{AreOfOneChannel}
+use Rattle.worker_core.specs.Asking.{Asking}
+use Rattle.worker_core.specs.Serving.{Serving}
 use Rattle.end_work.specs.Workers.{end_at, IsLive}
+use Rattle.end_work.specs.declared.device_seat.DeviceSeat.{DeviceSeat}
 use Rattle.end_work.specs.declared.worker.ChannelWorker.{ChannelWorker}
 use Rattle.end_work.specs.declared.worker.ChannelWorker.TheVariants.{Asks, Serves}
 
--- one asks and the other serves, which made room for all that the first one asks
+-- what the one asks is what the other one made room for, and has calls for, unless it stops before: they are of one kind of device
+pub record PlansAgree (a : Asking Talked Reply) (s : Serving Talked DeviceSeat Ask Reply) : Type 0 where
+  pub kind : a.talk.kind ≡ s.desk.talk.kind
+  pub room : length (asks_of a.talk) ≤ s.starts + s.come
+  pub calls : s.stops ≡ false → length a.talk.asks ≤ s.serve
+
+-- one asks and the other serves
 abbrev pub AreRoles : ChannelWorker → ChannelWorker → Type 0
 AreRoles (Asks a) (Asks b) = ⊥
-AreRoles (Asks a) (Serves s) = length (asks_of a.talk) ≤ s.starts + s.come
-AreRoles (Serves s) (Asks a) = length (asks_of a.talk) ≤ s.starts + s.come
+AreRoles (Asks a) (Serves s) = PlansAgree a s
+AreRoles (Serves s) (Asks a) = PlansAgree a s
 AreRoles (Serves s) (Serves t) = ⊥
 
 -- the guest's worker and the host's worker of one channel: they have its two ends, neither has ended, and their plans agree

@@ -71,10 +71,10 @@ pub record CanPlan (side : Side) (p : Planned) : Type 0 where
   pub stop : CanStop p.kind p.stop
   pub asks : side ≡ side_that_asks p.kind → (length p.asks ≡ p.count) × AllCarried p.kind p.asks
 
--- the side that asks has no seat; the other one has a new seat of a device of the plan's kind, with a call for each request
+-- the side that asks has no seat; the other one has a seat of a device of the plan's kind, with a call for each request. It may have made calls before
 abbrev pub HasSeat : Side → Planned → Option DeviceSeat → Type 0
 HasSeat side p None = side ≡ side_that_asks p.kind
-HasSeat side p (Some s) = (kind_at s ≡ p.kind) × (served_at s ≡ []) × (p.count ≤ left_at s)
+HasSeat side p (Some s) = (kind_at s ≡ p.kind) × (p.count ≤ left_at s)
 
 -- a worker that asks was made for this plan: its start-up is the kind's, and its table has a place for each request that may be open
 pub record AsksFor (p : Planned) (w : Asking Talked Reply) : Type 0 where
@@ -89,6 +89,7 @@ pub record ServesFor (p : Planned) (seat : DeviceSeat) (w : Serving Talked Devic
   pub answers : w.desk.talk.kind ≡ p.kind
   pub relid : w.desk.relid ≡ p.relid
   pub seat_is : w.desk.seat ≡ seat
+  pub before : w.desk.before ≡ served_at seat
   pub serve : w.serve ≡ count_of p.stop p.count
   pub held : w.desk.held ≡ held_of p.stop p.count
   pub stops : w.stops ≡ is_some p.stop

@@ -1,5 +1,5 @@
 -- The workers of a channel, as contracts see them.
-use Rattle.std.specs.Prelude.{ℕ, ◌≡◌, ◌+◌, false, length, Option, Some, None}
+use Rattle.std.specs.Prelude.{ℕ, ◌≡◌, false, length, Option, Some, None}
 use Rattle.io_edge.specs.declared.side.Side.{Side}
 use Rattle.bus_speech.specs.Speeches.{speech_of}
 use Rattle.bus_speech.specs.Talks.{asks_of}
@@ -9,7 +9,7 @@ use Rattle.worker_core.specs.Asking.{AskTurns, AskEnds, AsksOn}
 use Rattle.worker_core.specs.Causes.{AskCause, ServeCause}
 use Rattle.worker_core.specs.Serving.{Turns, ServeEnds, ServesOn}
 use Rattle.worker_core.specs.declared.ended.Turn.{Turn}
-use Rattle.end_work.specs.Seats.{device_place, IsAt}
+use Rattle.end_work.specs.Seats.{device_place, left_at, IsAt}
 use Rattle.end_work.specs.declared.device_seat.DeviceSeat.{DeviceSeat}
 use Rattle.end_work.specs.declared.worker.ChannelWorker.{ChannelWorker}
 use Rattle.end_work.specs.declared.worker.ChannelWorker.TheVariants.{Asks, Serves}
@@ -46,7 +46,7 @@ pub record IsOfSide (side : Side) (w : ChannelWorker) : Type 0 where
 -- how a turn ends, by what the worker does
 abbrev pub Turned : Turn → ChannelWorker → Type 0
 Turned turn (Asks w) = AskTurns (speech_of w.talk.kind) (asks_of w.talk) turn w × AskEnds (length (asks_of w.talk)) turn w.end.state.past
-Turned turn (Serves w) = Turns (speech_of w.desk.talk.kind) turn w × ServeEnds (w.starts + w.come) turn w.end.state.past
+Turned turn (Serves w) = Turns left_at (speech_of w.desk.talk.kind) turn w × ServeEnds (speech_of w.desk.talk.kind) turn w
 
 -- why it went so: what the worker did in it
 abbrev pub Caused : Turn → ChannelWorker → ChannelWorker → Type 0

@@ -155,14 +155,13 @@ fn make_server(
     stop: Option<Stop>,
 ) -> Result<ChannelServer, AllocError>
     requires kind { kind_at seat ≡ kind }
-    requires uncalled { served_at seat ≡ [] }
     requires left { count ≤ left_at seat }
     requires few { count ≤ 4096 }
     requires fresh { end.state ≡ new_end end.state.machine.cells end.state.machine.side }
     requires size { (512 ≤ end.state.machine.cells) × (end.state.machine.cells ≤ 8192) }
     requires side { side ≡ end.state.machine.side }
     ensures relid { IfOk result (λ w. w.desk.relid ≡ relid) }
-    ensures talk { IfOk result (λ w. (w.desk.talk.kind ≡ kind) × (w.desk.seat ≡ seat)) }
+    ensures talk { IfOk result (λ w. (w.desk.talk.kind ≡ kind) × (w.desk.seat ≡ seat) × (w.desk.before ≡ served_at seat)) }
     ensures orders { IfOk result (λ w. (w.serve ≡ count_of (stop_of stop) count) × (w.desk.held ≡ held_of (stop_of stop) count) × (w.stops ≡ is_some (stop_of stop)) × (w.come ≡ count)) }
     ensures starts { IfOk result (λ w. w.starts ≡ length (filter (has_answer_on kind) (startup kind))) }
     ensures end { IfOk result (λ w. (w.end.state ≡ end.state) × (w.end.seat ≡ end.seat)) }

@@ -6,6 +6,10 @@ mod call;
 #[cfg(test)]
 mod check;
 #[cfg(test)]
+mod hold;
+#[cfg(test)]
 mod thread_tests;
 #[cfg(test)]
 mod vmbus_main_tests;
+#[cfg(test)]
+mod window_tests;

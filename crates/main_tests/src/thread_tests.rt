@@ -1,15 +1,13 @@
 //! Workers on threads of their own: two guests that run at once, and one report whatever the threads' order.
 use crate::call::{answers, call, sink_of, source_of};
 use crate::check::check;
+use crate::hold::{comes, note};
 use io_edge::{Gate, Side};
 use std::alloc::AllocGlobal;
 use std::process::Abort;
 use std::sync::Wait;
 use std::sync::atomic::{AtomicU64, Ordering};
 use std::thread::Threads;
-
-// A hold that lasts longer has failed.
-const MOST_TURNS: u32 = 100_000_000;
 
 const RUNS: u32 = 1_000;
 
@@ -21,21 +19,11 @@ struct TwoGuests {
     failed: AtomicU64,
 }
 
-// Whether the word is set within the turns of a hold.
-fn comes(word: &AtomicU64) -> bool {
-    for _ in 0..MOST_TURNS {
-        if word.load(Ordering::SeqCst) != 0 {
-            return true;
-        }
-    }
-    false
-}
-
 impl TwoGuests {
     fn hold(&self, own: &AtomicU64, other: &AtomicU64) {
-        own.store(1, Ordering::SeqCst);
+        note(own);
         if !comes(other) {
-            self.failed.store(1, Ordering::SeqCst);
+            note(&self.failed);
         }
     }
 }

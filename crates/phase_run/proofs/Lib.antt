@@ -1,4 +1,5 @@
 pub mod Joining
 pub mod Making
+pub mod Asked
 pub mod Running
 pub mod Each

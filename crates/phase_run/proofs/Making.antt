@@ -19,7 +19,8 @@ use Rattle.ring_machine.specs.declared.state.EndState.{EndState}
 use Rattle.ring_seat.specs.Seats.{new_end}
 use Rattle.ring_seat.specs.Settling.{AreOfOneChannel}
 use Rattle.ring_seat.specs.declared.table_seat.TableSeat.{TableSeat}
-use Rattle.end_work.specs.Pairs.{AreRoles, ArePair}
+use Rattle.end_work.specs.Pairs.{AreRoles, ArePair, PlansAgree}
+use Rattle.end_work.specs.Seats.{served_at}
 use Rattle.end_work.specs.Workers.{end_at, relid_at, HasWindow}
 use Rattle.end_work.specs.Plans.{Planned, AsksFor, ServesFor, IsMade}
 use Rattle.end_work.specs.declared.device_seat.DeviceSeat.{DeviceSeat}
@@ -34,14 +35,23 @@ room_for : (kind : Kind) (asks : List Ask) (a : Asking Talked Reply) (s : Servin
     → length (asks_of a.talk) ≤ s.starts + s.come
 room_for kind asks a s talk starts come = omega (arith, asks_length kind asks a.talk talk, starts_all kind, starts, come)
 
+-- so the plans agree
+plans_agree : (kind : Kind) (asks : List Ask) (seat : DeviceSeat) (a : Asking Talked Reply) (s : Serving Talked DeviceSeat Ask Reply) → MadeFor kind asks seat a s → s.come ≡ length asks → PlansAgree a s
+plans_agree kind asks seat a s made come = record {
+  kind = ap (λ (t : Talked). t.kind) made.talk ∙ sym made.answers;
+  room = room_for kind asks a s made.talk made.starts come;
+  calls = λ go. omega (arith, made.serve, ap (λ (t : Talked). length t.asks) made.talk);
+}
+
 -- both were made for one plan
-made_for : (kind : Kind) (asks : List Ask) (seat : DeviceSeat) (g h : Planned) (a : Asking Talked Reply) (s : Serving Talked DeviceSeat Ask Reply) → g.kind ≡ kind → g.asks ≡ asks → h.kind ≡ kind → h.count ≡ length asks → h.stop ≡ None → AsksFor g a → ServesFor h seat s
+made_for : (kind : Kind) (asks : List Ask) (seat : DeviceSeat) (g h : Planned) (a : Asking Talked Reply) (s : Serving Talked DeviceSeat Ask Reply) → g.kind ≡ kind → g.asks ≡ asks → h.kind ≡ kind → h.count ≡ length asks → h.stop ≡ None → served_at seat ≡ [] → AsksFor g a → ServesFor h seat s
     → MadeFor kind asks seat a s
-made_for kind asks seat g h a s g_kind g_asks h_kind h_count h_stop asked served = record {
+made_for kind asks seat g h a s g_kind g_asks h_kind h_count h_stop fresh asked served = record {
   can = subst (λ k. AllByRecursion (IsAskable k) asks) g_kind (subst (AllByRecursion (IsAskable g.kind)) g_asks asked.can);
   talk = asked.talk ∙ ap (λ k. talked k g.asks) g_kind ∙ ap (talked kind) g_asks;
   answers = served.answers ∙ h_kind;
   seat_is = served.seat_is;
+  before = served.before ∙ fresh;
   serve = served.serve ∙ ap (λ k. count_of k h.count) h_stop ∙ h_count;
   held = served.held ∙ ap (λ k. held_of k h.count) h_stop;
   stops = served.stops ∙ ap is_some h_stop;
@@ -57,15 +67,14 @@ pub guest_roles : (kind : Kind) (asks : List Ask) (seat : Option DeviceSeat) (g 
 guest_roles kind asks None g h guest host new g_kind g_count g_stop h_kind h_asks made asked = absurd new
 guest_roles kind asks (Some seat) g h (Asks a) host new g_kind g_count g_stop h_kind h_asks made asked = absurd made
 guest_roles kind asks (Some seat) g h (Serves s) (Asks a) new g_kind g_count g_stop h_kind h_asks made asked =
-    let both = made_for kind asks seat h g a s h_kind h_asks g_kind g_count g_stop asked made in
-    room_for kind asks a s both.talk both.starts (made.come ∙ g_count)
+    plans_agree kind asks seat a s (made_for kind asks seat h g a s h_kind h_asks g_kind g_count g_stop new.1 asked made) (made.come ∙ g_count)
 guest_roles kind asks (Some seat) g h (Serves s) (Serves t) new g_kind g_count g_stop h_kind h_asks made asked = absurd asked
 
 pub guest_opens : (kind : Kind) (asks : List Ask) (seat : Option DeviceSeat) (g h : Planned) (guest host : ChannelWorker) → side_that_asks kind ≡ Host → IsNewSeat kind (length asks) seat → g.kind ≡ kind → g.count ≡ length asks → g.stop ≡ None → h.kind ≡ kind → h.asks ≡ asks
     → IsMade g seat guest → IsMade h None host → OpensWith kind asks seat (record { guest = guest; host = host })
 guest_opens kind asks None g h guest host side new g_kind g_count g_stop h_kind h_asks made asked = absurd new
 guest_opens kind asks (Some seat) g h (Asks a) host side new g_kind g_count g_stop h_kind h_asks made asked = absurd made
-guest_opens kind asks (Some seat) g h (Serves s) (Asks a) side new g_kind g_count g_stop h_kind h_asks made asked = (side, made_for kind asks seat h g a s h_kind h_asks g_kind g_count g_stop asked made)
+guest_opens kind asks (Some seat) g h (Serves s) (Asks a) side new g_kind g_count g_stop h_kind h_asks made asked = (side, made_for kind asks seat h g a s h_kind h_asks g_kind g_count g_stop new.1 asked made)
 guest_opens kind asks (Some seat) g h (Serves s) (Serves t) side new g_kind g_count g_stop h_kind h_asks made asked = absurd asked
 
 -- a guest that asks, and a host that serves
@@ -74,15 +83,14 @@ pub host_roles : (kind : Kind) (asks : List Ask) (seat : Option DeviceSeat) (g h
 host_roles kind asks None g h guest host new h_kind h_count h_stop g_kind g_asks made asked = absurd new
 host_roles kind asks (Some seat) g h guest (Asks a) new h_kind h_count h_stop g_kind g_asks made asked = absurd made
 host_roles kind asks (Some seat) g h (Asks a) (Serves s) new h_kind h_count h_stop g_kind g_asks made asked =
-    let both = made_for kind asks seat g h a s g_kind g_asks h_kind h_count h_stop asked made in
-    room_for kind asks a s both.talk both.starts (made.come ∙ h_count)
+    plans_agree kind asks seat a s (made_for kind asks seat g h a s g_kind g_asks h_kind h_count h_stop new.1 asked made) (made.come ∙ h_count)
 host_roles kind asks (Some seat) g h (Serves t) (Serves s) new h_kind h_count h_stop g_kind g_asks made asked = absurd asked
 
 pub host_opens : (kind : Kind) (asks : List Ask) (seat : Option DeviceSeat) (g h : Planned) (guest host : ChannelWorker) → side_that_asks kind ≡ Guest → IsNewSeat kind (length asks) seat → h.kind ≡ kind → h.count ≡ length asks → h.stop ≡ None → g.kind ≡ kind → g.asks ≡ asks
     → IsMade h seat host → IsMade g None guest → OpensWith kind asks seat (record { guest = guest; host = host })
 host_opens kind asks None g h guest host side new h_kind h_count h_stop g_kind g_asks made asked = absurd new
 host_opens kind asks (Some seat) g h guest (Asks a) side new h_kind h_count h_stop g_kind g_asks made asked = absurd made
-host_opens kind asks (Some seat) g h (Asks a) (Serves s) side new h_kind h_count h_stop g_kind g_asks made asked = (side, made_for kind asks seat g h a s g_kind g_asks h_kind h_count h_stop asked made)
+host_opens kind asks (Some seat) g h (Asks a) (Serves s) side new h_kind h_count h_stop g_kind g_asks made asked = (side, made_for kind asks seat g h a s g_kind g_asks h_kind h_count h_stop new.1 asked made)
 host_opens kind asks (Some seat) g h (Serves t) (Serves s) side new h_kind h_count h_stop g_kind g_asks made asked = absurd asked
 
 -- a new end of a ring of so many pages

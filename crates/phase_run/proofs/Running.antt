@@ -1,5 +1,5 @@
 -- What both workers of a pair come to, once they ended.
-use Rattle.std.proofs.Common.{◌≡◌, ◌≤◌, ◌+◌, ℕ, length, true, Bool, List, [], ◌++◌, map, Option, Some, None, refl, sym, ap, ◌∙◌, subst}
+use Rattle.std.proofs.Common.{◌≡◌, ◌≤◌, ◌+◌, ℕ, length, filter, arith, true, false, Bool, List, [], ◌++◌, map, Option, Some, None, refl, sym, ap, ◌∙◌, subst}
 use Rattle.std.proofs.lemmas.List.{length-map, append-nil}
 use Rattle.chan_run.specs.declared.event.Event.{Event}
 use Rattle.chan_run.specs.Laws.{AreOfOneRun}
@@ -10,6 +10,8 @@ use Rattle.bus_model.specs.Served.{Served}
 use Rattle.script_lines.specs.declared.line.Ask.{Ask}
 use Rattle.bus_script.specs.declared.outcome.Reply.{Reply}
 use Rattle.bus_speech.specs.Speeches.{speech_of}
+use Rattle.bus_speech.specs.Wants.{startup}
+use Rattle.bus_speech.proofs.SpeechLaws.{keeps, start_is_fixed}
 use Rattle.bus_speech.specs.Talks.{Talked, asks_of}
 use Rattle.bus_speech.specs.declared.want.Want.{Want}
 use Rattle.bus_speech.specs.declared.want.Want.TheVariants.{Script}
@@ -24,12 +26,12 @@ use Rattle.work_model.specs.Roles.{side_that_asks}
 use Rattle.work_model.specs.Speech.{Speech}
 use Rattle.worker_core.specs.Asking.{Asking, AsksAll, AsksBy}
 use Rattle.worker_core.specs.Rooms.{has_room}
-use Rattle.worker_core.specs.Serving.{Serving, EndsAll, EndsBy}
+use Rattle.worker_core.specs.Serving.{Serving, EndsAll, EndsBy, calls_behind, is_asked}
 use Rattle.worker_core.specs.declared.ended.Ended.{Ended}
 use Rattle.worker_core.specs.declared.ended.Ended.TheVariants.{Marked, PeerMarked, Room}
 use Rattle.worker_core.proofs.RoomLaws.{never_lacks}
 use Rattle.end_work.specs.Leaving.{Leaves, LeavesAsked, LeavesServed}
-use Rattle.end_work.specs.Pairs.{ArePair}
+use Rattle.end_work.specs.Pairs.{ArePair, PlansAgree}
 use Rattle.end_work.specs.Seats.{served_at, device_place, IsSameSeat, at_guest, at_host}
 use Rattle.end_work.specs.declared.device_seat.DeviceSeat.{DeviceSeat}
 use Rattle.end_work.specs.declared.worker.ChannelWorker.{ChannelWorker}
@@ -38,6 +40,7 @@ use Rattle.end_work.specs.declared.worker.WorkerDone.{WorkerDone}
 use Rattle.end_work.proofs.SeatLaws.{same_place}
 use Rattle.phase_run.specs.Pairs.{MadeFor, Opens, Ran, RunsPair, ComesBack, KeepsSeats, first_of, is_whole}
 use Rattle.phase_run.specs.declared.pair.PairDone.{PairDone}
+use Rattle.phase_run.proofs.Asked.{few_asked}
 use Rattle.phase_run.proofs.Joining.{BothEnd, told_is, runs, serves_asks}
 
 -- what the joined ends of a channel tell: their lists, and one run of both
@@ -50,7 +53,7 @@ pub record Joins (asker server : Seen TableSeat) (lists : Lists) (side : Side) :
 
 -- both workers have ended, and their ends were joined
 pub record BothLeave (a : Asking Talked Reply) (s : Serving Talked DeviceSeat Ask Reply) (asked served : WorkerDone) (lists : Lists) (side : Side) : Type 0 where
-  pub room : length (asks_of a.talk) ≤ s.starts + s.come
+  pub agree : PlansAgree a s
   pub asker_leaves : LeavesAsked a asked
   pub server_leaves : LeavesServed s served
   pub joins : Joins asked.end served.end lists side
@@ -60,10 +63,17 @@ is_whole_of Marked is = refl
 is_whole_of PeerMarked is = refl
 is_whole_of (Room packets words left) is = absurd (cc (is))
 
--- neither ended for want of room
+-- the one that asks asks no more of the device than the other one has calls for, unless that one stops
+few_for : (a : Asking Talked Reply) (s : Serving Talked DeviceSeat Ask Reply) (asked : WorkerDone) → PlansAgree a s → LeavesAsked a asked → s.stops ≡ false → length (filter (is_asked (speech_of s.desk.talk.kind)) (sent_of asked.end.state.past)) ≤ s.serve
+few_for a s asked agree leaves go =
+    let kind = a.talk.kind in
+    let few = few_asked (speech_of kind) (keeps kind) asked.ended (startup kind) (map Script a.talk.asks) asked.end.state.past asked.replies.items (start_is_fixed kind) leaves.asks in
+    omega (arith, ap (λ k. length (filter (is_asked (speech_of k)) (sent_of asked.end.state.past))) agree.kind, few, length-map a.talk.asks Script, agree.calls go)
+
+-- neither ended for want of room, or of a call
 both_whole : (a : Asking Talked Reply) (s : Serving Talked DeviceSeat Ask Reply) (asked served : WorkerDone) (lists : Lists) (side : Side) → BothLeave a s asked served lists side → (is_whole asked.ended ≡ true) × (is_whole served.ended ≡ true)
 both_whole a s asked served lists side both =
-    let whole = never_lacks (length (asks_of a.talk)) (s.starts + s.come) asked.end.state.past served.end.state.past asked.ended served.ended both.room both.joins.one both.asker_leaves.sent both.asker_leaves.room both.server_leaves.sent both.server_leaves.room in
+    let whole = never_lacks (is_asked (speech_of s.desk.talk.kind)) (length (asks_of a.talk)) (s.starts + s.come) s.serve s.stops asked.end.state.past served.end.state.past asked.ended served.ended both.agree.room (few_for a s asked both.agree both.asker_leaves) both.joins.one both.asker_leaves.sent both.asker_leaves.room both.server_leaves.sent both.server_leaves.room in
     (is_whole_of asked.ended whole.0, is_whole_of served.ended whole.1)
 
 asks_all : (s : Speech (List ℕ) Want Ask Reply) (how : Ended) (asks : List Want) (past : List (Event (List ℕ))) (told : List Reply) → is_whole how ≡ true → AsksBy s how asks past told → AsksAll s asks past told
@@ -107,13 +117,14 @@ ran : (kind : Kind) (asks : List Ask) (seat : DeviceSeat) (a : Asking Talked Rep
 ran kind asks seat a s asked served lists side at_side made ended =
     let told = asked.replies.items in
     let calls = served_at ended.server_leaves.back in
+    let none_before : calls_behind s.desk.before calls ≡ calls = ap (λ l. calls_behind l calls) made.before in
     let whole = both_whole a s asked served lists side ended in
     let at : Joins asked.end served.end lists (side_that_asks kind) = subst (Joins asked.end served.end lists) (sym at_side) ended.joins in
     let both : BothEnd kind asks asked.end.state.past served.end.state.past calls told = record {
       can = made.can;
       one = at.one;
       asker_ends = asker_ends kind asks a.talk asked.end.state.past told made.talk (asks_all _ asked.ended _ _ _ whole.0 ended.asker_leaves.asks);
-      server_ends = server_ends kind asks seat a s served.end.state.past calls made (ends_all _ served.ended _ _ _ whole.1 ended.server_leaves.serves);
+      server_ends = server_ends kind asks seat a s served.end.state.past calls made (ends_all _ served.ended _ _ _ whole.1 (subst (λ l. EndsBy (speech_of s.desk.talk.kind) served.ended s served.end.state.past l) none_before ended.server_leaves.serves));
     } in
     record {
       channel = record {
@@ -121,7 +132,7 @@ ran kind asks seat a s asked served lists side at_side made ended =
         serves = serves_asks kind asks asked.end.state.past served.end.state.past calls told both;
       };
       same = same_place seat ended.server_leaves.back (ended.server_leaves.place ∙ ap device_place made.seat_is);
-      serials = ended.server_leaves.serials;
+      serials = ended.server_leaves.serials ∙ ap (map (λ c. c.serial)) none_before;
       replies = told_is kind asks asked.end.state.past served.end.state.past calls told both;
     }
 
@@ -158,7 +169,7 @@ none_after {A} all front back is none = is ∙ ap (λ (l : List A). front ++ l) 
 
 guest_asks : (a : Asking Talked Reply) (s : Serving Talked DeviceSeat Ask Reply) (guest host : WorkerDone) (done : PairDone) → Closes (Asks a) (Serves s) guest host done → BothLeave a s guest host done.settled Guest
 guest_asks a s guest host done closes = record {
-  room = closes.pair.roles;
+  agree = closes.pair.roles;
   asker_leaves = closes.guest_leaves;
   server_leaves = closes.host_leaves;
   joins = record { one = closes.run; asker_sent = closes.guest_sent; asker_got = closes.guest_got; server_sent = closes.host_sent; server_got = closes.host_got };
@@ -166,7 +177,7 @@ guest_asks a s guest host done closes = record {
 
 host_asks : (a : Asking Talked Reply) (s : Serving Talked DeviceSeat Ask Reply) (guest host : WorkerDone) (done : PairDone) → Closes (Serves s) (Asks a) guest host done → BothLeave a s host guest done.settled Host
 host_asks a s guest host done closes = record {
-  room = closes.pair.roles;
+  agree = closes.pair.roles;
   asker_leaves = closes.host_leaves;
   server_leaves = closes.guest_leaves;
   joins = record { one = ends_exchanged _ _ closes.run; asker_sent = closes.host_sent; asker_got = closes.host_got; server_sent = closes.guest_sent; server_got = closes.guest_got };

@@ -7,7 +7,7 @@ use Rattle.end_work.specs.declared.device_seat.DeviceSeat.{DeviceSeat}
 use Rattle.end_work.specs.declared.worker.ChannelWorker.{ChannelWorker}
 use Rattle.phase_run.specs.Pairs.{Pairing}
 
--- whichever workers are made for the plans, one asks, and the other makes room for all that it asks
+-- whichever workers are made for the plans, one asks, and the other makes room for all that it asks and has a call for each request
 abbrev pub Agree : Planned → Option DeviceSeat → Planned → Option DeviceSeat → Type 0
 Agree p s q t = (guest host : ChannelWorker) → IsMade p s guest → IsMade q t host → AreRoles guest host
 

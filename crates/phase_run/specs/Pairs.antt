@@ -34,6 +34,7 @@ pub record MadeFor (kind : Kind) (asks : List Ask) (seat : DeviceSeat) (asker : 
   pub talk : asker.talk ≡ record { kind = kind; asks = asks }
   pub answers : server.desk.talk.kind ≡ kind
   pub seat_is : server.desk.seat ≡ seat
+  pub before : server.desk.before ≡ []
   pub serve : server.serve ≡ length asks
   pub held : server.desk.held ≡ false
   pub stops : server.stops ≡ false

@@ -87,12 +87,18 @@ impl Packets {
         self.ends.reserve(room.packets as usize)
     }
 
-    /// Gives the room that is left back to the allocator, where it takes it.
+    /// Gives the room that is left back to the allocator, where it gives room for a copy.
     pub fn trim(&mut self)
         ensures { self.new.list ≡ self.old.list }
     {
-        self.words.shrink_to_fit();
-        self.ends.shrink_to_fit();
+        // A copy frees the whole of the old list, so that the next channel's finds its place there. A list that shrinks in place leaves a hole that is a
+        // little too small for the next one.
+        if let Ok(words) = self.words.to_vec(*self.words.allocator()) {
+            self.words = words;
+        }
+        if let Ok(ends) = self.ends.to_vec(*self.ends.allocator()) {
+            self.ends = ends;
+        }
     }
 
     /// The room that is left.

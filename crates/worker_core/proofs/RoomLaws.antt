@@ -2,6 +2,7 @@
 use Rattle.std.proofs.Common.{◌≡◌, ℕ, ◌+◌, ◌*◌, ◌<◌, ◌≤◌, List, [], ◌∷◌, ◌++◌, length, filter, refl, sym, ap, ◌∙◌, subst, arith, Bool, true, false, inl, inr, ◌⊎◌, length-append}
 use Rattle.std.specs.Prelude.{Result, Ok, Err, is_err, None}
 use Rattle.std.proofs.lemmas.List.{length-map}
+use Rattle.std.proofs.lemmas.List.Elements.{filter-append}
 use Rattle.chan_run.specs.declared.event.Event.{Event}
 use Rattle.chan_run.specs.declared.event.Event.TheVariants.{Sent, Marked as EventMarked}
 use Rattle.chan_run.specs.Runs.{IsFront, sent_of, got_of, guest_of}
@@ -17,7 +18,7 @@ use Rattle.work_model.proofs.Runs.{guest_front, host_front}
 use Rattle.work_model.proofs.Served.{filter_first, filter_past}
 use Rattle.worker_core.specs.Line.{LacksTake}
 use Rattle.worker_core.specs.Owed.{LacksSend}
-use Rattle.worker_core.specs.Rooms.{words_in, AreShort, SentAtMost, CameOver, HasReserved, GotInto, SentInto, LacksFor, has_room, NeverLacks, AsksInRoom, ServesInRoom}
+use Rattle.worker_core.specs.Rooms.{words_in, AreShort, SentAtMost, CameOver, HasReserved, GotInto, SentInto, AskedOver, LacksFor, ServeLacksFor, has_room, NeverLacks, AsksInRoom, ServesInRoom}
 use Rattle.worker_core.specs.declared.ended.Ended.{Ended}
 use Rattle.worker_core.specs.declared.ended.Ended.TheVariants.{Marked, PeerMarked, Room as RoomEnd}
 
@@ -44,21 +45,31 @@ not_over most mine other front sent (inr more) =
     let le = front_le (got_of mine) (sent_of other) front in
     omega (arith, more, le, sent.few, short_words (got_of mine) (short_front (got_of mine) front.0 (subst AreShort front.1 sent.short)))
 
+count_front : (f : List ℕ → Bool) (ps qs : List (List ℕ)) → IsFront ps qs → length (filter f ps) ≤ length (filter f qs)
+count_front f ps qs front = omega (arith, ap (λ l. length (filter f l)) front.1, ap length (filter-append f ps front.0), length-append (filter f ps) (filter f front.0))
+
 no_lack : (most : ℕ) (how : Ended) (mine : List (Event (List ℕ))) → (CameOver most mine → ⊥) → LacksFor most how mine → has_room how ≡ true
 no_lack most Marked mine none h = refl
 no_lack most PeerMarked mine none h = refl
 no_lack most (RoomEnd packets words left) mine none h = absurd (none h)
 
+no_call_lack : (is_asked : List ℕ → Bool) (most serve : ℕ) (stops : Bool) (how : Ended) (mine : List (Event (List ℕ))) → (CameOver most mine → ⊥) → (stops ≡ false → AskedOver is_asked serve mine → ⊥) → ServeLacksFor is_asked most serve stops how mine
+    → has_room how ≡ true
+no_call_lack is_asked most serve stops Marked mine none few h = refl
+no_call_lack is_asked most serve stops PeerMarked mine none few h = refl
+no_call_lack is_asked most serve stops (RoomEnd packets words left) mine none few (inl over) = absurd (none over)
+no_call_lack is_asked most serve stops (RoomEnd packets words left) mine none few (inr over) = absurd (few over.0 over.1)
+
 fewer : (few most : ℕ) (past : List (Event (List ℕ))) → few ≤ most → SentAtMost few past → SentAtMost most past
 fewer few most past le h = record { few = omega (arith, le, h.few); short = h.short }
 
 pub never_lacks : NeverLacks
-never_lacks asks most asker server asked served le one sent lacks sent' lacks' =
+never_lacks is_asked asks most serve stops asker server asked served le few one sent lacks sent' lacks' =
     let front : IsFront (got_of server) (sent_of asker) = subst (λ t. IsFront (got_of server) (sent_of t)) one.guest_is (subst (λ u. IsFront (got_of u) (sent_of (guest_of one.turns))) one.host_is (host_front one.turns one.run)) in
     let back : IsFront (got_of asker) (sent_of server) = subst (λ t. IsFront (got_of t) (sent_of server)) one.guest_is (subst (λ u. IsFront (got_of (guest_of one.turns)) (sent_of u)) one.host_is (guest_front one.turns one.run)) in
     let came : length (got_of server) ≤ asks = omega (arith, front_le (got_of server) (sent_of asker) front, sent.few) in (
       no_lack asks asked asker (not_over asks asker server back (fewer (length (got_of server)) asks server came sent')) lacks,
-      no_lack most served server (not_over most server asker front (fewer asks most asker le sent)) lacks',
+      no_call_lack is_asked most serve stops served server (not_over most server asker front (fewer asks most asker le sent)) (λ go over. omega (arith, over, few go, count_front is_asked (got_of server) (sent_of asker) front)) lacks',
     )
 
 -- a list that lacks room for the next packet that comes has more than there was room made for

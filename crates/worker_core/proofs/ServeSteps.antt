@@ -1,8 +1,10 @@
 -- The serving worker's steps keep what it keeps.
 use Rattle.std.proofs.Common.{◌≡◌, ℕ, ◌+◌, ◌≤◌, List, [], ◌∷◌, ◌++◌, length, filter, drop, refl, sym, ap, ◌∙◌, subst, arith, Option, Some, None, is_some, Bool, true, false, inl, inr, ◌⊎◌, length-append}
-use Rattle.std.specs.Prelude.{◌&&◌, ◌||◌, if◌then◌else◌, slice_get}
-use Rattle.std.proofs.lemmas.List.{drop-append-le, drop_all, drop_more}
-use Rattle.std.proofs.lemmas.Option.{get_or_from_slice_get}
+use Rattle.std.specs.Prelude.{◌&&◌, ◌||◌, ◌<◌, ◌==◌, not, zero, suc, take, if◌then◌else◌, slice_get}
+use Rattle.std.specs.Option.{option_map_or}
+use Rattle.std.proofs.lemmas.List.{drop-append-le, drop_all, drop_more, take-append-le, take-append-drop, take_all, take_more}
+use Rattle.std.proofs.lemmas.List.Elements.{filter-append}
+use Rattle.std.proofs.lemmas.Option.{get_or_from_slice_get, slice_get_within}
 use Rattle.std.proofs.lemmas.Bool.Decides.{nat_tests}
 use Rattle.chan_run.specs.declared.event.Event.{Event}
 use Rattle.chan_run.specs.declared.event.Event.TheVariants.{Sent, Got, Empty, Marked}
@@ -13,6 +15,7 @@ use Rattle.hist_lock.specs.Seat.{Call}
 use Rattle.ring_core.specs.Seen.{Seen}
 use Rattle.ring_seat.specs.declared.table_seat.TableSeat.{TableSeat}
 use Rattle.work_model.specs.Speech.{Speech, Keeps}
+use Rattle.work_model.specs.Server.{Serves, ServesOne, ServesAsk}
 use Rattle.work_model.specs.Channel.{Plan, count_of, held_of, ServerStops, ServerEnds, ServerBreaks}
 use Rattle.work_model.specs.Workers.{ServerKept}
 use Rattle.work_model.proofs.Opens.{by_test, filter_yes, filter_no}
@@ -20,13 +23,17 @@ use Rattle.work_model.proofs.Counts.{calls_left}
 use Rattle.work_model.proofs.Serving.{server_took, server_served, server_passed, server_gave, server_quiet, server_new, server_ends, server_breaks}
 use Rattle.worker_core.specs.Line.{SleepsFor}
 use Rattle.worker_core.specs.Owed.{is_nil, need_of}
-use Rattle.worker_core.specs.Rooms.{SentAtMost}
-use Rattle.worker_core.specs.Serving.{Desk, Serving, IsServing, Rests, ServesPacket, Orders, EndsAll, BreaksOff, EndsBy, LacksRoom, ServesOn, has_served, marked_by}
+use Rattle.worker_core.specs.Rooms.{SentAtMost, AskedOver, ServeLacksFor}
+use Rattle.worker_core.specs.Serving.{Desk, Serving, IsServing, Rests, ServesPacket, Orders, EndsAll, BreaksOff, CallsEach, EndsBy, LacksRoom, ServesOn, has_served, is_asked, lacks_call, marked_by}
 use Rattle.worker_core.specs.declared.ended.Ended.{Ended}
 use Rattle.worker_core.specs.declared.ended.Ended.TheVariants.{Marked as EndedMarked, PeerMarked, Room}
 
 not_both : {X : Type 0} (b : Bool) → b ≡ false → b ≡ true → X
 not_both b e f = absurd (cc)
+
+pub on_either : {X Y Z W : Type 0} → (X → Z) → (Y → W) → X ⊎ Y → Z ⊎ W
+on_either f g (inl x) = inl (f x)
+on_either f g (inr y) = inr (g y)
 
 module _ {T S A Q R : Type 0} (s : Speech (List ℕ) A Q R) (keeps : Keeps s) (w : Serving T S Q R) where
   waited_more : (p : List ℕ) (got : List (List ℕ)) → length (filter s.waits (filter s.is_request (got ++ p ∷ []))) ≡ length (filter s.waits (filter s.is_request got)) + (if s.is_request p && s.waits p then 1 else 0)
@@ -56,6 +63,7 @@ module _ {T S A Q R : Type 0} (s : Speech (List ℕ) A Q R) (keeps : Keeps s) (w
         started = omega (arith, h.started, less, waited_more p (got_of w.end.state.past), ap (λ l. length (filter s.waits (filter s.is_request (got_of l)))) is);
         saw = ap has_seen is ∙ h.saw;
         rests = λ e. not_both end'.state.machine.asleep awake e;
+        each = λ go. ap (λ l. length (filter (is_asked s) l)) (ap (take w.served) more ∙ take-append-le w.served got (p ∷ []) h.within) ∙ h.each go;
       }
 
   -- nothing was sent or got
@@ -71,6 +79,7 @@ module _ {T S A Q R : Type 0} (s : Speech (List ℕ) A Q R) (keeps : Keeps s) (w
         started = omega (arith, h.started, ap (λ l. length (filter s.waits (filter s.is_request (got_of l)))) is, ap (λ l. length (filter s.waits (filter s.is_request l))) same');
         saw = ap has_seen is ∙ saw;
         rests = λ b. not_both end'.state.machine.asleep awake b;
+        each = λ go. ap (λ l. length (filter (is_asked s) (take w.served l))) got ∙ h.each go;
       }
 
   -- nothing was done that the peer sees
@@ -84,6 +93,7 @@ module _ {T S A Q R : Type 0} (s : Speech (List ℕ) A Q R) (keeps : Keeps s) (w
         started = omega (arith, h.started, ap (λ l. length (filter s.waits (filter s.is_request (got_of l)))) is);
         saw = ap has_seen is ∙ h.saw;
         rests = rests;
+        each = λ go. ap (λ l. length (filter (is_asked s) (take w.served l))) got ∙ h.each go;
       }
 
   -- a packet that was owed was sent
@@ -100,6 +110,7 @@ module _ {T S A Q R : Type 0} (s : Speech (List ℕ) A Q R) (keeps : Keeps s) (w
         started = omega (arith, h.started, ap (λ l. length (filter s.waits (filter s.is_request (got_of l)))) is);
         saw = ap has_seen is ∙ h.saw;
         rests = λ b. not_both end'.state.machine.asleep awake b;
+        each = λ go. ap (λ l. length (filter (is_asked s) (take w.served l))) got ∙ h.each go;
       })
 
   -- a packet that came was served
@@ -108,10 +119,52 @@ module _ {T S A Q R : Type 0} (s : Speech (List ℕ) A Q R) (keeps : Keeps s) (w
   served_left past calls calls' owed None left' p rest one h = rw (one.0, one.1, one.2) (server_passed s keeps w.desk.held w.serve past calls [] p rest h)
   served_left past calls calls' owed (Some m) left' p rest one h = rw (one.2, one.3) (server_served s keeps w.desk.held w.serve past calls one.0 [] owed m p rest one.1 h)
 
-  pub served_kept : (desk' : Desk T S Q R) (p : List ℕ) → w.served + 1 ≤ length w.end.state.got → slice_get w.end.state.got w.served ≡ Some p → w.desk.owed ≡ [] → desk'.held ≡ w.desk.held
+  -- it makes a call exactly where it asks the device
+  ask_calls : (o : Option Q) (m : ℕ) (p : List ℕ) (cs : List (Call Q R)) (owed : List (List ℕ)) → (is_some o ≡ true → (m == 0) ≡ false) → ServesOne s w.desk.held p o m cs owed (λ k later rest. Serves s w.desk.held [] k later rest)
+      → length cs ≡ (if is_some o then 1 else 0)
+  ask_calls None m p cs owed go h = ap length h.2.0
+  ask_calls (Some q) zero p cs owed go h = let bad : true ≡ false = go refl in absurd (cc)
+  ask_calls (Some q) (suc n) p [] owed go h = absurd h
+  ask_calls (Some q) (suc n) p (c ∷ cs) owed go h = one (w.desk.held && n == 0) h.1
+    where
+      one : (b : Bool) → ServesAsk s b p n c cs owed (λ k later rest. Serves s w.desk.held [] k later rest) → suc (length cs) ≡ 1
+      one true asks = ap (λ l. suc (length l)) asks.0
+      one false asks = ap (λ l. suc (length l)) asks.3.0
+
+  calls_one : (p : List ℕ) (calls calls' : List (Call Q R)) (owed : List (List ℕ)) (left left' : Option ℕ) → (is_asked s p ≡ true → has_served left ≡ false) → ServesPacket s w.desk.held p left calls calls' owed left'
+      → length calls' ≡ length calls + (if is_asked s p then 1 else 0)
+  calls_one p calls calls' owed None left' go h =
+      by_test (is_asked s p)
+      (λ e. let bad : true ≡ false = go e in absurd (cc))
+      (λ e. ap length h.0 ∙ (omega arith ∙ ap (λ b. length calls + (if b then 1 else 0)) (sym e)))
+  calls_one p calls calls' owed (Some m) left' go h = omega (arith, ap length h.2, length-append calls h.0, ask_calls (s.read p) m p h.0 owed go h.1)
+
+  asked_more : (p : List ℕ) (ps : List (List ℕ)) → length (filter (is_asked s) (ps ++ p ∷ [])) ≡ length (filter (is_asked s) ps) + (if is_asked s p then 1 else 0)
+  asked_more p ps =
+      by_test (is_asked s p)
+      (λ e. ap length (filter_yes (is_asked s) ps p e) ∙ (length-append (filter (is_asked s) ps) (p ∷ []) ∙ ap (λ b. length (filter (is_asked s) ps) + (if b then 1 else 0)) (sym e)))
+      (λ e. ap length (filter_no (is_asked s) ps p e) ∙ (omega arith ∙ ap (λ b. length (filter (is_asked s) ps) + (if b then 1 else 0)) (sym e)))
+
+  has_call : (p : List ℕ) → slice_get w.end.state.got w.served ≡ Some p → lacks_call s w ≡ false → w.stops ≡ false → is_asked s p ≡ true → has_served w.desk.left ≡ false
+  has_call p at not_lacks go asks =
+      by_test (has_served w.desk.left)
+      (λ all.
+      let lacks : lacks_call s w ≡ true = ap (λ b. not b && (has_served w.desk.left && option_map_or (is_asked s) (slice_get w.end.state.got w.served) false)) go ∙ (ap (λ b. b && option_map_or (is_asked s) (slice_get w.end.state.got w.served) false) all
+      ∙ (ap (λ o. option_map_or (is_asked s) o false) at ∙ asks)) in
+      let bad : true ≡ false = sym lacks ∙ not_lacks in absurd (cc))
+      (λ some. some)
+
+  each_served : (p : List ℕ) (calls' : List (Call Q R)) (owed' : List (List ℕ)) (left' : Option ℕ) → w.served + 1 ≤ length w.end.state.got → slice_get w.end.state.got w.served ≡ Some p → lacks_call s w ≡ false
+      → ServesPacket s w.desk.held p w.desk.left w.desk.calls calls' owed' left' → IsServing s w → w.stops ≡ false → length (filter (is_asked s) (take (w.served + 1) w.end.state.got)) ≡ length calls'
+  each_served p calls' owed' left' less at not_lacks one h go =
+      let got = w.end.state.got in
+      let grown : take (w.served + 1) got ≡ take w.served got ++ p ∷ [] = take_more got w.served [] (omega (arith, less)) ∙ ap (λ x. take w.served got ++ x ∷ []) (get_or_from_slice_get got w.served p [] at) in
+      omega (arith, ap (λ l. length (filter (is_asked s) l)) grown, asked_more p (take w.served got), h.each go, calls_one p w.desk.calls calls' owed' w.desk.left left' (has_call p at not_lacks go) one)
+
+  pub served_kept : (desk' : Desk T S Q R) (p : List ℕ) → w.served + 1 ≤ length w.end.state.got → slice_get w.end.state.got w.served ≡ Some p → w.desk.owed ≡ [] → lacks_call s w ≡ false → desk'.held ≡ w.desk.held
       → ServesPacket s desk'.held p w.desk.left w.desk.calls desk'.calls desk'.owed desk'.left → w.end.state.machine.asleep ≡ false
       → IsServing s w → IsServing s (record w { desk = desk'; served = w.served + 1 })
-  served_kept desk' p less at none held one awake h =
+  served_kept desk' p less at none not_lacks held one awake h =
       let got = w.end.state.got in
       let first : drop w.served got ≡ p ∷ drop (w.served + 1) got = drop_more got w.served [] (omega (arith, less)) ∙ ap (λ x. x ∷ drop (w.served + 1) got) (get_or_from_slice_get got w.served p [] at) in
       let k : ServerKept s w.desk.held w.serve w.end.state.past w.desk.calls [] w.desk.left (p ∷ drop (w.served + 1) got) =
@@ -125,6 +178,7 @@ module _ {T S A Q R : Type 0} (s : Speech (List ℕ) A Q R) (keeps : Keeps s) (w
         started = h.started;
         saw = h.saw;
         rests = λ b. not_both w.end.state.machine.asleep awake b;
+        each = each_served p desk'.calls desk'.owed desk'.left less at not_lacks one' h;
       }
 
   -- a worker that ended gives what the plan asks for
@@ -144,6 +198,37 @@ module _ {T S A Q R : Type 0} (s : Speech (List ℕ) A Q R) (keeps : Keeps s) (w
   served_all (Some m) rest e h =
       let none : m ≡ 0 = grind (arith, nat_tests, e) in
       omega (arith, none, (calls_left s keeps w.desk.held h.served w.serve w.desk.calls (sent_of w.end.state.past ++ w.desk.owed) h.serves).0 m h.stands)
+
+  -- each packet that came and asks the device was a call, once all that came is served
+  pub calls_each : (past : List (Event (List ℕ))) → got_of past ≡ w.end.state.got → w.served ≡ length w.end.state.got → IsServing s w → CallsEach s w past w.desk.calls
+  calls_each past is all h go = ap (λ l. length (filter (is_asked s) l)) (is ∙ sym (take_all w.served w.end.state.got (omega (arith, all)))) ∙ h.each go
+
+  -- no call is left for what is served next: more asked the device than there were calls for
+  parts : (b : Bool) (o : Option (List ℕ)) → (not w.stops && (b && option_map_or (is_asked s) o false)) ≡ true → (w.stops ≡ false) × (b ≡ true) × ((p : List ℕ) × (o ≡ Some p) × (is_asked s p ≡ true))
+  parts b o e =
+      by_test w.stops
+      (λ yes. let bad : false ≡ true = sym (ap (λ x. not x && (b && option_map_or (is_asked s) o false)) yes) ∙ e in absurd (cc))
+      (λ go. let rest : (b && option_map_or (is_asked s) o false) ≡ true = sym (ap (λ x. not x && (b && option_map_or (is_asked s) o false)) go) ∙ e in let more = next b o rest in (go, more.0, more.1))
+    where
+      next : (b : Bool) (o : Option (List ℕ)) → (b && option_map_or (is_asked s) o false) ≡ true → (b ≡ true) × ((p : List ℕ) × (o ≡ Some p) × (is_asked s p ≡ true))
+      next false o e = let bad : false ≡ true = e in absurd (cc)
+      next true None e = let bad : false ≡ true = e in absurd (cc)
+      next true (Some p) e = (refl, (p, refl, e))
+
+  pub asked_over : got_of w.end.state.past ≡ w.end.state.got → IsServing s w → lacks_call s w ≡ true → (w.stops ≡ false) × AskedOver (is_asked s) w.serve w.end.state.past
+  asked_over is h lacks =
+      let got = w.end.state.got in
+      let part = parts (has_served w.desk.left) (slice_get got w.served) lacks in
+      let p = part.2.0 in
+      let less : w.served < length got = slice_get_within got w.served p part.2.1 in
+      let grown : take (w.served + 1) got ≡ take w.served got ++ p ∷ [] = take_more got w.served [] less ∙ ap (λ x. take w.served got ++ x ∷ []) (get_or_from_slice_get got w.served p [] part.2.1) in
+      let whole : got ≡ take (w.served + 1) got ++ drop (w.served + 1) got = sym (take-append-drop (w.served + 1) got) in
+      let count = length (filter (is_asked s) (take (w.served + 1) got)) in
+      let front : count ≤ length (filter (is_asked s) got) =
+      omega (arith, ap (λ l. length (filter (is_asked s) l)) whole, ap length (filter-append (is_asked s) (take (w.served + 1) got) (drop (w.served + 1) got)), length-append (filter (is_asked s) (take (w.served + 1) got)) (filter (is_asked s) (drop (w.served + 1) got))) in
+      let more : count ≡ length w.desk.calls + 1 = ap (λ l. length (filter (is_asked s) l)) grown ∙ (asked_more p (take w.served got) ∙ (ap (λ b. length (filter (is_asked s) (take w.served got)) + (if b then 1 else 0)) part.2.2 ∙ ap (λ n. n + 1) (h.each part.0))) in
+      let calls : length w.desk.calls ≡ w.serve = served_all w.desk.left (drop w.served got) part.1 h.kept in
+      (part.0, omega (arith, front, more, calls, ap (λ l. length (filter (is_asked s) l)) is))
 
   the_stop : (o : Option (ℕ × Bool)) → true ≡ is_some o → (after : ℕ × Bool) × (o ≡ Some after)
   the_stop None e = absurd (cc)
@@ -190,13 +275,13 @@ module _ {T S A Q R : Type 0} (s : Speech (List ℕ) A Q R) (keeps : Keeps s) (w
   rests_at end' want' want armed got all = record { want = want; armed = armed; served = λ e. all e ∙ ap length (sym got) }
 
   -- a mark ends it, whether the other end's mark was seen or not
-  pub ends_by : (seen : Bool) (past : List (Event (List ℕ))) → EndsAll s w past w.desk.calls → has_marked past ≡ true → has_seen past ≡ seen → EndsBy s (marked_by seen) w past w.desk.calls
-  ends_by true past all marked saw = (all, marked, saw)
-  ends_by false past all marked saw = (all, marked, saw)
+  pub ends_by : (seen : Bool) (past : List (Event (List ℕ))) → EndsAll s w past w.desk.calls → CallsEach s w past w.desk.calls → has_marked past ≡ true → has_seen past ≡ seen → EndsBy s (marked_by seen) w past w.desk.calls
+  ends_by true past all each marked saw = (all, each, marked, saw)
+  ends_by false past all each marked saw = (all, each, marked, saw)
 
-  pub lacks_none : (seen : Bool) → SentAtMost (length (got_of w.end.state.past)) w.end.state.past → LacksRoom (marked_by seen) w
-  lacks_none true sent = sent
-  lacks_none false sent = sent
+  pub lacks_none : (left_at : S → ℕ) (seen : Bool) → SentAtMost (length (got_of w.end.state.past)) w.end.state.past → LacksRoom left_at s (marked_by seen) w
+  lacks_none left_at true sent = sent
+  lacks_none left_at false sent = sent
 
   pub breaks : IsServing s w → BreaksOff s w w.end.state.past w.desk.calls
   breaks h = server_breaks s w.desk.held w.serve w.end.state.past w.desk.calls w.desk.owed w.desk.left (drop w.served w.end.state.got) h.kept
@@ -209,6 +294,7 @@ module _ {T S A Q R : Type 0} (s : Speech (List ℕ) A Q R) (keeps : Keeps s) (w
     started = omega (arith, missing);
     saw = ap has_seen past ∙ sym seen;
     rests = λ e. not_both w.end.state.machine.asleep awake e;
+    each = λ go. ap (λ n. length (filter (is_asked s) (take n w.end.state.got))) served ∙ ap length (sym calls);
   }
 
 module _ {T S A Q R : Type 0} (sp : T → Speech (List ℕ) A Q R) (keeps : (t : T) → Keeps (sp t)) (w : Serving T S Q R) where
@@ -218,12 +304,12 @@ module _ {T S A Q R : Type 0} (sp : T → Speech (List ℕ) A Q R) (keeps : (t :
   gave_by end' desk' p is first desk got awake h =
       subst (λ t. IsServing (sp t) (record w { end = end'; desk = desk' })) (sym (ap (λ (d : Desk T S Q R). d.talk) desk)) (gave_kept (sp w.desk.talk) (keeps w.desk.talk) w end' desk' p is first desk got awake h)
 
-  pub served_by : (desk' : Desk T S Q R) (p : List ℕ) → w.served + 1 ≤ length w.end.state.got → slice_get w.end.state.got w.served ≡ Some p → w.desk.owed ≡ [] → desk'.held ≡ w.desk.held → desk'.talk ≡ w.desk.talk
+  pub served_by : (desk' : Desk T S Q R) (p : List ℕ) → w.served + 1 ≤ length w.end.state.got → slice_get w.end.state.got w.served ≡ Some p → w.desk.owed ≡ [] → lacks_call (sp w.desk.talk) w ≡ false → desk'.held ≡ w.desk.held → desk'.talk ≡ w.desk.talk
       → ServesPacket (sp desk'.talk) desk'.held p w.desk.left w.desk.calls desk'.calls desk'.owed desk'.left → w.end.state.machine.asleep ≡ false
       → IsServing (sp w.desk.talk) w → IsServing (sp desk'.talk) (record w { desk = desk'; served = w.served + 1 })
-  served_by desk' p less at none held talk one awake h =
+  served_by desk' p less at none not_lacks held talk one awake h =
       subst (λ t. IsServing (sp t) (record w { desk = desk'; served = w.served + 1 })) (sym talk)
-      (served_kept (sp w.desk.talk) (keeps w.desk.talk) w desk' p less at none held (subst (λ t. ServesPacket (sp t) desk'.held p w.desk.left w.desk.calls desk'.calls desk'.owed desk'.left) talk one) awake h)
+      (served_kept (sp w.desk.talk) (keeps w.desk.talk) w desk' p less at none not_lacks held (subst (λ t. ServesPacket (sp t) desk'.held p w.desk.left w.desk.calls desk'.calls desk'.owed desk'.left) talk one) awake h)
 
 module _ {T S Q R : Type 0} (same : S → S → Type 0) where
   -- the same worker still
@@ -236,12 +322,13 @@ module _ {T S Q R : Type 0} (same : S → S → Type 0) where
     stops = b.stops ∙ a.stops;
     starts = b.starts ∙ a.starts;
     come = b.come ∙ a.come;
+    before = b.before ∙ a.before;
     end = record { seat = b.end.seat ∙ a.end.seat; side = b.end.side ∙ a.end.side };
     seat = trans u.desk.seat v.desk.seat w.desk.seat a.seat b.seat;
   }
 
   pub on_refl : ((a : S) → same a a) → (w : Serving T S Q R) → ServesOn same w w
-  on_refl r w = record { talk = refl; relid = refl; held = refl; serve = refl; stops = refl; starts = refl; come = refl; end = record { seat = refl; side = refl }; seat = r w.desk.seat }
+  on_refl r w = record { talk = refl; relid = refl; held = refl; serve = refl; stops = refl; starts = refl; come = refl; before = refl; end = record { seat = refl; side = refl }; seat = r w.desk.seat }
 
   orders_on : {A : Type 0} (s : Speech (List ℕ) A Q R) (plan : Plan A) (u w : Serving T S Q R) → ServesOn same u w → Orders s plan u → Orders s plan w
   orders_on s plan u w on is = record { serve = on.serve ∙ is.serve; held = on.held ∙ is.held; stops = on.stops ∙ is.stops; starts = on.starts ∙ is.starts }
@@ -252,6 +339,16 @@ module _ {T S Q R : Type 0} (same : S → S → Type 0) where
   ends_on {A = A} sp how u w past calls on h = by how (subst (λ t. EndsBy (sp t) how w past calls) on.talk h)
     where
       by : (how : Ended) → EndsBy (sp u.desk.talk) how w past calls → EndsBy (sp u.desk.talk) how u past calls
-      by EndedMarked h = (λ plan is. h.0 plan (orders_on (sp u.desk.talk) plan u w on is), h.1, h.2)
-      by PeerMarked h = (λ plan is. h.0 plan (orders_on (sp u.desk.talk) plan u w on is), h.1, h.2)
+      by EndedMarked h = (λ plan is. h.0 plan (orders_on (sp u.desk.talk) plan u w on is), λ go. h.1 (on.stops ∙ go), h.2, h.3)
+      by PeerMarked h = (λ plan is. h.0 plan (orders_on (sp u.desk.talk) plan u w on is), λ go. h.1 (on.stops ∙ go), h.2, h.3)
       by (Room packets words left) h = subst (λ b. ServerBreaks (sp u.desk.talk) b u.serve past calls) on.held (subst (λ n. ServerBreaks (sp u.desk.talk) w.desk.held n past calls) on.serve h)
+
+  -- and so is what it lacked
+  pub lacks_on : {A : Type 0} (sp : T → Speech (List ℕ) A Q R) (how : Ended) (u w : Serving T S Q R) (past : List (Event (List ℕ))) → ServesOn same u w
+      → ServeLacksFor (is_asked (sp w.desk.talk)) (w.starts + w.come) w.serve w.stops how past → ServeLacksFor (is_asked (sp u.desk.talk)) (u.starts + u.come) u.serve u.stops how past
+  lacks_on sp how u w past on h =
+      let room : w.starts + w.come ≡ u.starts + u.come = omega (arith, on.starts, on.come) in
+      subst (λ n. ServeLacksFor (is_asked (sp u.desk.talk)) n u.serve u.stops how past) room
+      (subst (λ b. ServeLacksFor (is_asked (sp u.desk.talk)) (w.starts + w.come) u.serve b how past) on.stops
+      (subst (λ n. ServeLacksFor (is_asked (sp u.desk.talk)) (w.starts + w.come) n w.stops how past) on.serve
+      (subst (λ t. ServeLacksFor (is_asked (sp t)) (w.starts + w.come) w.serve w.stops how past) on.talk h)))

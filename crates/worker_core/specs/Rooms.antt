@@ -1,5 +1,5 @@
 -- The room of an end's lists of packets, and how much comes and goes.
-use Rattle.std.specs.Prelude.{ℕ, ◌≡◌, ◌<◌, ◌≤◌, ◌+◌, ◌*◌, ◌⊎◌, Bool, true, false, List, [], ◌∷◌, length}
+use Rattle.std.specs.Prelude.{ℕ, ◌≡◌, ◌<◌, ◌≤◌, ◌+◌, ◌*◌, ◌⊎◌, Bool, true, false, List, [], ◌∷◌, length, filter}
 use Rattle.chan_run.specs.declared.event.Event.{Event}
 use Rattle.chan_run.specs.Laws.{AreOfOneRun}
 use Rattle.chan_run.specs.Runs.{sent_of, got_of}
@@ -26,6 +26,10 @@ pub record SentAtMost (most : ℕ) (past : List (Event (List ℕ))) : Type 0 whe
 -- more came than so many packets of 384 words: more packets, or more words in all
 abbrev pub CameOver : ℕ → List (Event (List ℕ)) → Type 0
 CameOver most past = (most < length (got_of past)) ⊎ (384 * most < words_in (got_of past))
+
+-- more packets came that ask the device than so many
+abbrev pub AskedOver : (List ℕ → Bool) → ℕ → List (Event (List ℕ)) → Type 0
+AskedOver asks serve past = serve < length (filter asks (got_of past))
 
 -- the room that was reserved for what comes, some of which is used up by what came: one packet more than so many, and the words of a whole ring besides
 -- 384 for each
@@ -65,6 +69,12 @@ LacksFor most Marked past = Unit {0}
 LacksFor most PeerMarked past = Unit {0}
 LacksFor most (Room packets words left) past = CameOver most past
 
+-- and one that serves there, or where more was asked of the device than it serves and it doesn't stop behind that
+abbrev pub ServeLacksFor : (List ℕ → Bool) → ℕ → ℕ → Bool → Ended → List (Event (List ℕ)) → Type 0
+ServeLacksFor asks most serve stops Marked past = Unit {0}
+ServeLacksFor asks most serve stops PeerMarked past = Unit {0}
+ServeLacksFor asks most serve stops (Room packets words left) past = CameOver most past ⊎ ((stops ≡ false) × AskedOver asks serve past)
+
 -- it ended, and not for want of room
 abbrev pub has_room : Ended → Bool
 has_room Marked = true
@@ -72,9 +82,11 @@ has_room PeerMarked = true
 has_room (Room packets words left) = false
 
 -- Two ends of one run. The one that asks sent at most so many packets, as many as the one that serves made room for or fewer, and made room for as many
--- itself. The one that serves sent no more than it got. Then neither ended for want of room
+-- itself; it asked no more of the device than the other one serves, unless that one stops. The one that serves sent no more than it got. Then neither
+-- ended for want of room, or of a call
 abbrev pub NeverLacks : Type 0
 NeverLacks =
-    (asks most : ℕ) (asker server : List (Event (List ℕ))) (asked served : Ended) → asks ≤ most → AreOfOneRun asker server
-    → SentAtMost asks asker → LacksFor asks asked asker → SentAtMost (length (got_of server)) server → LacksFor most served server
+    (is_asked : List ℕ → Bool) (asks most serve : ℕ) (stops : Bool) (asker server : List (Event (List ℕ))) (asked served : Ended)
+    → asks ≤ most → (stops ≡ false → length (filter is_asked (sent_of asker)) ≤ serve) → AreOfOneRun asker server
+    → SentAtMost asks asker → LacksFor asks asked asker → SentAtMost (length (got_of server)) server → ServeLacksFor is_asked most serve stops served server
     → (has_room asked ≡ true) × (has_room served ≡ true)

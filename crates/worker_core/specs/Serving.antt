@@ -1,5 +1,6 @@
 -- The serving worker, as contracts see it.
-use Rattle.std.specs.Prelude.{ℕ, ◌≡◌, ◌≤◌, ◌+◌, Bool, true, false, ◌==◌, ◌⊎◌, List, [], ◌∷◌, ◌++◌, length, filter, drop, Option, Some, None, is_some}
+use Rattle.std.specs.Prelude.{ℕ, ◌≡◌, ◌≤◌, ◌+◌, ◌-◌, Bool, true, false, not, ◌&&◌, ◌==◌, ◌⊎◌, List, [], ◌∷◌, ◌++◌, length, filter, take, drop, slice_get, Option, Some, None, is_some}
+use Rattle.std.specs.Option.{option_map_or}
 use Rattle.chan_run.specs.declared.event.Event.{Event}
 use Rattle.chan_run.specs.Runs.{got_of, has_marked, has_seen}
 use Rattle.hist_lock.specs.Seat.{Call}
@@ -13,7 +14,7 @@ use Rattle.work_model.specs.Channel.{Plan, count_of, held_of, ServerEnds, Server
 use Rattle.work_model.specs.Workers.{left_after, ServerKept}
 use Rattle.worker_core.specs.Line.{SleepsFor, LacksTake}
 use Rattle.worker_core.specs.Owed.{is_nil, need_of, LacksSend}
-use Rattle.worker_core.specs.Rooms.{SentAtMost, CameOver, LacksFor, ServesInRoom}
+use Rattle.worker_core.specs.Rooms.{SentAtMost, ServeLacksFor, ServesInRoom}
 use Rattle.worker_core.specs.declared.ended.Ended.{Ended}
 use Rattle.worker_core.specs.declared.ended.Ended.TheVariants.{Marked, PeerMarked, Room}
 use Rattle.worker_core.specs.declared.ended.Turn.{Turn}
@@ -21,11 +22,12 @@ use Rattle.worker_core.specs.declared.ended.Turn.TheVariants.{Moved, Idle, Ended
 use Rattle.worker_core.specs.declared.put.Given.{Given}
 use Rattle.worker_core.specs.declared.put.Given.TheVariants.{Sent as GivenSent, Full as GivenFull, Lacks as GivenLacks}
 
--- the talk, the seat with its calls and their serials, what is owed, whether the last answer is held, how many requests are still to be served, and the
--- side and the relid that the gate is told
+-- the talk, the seat with the calls that it had made before, and those of this worker and their serials, what is owed, whether the last answer is held,
+-- how many requests are still to be served, and the side and the relid that the gate is told
 pub record Desk (T S Q R : Type 0) : Type 0 where
   pub talk : T
   pub seat : S
+  pub before : List (Call Q R)
   pub calls : List (Call Q R)
   pub owed : List (List ℕ)
   pub left : Option ℕ
@@ -47,6 +49,21 @@ pub record Serving (T S Q R : Type 0) : Type 0 where
   pub served : ℕ
   pub seen : Bool
   pub want : Option ℕ
+
+-- of a seat's calls, those before the last ones, and the last ones, of which there are so many
+abbrev pub first_calls : {Q R : Type 0} → List (Call Q R) → ℕ → List (Call Q R)
+first_calls calls n = take (length calls - n) calls
+
+abbrev pub last_calls : {Q R : Type 0} → List (Call Q R) → ℕ → List (Call Q R)
+last_calls calls n = drop (length calls - n) calls
+
+-- of a seat's calls, those behind others
+abbrev pub calls_behind : {Q R : Type 0} → List (Call Q R) → List (Call Q R) → List (Call Q R)
+calls_behind before calls = drop (length before) calls
+
+-- a packet asks the device for something
+abbrev pub is_asked : {A Q R : Type 0} → Speech (List ℕ) A Q R → List ℕ → Bool
+is_asked s p = is_some (s.read p)
 
 -- the seat, or a list with room, has the calls that are left
 abbrev pub HasCalls : Option ℕ → ℕ → Type 0
@@ -70,11 +87,16 @@ pub record IsServing {T S A Q R : Type 0} (s : Speech (List ℕ) A Q R) (w : Ser
   pub started : w.starts ≤ w.missing + length (filter s.waits (filter s.is_request (got_of w.end.state.past)))
   pub saw : has_seen w.end.state.past ≡ w.seen
   pub rests : w.end.state.machine.asleep ≡ true → Rests w
+  pub each : w.stops ≡ false → length (filter (is_asked s) (take w.served w.end.state.got)) ≡ length w.desk.calls
 
 -- all that is to be served was
 abbrev pub has_served : Option ℕ → Bool
 has_served None = true
 has_served (Some m) = m == 0
+
+-- the packet that is served next asks the device, no call is left for it, and the worker doesn't stop behind its last call
+abbrev pub lacks_call : {T S A Q R : Type 0} → Speech (List ℕ) A Q R → Serving T S Q R → Bool
+lacks_call s w = not w.stops && (has_served w.desk.left && option_map_or (is_asked s) (slice_get w.end.state.got w.served) false)
 
 -- the worker was made for this plan
 pub record Orders {T S A Q R : Type 0} (s : Speech (List ℕ) A Q R) (plan : Plan A) (w : Serving T S Q R) : Type 0 where
@@ -90,10 +112,14 @@ EndsAll {A = A} s w past calls = (plan : Plan A) → Orders s plan w → ServerE
 abbrev pub BreaksOff : {T S A Q R : Type 0} → Speech (List ℕ) A Q R → Serving T S Q R → List (Event (List ℕ)) → List (Call Q R) → Type 0
 BreaksOff s w past calls = ServerBreaks s w.desk.held w.serve past calls
 
+-- each packet that came and asks the device was a call, where the worker doesn't stop behind some
+abbrev pub CallsEach : {T S A Q R : Type 0} → Speech (List ℕ) A Q R → Serving T S Q R → List (Event (List ℕ)) → List (Call Q R) → Type 0
+CallsEach s w past calls = w.stops ≡ false → length (filter (is_asked s) (got_of past)) ≡ length calls
+
 -- what a worker gives that ended so: it marked its end, and had seen the other end's mark or not
 abbrev pub EndsBy : {T S A Q R : Type 0} → Speech (List ℕ) A Q R → Ended → Serving T S Q R → List (Event (List ℕ)) → List (Call Q R) → Type 0
-EndsBy s Marked w past calls = EndsAll s w past calls × (has_marked past ≡ true) × (has_seen past ≡ false)
-EndsBy s PeerMarked w past calls = EndsAll s w past calls × (has_marked past ≡ true) × (has_seen past ≡ true)
+EndsBy s Marked w past calls = EndsAll s w past calls × CallsEach s w past calls × (has_marked past ≡ true) × (has_seen past ≡ false)
+EndsBy s PeerMarked w past calls = EndsAll s w past calls × CallsEach s w past calls × (has_marked past ≡ true) × (has_seen past ≡ true)
 EndsBy s (Room packets words left) w past calls = BreaksOff s w past calls
 
 -- how a worker has ended that marked its end, by whether it had seen the other end's mark
@@ -101,26 +127,36 @@ abbrev pub marked_by : Bool → Ended
 marked_by true = PeerMarked
 marked_by false = Marked
 
--- How much it sent; and where a packet that is owed, or the next one that comes, lacks the room of the list that it would grow, more came than room was
--- made for
-abbrev pub LacksRoom : {T S Q R : Type 0} → Ended → Serving T S Q R → Type 0
-LacksRoom Marked w = SentAtMost (length (got_of w.end.state.past)) w.end.state.past
-LacksRoom PeerMarked w = SentAtMost (length (got_of w.end.state.past)) w.end.state.past
-LacksRoom (Room packets words left) w =
-    (LacksSend packets words w.desk.owed w.end ⊎ LacksTake packets words w.end)
-    × ServesInRoom (w.starts + w.come) w.served (length w.desk.owed) w.end × CameOver (w.starts + w.come) w.end.state.past × SentAtMost (length (got_of w.end.state.past)) w.end.state.past
+-- no call is left for what came: these are the numbers of the list of what was got
+pub record LacksCall {T S A Q R : Type 0} (s : Speech (List ℕ) A Q R) (packets words : ℕ) (w : Serving T S Q R) : Type 0 where
+  pub owed : w.desk.owed ≡ []
+  pub lacks : lacks_call s w ≡ true
+  pub packets_is : packets ≡ w.end.spare_got.packets
+  pub words_is : words ≡ w.end.spare_got.words
 
--- of a turn that ends: what was sent is no more than what came, and room lacks only where more came than so many packets
-abbrev pub ServeEnds : ℕ → Turn → List (Event (List ℕ)) → Type 0
-ServeEnds most Moved past = Unit {0}
-ServeEnds most Idle past = Unit {0}
-ServeEnds most (TurnEnded how) past = SentAtMost (length (got_of past)) past × LacksFor most how past
+-- a packet that is owed, or the next one that comes, lacks the room of the list that it would grow, or what came lacks a call
+abbrev pub Lacks : {T S A Q R : Type 0} → Speech (List ℕ) A Q R → ℕ → ℕ → Serving T S Q R → Type 0
+Lacks s packets words w = (LacksSend packets words w.desk.owed w.end ⊎ LacksTake packets words w.end) ⊎ LacksCall s packets words w
+
+-- How much it sent; and where it lacks room or a call, what the seat has left, and that more came than room or calls were made for
+abbrev pub LacksRoom : {T S A Q R : Type 0} → (S → ℕ) → Speech (List ℕ) A Q R → Ended → Serving T S Q R → Type 0
+LacksRoom left_at s Marked w = SentAtMost (length (got_of w.end.state.past)) w.end.state.past
+LacksRoom left_at s PeerMarked w = SentAtMost (length (got_of w.end.state.past)) w.end.state.past
+LacksRoom left_at s (Room packets words left) w =
+    Lacks s packets words w × (left ≡ left_at w.desk.seat) × ServesInRoom (w.starts + w.come) w.served (length w.desk.owed) w.end
+    × ServeLacksFor (is_asked s) (w.starts + w.come) w.serve w.stops (Room packets words left) w.end.state.past × SentAtMost (length (got_of w.end.state.past)) w.end.state.past
+
+-- of a turn that ends: what was sent is no more than what came, and room or a call lacks only where more came than there was made for
+abbrev pub ServeEnds : {T S A Q R : Type 0} → Speech (List ℕ) A Q R → Turn → Serving T S Q R → Type 0
+ServeEnds s Moved w = Unit {0}
+ServeEnds s Idle w = Unit {0}
+ServeEnds s (TurnEnded how) w = SentAtMost (length (got_of w.end.state.past)) w.end.state.past × ServeLacksFor (is_asked s) (w.starts + w.come) w.serve w.stops how w.end.state.past
 
 -- how a turn ends
-abbrev pub Turns : {T S A Q R : Type 0} → Speech (List ℕ) A Q R → Turn → Serving T S Q R → Type 0
-Turns s Moved w = w.end.state.machine.marked ≡ false
-Turns s Idle w = (w.end.state.machine.marked ≡ false) × (w.end.state.machine.asleep ≡ true) × Rests w
-Turns s (TurnEnded how) w = EndsBy s how w w.end.state.past w.desk.calls × LacksRoom how w
+abbrev pub Turns : {T S A Q R : Type 0} → (S → ℕ) → Speech (List ℕ) A Q R → Turn → Serving T S Q R → Type 0
+Turns left_at s Moved w = w.end.state.machine.marked ≡ false
+Turns left_at s Idle w = (w.end.state.machine.marked ≡ false) × (w.end.state.machine.asleep ≡ true) × Rests w
+Turns left_at s (TurnEnded how) w = EndsBy s how w w.end.state.past w.desk.calls × LacksRoom left_at s how w
 
 -- a packet that is owed was sent, or nothing changed
 abbrev pub GaveOne : {T S Q R : Type 0} → Given → Serving T S Q R → Serving T S Q R → Type 0
@@ -137,5 +173,6 @@ pub record ServesOn {T S Q R : Type 0} (same : S → S → Type 0) (old new : Se
   pub stops : new.stops ≡ old.stops
   pub starts : new.starts ≡ old.starts
   pub come : new.come ≡ old.come
+  pub before : new.desk.before ≡ old.desk.before
   pub end : IsSameEnd old.end new.end
   pub seat : same old.desk.seat new.desk.seat

@@ -1,8 +1,8 @@
 //! Where the serving end serves one packet after another.
-ghost use Rattle.std.specs.Prelude.{◌≡◌, ◌<◌, ◌≤◌, [], ◌∷◌, drop, length, Some, None, true, false, IfOk, map, ◌&&◌, ◌==◌, ℕ, suc};
+ghost use Rattle.std.specs.Prelude.{◌≡◌, ◌<◌, ◌≤◌, [], ◌∷◌, ◌++◌, drop, length, Some, None, true, false, IfOk, map, ◌&&◌, ◌==◌, ℕ, suc};
 ghost use Rattle.ring_machine.specs.States.{IsPacket};
 ghost use Rattle.worker_core.specs.Owed.{is_nil, need_of, IsNeed};
-ghost use Rattle.worker_core.specs.Serving.{ServesPacket, has_served};
+ghost use Rattle.worker_core.specs.Serving.{ServesPacket, has_served, is_asked};
 
 use crate::owed::Owed;
 use chan_talk::{Seat, Talk};
@@ -27,18 +27,18 @@ pub(crate) struct Desk<T: Talk, S: Seat<T>> {
 }
 
 impl<T: Talk, S: Seat<T>> Model for Desk<T, S> {
-    ghost use Rattle.std.specs.Prelude.{◌≡◌, ◌-◌, map, vec_len, vec_capacity};
-    ghost use Rattle.worker_core.specs.Serving.{Desk, HasCalls};
+    ghost use Rattle.std.specs.Prelude.{◌≡◌, ◌≤◌, ◌-◌, length, map, vec_len, vec_capacity};
+    ghost use Rattle.worker_core.specs.Serving.{Desk, HasCalls, first_calls, last_calls};
 
     ghost Value = { Desk T S T.Request T.Reply };
 
-    ghost view = { λ d. record { talk = d.talk; seat = d.seat; calls = S.calls d.seat; owed = d.owed; left = d.left; held = d.held; serials = d.serials.items; side = d.side; relid = d.relid } };
+    ghost view = { λ d. record { talk = d.talk; seat = d.seat; before = first_calls (S.calls d.seat) (length d.serials.items); calls = last_calls (S.calls d.seat) (length d.serials.items); owed = d.owed; left = d.left; held = d.held; serials = d.serials.items; side = d.side; relid = d.relid } };
 
-    ghost invariant = { λ d. record { calls : HasCalls d.left (S.left d.seat); room : HasCalls d.left (vec_capacity d.serials - vec_len d.serials); serves : S.serves d.seat d.talk; serials : d.serials.items ≡ map (λ c. c.serial) (S.calls d.seat) } };
+    ghost invariant = { λ d. record { calls : HasCalls d.left (S.left d.seat); room : HasCalls d.left (vec_capacity d.serials - vec_len d.serials); serves : S.serves d.seat d.talk; made : length d.serials.items ≤ length (S.calls d.seat); serials : d.serials.items ≡ map (λ c. c.serial) (last_calls (S.calls d.seat) (length d.serials.items)) } };
 }
 
 impl<T: Talk, S: Seat<T>> Desk<T, S> {
-    // A desk that has served nothing.
+    // A desk that has served nothing here. The seat may have made calls before.
     pub(crate) fn make(
         alloc: Global,
         talk: T,
@@ -49,9 +49,8 @@ impl<T: Talk, S: Seat<T>> Desk<T, S> {
         held: bool,
     ) -> Result<Desk<T, S>, AllocError>
         requires serves { S.serves seat talk }
-        requires fresh { S.calls seat ≡ [] }
         requires calls { serve ≤ S.left seat }
-        ensures { IfOk result (λ d. d ≡ record { talk = talk; seat = seat; calls = []; owed = []; left = Some serve; held = held; serials = []; side = side; relid = relid }) }
+        ensures { IfOk result (λ d. d ≡ record { talk = talk; seat = seat; before = S.calls seat; calls = []; owed = []; left = Some serve; held = held; serials = []; side = side; relid = relid }) }
     {
         let serials = Vec::with_capacity(alloc, serve as usize)?;
         let owed = Owed::make(alloc)?;
@@ -93,6 +92,14 @@ impl<T: Talk, S: Seat<T>> Desk<T, S> {
         self.talk.is_waiting(packet)
     }
 
+    // Whether a packet asks the device for something.
+    pub(crate) fn is_asked(&self, packet: &[u64]) -> bool
+        requires { IsPacket packet.now }
+        ensures { result ≡ is_asked (T.speech self.now.talk) packet.now }
+    {
+        self.talk.read(packet).is_some()
+    }
+
     // The packet that is sent next.
     pub(crate) fn first(&self) -> &[u64]
         requires { is_nil self.now.owed ≡ false }
@@ -121,7 +128,9 @@ impl<T: Talk, S: Seat<T>> Desk<T, S> {
     }
 
     // The calls that the seat has left.
-    pub(crate) fn left(&self) -> u32 {
+    pub(crate) fn left(&self) -> u32
+        ensures { result ≡ S.left self.now.seat }
+    {
         self.seat.left()
     }
 
@@ -133,6 +142,7 @@ impl<T: Talk, S: Seat<T>> Desk<T, S> {
         ensures few { length self.new.owed ≤ 2 }
         ensures same { (self.new.talk ≡ self.old.talk) × (self.new.held ≡ self.old.held) × S.same self.old.seat self.new.seat }
         ensures channel { (self.new.side ≡ self.old.side) × (self.new.relid ≡ self.old.relid) }
+        ensures before { self.new.before ≡ self.old.before }
     {
         let Some(count) = self.left else {
             return;
@@ -161,6 +171,7 @@ impl<T: Talk, S: Seat<T>> Desk<T, S> {
         ensures few { length self.new.owed ≤ 2 }
         ensures same { (self.new.talk ≡ self.old.talk) × (self.new.held ≡ self.old.held) × S.same self.old.seat self.new.seat }
         ensures channel { (self.new.side ≡ self.old.side) × (self.new.relid ≡ self.old.relid) }
+        ensures before { self.new.before ≡ self.old.before }
     {
         if count == 0 {
             self.left = None;
@@ -178,11 +189,11 @@ impl<T: Talk, S: Seat<T>> Desk<T, S> {
         }
     }
 
-    // The seat, and the serials of its calls.
+    // The seat, and the serials of the calls that were made here.
     pub(crate) fn into_seat(self) -> (S, Vec<u32>)
         ensures seat { result.0 ≡ self.seat }
-        ensures serials { result.1.items ≡ map (λ c. c.serial) (S.calls result.0) }
-        ensures calls { S.calls result.0 ≡ self.calls }
+        ensures serials { result.1.items ≡ map (λ c. c.serial) self.calls }
+        ensures calls { S.calls result.0 ≡ self.before ++ self.calls }
     {
         let Desk {
             talk,

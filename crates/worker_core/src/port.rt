@@ -69,6 +69,13 @@ impl Port {
         self.end.spare_sent()
     }
 
+    pub(crate) fn spare_got(&self) -> Room
+        ensures value { result ≡ self.now.spare_got }
+        ensures got { got_of self.now.state.past ≡ self.now.state.got }
+    {
+        self.end.spare_got()
+    }
+
     // The room that is left of the list of what was got, where it is too little for the next packet.
     pub(crate) fn lacks_take(&self) -> Option<Room>
         ensures lacks { MatchOption result (HasTakeRoom self.now) (λ r. LacksTake r.packets r.words self.now) }
@@ -210,6 +217,7 @@ impl Port {
         ensures marked { self.new.state.machine.marked ≡ true }
         ensures awake { self.new.state.machine.asleep ≡ false }
         ensures first { has_marked self.old.state.past ≡ false }
+        ensures got { got_of self.new.state.past ≡ self.new.state.got }
         ensures stays { Stays self.old self.new }
         ensures lists { (self.new.state.got ≡ self.old.state.got) × (self.new.spare_got ≡ self.old.spare_got) × (self.new.spare_sent ≡ self.old.spare_sent) }
     {

@@ -1,13 +1,13 @@
 //! The worker of the end that serves.
-ghost use Rattle.std.specs.Prelude.{◌≡◌, ◌<◌, ◌≤◌, ◌+◌, ◌*◌, ◌⊎◌, [], ◌∷◌, length, drop, map, Some, None, true, false, IfOk, if◌then◌else◌, ℕ};
+ghost use Rattle.std.specs.Prelude.{◌≡◌, ◌<◌, ◌≤◌, ◌+◌, ◌*◌, [], ◌∷◌, ◌++◌, length, take, drop, map, Some, None, true, false, IfOk, if◌then◌else◌, ℕ};
 ghost use Rattle.chan_run.specs.Runs.{got_of, is_drained};
 ghost use Rattle.ring_seat.specs.Seats.{new_end};
 ghost use Rattle.ring_seat.specs.Settling.{IsSameEnd};
 ghost use Rattle.worker_core.specs.Causes.{Arms, GivesOne, GivesOrTakes, Polls, ServeCause, TakesOrArms};
 ghost use Rattle.worker_core.specs.Line.{IsReady, HasTakeRoom, LacksTake, TookOne};
 ghost use Rattle.worker_core.specs.Owed.{is_nil, LacksSend};
-ghost use Rattle.worker_core.specs.Rooms.{CameOver, LacksFor, SentAtMost, ServesInRoom};
-ghost use Rattle.worker_core.specs.Serving.{EndsBy, LacksRoom, Turns, GaveOne, ServeEnds, ServesOn, BreaksOff, has_served, marked_by};
+ghost use Rattle.worker_core.specs.Rooms.{SentAtMost, ServeLacksFor, ServesInRoom};
+ghost use Rattle.worker_core.specs.Serving.{EndsBy, Lacks, LacksRoom, Turns, GaveOne, ServeEnds, ServesOn, BreaksOff, calls_behind, has_served, is_asked, lacks_call, marked_by};
 ghost use Rattle.worker_core.specs.declared.ended.Ended.TheVariants.{PeerMarked as PeerMarkedEnd, Room as RoomEnd};
 
 use crate::desk::Desk;
@@ -91,6 +91,7 @@ impl<T: Talk, S: Seat<T>> Server<T, S> {
         requires ready { IsReady self.old.end }
         requires owed { self.old.desk.owed ≡ [] }
         requires some { self.old.served < length self.old.end.state.got }
+        requires call { lacks_call (T.speech self.old.desk.talk) self.old ≡ false }
         ensures end { self.new.end ≡ self.old.end }
         ensures served { self.new.served ≡ self.old.served + 1 }
         ensures on { ServesOn S.same self.old self.new }
@@ -129,7 +130,7 @@ impl<T: Talk, S: Seat<T>> Server<T, S> {
         requires all { has_served self.old.desk.left ≡ true }
         requires started { self.old.missing ≡ 0 }
         ensures ends { EndsBy (T.speech self.new.desk.talk) result self.new self.new.end.state.past self.new.desk.calls }
-        ensures room { LacksRoom result self.new }
+        ensures room { LacksRoom S.left (T.speech self.new.desk.talk) result self.new }
         ensures on { ServesOn S.same self.old self.new }
     {
         self.port.mark();
@@ -153,7 +154,7 @@ impl<T: Talk, S: Seat<T>> Server<T, S> {
     fn rest(&mut self) -> Turn
         requires ready { IsReady self.old.end }
         requires served { is_nil self.old.desk.owed ≡ true → self.old.served ≡ length self.old.end.state.got }
-        ensures turns { Turns (T.speech self.new.desk.talk) result self.new }
+        ensures turns { Turns S.left (T.speech self.new.desk.talk) result self.new }
         ensures cause { Arms result self.old.end.state.past self.new.end }
         ensures on { ServesOn S.same self.old self.new }
     {
@@ -169,14 +170,14 @@ impl<T: Talk, S: Seat<T>> Server<T, S> {
         }
     }
 
-    // A worker that lacks room gives what it has.
+    // A worker that lacks room or a call gives what it has.
     fn broken(&self, packets: u64, words: u64) -> Ended
         requires list { got_of self.now.end.state.past ≡ self.now.end.state.got }
-        requires lacks { LacksSend packets words self.now.desk.owed self.now.end ⊎ LacksTake packets words self.now.end }
-        ensures room { (left : ℕ) × (result ≡ RoomEnd packets words left) }
+        requires lacks { Lacks (T.speech self.now.desk.talk) packets words self.now }
+        ensures room { result ≡ RoomEnd packets words (S.left self.now.desk.seat) }
         ensures breaks { BreaksOff (T.speech self.now.desk.talk) self.now self.now.end.state.past self.now.desk.calls }
         ensures reserved { ServesInRoom (self.now.starts + self.now.come) self.now.served (length self.now.desk.owed) self.now.end }
-        ensures over { CameOver (self.now.starts + self.now.come) self.now.end.state.past }
+        ensures over { ServeLacksFor (is_asked (T.speech self.now.desk.talk)) (self.now.starts + self.now.come) self.now.serve self.now.stops (RoomEnd packets words (S.left self.now.desk.seat)) self.now.end.state.past }
         ensures sent { SentAtMost (length (got_of self.now.end.state.past)) self.now.end.state.past }
     {
         Ended::Room {
@@ -184,6 +185,17 @@ impl<T: Talk, S: Seat<T>> Server<T, S> {
             words,
             left: self.desk.left(),
         }
+    }
+
+    // Whether the packet that is served next asks the device and no call is left for it: a worker that stops behind its last call lets go what comes
+    // then, and any other one breaks off.
+    fn lacks_call(&self) -> bool
+        ensures { result ≡ lacks_call (T.speech self.now.desk.talk) self.now }
+    {
+        !self.stops
+            && self.desk.has_served()
+            && self.has_unserved()
+            && self.desk.is_asked(self.port.got(self.served))
     }
 
     fn has_unserved(&self) -> bool
@@ -197,7 +209,7 @@ impl<T: Talk, S: Seat<T>> Server<T, S> {
     fn take_or_rest(&mut self) -> Turn
         requires ready { IsReady self.old.end }
         requires served { is_nil self.old.desk.owed ≡ true → self.old.served ≡ length self.old.end.state.got }
-        ensures turns { Turns (T.speech self.new.desk.talk) result self.new }
+        ensures turns { Turns S.left (T.speech self.new.desk.talk) result self.new }
         ensures cause { TakesOrArms result self.old.end.state.past self.new.end }
         ensures on { ServesOn S.same self.old self.new }
     {
@@ -219,7 +231,7 @@ impl<T: Talk, S: Seat<T>> Server<T, S> {
     fn give_or_take(&mut self) -> Turn
         requires ready { IsReady self.old.end }
         requires owed { is_nil self.old.desk.owed ≡ false }
-        ensures turns { Turns (T.speech self.new.desk.talk) result self.new }
+        ensures turns { Turns S.left (T.speech self.new.desk.talk) result self.new }
         ensures cause { GivesOrTakes result self.old.end.state.past self.new.end }
         ensures on { ServesOn S.same self.old self.new }
     {
@@ -235,7 +247,7 @@ impl<T: Talk, S: Seat<T>> Server<T, S> {
         requires ready { IsReady self.old.end }
         requires owed { self.old.desk.owed ≡ [] }
         requires served { self.old.served ≡ length self.old.end.state.got }
-        ensures turns { Turns (T.speech self.new.desk.talk) result self.new }
+        ensures turns { Turns S.left (T.speech self.new.desk.talk) result self.new }
         ensures cause { TakesOrArms result self.old.end.state.past self.new.end }
         ensures on { ServesOn S.same self.old self.new }
     {
@@ -245,15 +257,15 @@ impl<T: Talk, S: Seat<T>> Server<T, S> {
         self.take_or_rest()
     }
 
-    // Serves what came, until something is owed for it.
+    // Serves what came, until something is owed for it or no call is left.
     fn serve_on<R: Wait, G: Gate>(&mut self, rt: &R, gate: &G)
         requires ready { IsReady self.old.end }
         requires owed { self.old.desk.owed ≡ [] }
         ensures end { self.new.end ≡ self.old.end }
-        ensures served { is_nil self.new.desk.owed ≡ true → self.new.served ≡ length self.new.end.state.got }
+        ensures served { is_nil self.new.desk.owed ≡ true → lacks_call (T.speech self.new.desk.talk) self.new ≡ false → self.new.served ≡ length self.new.end.state.got }
         ensures on { ServesOn S.same self.old self.new }
     {
-        while self.has_unserved() {
+        while self.has_unserved() && !self.lacks_call() {
             self.serve_next(rt, gate);
             if !self.desk.is_clear() {
                 return;
@@ -264,7 +276,7 @@ impl<T: Talk, S: Seat<T>> Server<T, S> {
     // A turn of an end that is awake: what is owed is sent first, and where nothing is what came is served.
     fn work<R: Wait, G: Gate>(&mut self, rt: &R, gate: &G) -> Turn
         requires ready { IsReady self.old.end }
-        ensures turns { Turns (T.speech self.new.desk.talk) result self.new }
+        ensures turns { Turns S.left (T.speech self.new.desk.talk) result self.new }
         ensures cause { GivesOrTakes result self.old.end.state.past self.new.end }
         ensures on { ServesOn S.same self.old self.new }
     {
@@ -275,6 +287,10 @@ impl<T: Talk, S: Seat<T>> Server<T, S> {
         if !self.desk.is_clear() {
             return self.give_or_take();
         }
+        if self.lacks_call() {
+            let room = self.port.spare_got();
+            return Turn::Ended(self.broken(room.packets, room.words));
+        }
         self.stop_or_take()
     }
 
@@ -282,7 +298,7 @@ impl<T: Talk, S: Seat<T>> Server<T, S> {
     fn doze(&mut self) -> Turn
         requires asleep { self.old.end.state.machine.asleep ≡ true }
         requires unmarked { self.old.end.state.machine.marked ≡ false }
-        ensures turns { Turns (T.speech self.new.desk.talk) result self.new }
+        ensures turns { Turns S.left (T.speech self.new.desk.talk) result self.new }
         ensures cause { Polls result self.old.end self.new.end }
         ensures on { ServesOn S.same self.old self.new }
     {
@@ -292,7 +308,7 @@ impl<T: Talk, S: Seat<T>> Server<T, S> {
         Turn::Idle
     }
 
-    /// A worker over a new end and a seat with no calls. `starts` is how many requests of the start-up have answers, `serve` how many requests of the
+    /// A worker over a new end and a seat that has as many calls left as it serves. `starts` is how many requests of the start-up have answers, `serve` how many requests of the
     /// device it serves, the answer to the last one being kept where `held`; `stops` says whether it ends then. It makes room for `starts` and `come`
     /// packets that come. It takes all its memory here.
     pub fn make(
@@ -309,12 +325,11 @@ impl<T: Talk, S: Seat<T>> Server<T, S> {
         come: u32,
     ) -> Result<Server<T, S>, AllocError>
         requires serves { S.serves seat talk }
-        requires uncalled { S.calls seat ≡ [] }
         requires calls { serve ≤ S.left seat }
         requires fresh { end.state ≡ new_end end.state.machine.cells end.state.machine.side }
         requires size { (512 ≤ end.state.machine.cells) × (end.state.machine.cells ≤ 8192) }
         requires side { side ≡ end.state.machine.side }
-        ensures talk { IfOk result (λ w. (w.desk.talk ≡ talk) × (w.desk.seat ≡ seat)) }
+        ensures talk { IfOk result (λ w. (w.desk.talk ≡ talk) × (w.desk.seat ≡ seat) × (w.desk.before ≡ S.calls seat)) }
         ensures relid { IfOk result (λ w. w.desk.relid ≡ relid) }
         ensures orders { IfOk result (λ w. (w.serve ≡ serve) × (w.desk.held ≡ held) × (w.stops ≡ stops) × (w.starts ≡ starts) × (w.come ≡ come)) }
         ensures end { IfOk result (λ w. (w.end.state ≡ end.state) × (w.end.seat ≡ end.seat)) }
@@ -350,9 +365,9 @@ impl<T: Talk, S: Seat<T>> Server<T, S> {
     /// A turn: an end that is asleep polls its signal. Otherwise the worker sends what it owes, serves what came, takes a packet, ends, or rests.
     pub fn turn<R: Wait, G: Gate>(&mut self, rt: &R, gate: &G) -> Turn
         requires unmarked { self.old.end.state.machine.marked ≡ false }
-        ensures turns { Turns (T.speech self.new.desk.talk) result self.new }
+        ensures turns { Turns S.left (T.speech self.new.desk.talk) result self.new }
         ensures cause { ServeCause result self.old.end self.new.end }
-        ensures room { ServeEnds (self.new.starts + self.new.come) result self.new.end.state.past }
+        ensures room { ServeEnds (T.speech self.new.desk.talk) result self.new }
         ensures on { ServesOn S.same self.old self.new }
     {
         if self.port.is_asleep() {
@@ -374,8 +389,9 @@ impl<T: Talk, S: Seat<T>> Server<T, S> {
     /// Gives what it did, once it has ended.
     pub fn done(self, ended: Ended) -> ServerDone<T, S>
         requires { EndsBy (T.speech self.desk.talk) ended self self.end.state.past self.desk.calls }
-        ensures ends { (result.ended ≡ ended) × EndsBy (T.speech self.desk.talk) result.ended self result.end.state.past (S.calls result.seat) }
-        ensures serials { result.serials.items ≡ map (λ c. c.serial) (S.calls result.seat) }
+        ensures ends { (result.ended ≡ ended) × EndsBy (T.speech self.desk.talk) result.ended self result.end.state.past self.desk.calls }
+        ensures calls { S.calls result.seat ≡ self.desk.before ++ self.desk.calls }
+        ensures serials { result.serials.items ≡ map (λ c. c.serial) self.desk.calls }
         ensures same { (result.end ≡ self.end) × (result.seat ≡ self.desk.seat) }
     {
         let Server {
@@ -403,12 +419,13 @@ impl<T: Talk, S: Seat<T>> Server<T, S> {
     /// Takes turns, and sleeps after a turn that found nothing to do, until the worker has ended.
     pub fn run<R: Wait, G: Gate>(mut self, rt: &R, gate: &G) -> ServerDone<T, S>
         requires unmarked { self.end.state.machine.marked ≡ false }
-        ensures ends { EndsBy (T.speech self.desk.talk) result.ended self result.end.state.past (S.calls result.seat) }
-        ensures serials { result.serials.items ≡ map (λ c. c.serial) (S.calls result.seat) }
+        ensures ends { EndsBy (T.speech self.desk.talk) result.ended self result.end.state.past (calls_behind self.desk.before (S.calls result.seat)) }
+        ensures before { take (length self.desk.before) (S.calls result.seat) ≡ self.desk.before }
+        ensures serials { result.serials.items ≡ map (λ c. c.serial) (calls_behind self.desk.before (S.calls result.seat)) }
         ensures end { IsSameEnd self.end result.end }
         ensures seat { S.same self.desk.seat result.seat }
         ensures sent { SentAtMost (length (got_of result.end.state.past)) result.end.state.past }
-        ensures room { LacksFor (self.starts + self.come) result.ended result.end.state.past }
+        ensures room { ServeLacksFor (is_asked (T.speech self.desk.talk)) (self.starts + self.come) self.serve self.stops result.ended result.end.state.past }
     {
         for _ in rt.forever() {
             match self.turn(rt, gate) {

@@ -2,7 +2,7 @@ use Rattle.std.proofs.Common.{◌≡◌, ◌+◌, ◌*◌, ◌<◌, ◌≤◌, �
 use Rattle.std.specs.Vec.Iter.{into_iter_items}
 use Rattle.std.proofs.Math.ListN.{length-set}
 use Rattle.bus_run.specs.Desk.{asks_of, IsReady, DeviceRan, opened_by}
-use Rattle.bus_run.specs.Opening.{DeskRan, OneEach, ComesBack}
+use Rattle.bus_run.specs.Opening.{RanAt, OneEach, ComesBack}
 use Rattle.bus_run.proofs.Opened.{held_long}
 use Rattle.bus_run.proofs.DevicesBack.{DevicesSoFar, device_ready, next_comes, devices_start, devices_more, devices_end}
 use Rattle.bus_run.proofs.devices.close_all.Goals as goal
@@ -18,7 +18,7 @@ loop-i-init c =
     record {
       so_far = λ old all.
           subst (λ o. DevicesSoFar opened c.args.phase piles most 0 old desks dones settled settled o) (sym c.none-outcomes.ensures)
-          (devices_start opened c.args.phase piles most old desks dones settled all.held_is (subst (OneEach DeskRan opened (asks_of piles) 0 old) (sym c.into_iter-dones.ensures.rest) all.ran));
+          (devices_start opened c.args.phase piles most old desks dones settled all.held_is (subst (OneEach RanAt opened (asks_of piles) 0 old) (sym c.into_iter-dones.ensures.rest) all.ran));
       count = refl;
     }
 
@@ -65,7 +65,7 @@ loop-i-preserved c =
           let rest : left ≡ next.1 = c.in_ok-results.ensures.rest (asks_of piles i) o next.0 next.1 comes in
           let more : 4096 * phase + 4096 ≡ most = omega arith in
           let kept = subst (λ n. IsReady n new) more (device_ready (opened i) phase i (4096 * phase) 4096 (asks_of piles i) o new settled settled' results ran ready.few (all.suits.few i less)) in
-          let comes_next = subst (OneEach DeskRan opened (asks_of piles) (i + 1) _) (sym rest) next.3 in
+          let comes_next = subst (OneEach RanAt opened (asks_of piles) (i + 1) _) (sym rest) next.3 in
           subst (λ l. DevicesSoFar opened phase piles most (i + 1) old (slice_set c.loop-i.desks.items i new) left c.args.settled.now.items settled' l) (sym c.in_ok-add.ensures)
           (devices_more opened phase piles most i old c.loop-i.desks.items dones left c.args.settled.now.items settled settled' c.loop-i.outcomes d new results so_far within ran kept comes_next);
       count = length-set c.loop-i.desks.items i new ∙ c.loop-i.invariant.count;

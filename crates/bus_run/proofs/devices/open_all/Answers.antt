@@ -1,8 +1,10 @@
-use Rattle.std.proofs.Common.{◌≡◌, ◌*◌, ◌<◌, ◌∙◌, ap, sym, subst, arith, length}
+use Rattle.std.proofs.Common.{◌≡◌, ◌*◌, ◌<◌, ◌∙◌, ap, sym, subst, arith, length, get_or}
+use Rattle.std.proofs.lemmas.List.{get_or_default}
 use Rattle.end_work.specs.Plans.{AllCarried}
 use Rattle.script_lines.specs.Parts.{kind_of}
 use Rattle.bus_run.specs.Desk.{spec_of, asks_of, IsKept, IsReady, opened_by}
-use Rattle.bus_run.specs.Opening.{OneIf, OpensDesk, held_of}
+use Rattle.bus_run.specs.Opening.{OneIf, OpensAt, OpensDesk, held_of}
+use Rattle.bus_run.specs.Settings.{unset}
 use Rattle.bus_run.proofs.Opened.{desk_there, suits_here, opened_more}
 use Rattle.bus_run.proofs.devices.open_all.Goals as goal
 
@@ -48,6 +50,9 @@ loop-i-preserved c =
     let within : i < length c.loop-i.desks.items = omega (arith, less, c.loop-i.invariant.count) in
     let pair = c.in_ok-open_device.ensures.pair in
     let flag : c.is_opened.result ≡ opened i = c.is_opened.ensures ∙ ap (λ w. opened_by c.args.closed.now w i) c.deref.ensures.value in
-    let one = subst (λ b. OneIf b (OpensDesk (asks_of piles i) d) pair.0) flag (subst (λ a. OneIf c.is_opened.result (OpensDesk a d) pair.0) c.get.ensures pair.2) in
-    opened_more opened piles i old c.loop-i.desks.items c.loop-i.pairs.items c.open_device.new.pairs.items pair.0 d c.open_device.new.desk c.loop-i.invariant within c.index_mut.ensures.value
+    let settings = c.args.settings.now in
+    let set : get_or settings i (record { pages = 0; window = 0 }) ≡ get_or settings i unset = get_or_default settings i (record { pages = 0; window = 0 }) unset (omega (arith, less, c.requires.settings)) in
+    let one = subst (λ b. OneIf b (OpensAt settings i (asks_of piles i) d) pair.0) flag
+    (subst (λ a. OneIf c.is_opened.result (OpensAt settings i a d) pair.0) c.get.ensures (subst (λ s. OneIf c.is_opened.result (OpensDesk i s c.get.result.now d) pair.0) set pair.2)) in
+    opened_more settings opened piles i old c.loop-i.desks.items c.loop-i.pairs.items c.open_device.new.pairs.items pair.0 d c.open_device.new.desk c.loop-i.invariant within c.index_mut.ensures.value
     (c.in_ok-open_device.ensures.held ∙ ap (λ b. held_of b d) flag) pair.1 one

@@ -2,7 +2,7 @@ use Rattle.std.proofs.Common.{◌+◌, ◌*◌, ap, arith, length, List}
 use Rattle.std.specs.Prelude.{All}
 use Rattle.bus_script.specs.declared.outcome.LineResult.{LineResult}
 use Rattle.bus_run.specs.Desk.{asks_of, IsReady, DevicesRan, opened_by}
-use Rattle.bus_run.specs.Opening.{OpensDesk, AllCome}
+use Rattle.bus_run.specs.Opening.{OpensAt, AllCome}
 use Rattle.bus_run.specs.declared.desk.Desk.{Desk}
 use Rattle.bus_run.proofs.Opened.{each_few, held_long}
 use Rattle.bus_run.proofs.DevicesBack.{all_come, if_ok, on_ok}
@@ -11,7 +11,7 @@ use Rattle.bus_run.proofs.devices.run_devices.Goals as goal
 pub run_phase-requires-clause-few : goal.run_phase-requires-clause-few
 run_phase-requires-clause-few g c κs within =
     let opened = opened_by c.args.closed.now c.args.plan.now.wanted.items in
-    omega (arith, each_few OpensDesk opened (asks_of c.args.plan.now.asks) 0 c.args.desks.now.items c.in_ok-pairs.pairs.items c.in_ok-pairs.ensures.opens, c.requires.few)
+    omega (arith, each_few (OpensAt c.args.settings.now) opened (asks_of c.args.plan.now.asks) 0 c.args.desks.now.items c.in_ok-pairs.pairs.items c.in_ok-pairs.ensures.opens, c.requires.few)
 
 pub close_all-requires-clause-wanted : goal.close_all-requires-clause-wanted
 close_all-requires-clause-wanted g c =
@@ -28,14 +28,14 @@ close_all-requires-clause-few g c =
 pub close_all-requires-clause-come : goal.close_all-requires-clause-come
 close_all-requires-clause-come g c = (
   c.args.desks.now.items,
-  all_come (opened_by c.args.closed.now c.args.plan.now.wanted.items) c.args.phase c.args.plan.now.asks c.args.desks.now.items c.open_all.new.desks.items c.in_ok-pairs.pairs.items c.run_phase.new.done.items c.requires.ready c.requires.suits c.in_ok-pairs.ensures.held
+  all_come c.args.settings.now (opened_by c.args.closed.now c.args.plan.now.wanted.items) c.args.phase c.args.plan.now.asks c.args.desks.now.items c.open_all.new.desks.items c.in_ok-pairs.pairs.items c.run_phase.new.done.items c.requires.ready c.requires.suits c.in_ok-pairs.ensures.held
       c.in_ok-pairs.ensures.opens c.run_phase.ensures,
 )
 
 pub returns-clause-ran : goal.returns-clause-ran
 returns-clause-ran g c =
     let opened = opened_by c.args.closed.now c.args.plan.now.wanted.items in
-    let come = all_come opened c.args.phase c.args.plan.now.asks c.args.desks.now.items c.open_all.new.desks.items c.in_ok-pairs.pairs.items c.run_phase.new.done.items c.requires.ready c.requires.suits c.in_ok-pairs.ensures.held c.in_ok-pairs.ensures.opens
+    let come = all_come c.args.settings.now opened c.args.phase c.args.plan.now.asks c.args.desks.now.items c.open_all.new.desks.items c.in_ok-pairs.pairs.items c.run_phase.new.done.items c.requires.ready c.requires.suits c.in_ok-pairs.ensures.held c.in_ok-pairs.ensures.opens
     c.run_phase.ensures in
     let old = c.args.desks.now.items in
     let piles = c.args.plan.now.asks in
@@ -48,7 +48,7 @@ returns-clause-ran g c =
 pub returns-clause-ready : goal.returns-clause-ready
 returns-clause-ready g c =
     let opened = opened_by c.args.closed.now c.args.plan.now.wanted.items in
-    let come = all_come opened c.args.phase c.args.plan.now.asks c.args.desks.now.items c.open_all.new.desks.items c.in_ok-pairs.pairs.items c.run_phase.new.done.items c.requires.ready c.requires.suits c.in_ok-pairs.ensures.held c.in_ok-pairs.ensures.opens
+    let come = all_come c.args.settings.now opened c.args.phase c.args.plan.now.asks c.args.desks.now.items c.open_all.new.desks.items c.in_ok-pairs.pairs.items c.run_phase.new.done.items c.requires.ready c.requires.suits c.in_ok-pairs.ensures.held c.in_ok-pairs.ensures.opens
     c.run_phase.ensures in
     let most = 4096 * (c.args.phase + 1) in
     let new = c.close_all.new.desks.items in

@@ -1,6 +1,7 @@
 use Rattle.std.proofs.Common.{◌≡◌, ap, subst, ◌∙◌, refl, length, arith, replicate, false}
 use Rattle.script_lines.specs.Parts.{offered}
-use Rattle.bus_run.specs.Whole.{AreFresh, RingsOf}
+use Rattle.bus_run.specs.Whole.{AreFresh}
+use Rattle.bus_run.specs.Settings.{SettingsOf}
 use Rattle.bus_run.proofs.Phases.{start}
 use Rattle.bus_run.proofs.runner.Runner.make.Goals as goal
 
@@ -11,6 +12,6 @@ returns-clause-so_far c =
     let fresh = subst (λ l. AreFresh l (offered l) desks.items) c.lines-lines.ensures.lines c.in_ok-desks.ensures in
     let long : c.len.result ≡ length desks.items = omega (arith, c.len.ensures, desks.ok.0) in
     let long_2 : c.len-2.result ≡ length desks.items = omega (arith, c.len-2.ensures, desks.ok.0) in
-    let rings = subst (λ n. RingsOf lines n c.in_ok-pages.pages.items) long (subst (λ l. RingsOf l c.len.result c.in_ok-pages.pages.items) c.lines-lines.ensures.lines c.in_ok-pages.ensures) in
+    let settings = subst (λ n. SettingsOf lines n c.in_ok-settings.settings.items) long (subst (λ l. SettingsOf l c.len.result c.in_ok-settings.settings.items) c.lines-lines.ensures.lines c.in_ok-settings.ensures) in
     let none = c.in_ok-closed.ensures.items_if_clones_equal (λ y same. same) ∙ ap (λ n. replicate n false) long_2 in
-    start lines _ fresh rings none refl refl c.new.ensures.items c.new-2.ensures.items
+    start lines _ fresh settings none refl refl c.new.ensures.items c.new-2.ensures.items

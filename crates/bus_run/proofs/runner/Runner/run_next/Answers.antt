@@ -1,12 +1,13 @@
 use Rattle.std.proofs.Common.{◌≡◌, ◌≤◌, ◌++◌, ◌∷◌, [], ap, sym, subst, ◌∙◌, refl, length, take, drop, arith, rules}
-use Rattle.std.specs.Prelude.{map, MatchOption, ⊤}
+use Rattle.std.specs.Prelude.{All, map, MatchOption, ⊤}
 use Rattle.std.proofs.lemmas.List.{with_items_is, places}
 use Rattle.script_lines.specs.Parts.{parts, offered, asks_in}
 use Rattle.script_lines.specs.WellFormed.{AllRight, AllGo}
 use Rattle.bus_plan.specs.Flags.{AreMarked, closed_by}
-use Rattle.bus_run.specs.Desk.{spec_of, AreRings}
+use Rattle.bus_run.specs.Desk.{spec_of}
+use Rattle.bus_run.specs.Settings.{HasLimits}
 use Rattle.bus_run.specs.Whole.{parts_left, behind}
-use Rattle.bus_run.proofs.RingSizes.{are_rings}
+use Rattle.bus_run.proofs.SettingLines.{have_limits}
 use Rattle.bus_run.proofs.Phases.{right_drop, right_take, go_drop, go_take, this_phase, part_next, count_parts, go_on, no_next}
 use Rattle.bus_run.proofs.runner.Runner.run_next.Goals as goal
 
@@ -40,9 +41,9 @@ run_phase-requires-clause-asks g c κs asked =
     let this = this_phase (parts lines) c.args.self.now.phase part (parts_left lines (behind at next)) (sym cut ∙ ap (parts_left lines) (sym c.in-Some.is) ∙ c.requires.so_far.left) in
     this.1 (λ p. asks_in p ≤ 4096) c.lines.ensures.script.asks
 
-pub run_phase-requires-clause-rings : goal.run_phase-requires-clause-rings
-run_phase-requires-clause-rings g c κs asked =
-    subst AreRings (sym c.deref.ensures.value) (are_rings (offered c.args.script.now) c.args.script.now (length c.args.self.now.desks.items) c.args.self.now.pages.items c.lines.ensures.script.right c.requires.so_far.rings)
+pub run_phase-requires-clause-limits : goal.run_phase-requires-clause-limits
+run_phase-requires-clause-limits g c κs asked =
+    subst (All HasLimits) (sym c.deref.ensures.value) (have_limits (offered c.args.script.now) c.args.script.now (length c.args.self.now.desks.items) c.args.self.now.settings.items c.lines.ensures.script.right c.requires.so_far.settings)
 
 pub run_phase-requires-clause-phase : goal.run_phase-requires-clause-phase
 run_phase-requires-clause-phase g c κs asked = omega (arith, c.requires.more, (count_parts c.args.script.now).1, c.lines.ensures.script.short)

@@ -1,6 +1,8 @@
 use Rattle.std.proofs.Common.{◌+◌, ◌≤◌, length, subst}
 use Rattle.chan_run.specs.Runs.{got_of}
 use Rattle.worker_core.specs.Rooms.{SentAtMost, ServesInRoom}
+use Rattle.worker_core.specs.Serving.{IsServing}
+use Rattle.worker_core.proofs.ServeSteps.{asked_over, on_either}
 use Rattle.worker_core.proofs.RoomLaws.{serve_over, sent_back}
 use Rattle.worker_core.proofs.server.Server.broken.Goals as goal
 
@@ -11,8 +13,11 @@ pub returns-clause-over : goal.returns-clause-over
 returns-clause-over g c =
     let v = c.self.view_is in
     let w = c.args.self.now in
-    serve_over (w.starts + w.come) w.served c.args.packets c.args.words w.desk.owed w.end (subst (λ w. w.served ≤ length w.end.state.got) v c.self.invariant.live.within) c.requires.list
-    (subst (λ w. ServesInRoom (w.starts + w.come) w.served (length w.desk.owed) w.end) v c.self.invariant.room) c.requires.lacks
+    on_either
+    (λ l. serve_over (w.starts + w.come) w.served c.args.packets c.args.words w.desk.owed w.end (subst (λ w. w.served ≤ length w.end.state.got) v c.self.invariant.live.within) c.requires.list
+    (subst (λ w. ServesInRoom (w.starts + w.come) w.served (length w.desk.owed) w.end) v c.self.invariant.room) l)
+    (λ l. asked_over (g.T.Talk.speech w.desk.talk) (g.T.Talk.keeps w.desk.talk) w c.requires.list (subst (λ w. IsServing (g.T.Talk.speech w.desk.talk) w) v c.self.invariant.live) l.lacks)
+    c.requires.lacks
 
 pub returns-clause-sent : goal.returns-clause-sent
 returns-clause-sent g c =

@@ -2,7 +2,7 @@ use Rattle.std.proofs.Common.{refl, ap, sym, ◌∙◌, length, ◌+◌}
 use Rattle.chan_run.specs.declared.event.Event.TheVariants.{Marked}
 use Rattle.chan_run.specs.Runs.{is_drained, has_marked, has_seen, sent_of}
 use Rattle.chan_run.proofs.Pasts.{drained_seen}
-use Rattle.worker_core.proofs.ServeSteps.{quiet_kept, marks_drained}
+use Rattle.worker_core.proofs.ServeSteps.{quiet_kept, calls_each, marks_drained}
 use Rattle.worker_core.proofs.RoomLaws.{serve_quiet, got_same, marked_back}
 use Rattle.worker_core.proofs.server.Server.follow.Goals as goal
 
@@ -20,6 +20,7 @@ returns-clause-ends g c =
     let drained = ap (λ w. is_drained w.end.state.past) v ∙ c.requires.drained in (
       marks_drained (g.T.Talk.speech c.self.inside.desk.talk) (g.T.Talk.keeps c.self.inside.desk.talk) _ _ c.mark.ensures.past c.mark.ensures.lists.0 c.mark.ensures.awake
           (ap (λ w. w.desk.owed) v ∙ c.requires.owed) (ap (λ w. w.served) v ∙ (c.requires.served ∙ ap (λ w. length w.end.state.got) (sym v))) drained c.mark.ensures.first c.self.invariant.live,
+      calls_each (g.T.Talk.speech c.self.inside.desk.talk) (g.T.Talk.keeps c.self.inside.desk.talk) _ c.mark.new.self.state.past (c.mark.ensures.got ∙ c.mark.ensures.lists.0) (ap (λ w. w.served) v ∙ (c.requires.served ∙ ap (λ w. length w.end.state.got) (sym v))) c.self.invariant.live,
       ap has_marked c.mark.ensures.past,
       ap has_seen c.mark.ensures.past ∙ drained_seen c.self.inside.port.state.past drained,
     )

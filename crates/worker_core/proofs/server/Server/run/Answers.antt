@@ -1,5 +1,7 @@
-use Rattle.std.proofs.Common.{sym, subst}
-use Rattle.worker_core.proofs.ServeSteps.{on_refl, on_trans}
+use Rattle.std.proofs.Common.{◌≡◌, ◌∙◌, ap, map, sym, subst}
+use Rattle.worker_core.specs.Serving.{EndsBy}
+use Rattle.worker_core.proofs.DeskLaws.{behind_is, front_is}
+use Rattle.worker_core.proofs.ServeSteps.{ends_on, lacks_on, on_refl, on_trans}
 use Rattle.worker_core.proofs.server.Server.run.Goals as goal
 
 pub loop-init : goal.loop-init
@@ -24,3 +26,23 @@ loop-preserved g c = record {
 pub returns-in-Ended-clause-seat : goal.returns-in-Ended-clause-seat
 returns-in-Ended-clause-seat g c =
     subst (λ x. g.S.Seat.same c.args.self.desk.seat x) (sym c.done.ensures.same.1) (g.S.Seat.same_trans _ _ _ c.loop.invariant.on.seat c.turn.ensures.on.seat)
+
+pub returns-in-Ended-clause-ends : goal.returns-in-Ended-clause-ends
+returns-in-Ended-clause-ends g c =
+    let u = c.args.self in
+    let w = c.turn.new.self in
+    let on = on_trans g.S.Seat.same g.S.Seat.same_trans _ _ _ c.loop.invariant.on c.turn.ensures.on in
+    subst (λ l. EndsBy (g.T.Talk.speech u.desk.talk) c.done.result.ended u c.done.result.end.state.past l) (sym (behind_is u.desk.before w.desk.before w.desk.calls _ c.done.ensures.calls on.before))
+    (ends_on g.S.Seat.same g.T.Talk.speech c.done.result.ended u w c.done.result.end.state.past w.desk.calls on c.done.ensures.ends.1)
+
+pub returns-in-Ended-clause-before : goal.returns-in-Ended-clause-before
+returns-in-Ended-clause-before g c =
+    let w = c.turn.new.self in
+    let on = on_trans g.S.Seat.same g.S.Seat.same_trans _ _ _ c.loop.invariant.on c.turn.ensures.on in
+    front_is c.args.self.desk.before w.desk.before w.desk.calls _ c.done.ensures.calls on.before
+
+pub returns-in-Ended-clause-serials : goal.returns-in-Ended-clause-serials
+returns-in-Ended-clause-serials g c =
+    let w = c.turn.new.self in
+    let on = on_trans g.S.Seat.same g.S.Seat.same_trans _ _ _ c.loop.invariant.on c.turn.ensures.on in
+    c.done.ensures.serials ∙ ap (map (λ c. c.serial)) (sym (behind_is c.args.self.desk.before w.desk.before w.desk.calls _ c.done.ensures.calls on.before))

@@ -2,7 +2,7 @@ use Rattle.std.proofs.Common.{refl, ap, sym, ◌∙◌, length, ◌+◌}
 use Rattle.chan_run.specs.declared.event.Event.TheVariants.{Marked}
 use Rattle.chan_run.specs.Runs.{sent_of, has_marked, has_seen}
 use Rattle.worker_core.specs.Serving.{has_served}
-use Rattle.worker_core.proofs.ServeSteps.{quiet_kept, marks_stopped, ends_by, lacks_none}
+use Rattle.worker_core.proofs.ServeSteps.{quiet_kept, calls_each, marks_stopped, ends_by, lacks_none}
 use Rattle.worker_core.proofs.RoomLaws.{serve_quiet, got_same, marked_back}
 use Rattle.worker_core.proofs.server.Server.stop.Goals as goal
 
@@ -20,9 +20,10 @@ returns-clause-ends g c =
     rw c.marked_by.ensures (ends_by (g.T.Talk.speech c.self.inside.desk.talk) (g.T.Talk.keeps c.self.inside.desk.talk) _ c.self.inside.seen _
     (marks_stopped (g.T.Talk.speech c.self.inside.desk.talk) (g.T.Talk.keeps c.self.inside.desk.talk) _ _ c.mark.ensures.past c.mark.ensures.lists.0 c.mark.ensures.awake (ap (λ w. w.stops) v ∙ c.requires.stops)
     (ap (λ w. w.desk.owed) v ∙ c.requires.owed) (ap (λ w. w.served) v ∙ (c.requires.served ∙ ap (λ w. length w.end.state.got) (sym v))) (ap (λ w. has_served w.desk.left) v ∙ c.requires.all) (ap (λ w. w.missing) v ∙ c.requires.started) c.self.invariant.live)
+    (calls_each (g.T.Talk.speech c.self.inside.desk.talk) (g.T.Talk.keeps c.self.inside.desk.talk) _ c.mark.new.self.state.past (c.mark.ensures.got ∙ c.mark.ensures.lists.0) (ap (λ w. w.served) v ∙ (c.requires.served ∙ ap (λ w. length w.end.state.got) (sym v))) c.self.invariant.live)
     (ap has_marked c.mark.ensures.past) (ap has_seen c.mark.ensures.past ∙ c.self.invariant.live.saw))
 
 pub returns-clause-room : goal.returns-clause-room
 returns-clause-room g c =
-    rw c.marked_by.ensures (lacks_none (g.T.Talk.speech c.self.inside.desk.talk) (g.T.Talk.keeps c.self.inside.desk.talk) _ c.self.inside.seen
+    rw c.marked_by.ensures (lacks_none (g.T.Talk.speech c.self.inside.desk.talk) (g.T.Talk.keeps c.self.inside.desk.talk) _ g.S.Seat.left c.self.inside.seen
     (marked_back (g.T.Talk.speech c.self.inside.desk.talk) (g.T.Talk.answers c.self.inside.desk.talk) (c.self.inside.starts + c.self.inside.come) c.self.inside.served (length c.self.inside.desk.owed) c.self.inside.port _ c.mark.ensures.past c.self.invariant.live.kept.order c.self.invariant.room))
