@@ -61,7 +61,6 @@ fn gives_few(command: Command) -> bool
     ensures { result ≡ true → bytes_moved (Some command) 0 ≤ 2048 }
 {
     match command {
-        Command::Inquiry { allocation, .. } => allocation <= 2_048,
         Command::Read { count, .. } => count <= 4,
         _ => true,
     }

@@ -1,5 +1,7 @@
 //! What a packet's descriptor says, and why words aren't a packet.
 
+use thiserror::Error;
+
 /// A packet's descriptor (Linux 6.12, `include/linux/hyperv.h`, struct vmpacket_descriptor).
 #[derive(Clone, Copy, Debug, PartialEq, Eq)]
 pub struct Desc {
@@ -16,9 +18,10 @@ pub struct Desc {
 }
 
 /// Why words aren't a packet.
-#[derive(Clone, Copy, Debug, PartialEq, Eq)]
+#[derive(Clone, Copy, Debug, PartialEq, Eq, Error)]
 pub enum PacketFault {
     /// The length isn't the number of words.
+    #[error("a length of {len8} words for {have}")]
     Length {
         /// The length that the descriptor gives, in words.
         len8: u16,
@@ -26,6 +29,7 @@ pub enum PacketFault {
         have: u64,
     },
     /// The payload begins in the descriptor, or past the end.
+    #[error("payload at word {offset8} of {len8}")]
     Offset {
         /// Where the payload begins, in words.
         offset8: u16,

@@ -69,9 +69,9 @@ reply_of p r = completed p (reply_srb p r)
 abbrev pub stop_of : Vstor → ℕ → Vstor
 stop_of p status = completed p (with_number 2 1 status p.rest)
 
--- how many bytes of a command go or may come
+-- how many bytes of a command go or may come: inquiry data have 36
 abbrev pub bytes_moved : Option Command → ℕ → ℕ
-bytes_moved (Some (Inquiry standard allocation)) out = allocation
+bytes_moved (Some (Inquiry standard allocation)) out = min allocation 36
 bytes_moved (Some ReadCapacity) out = 8
 bytes_moved (Some (Read lba count)) out = 512 * count
 bytes_moved (Some (Write lba count)) out = out

@@ -100,7 +100,7 @@ fn transfer(command: Command, out: u64) -> u64
     ensures { result ≡ bytes_moved (Some command) out }
 {
     match command {
-        Command::Inquiry { allocation, .. } => allocation,
+        Command::Inquiry { allocation, .. } => allocation.min(36),
         Command::ReadCapacity => 8,
         Command::Read { count, .. } => 512 * count,
         Command::Write { .. } => out,

@@ -1,7 +1,10 @@
 //! The refusal of a request.
 
+use thiserror::Error;
+
 /// As many requests are open as there are ids.
-#[derive(Drop)]
+#[derive(Debug, Drop, Error)]
+#[error("a request is open under each of the {size} ids")]
 pub struct TableFull<R> {
     /// How many ids there are.
     pub size: u32,

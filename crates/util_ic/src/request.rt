@@ -1,7 +1,7 @@
 //! The requests of the host.
 
 ghost use Rattle.std.specs.Prelude.{◌≡◌, ℕ, ◌+◌, ◌<◌, ◌≤◌, ◌++◌, length, take, drop, List, Some};
-ghost use Rattle.util_ic.specs.Messages.{IsUtility, beat_bytes, down_bytes, ask_bytes, negotiate_bytes, zeros};
+ghost use Rattle.util_ic.specs.Messages.{beat_bytes, down_bytes, ask_bytes, negotiate_bytes, zeros};
 ghost use Rattle.pkt_desc.specs.Packets.{Carries};
 ghost use Rattle.util_ic.specs.Packets.{ask_packet, negotiate_packet};
 ghost use Rattle.util_ic.specs.Asks.{ask_of, kind_for};
@@ -87,8 +87,7 @@ pub fn ask(kind: &IcAsk, out: &mut [u8]) -> usize
 /// Writes the negotiate message at the front of `out`, and answers its length, 52 bytes. The rest of `out` stays.
 ///
 /// It offers frame versions 3.0 and 1.0 and, on both kinds of channel, message versions 3.0 and 1.0.
-pub fn negotiate(kind: Kind, out: &mut [u8]) -> usize
-    requires kind { IsUtility kind }
+pub fn negotiate(_kind: Kind, out: &mut [u8]) -> usize
     requires room { 2112 ≤ length out.old }
     ensures count { result ≡ length negotiate_bytes }
     ensures most { result ≤ 2112 }

@@ -1,5 +1,7 @@
 //! A page's size, and parts of pages.
 
+use thiserror::Error;
+
 /// The bytes of a page (Linux 6.12, `include/linux/hyperv.h`, `HV_HYP_PAGE_SIZE`).
 pub const PAGE: usize = 4096;
 
@@ -15,14 +17,16 @@ pub struct Span {
 }
 
 /// Why a range isn't cut.
-#[derive(Clone, Copy, Debug, PartialEq, Eq)]
+#[derive(Clone, Copy, Debug, PartialEq, Eq, Error)]
 pub enum SpanFault {
     /// The offset isn't in the first page.
+    #[error("offset {value} isn't in the first page")]
     Offset {
         /// The offset in bytes.
         value: u32,
     },
     /// The range touches another number of pages than it was given.
+    #[error("{have} pages for a range of {want}")]
     Pages {
         /// The pages that the range touches.
         want: u64,
