@@ -16,7 +16,8 @@ use Rattle.ring_machine.specs.Steps.{IsSound, fed, next_of, is_busy_at, is_copyi
 use Rattle.ring_machine.specs.Loops.{is_storing_at, is_writing_at, is_masking_at, is_first_at, is_loading_at, is_asking_at, is_seeking_at, is_giving_at, is_feature_at, is_pending_at, is_polling_at, is_opening_at, Starts}
 use Rattle.ring_machine.specs.States.{IsPacket, Gets, kept_at, copied_at, copied_after, sent_after, sent_while, got_after, past_after, past_while, past_by, sent_by, got_by, past_by_ending, past_of, stored, after, afters, entered, resting, shown, IsAwake, Begins, Continues}
 use Rattle.ring_machine.specs.Endings.{Leaves, LeavesBy, is_committed, is_dozed, is_marked}
-use Rattle.ring_core.specs.Told.{Memory, pair, step, step_by, run, memory_after, answer_of, Ran, Left}
+use Rattle.ring_core.specs.declared.told.Told.{Told}
+use Rattle.ring_core.specs.Told.{Memory, pair, step, step_by, run, memory_after, answer_of, raises_at, wakes_at, raises_of, wakes_of, told_at, told_next, told_by, AreSteps, Ran, Left}
 use Rattle.ring_machine.proofs.Sound.{at_cond, fed_made, no_true}
 use Rattle.ring_machine.proofs.Tables.{copied_by, fed_cells, busy_next, Lists, lists_by, Moves, moves_by, w_at, r_at, s_at, a_at, k_at, write_at, read_at, start_at, asleep_at, marked_at, Form, is_formed, form_by}
 
@@ -74,10 +75,17 @@ still Idle xs n = refl
 still Stopped xs n = refl
 still _ xs n = absurd (cc)
 
-pub record Going (base : EndState) (told told' : Option EndState) (memory memory' : Option Memory) (m : Machine) (p buf : List ℕ) : Type 0 where
+-- the steps that are told at s are those that were told at u, and one for each answer
+pub record Counts (base : EndState) (values : List ℕ) (u s : Told) : Type 0 where
+  pub steps : s.steps ≡ u.steps + length values
+  pub raised : s.raised ≡ u.raised + raises_of base values
+  pub woke : s.woke ≡ u.woke + wakes_of base values
+
+pub record Going (base : EndState) (told told' : Option Told) (memory memory' : Option Memory) (m : Machine) (p buf : List ℕ) : Type 0 where
   pub values : List ℕ
   pub state : EndState
   pub is_after : state ≡ afters base values
+  pub each : AreSteps base values
   pub few : length values ≤ made_at m.stage m
   pub machine : state.machine ≡ m
   pub packet : state.packet ≡ kept_at m.stage p
@@ -87,18 +95,19 @@ pub record Going (base : EndState) (told told' : Option EndState) (memory memory
   pub moves : Moves base.machine m
   pub form : is_formed m.stage m.ended ≡ true → Form m.len buf
   pub silent : told ≡ None → told' ≡ None
-  pub tells : (u : EndState) → told ≡ Some u → is_busy_at m.stage ≡ true → (s : EndState) × (told' ≡ Some s) × Continues s m p × (entered s m p ≡ state)
-  pub ends : (u : EndState) → told ≡ Some u → is_busy_at m.stage ≡ false → (told' ≡ Some state) × (m.stage ≢ Stopped)
+  pub tells : (u : Told) → told ≡ Some u → is_busy_at m.stage ≡ true → (s : Told) × (told' ≡ Some s) × Continues s.state m p × (entered s.state m p ≡ state) × Counts base values u s
+  pub ends : (u : Told) → told ≡ Some u → is_busy_at m.stage ≡ false → (told' ≡ Some (told_by base values state u)) × (m.stage ≢ Stopped)
   pub runs : (k : Memory) → memory ≡ Some k → (k' : Memory) × (memory' ≡ Some k') × (run (length values) (pair base k) ≡ pair state k')
 
-pub going_first : (told : Option EndState) (memory : Option Memory) (m : Machine) (p buf : List ℕ) (sent got : List (List ℕ)) (past : List (Event (List ℕ))) → length buf ≡ m.cells → IsSound m → Starts m
-    → ((s : EndState) → told ≡ Some s → Continues s m p × (entered s m p ≡ shown m p buf sent got past)) → Going (shown m p buf sent got past) told told memory memory m p buf
+pub going_first : (told : Option Told) (memory : Option Memory) (m : Machine) (p buf : List ℕ) (sent got : List (List ℕ)) (past : List (Event (List ℕ))) → length buf ≡ m.cells → IsSound m → Starts m
+    → ((u : Told) → told ≡ Some u → Continues u.state m p × (entered u.state m p ≡ shown m p buf sent got past)) → Going (shown m p buf sent got past) told told memory memory m p buf
 going_first told memory m p buf sent got past w s h may =
     let o = opens m.stage h.opens in
     record {
       values = [];
       state = shown m p buf sent got past;
       is_after = refl;
+      each = tt;
       few = omega arith;
       machine = refl;
       packet = sym (ap (λ (t : Bool). cond t p []) o.busy);
@@ -108,24 +117,37 @@ going_first told memory m p buf sent got past w s h may =
       moves = moves_first m s h;
       form = λ f. absurd (no_true (o.formed m.ended) f);
       silent = λ q. q;
-      tells = λ u e b. (u, e, (may u e).0, (may u e).1);
+      tells = λ u e b. (u, e, (may u e).0, (may u e).1, record { steps = omega arith; raised = omega arith; woke = omega arith });
       ends = λ u e n. absurd (no_true n o.busy);
       runs = λ k e. (k, e, refl);
     }
 
-module _ (base : EndState) (told told' told'' : Option EndState) (memory memory' memory'' : Option Memory) (m : Machine) (p buf : List ℕ) (v : ℕ)
+module _ (base : EndState) (told told' told'' : Option Told) (memory memory' memory'' : Option Memory) (m : Machine) (p buf : List ℕ) (v : ℕ)
     (s : IsSound m) (b : is_busy_at m.stage ≡ true) (it : Going base told told' memory memory' m p buf)
     (quiet : told' ≡ None → told'' ≡ None)
-    (tells : (u : EndState) → told' ≡ Some u → (told'' ≡ Some (after (entered u m p) v)) × ((fed m v).stage ≢ Stopped))
+    (tells : (u : Told) → told' ≡ Some u → (told'' ≡ Some (told_next (told_at u m p) v)) × ((fed m v).stage ≢ Stopped))
     (runs : (k : Memory) (op : Op) → memory' ≡ Some k → next_of m p ≡ Some op → (memory'' ≡ Some (memory_after m.cells op k)) × (v ≡ answer_of m.cells op k)) where
   same_packet : it.state.packet ≡ p
   same_packet = it.packet ∙ ap (λ (t : Bool). cond t p []) b
 
-  next_told : (u : EndState) → told ≡ Some u → (told'' ≡ Some (after it.state v)) × ((fed m v).stage ≢ Stopped)
+  -- the stage of the step
+  stage_is : (afters base it.values).machine.stage ≡ m.stage
+  stage_is = ap (λ (x : EndState). x.machine.stage) (sym it.is_after) ∙ ap (λ (k : Machine). k.stage) it.machine
+
+  told_more : (u s : Told) → entered s.state m p ≡ it.state → Counts base it.values u s → told_next (told_at s m p) v ≡ told_by base (v ∷ it.values) (after it.state v) u
+  told_more u s same n =
+      let raises : raises_at (afters base it.values).machine.stage ≡ raises_at m.stage = ap raises_at stage_is in
+      let wakes : wakes_at (afters base it.values).machine.stage v ≡ wakes_at m.stage v = ap (λ (t : Stage). wakes_at t v) stage_is in
+      let steps : s.steps + 1 ≡ u.steps + length (v ∷ it.values) = omega (arith, n.steps) in
+      let raised : s.raised + raises_at m.stage ≡ u.raised + raises_of base (v ∷ it.values) = omega (arith, n.raised, raises) in
+      let woke : s.woke + wakes_at m.stage v ≡ u.woke + wakes_of base (v ∷ it.values) = omega (arith, n.woke, wakes) in
+      (λ i. record { state = after (same i) v; steps = steps i; raised = raised i; woke = woke i })
+
+  next_told : (u : Told) → told ≡ Some u → (told'' ≡ Some (told_by base (v ∷ it.values) (after it.state v) u)) × ((fed m v).stage ≢ Stopped)
   next_told u e =
       let t = it.tells u e b in
       let r = tells t.0 t.1 in
-      (subst (λ (x : EndState). told'' ≡ Some (after x v)) t.3 r.0, r.1)
+      (r.0 ∙ ap (λ (x : Told). Some x) (told_more u t.0 t.3 t.4), r.1)
 
   next_copied : (after it.state v).copied ≡ copied_at (fed m v).stage (take (fed m v).done (stored (is_copying_at m.stage) buf m.done v))
   next_copied =
@@ -190,6 +212,7 @@ module _ (base : EndState) (told told' told'' : Option EndState) (memory memory'
     values = v ∷ it.values;
     state = after it.state v;
     is_after = ap (λ (x : EndState). after x v) it.is_after;
+    each = (ap is_busy_at stage_is ∙ b, it.each);
     few = (let n = fed_made m v s b in omega (arith, it.few));
     machine = ap (λ (k : Machine). fed k v) it.machine;
     packet = next_packet;
@@ -201,35 +224,36 @@ module _ (base : EndState) (told told' told'' : Option EndState) (memory memory'
     silent = λ h. quiet (it.silent h);
     tells = λ u e b'.
         let packet : p ≡ (after it.state v).packet = sym (next_packet ∙ ap (λ (t : Bool). cond t p []) b') in (
-          after it.state v,
+          told_by base (v ∷ it.values) (after it.state v) u,
           (next_told u e).0,
           inl (sym (ap (λ (k : Machine). fed k v) it.machine), packet),
           λ i. record { machine = sym (ap (λ (k : Machine). fed k v) it.machine) i; packet = packet i; copied = (after it.state v).copied; sent = (after it.state v).sent; got = (after it.state v).got; past = (after it.state v).past },
+          record { steps = refl; raised = refl; woke = refl },
         );
     ends = λ u e n. next_told u e;
     runs = next_run;
   }
 
 -- what the seat asks at the next step
-pub going_asks : (base : EndState) (told told' : Option EndState) (memory memory' : Option Memory) (m : Machine) (p buf : List ℕ) → Going base told told' memory memory' m p buf → is_busy_at m.stage ≡ true
-    → (s : EndState) → told' ≡ Some s → Continues s m p
+pub going_asks : (base : EndState) (told told' : Option Told) (memory memory' : Option Memory) (m : Machine) (p buf : List ℕ) → Going base told told' memory memory' m p buf → is_busy_at m.stage ≡ true
+    → (s : Told) → told' ≡ Some s → Continues s.state m p
 going_asks base None told' memory memory' m p buf it b s e = absurd (none_some (sym (it.silent refl) ∙ e))
 going_asks base (Some u) told' memory memory' m p buf it b s e =
     let t = it.tells u refl b in
     let same : t.0 ≡ s = cc in
-    subst (λ (x : EndState). Continues x m p) same t.2
+    subst (λ (x : Told). Continues x.state m p) same t.2
 
 rested : (t : EndState) (m : Machine) (sent got : List (List ℕ)) (past : List (Event (List ℕ))) → t.machine ≡ m → t.packet ≡ [] → t.copied ≡ [] → t.sent ≡ sent → t.got ≡ got → t.past ≡ past → t ≡ resting m sent got past
 rested t m sent got past a b c d e f = λ i. record { machine = a i; packet = b i; copied = c i; sent = d i; got = e i; past = f i }
 
-left_by : (base : EndState) (told told' : Option EndState) (memory memory' : Option Memory) (m : Machine) (sent got : List (List ℕ)) (past : List (Event (List ℕ))) (t : EndState) → t ≡ resting m sent got past → Ran base t told told' memory memory' → Left base told told' memory memory' m sent got past
+left_by : (base : EndState) (told told' : Option Told) (memory memory' : Option Memory) (m : Machine) (sent got : List (List ℕ)) (past : List (Event (List ℕ))) (t : EndState) → t ≡ resting m sent got past → Ran base t told told' memory memory' → Left base told told' memory memory' m sent got past
 left_by base None told' memory memory' m sent got past t e r = record {
   ran = subst (λ (x : EndState). Ran base x None told' memory memory') e r;
   told_is = λ s h. absurd (none_some (sym (r.silent refl) ∙ h));
 }
 left_by base (Some u) told' memory memory' m sent got past t e r = record {
   ran = subst (λ (x : EndState). Ran base x (Some u) told' memory memory') e r;
-  told_is = λ s h. let same : t ≡ s = cc ((r.tells u refl).0) in sym same ∙ e;
+  told_is = λ s h. let same : told_by base r.values t u ≡ s = cc ((r.tells u refl).0) in sym (ap (λ (x : Told). x.state) same) ∙ e;
 }
 
 -- a broken end did nothing
@@ -293,7 +317,7 @@ packet_of n buf le f =
       offset = subst (λ (x : ℕ). (2 ≤ offset8_of x) × (offset8_of x ≤ length (take n buf))) (sym same) (f.offset.0, omega (arith, f.offset.1, long));
     }
 
-module _ (base : EndState) (told told' : Option EndState) (memory memory' : Option Memory) (m : Machine) (p buf : List ℕ) (it : Going base told told' memory memory' m p buf) (s : IsSound m) (n : is_busy_at m.stage ≡ false) where
+module _ (base : EndState) (told told' : Option Told) (memory memory' : Option Memory) (m : Machine) (p buf : List ℕ) (it : Going base told told' memory memory' m p buf) (s : IsSound m) (n : is_busy_at m.stage ≡ false) where
   pub going_calls : call_by m.ended ≡ call_at base.machine.stage
   going_calls = (it.lists.ended n).0
 
@@ -311,14 +335,15 @@ module _ (base : EndState) (told told' : Option EndState) (memory memory' : Opti
       (record {
         values = it.values;
         state = it.is_after;
+        each = it.each;
         few = subst (λ (k : Machine). length it.values ≤ made_at k.stage k) (sym it.machine) it.few;
         silent = it.silent;
         tells = λ u e. ((it.ends u e n).0, λ h. (it.ends u e n).1 (sym (ap (λ (k : Machine). k.stage) it.machine) ∙ h));
         runs = it.runs;
       })
 
-pub going_honest : (base : EndState) (told told' : Option EndState) (memory memory' : Option Memory) (m : Machine) (p buf : List ℕ) → Going base told told' memory memory' m p buf → is_busy_at m.stage ≡ false
-    → (u : EndState) → told' ≡ Some u → m.stage ≢ Stopped
+pub going_honest : (base : EndState) (told told' : Option Told) (memory memory' : Option Memory) (m : Machine) (p buf : List ℕ) → Going base told told' memory memory' m p buf → is_busy_at m.stage ≡ false
+    → (u : Told) → told' ≡ Some u → m.stage ≢ Stopped
 going_honest base None told' memory memory' m p buf it n u e = absurd (none_some (sym (it.silent refl) ∙ e))
 going_honest base (Some t) told' memory memory' m p buf it n u e = (it.ends t refl n).1
 

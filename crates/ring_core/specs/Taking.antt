@@ -3,7 +3,7 @@ use Rattle.std.specs.Prelude.{◌≡◌, ◌+◌, ◌≤◌, Bool, true, false, 
 use Rattle.ring_machine.specs.declared.last.TakeRefusal.{TakeRefusal}
 use Rattle.ring_machine.specs.declared.last.TakeRefusal.TheVariants.{Stopped as StoppedTake}
 use Rattle.ring_machine.specs.declared.machine.Stage.TheVariants.{Idle, Stopped}
-use Rattle.ring_machine.specs.declared.state.EndState.{EndState}
+use Rattle.ring_core.specs.declared.told.Told.{Told}
 use Rattle.ring_machine.specs.Steps.{is_took, call_by, take_begun}
 use Rattle.ring_machine.specs.States.{Gets, entered, past_of}
 use Rattle.ring_machine.specs.Endings.{Leaves, LeavesBy, why_of, take_refusal, is_empty_refusal}
@@ -16,7 +16,7 @@ is_honest_take None = true
 is_honest_take (Some r) = is_empty_refusal r
 
 -- a take of an end that isn't stopped
-pub record TakesIdle (S : Type 0) (told : S → Option EndState) (memory : S → Option Memory) (old new : Seen S) (refusal : Option TakeRefusal) : Type 0 where
+pub record TakesIdle (S : Type 0) (told : S → Option Told) (memory : S → Option Memory) (old new : Seen S) (refusal : Option TakeRefusal) : Type 0 where
   pub ran : Ran (entered old.state (take_begun old.state.machine) []) new.state (told old.seat) (told new.seat) (memory old.seat) (memory new.seat)
   pub answer : refusal ≡ cond (is_took new.state.machine.ended) None (Some (take_refusal new.state.machine.ended new.state.machine))
   pub call : call_by new.state.machine.ended ≡ 2
@@ -26,10 +26,10 @@ pub record TakesIdle (S : Type 0) (told : S → Option EndState) (memory : S →
   pub refused : is_took new.state.machine.ended ≡ false → (new.state.got ≡ old.state.got) × (new.state.past ≡ past_of new.state.machine.ended new.state.machine.saw [] old.state.past) × (new.spare_got ≡ old.spare_got)
 
 -- What a take leaves: a stopped end refuses, and nothing is changed. Where the seat tells the end's state, the answer is a packet, or that there is none
-pub record Takes (S : Type 0) (told : S → Option EndState) (memory : S → Option Memory) (same : S → S → Type 0) (old new : Seen S) (refusal : Option TakeRefusal) : Type 0 where
+pub record Takes (S : Type 0) (told : S → Option Told) (memory : S → Option Memory) (same : S → S → Type 0) (old new : Seen S) (refusal : Option TakeRefusal) : Type 0 where
   pub idle : old.state.machine.stage ≡ Idle → TakesIdle S told memory old new refusal
   pub stopped : old.state.machine.stage ≡ Stopped → (refusal ≡ Some (StoppedTake (why_of old.state.machine))) × (new ≡ old)
-  pub honest : (s : EndState) → told old.seat ≡ Some s → (old.state.machine.stage ≡ Idle) × (new.state.machine.stage ≡ Idle) × (is_honest_take refusal ≡ true)
+  pub honest : (u : Told) → told old.seat ≡ Some u → (old.state.machine.stage ≡ Idle) × (new.state.machine.stage ≡ Idle) × (is_honest_take refusal ≡ true)
   pub same_seat : same old.seat new.seat
   pub cells : new.state.machine.cells ≡ old.state.machine.cells
   pub side : new.state.machine.side ≡ old.state.machine.side

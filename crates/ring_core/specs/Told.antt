@@ -1,18 +1,20 @@
--- A told memory: its words, the steps made, and the changes that are still due. And a call of an end on it.
-use Rattle.std.specs.Prelude.{◌≡◌, ◌≢◌, ◌≤◌, ℕ, zero, suc, ◌+◌, ◌%◌, ◌^◌, cond, leb, List, [], ◌∷◌, length, replicate, slice_index, slice_set, Option, Some, None}
+-- What a seat tells: of its end, and of its memory, whose words, steps made and changes still due count. And a call of an end there.
+use Rattle.std.specs.Prelude.{◌≡◌, ◌≢◌, ◌≤◌, ℕ, zero, suc, ◌+◌, ◌%◌, ◌^◌, cond, leb, List, [], ◌∷◌, length, replicate, slice_index, slice_set, Option, Some, None, ◌==◌, true}
 use Rattle.chan_run.specs.declared.event.Event.{Event}
+use Rattle.ring_core.specs.declared.told.Told.{Told}
 use Rattle.ring_core.specs.declared.told_mem.Change.{Change}
 use Rattle.ring_machine.specs.declared.place.Op.{Op}
 use Rattle.ring_machine.specs.declared.place.Op.TheVariants.{Load, Store, Raise, TakeSignal, StoreMark}
 use Rattle.ring_machine.specs.declared.machine.Machine.{Machine}
-use Rattle.ring_machine.specs.declared.machine.Stage.TheVariants.{Stopped}
+use Rattle.ring_machine.specs.declared.machine.Stage.{Stage}
+use Rattle.ring_machine.specs.declared.machine.Stage.TheVariants.{Stopped, SendRaise, CommitRaise, PollSignal, MarkRaise}
 use Rattle.ring_machine.specs.declared.state.EndState.{EndState}
 use Rattle.ring_machine.specs.declared.place.Ring.{Ring}
 use Rattle.ring_machine.specs.declared.place.Ring.TheVariants.{ToHost, ToGuest}
 use Rattle.ring_machine.specs.declared.place.Place.TheVariants.{Mask, Feature}
 use Rattle.ring_machine.specs.Places.{index_of, signal_of, mark_of, words_of, IsPlaceOf}
-use Rattle.ring_machine.specs.Steps.{next_of, made_at}
-use Rattle.ring_machine.specs.States.{after, afters, resting}
+use Rattle.ring_machine.specs.Steps.{next_of, made_at, is_busy_at}
+use Rattle.ring_machine.specs.States.{after, afters, entered, resting}
 
 pub record Memory : Type 0 where
   pub words : List ℕ
@@ -79,20 +81,59 @@ run (suc n) x = step (run n x)
 abbrev pub pair : EndState → Memory → Pair
 pair s m = record { state = s; memory = m }
 
--- A call that began at the state s ended at the state t: t is the machine's state on what the steps answered, at most as many as the call's row has.
--- Where the seat tells its memory, the call is the machine's run on it. Where it tells its end's state, that is t, and the end isn't stopped
-pub record Ran (s t : EndState) (told told' : Option EndState) (memory memory' : Option Memory) : Type 0 where
+-- a step that raises the peer's signal, and one that answered v and so found the end's own signal up and took it
+abbrev pub raises_at : Stage → ℕ
+raises_at SendRaise = 1
+raises_at CommitRaise = 1
+raises_at MarkRaise = 1
+raises_at _ = 0
+
+abbrev pub wakes_at : Stage → ℕ → ℕ
+wakes_at PollSignal v = cond (v == 0) 0 1
+wakes_at _ v = 0
+
+-- what is told where the machine m goes on, or begins a call, with the packet p: no step is made by that
+abbrev pub told_at : Told → Machine → List ℕ → Told
+told_at u m p = record { state = entered u.state m p; steps = u.steps; raised = u.raised; woke = u.woke }
+
+-- and after one step that answered v
+abbrev pub told_next : Told → ℕ → Told
+told_next u v = record { state = after u.state v; steps = u.steps + 1; raised = u.raised + raises_at u.state.machine.stage; woke = u.woke + wakes_at u.state.machine.stage v }
+
+-- the raises and the wakes among the steps that gave these answers, the last one first, from the state s
+abbrev pub raises_of : EndState → List ℕ → ℕ
+raises_of s [] = 0
+raises_of s (v ∷ vs) = raises_of s vs + raises_at (afters s vs).machine.stage
+
+abbrev pub wakes_of : EndState → List ℕ → ℕ
+wakes_of s [] = 0
+wakes_of s (v ∷ vs) = wakes_of s vs + wakes_at (afters s vs).machine.stage v
+
+-- what is told at the end t of a call that began at the state s, where u was told before: each answer is one step
+abbrev pub told_by : EndState → List ℕ → EndState → Told → Told
+told_by s values t u = record { state = t; steps = u.steps + length values; raised = u.raised + raises_of s values; woke = u.woke + wakes_of s values }
+
+-- each of these answers was given to a call that was under way
+abbrev pub AreSteps : EndState → List ℕ → Type 0
+AreSteps s [] = Unit {0}
+AreSteps s (v ∷ vs) = (is_busy_at (afters s vs).machine.stage ≡ true) × AreSteps s vs
+
+-- A call that began at the state s ended at the state t: t is the machine's state on what its steps answered, one answer a step, at most as many as the
+-- call's row has. Where the seat tells its memory, the call is the machine's run on it. Where it tells its end's state, that is t, the end isn't
+-- stopped, and the seat counts as many steps as there are answers
+pub record Ran (s t : EndState) (told told' : Option Told) (memory memory' : Option Memory) : Type 0 where
   pub values : List ℕ
   pub state : t ≡ afters s values
+  pub each : AreSteps s values
   pub few : length values ≤ made_at t.machine.stage t.machine
   pub silent : told ≡ None → told' ≡ None
-  pub tells : (u : EndState) → told ≡ Some u → (told' ≡ Some t) × (t.machine.stage ≢ Stopped)
+  pub tells : (u : Told) → told ≡ Some u → (told' ≡ Some (told_by s values t u)) × (t.machine.stage ≢ Stopped)
   pub runs : (m : Memory) → memory ≡ Some m → (m' : Memory) × (memory' ≡ Some m') × (run (length values) (pair s m) ≡ pair t m')
 
 -- what a call leaves, where its lists are as they should be
-pub record Left (base : EndState) (told told' : Option EndState) (memory memory' : Option Memory) (m : Machine) (sent got : List (List ℕ)) (past : List (Event (List ℕ))) : Type 0 where
+pub record Left (base : EndState) (told told' : Option Told) (memory memory' : Option Memory) (m : Machine) (sent got : List (List ℕ)) (past : List (Event (List ℕ))) : Type 0 where
   pub ran : Ran base (resting m sent got past) told told' memory memory'
-  pub told_is : (s : EndState) → told' ≡ Some s → s ≡ resting m sent got past
+  pub told_is : (u : Told) → told' ≡ Some u → u.state ≡ resting m sent got past
 
 -- what a contract sees of a memory: the cells of each of its rings, and its words
 pub record Held : Type 0 where

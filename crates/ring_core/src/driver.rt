@@ -1,12 +1,12 @@
 //! The drivers of a call: the loops that make its steps.
 ghost use Rattle.std.specs.Prelude.{◌≡◌, ◌≢◌, ℕ, ◌<◌, true, length, Some, None};
 ghost use Rattle.ring_machine.specs.Loops.{SendKeeps, TakeKeeps, CommitKeeps};
-ghost use Rattle.ring_machine.specs.States.{after, entered, stored, Continues};
+ghost use Rattle.ring_machine.specs.States.{stored, Continues};
 ghost use Rattle.ring_machine.specs.Steps.{is_busy_at, is_copying_at, next_of, fed};
-ghost use Rattle.ring_core.specs.Told.{Memory, memory_after, answer_of};
+ghost use Rattle.ring_core.specs.Told.{Memory, memory_after, answer_of, told_at, told_next};
+ghost use Rattle.ring_core.specs.declared.told.Told.{Told};
 ghost use Rattle.ring_machine.specs.declared.machine.Stage.TheVariants.{Stopped};
 ghost use Rattle.ring_machine.specs.declared.place.Op.{Op};
-ghost use Rattle.ring_machine.specs.declared.state.EndState.{EndState};
 
 use crate::parts::Parts;
 use crate::seat::Seatlike;
@@ -30,7 +30,7 @@ fn step<S: Seatlike>(seat: &mut S, core: &mut EndCore, buf: &mut Vec<u64>, packe
     requires busy { is_busy_at core.old.machine.stage ≡ true }
     requires wide { length buf.old.items ≡ core.old.machine.cells }
     requires fits { S.cells seat.old ≡ core.old.machine.cells }
-    requires goes_on { (s : EndState) → S.told seat.old ≡ Some s → Continues s core.old.machine packet.now }
+    requires goes_on { (u : Told) → S.told seat.old ≡ Some u → Continues u.state core.old.machine packet.now }
     ensures fed { core.new.machine ≡ fed core.old.machine result }
     ensures stored { buf.new.items ≡ stored (is_copying_at core.old.machine.stage) buf.old.items core.old.machine.done result }
     ensures len { length buf.new.items ≡ length buf.old.items }
@@ -38,7 +38,7 @@ fn step<S: Seatlike>(seat: &mut S, core: &mut EndCore, buf: &mut Vec<u64>, packe
     ensures same { S.same seat.old seat.new }
     ensures cells { S.cells seat.new ≡ S.cells seat.old }
     ensures silent { S.told seat.old ≡ None → S.told seat.new ≡ None }
-    ensures tells { (s : EndState) → S.told seat.old ≡ Some s → (S.told seat.new ≡ Some (after (entered s core.old.machine packet.now) result)) × ((fed core.old.machine result).stage ≢ Stopped) }
+    ensures tells { (u : Told) → S.told seat.old ≡ Some u → (S.told seat.new ≡ Some (told_next (told_at u core.old.machine packet.now) result)) × ((fed core.old.machine result).stage ≢ Stopped) }
 {
     let v = seat.perform(core, packet);
     let copies = core.is_copying();
@@ -58,7 +58,7 @@ fn step_apart<S: Seatlike>(
     requires busy { is_busy_at core.old.machine.stage ≡ true }
     requires wide { length buf.old.items ≡ core.old.machine.cells }
     requires fits { S.cells seat.old ≡ core.old.machine.cells }
-    requires goes_on { (s : EndState) → S.told seat.old ≡ Some s → Continues s core.old.machine packet.now }
+    requires goes_on { (u : Told) → S.told seat.old ≡ Some u → Continues u.state core.old.machine packet.now }
     ensures fed { core.new.machine ≡ fed core.old.machine result }
     ensures stored { buf.new.items ≡ stored (is_copying_at core.old.machine.stage) buf.old.items core.old.machine.done result }
     ensures len { length buf.new.items ≡ length buf.old.items }
@@ -66,7 +66,7 @@ fn step_apart<S: Seatlike>(
     ensures same { S.same seat.old seat.new }
     ensures cells { S.cells seat.new ≡ S.cells seat.old }
     ensures silent { S.told seat.old ≡ None → S.told seat.new ≡ None }
-    ensures tells { (s : EndState) → S.told seat.old ≡ Some s → (S.told seat.new ≡ Some (after (entered s core.old.machine packet.now) result)) × ((fed core.old.machine result).stage ≢ Stopped) }
+    ensures tells { (u : Told) → S.told seat.old ≡ Some u → (S.told seat.new ≡ Some (told_next (told_at u core.old.machine packet.now) result)) × ((fed core.old.machine result).stage ≢ Stopped) }
 {
     step(seat, core, buf, packet)
 }
@@ -130,12 +130,12 @@ pub(crate) trait Driver<S: Seatlike> {
     ghost use Rattle.ring_machine.specs.Steps.{is_busy_at, is_took, call_at, call_by};
     ghost use Rattle.ring_core.specs.Told.{Left};
     ghost use Rattle.ring_machine.specs.declared.machine.Stage.TheVariants.{Stopped};
-    ghost use Rattle.ring_machine.specs.declared.state.EndState.{EndState};
+    ghost use Rattle.ring_core.specs.declared.told.Told.{Told};
 
     fn drive(parts: &mut Parts<S>, packet: &[u64])
         requires starts { Starts parts.old.core.machine }
         requires fits { S.cells parts.old.seat ≡ parts.old.core.machine.cells }
-        requires goes_on { (s : EndState) → S.told parts.old.seat ≡ Some s → Continues s parts.old.core.machine packet.now × (entered s parts.old.core.machine packet.now ≡ shown parts.old.core.machine packet.now parts.old.buf.items parts.old.sent.list parts.old.got.list parts.old.past.events) }
+        requires goes_on { (u : Told) → S.told parts.old.seat ≡ Some u → Continues u.state parts.old.core.machine packet.now × (entered u.state parts.old.core.machine packet.now ≡ shown parts.old.core.machine packet.now parts.old.buf.items parts.old.sent.list parts.old.got.list parts.old.past.events) }
         ensures call { call_by parts.new.core.machine.ended ≡ call_at parts.old.core.machine.stage }
         ensures leaves { Leaves parts.old.core.machine parts.new.core.machine }
         ensures took { is_took parts.new.core.machine.ended ≡ true → IsPacket (take parts.new.core.machine.len parts.new.buf.items) }
@@ -144,7 +144,7 @@ pub(crate) trait Driver<S: Seatlike> {
         ensures lists { (parts.new.sent ≡ parts.old.sent) × (parts.new.got ≡ parts.old.got) × (parts.new.past ≡ parts.old.past) }
         ensures same { S.same parts.old.seat parts.new.seat }
         ensures cells { S.cells parts.new.seat ≡ parts.new.core.machine.cells }
-        ensures honest { (s : EndState) → S.told parts.new.seat ≡ Some s → parts.new.core.machine.stage ≢ Stopped };
+        ensures honest { (u : Told) → S.told parts.new.seat ≡ Some u → parts.new.core.machine.stage ≢ Stopped };
 }
 
 /// For a send.

@@ -10,7 +10,7 @@ ghost use Rattle.ring_machine.specs.Endings.{refused};
 ghost use Rattle.ring_core.specs.Told.{Ran};
 ghost use Rattle.ring_machine.specs.declared.last.SendRefusal.TheVariants.{Stopped as StoppedSend};
 ghost use Rattle.ring_machine.specs.declared.machine.Stage.TheVariants.{Idle, Stopped};
-ghost use Rattle.ring_machine.specs.declared.state.EndState.{EndState};
+ghost use Rattle.ring_core.specs.declared.told.Told.{Told};
 
 use crate::driver::{CommitLoops, PlainLoop, SendLoops, TakeLoops};
 use crate::packets::Packets;
@@ -36,13 +36,13 @@ impl<S: Seatlike> Model for End<S> {
     ghost use Rattle.ring_machine.specs.States.{resting};
     ghost use Rattle.ring_machine.specs.Steps.{is_busy_at};
     ghost use Rattle.ring_machine.specs.declared.machine.Stage.TheVariants.{Stopped};
-    ghost use Rattle.ring_machine.specs.declared.state.EndState.{EndState};
+    ghost use Rattle.ring_core.specs.declared.told.Told.{Told};
 
     ghost Value = { Seen S };
 
     ghost view = { λ e. record { state = resting e.parts.core.machine e.parts.sent.list e.parts.got.list e.parts.past.events; seat = e.parts.seat; spare_sent = e.parts.sent.room; spare_got = e.parts.got.room } };
 
-    ghost invariant = { λ e. record { rests : is_busy_at e.parts.core.machine.stage ≡ false; cells : S.cells e.parts.seat ≡ e.parts.core.machine.cells; told : (s : EndState) → S.told e.parts.seat ≡ Some s → s ≡ resting e.parts.core.machine e.parts.sent.list e.parts.got.list e.parts.past.events; honest : (s : EndState) → S.told e.parts.seat ≡ Some s → e.parts.core.machine.stage ≢ Stopped } };
+    ghost invariant = { λ e. record { rests : is_busy_at e.parts.core.machine.stage ≡ false; cells : S.cells e.parts.seat ≡ e.parts.core.machine.cells; told : (u : Told) → S.told e.parts.seat ≡ Some u → u.state ≡ resting e.parts.core.machine e.parts.sent.list e.parts.got.list e.parts.past.events; honest : (u : Told) → S.told e.parts.seat ≡ Some u → e.parts.core.machine.stage ≢ Stopped } };
 }
 
 impl<S: Seatlike> End<S> {
@@ -52,7 +52,7 @@ impl<S: Seatlike> End<S> {
         S: Drop,
         requires size { IsRingSize d }
         requires seat { S.cells seat ≡ d / 8 }
-        requires told { (s : EndState) → S.told seat ≡ Some s → s ≡ resting (machine_new side (d / 8)) [] [] [] }
+        requires told { (u : Told) → S.told seat ≡ Some u → u.state ≡ resting (machine_new side (d / 8)) [] [] [] }
         ensures { IfOk result (λ e. (e.state ≡ resting (machine_new side (d / 8)) [] [] []) × (e.seat ≡ seat)) }
     {
         let core = EndCore::make(side, d);
@@ -157,7 +157,7 @@ impl<S: Seatlike> End<S> {
         ensures seat { result.0 ≡ self.seat }
         ensures sent { result.1.list ≡ self.state.sent }
         ensures got { result.2.list ≡ self.state.got }
-        ensures told { (s : EndState) → S.told result.0 ≡ Some s → s ≡ self.state }
+        ensures told { (u : Told) → S.told result.0 ≡ Some u → u.state ≡ self.state }
     {
         let End { parts } = self;
         let Parts {
@@ -192,7 +192,7 @@ impl<S: Seatlike> End<S> {
         ensures awake { (self.new.state.machine.asleep ≡ false) × (self.new.state.machine.marked ≡ false) }
         ensures lists { self.old.state.machine.stage ≡ Idle → (self.new.state.sent ≡ sent_by self.new.state.machine self.old.state.sent p.now) × (self.new.state.past ≡ past_of self.new.state.machine.ended self.new.state.machine.saw p.now self.old.state.past) }
         ensures stopped { self.old.state.machine.stage ≡ Stopped → (result ≡ Err (StoppedSend (why_of self.old.state.machine))) × (self.new ≡ self.old) }
-        ensures honest { (s : EndState) → S.told self.old.seat ≡ Some s → (self.old.state.machine.stage ≡ Idle) × (self.new.state.machine.stage ≡ Idle) × (is_honest_send result ≡ true) }
+        ensures honest { (u : Told) → S.told self.old.seat ≡ Some u → (self.old.state.machine.stage ≡ Idle) × (self.new.state.machine.stage ≡ Idle) × (is_honest_send result ≡ true) }
         ensures same { (S.same self.old.seat self.new.seat) × (self.new.state.machine.cells ≡ self.old.state.machine.cells) × (self.new.state.machine.side ≡ self.old.state.machine.side) }
         ensures kept { (self.new.state.got ≡ self.old.state.got) × (self.new.spare_got ≡ self.old.spare_got) }
         ensures room { SentRoom self.new.state.machine.ended (length p.now) self.old.spare_sent self.new.spare_sent }

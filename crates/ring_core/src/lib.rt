@@ -10,6 +10,7 @@ mod room;
 mod seat;
 mod solo_mem;
 mod taken;
+mod told;
 mod told_mem;
 mod words;
 
@@ -26,4 +27,5 @@ pub use room::Room;
 pub use seat::Seatlike;
 pub use solo_mem::SoloMem;
 pub use taken::Taken;
+pub use told::Told;
 pub use told_mem::{Change, ToldMem, opening_words};

@@ -9,7 +9,7 @@ ghost use Rattle.ring_machine.specs.Steps.{is_busy_at, is_copying_at, next_of, f
 ghost use Rattle.ring_core.specs.Told.{Left, Memory, memory_after, answer_of};
 ghost use Rattle.ring_machine.specs.declared.machine.Stage.TheVariants.{Stopped};
 ghost use Rattle.ring_machine.specs.declared.place.Op.{Op};
-ghost use Rattle.ring_machine.specs.declared.state.EndState.{EndState};
+ghost use Rattle.ring_core.specs.declared.told.Told.{Told};
 ghost use Rattle.chan_run.specs.declared.event.Event.TheVariants.{Sent as SentEvent, Got as GotEvent};
 
 use crate::driver::Driver;
@@ -111,7 +111,7 @@ impl<S: Seatlike> Parts<S> {
     pub(crate) fn make_call<D: Driver<S>>(&mut self, packet: &[u64])
         requires starts { Starts self.old.core.machine }
         requires fits { S.cells self.old.seat ≡ self.old.core.machine.cells }
-        requires goes_on { (s : EndState) → S.told self.old.seat ≡ Some s → Continues s self.old.core.machine packet.now × (entered s self.old.core.machine packet.now ≡ shown self.old.core.machine packet.now self.old.buf.items self.old.sent.list self.old.got.list self.old.past.events) }
+        requires goes_on { (u : Told) → S.told self.old.seat ≡ Some u → Continues u.state self.old.core.machine packet.now × (entered u.state self.old.core.machine packet.now ≡ shown self.old.core.machine packet.now self.old.buf.items self.old.sent.list self.old.got.list self.old.past.events) }
         requires sent_room { call_at self.old.core.machine.stage ≡ 1 → (0 < self.old.sent.room.packets) × (length packet.now ≤ self.old.sent.room.words) }
         requires got_room { call_at self.old.core.machine.stage ≡ 2 → (0 < self.old.got.room.packets) × (self.old.core.machine.cells ≤ self.old.got.room.words) }
         ensures call { call_by self.new.core.machine.ended ≡ call_at self.old.core.machine.stage }
@@ -128,7 +128,7 @@ impl<S: Seatlike> Parts<S> {
         ensures got_kept { is_took self.new.core.machine.ended ≡ false → self.new.got ≡ self.old.got }
         ensures same { S.same self.old.seat self.new.seat }
         ensures cells { S.cells self.new.seat ≡ self.new.core.machine.cells }
-        ensures honest { (s : EndState) → S.told self.new.seat ≡ Some s → self.new.core.machine.stage ≢ Stopped }
+        ensures honest { (u : Told) → S.told self.new.seat ≡ Some u → self.new.core.machine.stage ≢ Stopped }
     {
         D::drive(self, packet);
         self.keep(packet);

@@ -1,5 +1,7 @@
 //! How the calls of an end answer.
 
+use thiserror::Error;
+
 /// Whether a call raised the peer's signal.
 #[derive(Clone, Copy, Debug, PartialEq, Eq)]
 pub enum Signalled {
@@ -19,22 +21,27 @@ pub enum Armed {
 }
 
 /// What is wrong with a packet that a take met.
-#[derive(Clone, Copy, Debug, PartialEq, Eq)]
+#[derive(Clone, Copy, Debug, PartialEq, Eq, Error)]
 pub enum Bad {
     /// The write index is no multiple of 8 below the ring's size.
+    #[error("write index {value} is no multiple of 8 in the ring")]
     Index { value: u32 },
     /// The length is below 2 words, or with its trailer above the bytes that aren't taken yet.
+    #[error("length of {len8} words where {avail} bytes wait")]
     Length { len8: u16, avail: u32 },
     /// The offset of the payload is below 2 words, or above the length.
+    #[error("payload at word {offset8} of {len8}")]
     Offset { offset8: u16, len8: u16 },
 }
 
 /// Why an end stopped.
-#[derive(Clone, Copy, Debug, PartialEq, Eq)]
+#[derive(Clone, Copy, Debug, PartialEq, Eq, Error)]
 pub enum Why {
     /// A send loaded a read index that is no multiple of 8 below the ring's size.
+    #[error("read index {index} is no multiple of 8 in the ring")]
     BadPeer { index: u32 },
     /// A take met a packet in no form.
+    #[error("malformed packet: {0}")]
     Malformed(Bad),
 }
 
@@ -83,22 +90,28 @@ pub enum Last {
 }
 
 /// Why a packet wasn't sent.
-#[derive(Clone, Copy, Debug, PartialEq, Eq)]
+#[derive(Clone, Copy, Debug, PartialEq, Eq, Error)]
 pub enum SendRefusal {
     /// The ring has too little room now: the free bytes, and those that the packet needs with its trailer.
+    #[error("ring full: {free} bytes free, {need} needed")]
     Full { free: u32, need: u32 },
     /// The peer's read index is no multiple of 8 below the ring's size.
+    #[error("read index {index} is no multiple of 8 in the ring")]
     BadPeer { index: u32 },
     /// The end refused before.
+    #[error("stopped before: {why}")]
     Stopped { why: Why },
 }
 
 /// Why no packet was taken.
-#[derive(Clone, Copy, Debug, PartialEq, Eq)]
+#[derive(Clone, Copy, Debug, PartialEq, Eq, Error)]
 pub enum TakeRefusal {
     /// The ring holds no packet past this index.
+    #[error("ring empty at {at}")]
     Empty { at: u32 },
+    #[error("malformed packet: {0}")]
     Malformed(Bad),
     /// The end refused before.
+    #[error("stopped before: {why}")]
     Stopped { why: Why },
 }

@@ -17,14 +17,14 @@ use Rattle.ring_machine.specs.declared.place.Op.TheVariants.{Load, Store, Raise,
 use Rattle.ring_machine.specs.Inside.{IsOpOf, IsInside}
 use Rattle.ring_machine.specs.Places.{IsPlaceOf, peer_of, index_of, signal_of, words_of}
 use Rattle.ring_machine.specs.Steps.{IsSound, next_of}
-use Rattle.ring_machine.specs.States.{after, entered, Continues, BeginsSend, BeginsTake, BeginsCommit, BeginsArm, BeginsPoll, BeginsMark, BeginsPeerMark}
-use Rattle.ring_core.specs.Told.{written, answer_in}
+use Rattle.ring_machine.specs.States.{entered, Continues, BeginsSend, BeginsTake, BeginsCommit, BeginsArm, BeginsPoll, BeginsMark, BeginsPeerMark}
+use Rattle.ring_core.specs.declared.told.Told.{Told}
+use Rattle.ring_core.specs.Told.{written, answer_in, told_at, told_next}
 use Rattle.ring_machine.proofs.Bounds.{inside_at}
 use Rattle.ring_seat.specs.declared.view.View.{View}
 use Rattle.ring_seat.specs.declared.view.View.TheVariants.{Both, One, Spent}
 use Rattle.ring_seat.specs.Seats.{Knows, Holds, word_at, stored_by, IsOp, IsNamed, Tells}
-use Rattle.ring_seat.specs.Rule.{with_end}
-use Rattle.ring_seat.proofs.Sided.{Sided, sided_of, invariant_of, stepped, continued}
+use Rattle.ring_seat.proofs.Counting.{Counted, counted_of, next_counted, at_counted, with_told, invariant_with, signals_with}
 
 -- what the word of a step becomes, and what the machine is fed, by the value that was there
 abbrev pub becomes : Op → ℕ → ℕ
@@ -55,75 +55,76 @@ answer_is n (Raise x) ws = refl
 answer_is n (TakeSignal x) ws = refl
 answer_is n (StoreMark x) ws = refl
 
--- the ends after a step of one of them
-end_here : (x : Side) (e : EndState) (ends : Side → EndState) → with_end x e ends x ≡ e
-end_here Guest e ends = refl
-end_here Host e ends = refl
+-- what is told after a step of one of them
+end_here : (x : Side) (u : Told) (ends : Side → Told) → with_told x u ends x ≡ u
+end_here Guest u ends = refl
+end_here Host u ends = refl
 
-end_else : (x y : Side) (e : EndState) (ends : Side → EndState) → y ≢ x → with_end x e ends y ≡ ends y
-end_else Guest Guest e ends ne = absurd (ne refl)
-end_else Guest Host e ends ne = refl
-end_else Host Guest e ends ne = refl
-end_else Host Host e ends ne = absurd (ne refl)
+end_else : (x y : Side) (u : Told) (ends : Side → Told) → y ≢ x → with_told x u ends y ≡ ends y
+end_else Guest Guest u ends ne = absurd (ne refl)
+end_else Guest Host u ends ne = refl
+end_else Host Guest u ends ne = refl
+end_else Host Host u ends ne = absurd (ne refl)
 
 either_seat : (seat : Side → ℕ) (j : ℕ) (x : Side) → j ≡ seat Guest → j ≡ seat Host → j ≡ seat x
 either_seat seat j Guest a b = a
 either_seat seat j Host a b = b
 
-module _ (ends : Side → EndState) (seat : Side → ℕ) (id : ℕ) (x : Side) (e : EndState) (here : id ≡ seat x) where
-  others : (j : ℕ) (v : View) → j ≢ id → Knows ends seat j v → Knows (with_end x e ends) seat j v
+module _ (ends : Side → Told) (seat : Side → ℕ) (id : ℕ) (x : Side) (u : Told) (here : id ≡ seat x) where
+  others : (j : ℕ) (v : View) → j ≢ id → Knows ends seat j v → Knows (with_told x u ends) seat j v
   others j (Both g h) ne k = absurd (ne (either_seat seat j x k.2 k.3 ∙ sym here))
-  others j (One a) ne k = (k.0 ∙ sym (end_else x a.machine.side e ends (λ same. ne (k.1 ∙ (ap seat same ∙ sym here)))), k.1)
+  others j (One a) ne k = (k.0 ∙ sym (end_else x a.state.machine.side u ends (λ same. ne (k.1 ∙ (ap seat same ∙ sym here)))), k.1)
   others j Spent ne k = tt
 
-  mine : e.machine.side ≡ x → Knows (with_end x e ends) seat id (One e)
-  mine side = (sym (end_here x e ends) ∙ ap (with_end x e ends) (sym side), here ∙ ap seat (sym side))
+  mine : u.state.machine.side ≡ x → Knows (with_told x u ends) seat id (One u)
+  mine side = (sym (end_here x u ends) ∙ ap (with_told x u ends) (sym side), here ∙ ap seat (sym side))
 
-  pub views_kept : (views : List View) → e.machine.side ≡ x → ((j : ℕ) (v : View) → get_elem? views j ≡ some v → Knows ends seat j v)
-      → (j : ℕ) (v : View) → get_elem? (set views id (One e)) j ≡ some v → Knows (with_end x e ends) seat j v
+  pub views_kept : (views : List View) → u.state.machine.side ≡ x → ((j : ℕ) (v : View) → get_elem? views j ≡ some v → Knows ends seat j v)
+      → (j : ℕ) (v : View) → get_elem? (set views id (One u)) j ≡ some v → Knows (with_told x u ends) seat j v
   views_kept views side knows j v at =
-      ⊎_elim (λ (t : (j ≡ id) × (One e ≡ v)). subst (λ (k : ℕ × View). Knows (with_end x e ends) seat k.0 k.1) (λ i. (sym t.0 i, t.1 i)) (mine side))
-      (λ (t : (j ≢ id) × (get_elem? views j ≡ some v)). others j v t.0 (knows j v t.1)) (at_set views id j (One e) v at)
+      ⊎_elim (λ (t : (j ≡ id) × (One u ≡ v)). subst (λ (k : ℕ × View). Knows (with_told x u ends) seat k.0 k.1) (λ i. (sym t.0 i, t.1 i)) (mine side))
+      (λ (t : (j ≢ id) × (get_elem? views j ≡ some v)). others j v t.0 (knows j v t.1)) (at_set views id j (One u) v at)
 
--- one step of the end whose state stands in the view id
-pub allowed : (n slots id : ℕ) (e : EndState) (m : Machine) (q : List ℕ) (op : Op) → Continues e m q → next_of m q ≡ Some op
-    → Allows (Holds n) slots id (One e, []) (word_at n op) (becomes op) (λ f me. Tells (entered e m q) (answers op f) me)
-allowed n slots id e m q op go h s it deep at small =
-    let x : Side = e.machine.side in
-    let knows : (e ≡ it.ends x) × (id ≡ it.seat x) = it.seats id (One e) at in
-    let p : EndState = it.ends (peer_of x) in
-    let base : EndState = entered e m q in
+-- one step of the end that the view id tells of
+pub allowed : (n slots id : ℕ) (u : Told) (m : Machine) (q : List ℕ) (op : Op) → Continues u.state m q → next_of m q ≡ Some op
+    → Allows (Holds n) slots id (One u, []) (word_at n op) (becomes op) (λ f me. Tells (told_at u m q) (answers op f) me)
+allowed n slots id u m q op go h s it deep at small =
+    let x : Side = u.state.machine.side in
+    let knows : (u ≡ it.ends x) × (id ≡ it.seat x) = it.seats id (One u) at in
+    let p : Told = it.ends (peer_of x) in
+    let base : Told = told_at u m q in
     let v : ℕ = answers op (get_or s.words (word_at n op) 0) in
-    let before : Sided n x s.words e p = subst (λ (k : EndState). Sided n x s.words k p) (sym knows.0) (sided_of n s.words it.ends it.channel x) in
-    let made : Sided n x (written n op s.words) (after base (answer_in n op s.words)) p = stepped n x s.words base p (continued n x s.words e p before m q go) op h in
-    let new : Sided n x (set s.words (word_at n op) (becomes op (get_or s.words (word_at n op) 0))) (after base v) p =
-    subst (λ (k : List ℕ × ℕ). Sided n x k.0 (after base k.1) p) (λ j. (written_is n op s.words j, answer_is n op s.words j)) made in (
-      One (after base v),
+    let before : Counted n x s.words u p = subst (λ (k : Told). Counted n x s.words k p) (sym knows.0) (counted_of n s.words it.ends it.channel it.signals x) in
+    let made : Counted n x (written n op s.words) (told_next base (answer_in n op s.words)) p = next_counted n x s.words base p (at_counted n x s.words u p before m q go) op h in
+    let new : Counted n x (set s.words (word_at n op) (becomes op (get_or s.words (word_at n op) 0))) (told_next base v) p =
+    subst (λ (k : List ℕ × ℕ). Counted n x k.0 (told_next base k.1) p) (λ j. (written_is n op s.words j, answer_is n op s.words j)) made in (
+      One (told_next base v),
       keeps,
       tt,
       record {
-        ends = with_end x (after base v) it.ends;
+        ends = with_told x (told_next base v) it.ends;
         seat = it.seat;
-        seats = views_kept it.ends it.seat id x (after base v) knows.1 s.views new.both.fits.side it.seats;
-        channel = invariant_of n x _ (after base v) it.ends new;
+        seats = views_kept it.ends it.seat id x (told_next base v) knows.1 s.views new.sided.both.fits.side it.seats;
+        channel = invariant_with n x _ (told_next base v) it.ends new;
+        signals = signals_with n x _ (told_next base v) it.ends new;
       },
-      (refl, new.mine.goes),
+      (refl, new.sided.mine.goes),
     )
 
 -- what a step asks of the table
-pub asks : (n slots id : ℕ) (me : Me (Unit {0}) View) (e base : EndState) (m : Machine) (q : List ℕ) → me ≡ (One e, []) → base ≡ entered e m q → Continues e m q → n ≡ m.cells
+pub asks : (n slots id : ℕ) (me : Me (Unit {0}) View) (u base : Told) (m : Machine) (q : List ℕ) → me ≡ (One u, []) → base ≡ told_at u m q → Continues u.state m q → n ≡ m.cells
     → (op : Op) (i : ℕ) → i ≡ word_at m.cells op → next_of m q ≡ Some op
-    → Allows (Holds n) slots id me i (becomes op) (λ f now. IsNamed base (step slots i (stored_by op) 0 none) × Tells base (answers op f) now)
-asks n slots id me e base m q view is go sized op i at h =
-    subst (λ (k : Me (Unit {0}) View × EndState × ℕ). Allows (Holds n) slots id k.0 k.2 (becomes op) (λ f now. IsNamed k.1 (step slots k.2 (stored_by op) 0 none) × Tells k.1 (answers op f) now))
+    → Allows (Holds n) slots id me i (becomes op) (λ f now. IsNamed base.state (step slots i (stored_by op) 0 none) × Tells base (answers op f) now)
+asks n slots id me u base m q view is go sized op i at h =
+    subst (λ (k : Me (Unit {0}) View × Told × ℕ). Allows (Holds n) slots id k.0 k.2 (becomes op) (λ f now. IsNamed k.1.state (step slots k.2 (stored_by op) 0 none) × Tells k.1 (answers op f) now))
     (λ j. (sym view j, sym is j, (ap (λ (c : ℕ). word_at c op) sized ∙ sym at) j)) here
   where
-    named : IsNamed (entered e m q) (step slots (word_at n op) (stored_by op) 0 none)
+    named : IsNamed (entered u.state m q) (step slots (word_at n op) (stored_by op) 0 none)
     named = subst (λ (o : Option Op). IsOp m.cells o (step slots (word_at n op) (stored_by op) 0 none)) (sym h) (ap (λ (c : ℕ). word_at c op) sized, refl)
 
-    here : Allows (Holds n) slots id (One e, []) (word_at n op) (becomes op) (λ f now. IsNamed (entered e m q) (step slots (word_at n op) (stored_by op) 0 none) × Tells (entered e m q) (answers op f) now)
+    here : Allows (Holds n) slots id (One u, []) (word_at n op) (becomes op) (λ f now. IsNamed (entered u.state m q) (step slots (word_at n op) (stored_by op) 0 none) × Tells (told_at u m q) (answers op f) now)
     here s it deep at_id small =
-        let r = allowed n slots id e m q op go h s it deep at_id small in
+        let r = allowed n slots id u m q op go h s it deep at_id small in
         (r.0, r.1, r.2, r.3, (named, r.4))
 
 -- the word of each step is one of the channel's
@@ -170,3 +171,10 @@ continues_side e m q (inr c) =
     (⊎_elim (λ (b : BeginsArm e m q). ap (λ (k : Machine). k.side) b.1)
     (⊎_elim (λ (b : BeginsPoll e m q). ap (λ (k : Machine). k.side) b.0)
     (⊎_elim (λ (b : BeginsMark e m q). ap (λ (k : Machine). k.side) b.0) (λ (b : BeginsPeerMark e m q). ap (λ (k : Machine). k.side) b.0)))))) c.1
+
+-- what a call on the table requires, which makes this step of the end that the seat tells of
+pub calls : {T : Type 0} {table board : T} (words n slots id : ℕ) (me : Me (Unit {0}) View) (u base : Told) (m : Machine) (q : List ℕ) (op : Op) (i : ℕ) → table ≡ board → (words ≡ words_of m.cells) × (n ≡ m.cells)
+    → me ≡ (One u, []) → base ≡ told_at u m q → Continues u.state m q → IsSound m → next_of m q ≡ Some op → i ≡ word_at m.cells op
+    → (table ≡ board) × (i < words) × Allows (Holds n) slots id me i (becomes op) (λ f now. IsNamed base.state (step slots i (stored_by op) 0 none) × Tells base (answers op f) now)
+calls words n slots id me u base m q op i seated sized view is go sound h at =
+    (seated, word_small m q op i words sound h at sized.0, asks n slots id me u base m q view is go sized.1 op i at h)

@@ -6,6 +6,7 @@ pub mod OwnWakes
 pub mod PeerWakes
 pub mod Wakes
 pub mod Sided
+pub mod Counting
 pub mod Allowed
 pub mod Sharing
 pub mod SleepLaws

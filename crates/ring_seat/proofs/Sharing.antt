@@ -7,8 +7,9 @@ use Rattle.atomic_table.specs.Table.{State, Me, keeps, opening, Allows, Splits, 
 use Rattle.atomic_table.proofs.Lists.{at_set, set_again}
 use Rattle.io_edge.specs.declared.side.Side.{Side}
 use Rattle.io_edge.specs.declared.side.Side.TheVariants.{Guest, Host}
+use Rattle.ring_core.specs.declared.told.Told.{Told}
 use Rattle.ring_machine.specs.declared.state.EndState.{EndState}
-use Rattle.ring_machine.specs.Places.{signal_of, words_of}
+use Rattle.ring_machine.specs.Places.{signal_of, words_of, peer_of}
 use Rattle.ring_machine.specs.Steps.{machine_new}
 use Rattle.ring_core.specs.Told.{opening as opening_words}
 use Rattle.ring_model.specs.Ring.{ChannelOk}
@@ -17,9 +18,11 @@ use Rattle.ring_model.proofs.Settling.{guest_front, host_front, one_run, guest_d
 use Rattle.ring_seat.specs.declared.view.View.{View}
 use Rattle.ring_seat.specs.declared.view.View.TheVariants.{Both, One, Spent}
 use Rattle.ring_seat.specs.Rule.{OwnWords, ChannelInvariant}
-use Rattle.ring_seat.specs.Seats.{Knows, Holds, new_end, state_in, is_one, guest_in, host_in, joined}
-use Rattle.ring_seat.specs.Settling.{AreSettled, IsSettled}
+use Rattle.ring_seat.specs.Seats.{Knows, Holds, SignalsRaised, new_end, new_told, told_in, looked, is_one, guest_in, host_in, joined}
+use Rattle.ring_seat.specs.Settling.{AreSettled, SignalsTaken, IsSettled}
 use Rattle.ring_seat.proofs.PointLaws.{new_point}
+use Rattle.ring_seat.proofs.Counting.{Counted, counted_of, with_told, invariant_with, signals_with}
+use Rattle.ring_seat.proofs.Allowed.{views_kept}
 
 at_end : {A : Type 0} (l : List A) (a b : A) (j : ℕ) → get_elem? (l ++ a ∷ []) j ≡ some b → (get_elem? l j ≡ some b) ⊎ ((j ≡ length l) × (a ≡ b))
 at_end [] a b zero e = inr (refl, some-injective a b e)
@@ -90,14 +93,19 @@ module _ (n : ℕ) where
     wakes = λ x. record { packets = λ h. absurd (cc); room = λ h. absurd (cc); mark = λ h. absurd (cc) };
   }
 
-pub opens : (n : ℕ) (words : List ℕ) → 512 ≤ n → n ≤ 8192 → words ≡ opening_words n → Holds n (opening words [] (Both (new_end n Guest) (new_end n Host)))
-opens n words a b is = subst (λ (l : List ℕ). Holds n (opening l [] (Both (new_end n Guest) (new_end n Host)))) (sym is) (record { ends = new_end n; seat = λ x. 0; seats = alone; channel = new_invariant n a b })
+  -- no signal is up
+  new_signals : (x : Side) → SignalsRaised n (opening_words n) x (new_told n x) (new_told n (peer_of x))
+  new_signals Guest = let z = zero_at (n + n + 10) (omega arith) (λ e. omega arith) (λ e. omega arith) (λ e. omega arith) (λ e. omega arith) in omega (arith, z)
+  new_signals Host = let z = zero_at (n + n + 11) (omega arith) (λ e. omega arith) (λ e. omega arith) (λ e. omega arith) (λ e. omega arith) in omega (arith, z)
+
+pub opens : (n : ℕ) (words : List ℕ) → 512 ≤ n → n ≤ 8192 → words ≡ opening_words n → Holds n (opening words [] (Both (new_told n Guest) (new_told n Host)))
+opens n words a b is = subst (λ (l : List ℕ). Holds n (opening l [] (Both (new_told n Guest) (new_told n Host)))) (sym is) (record { ends = new_told n; seat = λ x. 0; seats = alone; channel = new_invariant n a b; signals = new_signals n })
   where
-    alone : (id : ℕ) (v : View) → get_elem? (Both (new_end n Guest) (new_end n Host) ∷ []) id ≡ some v → Knows (new_end n) (λ x. 0) id v
-    alone zero v e = subst (Knows (new_end n) (λ x. 0) 0) (some-injective _ _ e) (refl, refl, refl, refl)
+    alone : (id : ℕ) (v : View) → get_elem? (Both (new_told n Guest) (new_told n Host) ∷ []) id ≡ some v → Knows (new_told n) (λ x. 0) id v
+    alone zero v e = subst (Knows (new_told n) (λ x. 0) 0) (some-injective _ _ e) (refl, refl, refl, refl)
     alone (suc id) v e = absurd (some-ne-none v (sym e))
 
-splits : (n id : ℕ) (g h : EndState) → Splits (Holds n) id (Both g h) (One g) (One h)
+splits : (n id : ℕ) (g h : Told) → Splits (Holds n) id (Both g h) (One g) (One h)
 unfolding two_seats
 splits n id g h s it at = record {
   ends = it.ends;
@@ -105,16 +113,17 @@ splits n id g h s it at = record {
   seats = λ j v k. ⊎_elim (λ t. ⊎_elim (λ u. subst (Knows it.ends (two_seats id (length s.views)) j) u.1 (mine j u.0)) (λ u. others j v u.0 (it.seats j v u.1)) (at_set s.views id j (One g) v t))
       (λ t. subst (Knows it.ends (two_seats id (length s.views)) j) t.1 (theirs j (t.0 ∙ length-set s.views id (One g)))) (at_end (set s.views id (One g)) (One h) v j k);
   channel = it.channel;
+  signals = it.signals;
 }
   where
     knows : (g ≡ it.ends Guest) × (h ≡ it.ends Host) × (id ≡ it.seat Guest) × (id ≡ it.seat Host)
     knows = it.seats id (Both g h) at
 
-    guest : Guest ≡ g.machine.side
-    guest = sym (ap (λ (e : EndState). e.machine.side) knows.0 ∙ it.channel.channel.guest_fits.side)
+    guest : Guest ≡ g.state.machine.side
+    guest = sym (ap (λ (u : Told). u.state.machine.side) knows.0 ∙ it.channel.channel.guest_fits.side)
 
-    host : Host ≡ h.machine.side
-    host = sym (ap (λ (e : EndState). e.machine.side) knows.1 ∙ it.channel.channel.host_fits.side)
+    host : Host ≡ h.state.machine.side
+    host = sym (ap (λ (u : Told). u.state.machine.side) knows.1 ∙ it.channel.channel.host_fits.side)
 
     mine : (j : ℕ) → j ≡ id → Knows it.ends (two_seats id (length s.views)) j (One g)
     mine j e = (knows.0 ∙ ap it.ends guest, e ∙ ap (two_seats id (length s.views)) guest)
@@ -127,21 +136,22 @@ splits n id g h s it at = record {
 
     others : (j : ℕ) (v : View) → j ≢ id → Knows it.ends it.seat j v → Knows it.ends (two_seats id (length s.views)) j v
     others j (Both a b) ne k = absurd (ne (k.2 ∙ seat_is Guest))
-    others j (One a) ne k = absurd (ne (k.1 ∙ seat_is a.machine.side))
+    others j (One a) ne k = absurd (ne (k.1 ∙ seat_is a.state.machine.side))
     others j Spent ne k = k
 
-joins : (n id away : ℕ) (g h : EndState) → g.machine.side ≡ Guest → h.machine.side ≡ Host → Joins (Holds n) id (One g) away (One h) (Both g h) Spent
+joins : (n id away : ℕ) (g h : Told) → g.state.machine.side ≡ Guest → h.state.machine.side ≡ Host → Joins (Holds n) id (One g) away (One h) (Both g h) Spent
 joins n id away g h guest host s it at apart there = record {
   ends = it.ends;
   seat = λ x. id;
   seats = λ j v k. ⊎_elim (λ t. subst (Knows it.ends (λ x. id) j) t.1 tt) (λ t. ⊎_elim (λ u. subst (Knows it.ends (λ x. id) j) u.1 (whole j u.0)) (λ u. others j v t.0 u.0 (it.seats j v u.1)) (at_set s.views id j (Both g h) v t.1)) (at_set (set s.views id (Both g h)) away j Spent v k);
   channel = it.channel;
+  signals = it.signals;
 }
   where
-    mine : (g ≡ it.ends g.machine.side) × (id ≡ it.seat g.machine.side)
+    mine : (g ≡ it.ends g.state.machine.side) × (id ≡ it.seat g.state.machine.side)
     mine = it.seats id (One g) at
 
-    theirs : (h ≡ it.ends h.machine.side) × (away ≡ it.seat h.machine.side)
+    theirs : (h ≡ it.ends h.state.machine.side) × (away ≡ it.seat h.state.machine.side)
     theirs = ⊎_elim (λ t. absurd (apart t.0)) (λ t. it.seats away (One h) t.1) (at_set s.views id away (Both g h) (One h) there)
 
     whole : (j : ℕ) → j ≡ id → Knows it.ends (λ x. id) j (Both g h)
@@ -155,7 +165,7 @@ joins n id away g h guest host s it at apart there = record {
 
     others : (j : ℕ) (v : View) → j ≢ away → j ≢ id → Knows it.ends it.seat j v → Knows it.ends (λ x. id) j v
     others j (Both a b) ne m k = absurd (none_left j Guest ne m k.2)
-    others j (One a) ne m k = absurd (none_left j a.machine.side ne m k.1)
+    others j (One a) ne m k = absurd (none_left j a.state.machine.side ne m k.1)
     others j Spent ne m k = k
 
 settled : (n : ℕ) (ws : List ℕ) (g h : EndState) → ChannelOk n ws g h → AreSettled g h
@@ -169,29 +179,71 @@ settled n ws g h c = record {
   host_past = (c.host_past.sent, c.host_past.got);
 }
 
+-- no end took more signals than were raised
+taken_of : (n : ℕ) (ws : List ℕ) (ends : Side → Told) → ((x : Side) → SignalsRaised n ws x (ends x) (ends (peer_of x))) → SignalsTaken (ends Guest) (ends Host)
+taken_of n ws ends s =
+    let g = s Guest in
+    let h = s Host in
+    record { guest = omega (arith, g); host = omega (arith, h) }
+
 settled_of : (n id : ℕ) (s : State (Unit {0}) View) (it : Holds n s) (v : View) → get_elem? s.views id ≡ some v → IsSettled v
 settled_of n id s it (Both g h) at =
     let k = it.seats id (Both g h) at in
-    subst (λ (z : EndState × EndState). AreSettled z.0 z.1) (λ i. (sym k.0 i, sym k.1 i)) (settled n s.words (it.ends Guest) (it.ends Host) it.channel.channel)
-settled_of n id s it (One e) at = tt
+    subst (λ (z : Told × Told). AreSettled z.0.state z.1.state × SignalsTaken z.0 z.1) (λ i. (sym k.0 i, sym k.1 i))
+    (settled n s.words (it.ends Guest).state (it.ends Host).state it.channel.channel, taken_of n s.words it.ends it.signals)
+settled_of n id s it (One u) at = tt
 settled_of n id s it Spent at = tt
 
-pub learns : (n slots id i : ℕ) (me : Me (Unit {0}) View) → Allows (Holds n) slots id me i (λ k. k) (λ v now. (now ≡ me) × IsSettled me.0)
-learns n slots id i me s it deep at small = (
-  me.0,
+-- a look of one end changes no word, and counts
+look_holds : (n id : ℕ) (s : State (Unit {0}) View) (u : Told) → Holds n s → get_elem? s.views id ≡ some (One u)
+    → Holds n record { words = s.words; homes = s.homes; views = set s.views id (One (record u { steps = u.steps + 1 })) }
+look_holds n id s u it at =
+    let x : Side = u.state.machine.side in
+    let knows : (u ≡ it.ends x) × (id ≡ it.seat x) = it.seats id (One u) at in
+    let more : Told = record u { steps = u.steps + 1 } in
+    let c : Counted n x s.words u (it.ends (peer_of x)) = subst (λ (k : Told). Counted n x s.words k (it.ends (peer_of x))) (sym knows.0) (counted_of n s.words it.ends it.channel it.signals x) in
+    let new : Counted n x s.words more (it.ends (peer_of x)) = record { sided = c.sided; mine = c.mine; peers = c.peers } in
+    record {
+      ends = with_told x more it.ends;
+      seat = it.seat;
+      seats = views_kept it.ends it.seat id x more knows.1 s.views refl it.seats;
+      channel = invariant_with n x _ more it.ends new;
+      signals = signals_with n x _ more it.ends new;
+    }
+
+looks_at : (n slots id i : ℕ) (v : View) (held : List (ℕ × Unit {0})) → Allows (Holds n) slots id (v, held) i (λ k. k) (λ f now. (now ≡ (looked v, held)) × IsSettled v)
+looks_at n slots id i (One u) held s it deep at small = (
+  looked (One u),
   keeps,
   tt,
-  subst (λ (z : List ℕ × List View). Holds n record { words = z.0; homes = s.homes; views = z.1 }) (λ k. (sym (set-get_or s.words i 0) k, sym (set_again s.views id me.0 at) k)) it,
-  (refl, settled_of n id s it me.0 at),
+  subst (λ (z : List ℕ). Holds n record { words = z; homes = s.homes; views = set s.views id (looked (One u)) }) (sym (set-get_or s.words i 0)) (look_holds n id s u it at),
+  (refl, tt),
+)
+looks_at n slots id i (Both g h) held s it deep at small = (
+  Both g h,
+  keeps,
+  tt,
+  subst (λ (z : List ℕ × List View). Holds n record { words = z.0; homes = s.homes; views = z.1 }) (λ k. (sym (set-get_or s.words i 0) k, sym (set_again s.views id (Both g h) at) k)) it,
+  (refl, settled_of n id s it (Both g h) at),
+)
+looks_at n slots id i Spent held s it deep at small = (
+  Spent,
+  keeps,
+  tt,
+  subst (λ (z : List ℕ × List View). Holds n record { words = z.0; homes = s.homes; views = z.1 }) (λ k. (sym (set-get_or s.words i 0) k, sym (set_again s.views id Spent at) k)) it,
+  (refl, tt),
 )
 
-pub split_asks : (n id : ℕ) (v : View) (g h : EndState) → v ≡ Both g h → Splits (Holds n) id v (guest_in v) (host_in v)
+pub learns : (n slots id i : ℕ) (me : Me (Unit {0}) View) → Allows (Holds n) slots id me i (λ k. k) (λ v now. (now ≡ (looked me.0, me.1)) × IsSettled me.0)
+learns n slots id i me = looks_at n slots id i me.0 me.1
+
+pub split_asks : (n id : ℕ) (v : View) (g h : Told) → v ≡ Both g h → Splits (Holds n) id v (guest_in v) (host_in v)
 split_asks n id v g h is = subst (λ (w : View). Splits (Holds n) id w (guest_in w) (host_in w)) (sym is) (splits n id g h)
 
-pub join_asks : (n id away : ℕ) (v w : View) (g h : EndState) → v ≡ One g → w ≡ One h → g.machine.side ≡ Guest → h.machine.side ≡ Host → Joins (Holds n) id v away w (joined v w) Spent
+pub join_asks : (n id away : ℕ) (v w : View) (g h : Told) → v ≡ One g → w ≡ One h → g.state.machine.side ≡ Guest → h.state.machine.side ≡ Host → Joins (Holds n) id v away w (joined v w) Spent
 join_asks n id away v w g h a b guest host = subst (λ (z : View × View). Joins (Holds n) id z.0 away z.1 (joined z.0 z.1) Spent) (λ i. (sym a i, sym b i)) (joins n id away g h guest host)
 
-pub one_is : (v : View) → is_one v ≡ true → v ≡ One (state_in v)
+pub one_is : (v : View) → is_one v ≡ true → v ≡ One (told_in v)
 one_is (Both g h) e = absurd (cc)
-one_is (One e) i = refl
+one_is (One u) i = refl
 one_is Spent e = absurd (cc)

@@ -1,10 +1,11 @@
 -- What the joined view of both ends tells.
-use Rattle.std.specs.Prelude.{◌≡◌, true}
+use Rattle.std.specs.Prelude.{◌≡◌, ◌≤◌, true}
 use Rattle.chan_run.specs.Laws.{AreOfOneRun}
 use Rattle.chan_run.specs.Runs.{IsFront, sent_of, got_of}
 use Rattle.io_edge.specs.declared.side.Side.TheVariants.{Guest, Host}
 use Rattle.ring_machine.specs.declared.state.EndState.{EndState}
 use Rattle.ring_core.specs.Seen.{Seen}
+use Rattle.ring_core.specs.declared.told.Told.{Told}
 use Rattle.ring_seat.specs.declared.table_seat.TableSeat.{TableSeat}
 use Rattle.ring_seat.specs.declared.view.View.{View}
 use Rattle.ring_seat.specs.declared.view.View.TheVariants.{Both, One, Spent}
@@ -19,9 +20,14 @@ pub record AreSettled (g h : EndState) : Type 0 where
   pub guest_past : (sent_of g.past ≡ g.sent) × (got_of g.past ≡ g.got)
   pub host_past : (sent_of h.past ≡ h.sent) × (got_of h.past ≡ h.got)
 
+-- each end took its signal at most as often as the other one raised it
+pub record SignalsTaken (g h : Told) : Type 0 where
+  pub guest : g.woke ≤ h.raised
+  pub host : h.woke ≤ g.raised
+
 abbrev pub IsSettled : View → Type 0
-IsSettled (Both g h) = AreSettled g h
-IsSettled (One e) = Unit {0}
+IsSettled (Both g h) = AreSettled g.state h.state × SignalsTaken g h
+IsSettled (One u) = Unit {0}
 IsSettled Spent = Unit {0}
 
 -- the guest's end and the host's end of one channel

@@ -1,7 +1,7 @@
 //! A new channel, in its two ends.
 ghost use Rattle.std.specs.Prelude.{◌≡◌, ℕ, ◌+◌, ◌*◌, ◌<◌, ◌≤◌, [], IfOk, length};
 ghost use Rattle.io_edge.specs.declared.side.Side.TheVariants.{Guest, Host};
-ghost use Rattle.ring_seat.specs.Seats.{new_end};
+ghost use Rattle.ring_seat.specs.Seats.{new_end, new_told, told_in};
 ghost use Rattle.ring_seat.specs.Settling.{AreOfOneChannel};
 ghost use Rattle.ring_seat.specs.declared.view.View.TheVariants.{One};
 
@@ -23,7 +23,7 @@ pub type HostEnd = End<TableSeat>;
 pub struct ChannelMem;
 
 impl ChannelMem {
-    /// Makes a channel with 1 to 16 pages of 4,096 bytes in each ring, and no data pages. Both ends are new, and all words are 0, but that mask and
+    /// Makes a channel with 1 to 16 pages of 4,096 bytes in each ring, and no data pages. Both ends are new and made no step, and all words are 0, but that mask and
     /// feature are 1 in both rings. Source: Linux `include/linux/hyperv.h`, `struct hv_ring_buffer`.
     pub fn make(
         alloc: Global,
@@ -35,6 +35,7 @@ impl ChannelMem {
         ensures one_channel { IfOk result (λ r. AreOfOneChannel r.0 r.1) }
         ensures guest { IfOk result (λ r. r.0.state ≡ new_end (512 * ring_pages) Guest) }
         ensures host { IfOk result (λ r. r.1.state ≡ new_end (512 * ring_pages) Host) }
+        ensures unmoved { IfOk result (λ r. (told_in r.0.seat.seat.me.0 ≡ new_told (512 * ring_pages) Guest) × (told_in r.1.seat.seat.me.0 ≡ new_told (512 * ring_pages) Host)) }
     {
         let (guest, host) = seats(alloc, 512 * ring_pages)?;
         let d = 4096 * ring_pages;
@@ -48,8 +49,8 @@ impl ChannelMem {
 fn seats(alloc: Global, cells: u32) -> Result<(TableSeat, TableSeat), AllocError>
     requires { (512 ≤ cells) × (cells ≤ 8192) }
     ensures one_channel { IfOk result (λ r. r.0.seat.table_id ≡ r.1.seat.table_id) }
-    ensures guest { IfOk result (λ r. r.0.seat.me.0 ≡ One (new_end cells Guest)) }
-    ensures host { IfOk result (λ r. r.1.seat.me.0 ≡ One (new_end cells Host)) }
+    ensures guest { IfOk result (λ r. r.0.seat.me.0 ≡ One (new_told cells Guest)) }
+    ensures host { IfOk result (λ r. r.1.seat.me.0 ≡ One (new_told cells Host)) }
 {
     let words = opening_words(alloc, cells)?;
     let (table, mut seat) = Table::<(), View, u32, ChannelRule, Global>::of_words(

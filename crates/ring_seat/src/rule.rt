@@ -8,21 +8,21 @@ pub struct ChannelRule;
 
 impl TableRule<(), View, u32> for ChannelRule {
     ghost use Rattle.io_edge.specs.declared.side.Side.TheVariants.{Guest, Host};
-    ghost use Rattle.ring_seat.specs.Seats.{Holds, new_end};
+    ghost use Rattle.ring_seat.specs.Seats.{Holds, new_told};
     ghost use Rattle.ring_seat.specs.declared.view.View.TheVariants.{Both};
 
     ghost holds = { Holds };
 
-    ghost first = { λ n. Both (new_end n Guest) (new_end n Host) };
+    ghost first = { λ n. Both (new_told n Guest) (new_told n Host) };
 }
 
 pub(crate) type Board = Shared<(), View, u32, ChannelRule>;
 
-/// The state from which a step is made. A call at `Brand` picks it.
+/// What is told of the end from whose state a step is made. A call at `Brand` picks it.
 pub trait Intent {
-    ghost use Rattle.ring_machine.specs.declared.state.EndState.{EndState};
+    ghost use Rattle.ring_core.specs.declared.told.Told.{Told};
 
-    ghost base: { EndState };
+    ghost base: { Told };
 }
 
 impl Intent for Brand {
@@ -39,7 +39,7 @@ pub(crate) struct Loads<J> {
 impl<J: Intent> Play<(), View> for Loads<J> {
     ghost use Rattle.ring_seat.specs.Seats.{IsNamed, Tells};
 
-    ghost then = { λ s before v now. IsNamed J.base s × Tells J.base v now };
+    ghost then = { λ s before v now. IsNamed J.base.state s × Tells J.base v now };
 }
 
 /// A step that stores a word.
@@ -50,7 +50,7 @@ pub(crate) struct Stores<J> {
 impl<J: Intent> Play<(), View> for Stores<J> {
     ghost use Rattle.ring_seat.specs.Seats.{IsNamed, Tells};
 
-    ghost then = { λ s before v now. IsNamed J.base s × Tells J.base 0 now };
+    ghost then = { λ s before v now. IsNamed J.base.state s × Tells J.base 0 now };
 }
 
 /// The guest's end and the host's end go apart, and come together again.
@@ -73,12 +73,13 @@ impl Join<View> for Ends {
     ghost spent = { Spent };
 }
 
-/// A look at both ends.
+/// A look at both ends. Of one end it counts as a step.
 pub(crate) struct Settles;
 
 impl Play<(), View> for Settles {
     ghost use Rattle.std.specs.Prelude.{◌≡◌};
+    ghost use Rattle.ring_seat.specs.Seats.{looked};
     ghost use Rattle.ring_seat.specs.Settling.{IsSettled};
 
-    ghost then = { λ s before v now. (now ≡ before) × IsSettled before.0 };
+    ghost then = { λ s before v now. (now ≡ (looked before.0, before.1)) × IsSettled before.0 };
 }

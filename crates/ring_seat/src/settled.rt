@@ -3,8 +3,8 @@ ghost use Rattle.std.specs.Prelude.{◌≡◌, true, List, ℕ};
 ghost use Rattle.chan_run.specs.Laws.{AreOfOneRun};
 ghost use Rattle.chan_run.specs.Runs.{IsFront, sent_of, got_of};
 ghost use Rattle.io_edge.specs.declared.side.Side.TheVariants.{Guest, Host};
-ghost use Rattle.ring_seat.specs.Seats.{state_in};
-ghost use Rattle.ring_seat.specs.Settling.{AreSettled, AreOfOneChannel};
+ghost use Rattle.ring_seat.specs.Seats.{told_in, state_in};
+ghost use Rattle.ring_seat.specs.Settling.{AreSettled, AreOfOneChannel, SignalsTaken};
 
 use crate::channel::{GuestEnd, HostEnd};
 use crate::rule::{Ends, Settles};
@@ -60,7 +60,8 @@ impl Settled {
 }
 
 /// Ends a channel, and takes no memory for it. The four lists are those that its ends kept. Each end got the front of what the other one sent, and
-/// all of it where it is drained. What the two ends did is one run. It waits for nobody.
+/// all of it where it is drained. What the two ends did is one run, and each took its signal at most as often as the other one raised it. It waits for
+/// nobody.
 pub fn finish(g: GuestEnd, h: HostEnd) -> Settled
     requires one_channel { AreOfOneChannel g h }
     ensures guest { (result.guest_sent ≡ g.state.sent) × (result.guest_got ≡ g.state.got) }
@@ -69,6 +70,7 @@ pub fn finish(g: GuestEnd, h: HostEnd) -> Settled
     ensures guest_drained { g.state.machine.drained ≡ true → result.guest_got ≡ result.host_sent }
     ensures host_drained { h.state.machine.drained ≡ true → result.host_got ≡ result.guest_sent }
     ensures run { AreOfOneRun g.state.past h.state.past }
+    ensures signals { SignalsTaken (told_in g.seat.seat.me.0) (told_in h.seat.seat.me.0) }
     ensures guest_past { (result.guest_sent ≡ sent_of g.state.past) × (result.guest_got ≡ got_of g.state.past) }
     ensures host_past { (result.host_sent ≡ sent_of h.state.past) × (result.host_got ≡ got_of h.state.past) }
 {
@@ -88,7 +90,8 @@ fn settle(guest: TableSeat, host: TableSeat)
     requires one_channel { guest.seat.table_id ≡ host.seat.table_id }
     requires guest { (state_in guest.seat.me.0).machine.side ≡ Guest }
     requires host { (state_in host.seat.me.0).machine.side ≡ Host }
-    ensures { AreSettled (state_in guest.seat.me.0) (state_in host.seat.me.0) }
+    ensures ends { AreSettled (state_in guest.seat.me.0) (state_in host.seat.me.0) }
+    ensures signals { SignalsTaken (told_in guest.seat.me.0) (told_in host.seat.me.0) }
 {
     let TableSeat {
         board,

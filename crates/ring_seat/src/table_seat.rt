@@ -3,9 +3,10 @@ ghost use Rattle.std.specs.Prelude.{◌≡◌, ◌≢◌, ℕ, ◌+◌, ◌<◌,
 ghost use Rattle.std.specs.Arc.{arc_value};
 ghost use Rattle.ring_machine.specs.Places.{words_of, signal_of};
 ghost use Rattle.ring_machine.specs.Steps.{is_busy_at, fed};
-ghost use Rattle.ring_machine.specs.States.{after, entered, Continues};
+ghost use Rattle.ring_machine.specs.States.{Continues};
+ghost use Rattle.ring_core.specs.Told.{told_at};
 ghost use Rattle.ring_machine.specs.declared.machine.Stage.TheVariants.{Stopped};
-ghost use Rattle.ring_seat.specs.Seats.{state_in, is_one, Tells};
+ghost use Rattle.ring_seat.specs.Seats.{told_in, state_in, is_one, Tells};
 ghost use Rattle.ring_seat.specs.declared.view.View.TheVariants.{One};
 
 use crate::rule::{Board, ChannelRule, Intent, Loads, Stores};
@@ -16,7 +17,7 @@ use std::alloc::Global;
 use std::marker::Brand;
 use std::sync::{Arc, Wait};
 
-// Makes the step that the machine names, from the state that `J` names.
+// Makes the step that the machine names, from the state that `J` names, and no other one.
 #[inline(always)]
 fn perform_as<J: Intent>(
     board: &Board,
@@ -26,10 +27,10 @@ fn perform_as<J: Intent>(
 ) -> u64
     requires seated { seat.old.table_id ≡ board.now.table_id }
     requires sized { (board.now.table_id.words ≡ words_of core.now.machine.cells) × (board.now.key ≡ core.now.machine.cells) }
-    requires view { seat.old.me ≡ (One (state_in seat.old.me.0), []) }
+    requires view { seat.old.me ≡ (One (told_in seat.old.me.0), []) }
     requires busy { is_busy_at core.now.machine.stage ≡ true }
     requires goes_on { Continues (state_in seat.old.me.0) core.now.machine packet.now }
-    requires base { J.base ≡ entered (state_in seat.old.me.0) core.now.machine packet.now }
+    requires base { J.base ≡ told_at (told_in seat.old.me.0) core.now.machine packet.now }
     ensures seated { (seat.new.table_id ≡ seat.old.table_id) × (seat.new.id ≡ seat.old.id) }
     ensures tells { Tells J.base result seat.new.me }
 {
@@ -99,13 +100,13 @@ impl TableSeat {
 impl Seatlike for TableSeat {
     ghost use Rattle.std.specs.Prelude.{◌≡◌, Some, None, refl};
     ghost use Rattle.std.proofs.Common.{◌∙◌};
-    ghost use Rattle.ring_seat.specs.Seats.{state_in};
+    ghost use Rattle.ring_seat.specs.Seats.{state_in, told_in};
 
     ghost cells = { λ s. (state_in s.seat.me.0).machine.cells };
 
     ghost memory = { λ _. None };
 
-    ghost told = { λ s. Some (state_in s.seat.me.0) };
+    ghost told = { λ s. Some (told_in s.seat.me.0) };
 
     ghost same = { λ s t. t.seat.table_id ≡ s.seat.table_id };
 

@@ -1,9 +1,9 @@
 //! What a seat at a channel's table knows. No value of it is made.
-use ring_core::EndState;
+use ring_core::Told;
 
-/// The states of both ends, the state of one end, or nothing any more.
+/// What is told of both ends, of one end, or of none any more.
 pub enum View {
-    Both(EndState, EndState),
-    One(EndState),
+    Both(Told, Told),
+    One(Told),
     Spent,
 }

@@ -16,6 +16,7 @@ use Rattle.ring_machine.specs.Places.{low}
 use Rattle.ring_machine.specs.States.{afters, entered}
 use Rattle.ring_machine.specs.Steps.{arm_begun, call_by, fed_at, finds_room, poll_begun}
 use Rattle.ring_machine.proofs.Sound.{at_cond}
+use Rattle.ring_core.specs.declared.told.Told.{Told}
 use Rattle.ring_core.specs.Told.{Memory, Ran}
 use Rattle.ring_seat.specs.declared.table_seat.TableSeat.{TableSeat}
 use Rattle.ring_seat.specs.Sleeping.{Sleeps}
@@ -93,14 +94,14 @@ steps_wait b n k [] = k
 steps_wait b n k (v ∷ vs) = let e : EndState = afters b vs in step_waits e.machine v n e.machine.stage refl (steps_wait b n k vs)
 
 -- a call that began with this wait leaves it to an end that is asleep
-ran_waits : (n : ℕ) (s t : EndState) (told told' : Option EndState) (memory memory' : Option Memory) → Waits n s.machine.stage s.machine.asleep s.machine.want → Ran s t told told' memory memory'
+ran_waits : (n : ℕ) (s t : EndState) (told told' : Option Told) (memory memory' : Option Memory) → Waits n s.machine.stage s.machine.asleep s.machine.want → Ran s t told told' memory memory'
     → t.machine.stage ≡ Idle → t.machine.asleep ≡ true → t.machine.want ≡ n
 ran_waits n s t told told' memory memory' waits ran idle =
     subst (λ (st : Stage). Waits n st t.machine.asleep t.machine.want) idle
     (subst (λ (u : EndState). Waits n u.machine.stage u.machine.asleep u.machine.want) (sym ran.state) (steps_wait s n waits ran.values))
 
 -- what an arm waits for, where it fell asleep
-pub arm_waits : (want : Option ℕ) (s t : EndState) (told told' : Option EndState) (memory memory' : Option Memory) → s.machine.asleep ≡ false → Ran (entered s (arm_begun s.machine (want_of want)) []) t told told' memory memory'
+pub arm_waits : (want : Option ℕ) (s t : EndState) (told told' : Option Told) (memory memory' : Option Memory) → s.machine.asleep ≡ false → Ran (entered s (arm_begun s.machine (want_of want)) []) t told told' memory memory'
     → t.machine.stage ≡ Idle → t.machine.asleep ≡ true → t.machine.want ≡ want_of want
 arm_waits want s t told told' memory memory' awake ran =
     ran_waits (want_of want) (entered s (arm_begun s.machine (want_of want)) []) t told told' memory memory'
@@ -111,6 +112,6 @@ arm_waits want s t told told' memory memory' awake ran =
     by_first false k = k
 
 -- and an end that sleeps on waits for what it waited for
-pub poll_waits : (s t : EndState) (told told' : Option EndState) (memory memory' : Option Memory) → Ran (entered s (poll_begun s.machine) []) t told told' memory memory'
+pub poll_waits : (s t : EndState) (told told' : Option Told) (memory memory' : Option Memory) → Ran (entered s (poll_begun s.machine) []) t told told' memory memory'
     → t.machine.stage ≡ Idle → t.machine.asleep ≡ true → t.machine.want ≡ s.machine.want
 poll_waits s t told told' memory memory' ran = ran_waits s.machine.want (entered s (poll_begun s.machine) []) t told told' memory memory' refl ran

@@ -14,7 +14,7 @@ use Rattle.ring_core.specs.Seen.{Seen}
 use Rattle.ring_machine.specs.States.{IsPacket, entered}
 use Rattle.ring_machine.specs.Steps.{poll_begun}
 use Rattle.ring_core.specs.Told.{Ran}
-use Rattle.ring_seat.specs.Seats.{state_in}
+use Rattle.ring_seat.specs.Seats.{told_in}
 use Rattle.ring_seat.specs.Settling.{IsSameEnd}
 use Rattle.ring_seat.specs.declared.table_seat.TableSeat.{TableSeat}
 use Rattle.worker_core.specs.declared.port.Looked.{Looked}
@@ -74,7 +74,7 @@ polled_by false = NoSignal
 
 -- its signal was exchanged once
 abbrev pub PolledOnce : Seen TableSeat → Seen TableSeat → Type 0
-PolledOnce old new = Ran (entered old.state (poll_begun old.state.machine) []) new.state (Some (state_in old.seat.seat.me.0)) (Some (state_in new.seat.seat.me.0)) None None
+PolledOnce old new = Ran (entered old.state (poll_begun old.state.machine) []) new.state (Some (told_in old.seat.seat.me.0)) (Some (told_in new.seat.seat.me.0)) None None
 
 -- it is asleep, and waits for this room
 pub record SleepsFor (want : Option ℕ) (e : Seen TableSeat) : Type 0 where

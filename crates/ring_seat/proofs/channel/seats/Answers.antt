@@ -2,7 +2,7 @@ use Rattle.std.proofs.Common.{rules, ◌∙◌, ap}
 use Rattle.atomic_table.specs.Table.{Me}
 use Rattle.io_edge.specs.declared.side.Side.TheVariants.{Guest, Host}
 use Rattle.ring_seat.specs.declared.view.View.{View}
-use Rattle.ring_seat.specs.Seats.{new_end}
+use Rattle.ring_seat.specs.Seats.{new_told}
 use Rattle.ring_seat.proofs.Sharing.{opens, split_asks}
 use Rattle.ring_seat.proofs.channel.seats.Goals as goal
 
@@ -14,5 +14,5 @@ split_seat-away-requires c =
     let t = c.in_ok-table.ensures in (
       search rules,
       search rules,
-      split_asks c.deref.result.now.shared.key c.in_ok-table.seat.id c.in_ok-table.seat.me.0 (new_end c.args.cells Guest) (new_end c.args.cells Host) (ap (λ (m : Me (Unit {0}) View). m.0) t.4),
+      split_asks c.deref.result.now.shared.key c.in_ok-table.seat.id c.in_ok-table.seat.me.0 (new_told c.args.cells Guest) (new_told c.args.cells Host) (ap (λ (m : Me (Unit {0}) View). m.0) t.4),
     )

@@ -1,5 +1,5 @@
 use Rattle.std.proofs.Common.{rules}
-use Rattle.ring_seat.specs.Seats.{state_in}
+use Rattle.ring_seat.specs.Seats.{told_in}
 use Rattle.ring_seat.proofs.Sharing.{learns, join_asks, one_is}
 use Rattle.ring_seat.proofs.settled.settle.Goals as goal
 
@@ -11,7 +11,7 @@ join_seat-requires c =
       search rules,
       c.args.host.empty,
       search rules,
-      join_asks c.deref.result.now.shared.key c.args.guest.seat.id c.args.host.seat.id v w (state_in v) (state_in w) (one_is v c.args.guest.one) (one_is w c.args.host.one) c.requires.guest c.requires.host,
+      join_asks c.deref.result.now.shared.key c.args.guest.seat.id c.args.host.seat.id v w (told_in v) (told_in w) (one_is v c.args.guest.one) (one_is w c.args.host.one) c.requires.guest c.requires.host,
     )
 
 pub load-requires : goal.load-requires

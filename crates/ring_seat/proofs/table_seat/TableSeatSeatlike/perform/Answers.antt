@@ -5,7 +5,7 @@ use Rattle.ring_machine.specs.Places.{signal_of}
 use Rattle.ring_machine.proofs.Tables.{fed_cells}
 use Rattle.ring_model.proofs.Sides.{fed_side}
 use Rattle.ring_seat.specs.declared.view.View.{View}
-use Rattle.ring_seat.specs.Seats.{state_in, is_one}
+use Rattle.ring_seat.specs.Seats.{told_in, state_in, is_one}
 use Rattle.ring_seat.proofs.Allowed.{continues_side}
 use Rattle.ring_seat.proofs.table_seat.TableSeatSeatlike.perform.Goals as goal
 
@@ -18,7 +18,7 @@ invariant_of-self c =
     let me = c.perform_as.ensures.tells.0 in
     let m = c.args.core.now.machine in
     let side : (state_in c.perform_as.new.seat.me.0).machine.side ≡ (state_in it.seat.me.0).machine.side =
-    ap (λ (z : Me (Unit {0}) View). (state_in z.0).machine.side) me ∙ (fed_side m c.perform_as.result m.stage ∙ continues_side (state_in it.seat.me.0) m c.args.packet.now (c.requires.goes_on (state_in it.seat.me.0) refl)) in
+    ap (λ (z : Me (Unit {0}) View). (state_in z.0).machine.side) me ∙ (fed_side m c.perform_as.result m.stage ∙ continues_side (state_in it.seat.me.0) m c.args.packet.now (c.requires.goes_on (told_in it.seat.me.0) refl)) in
     record {
       seated = c.perform_as.ensures.seated.0 ∙ it.seated;
       sized = it.sized;
