@@ -1,2 +1,3 @@
 pub mod Dealing
 pub mod Seating
+pub mod Following
