@@ -1,23 +1,40 @@
 -- What is sent on a channel arrives, and is served.
-use Rattle.std.proofs.Common.{◌≡◌, List, length, refl, ap, sym, ◌∙◌}
-use Rattle.std.proofs.lemmas.List.{length-map}
-use Rattle.script_lines.specs.declared.line.Ask.{Ask}
-use Rattle.contact.specs.declared.kind.Kind.{Kind}
+use Rattle.std.proofs.Common.{◌≡◌, List, [], refl, ap, sym, ◌∙◌}
+use Rattle.std.proofs.lemmas.List.{length-map, append-nil}
+use Rattle.chan_run.specs.Runs.{IsFront}
 use Rattle.io_edge.specs.declared.side.Side.{Side}
 use Rattle.io_edge.specs.declared.side.Side.TheVariants.{Guest, Host}
 use Rattle.ring_model.specs.Lists.{Lists}
 use Rattle.work_model.specs.Roles.{side_that_asks}
 use Rattle.bus_model.specs.Served.{Served}
+use Rattle.bus_speech.specs.declared.want.Want.TheVariants.{Script}
+use Rattle.work_model.specs.Channel.{count_of}
+use Rattle.bus_model.specs.Orders.{Order}
 use Rattle.bus_model.specs.Channel.{Carries}
-use Rattle.bus_model.specs.Laws.{Arrives, ServesEach}
+use Rattle.bus_model.specs.Laws.{Arrived, Arrives, ServesEach}
 
-from : (side : Side) (kind : Kind) (asks : List Ask) (lists : Lists) (served : List Served) → Carries side kind asks lists served
-    → (lists.host_got ≡ lists.guest_sent) × (lists.guest_got ≡ lists.host_sent)
-from Guest kind asks lists served run = (run.whole_got refl, run.answers_got)
-from Host kind asks lists served run = (run.answers_got, run.whole_got refl)
+whole_front : {A : Type 0} (xs ys : List A) → xs ≡ ys → IsFront xs ys
+whole_front xs ys is = ([], sym is ∙ sym (append-nil xs))
+
+from : (side : Side) (order : Order) (lists : Lists) (served : List Served) → side_that_asks order.kind ≡ side → Carries side order lists served → Arrived order lists
+from Guest order lists served asks run = record {
+  at_host = run.front;
+  at_guest = whole_front _ _ run.answers_got;
+  whole = λ all. (run.whole_got all, run.answers_got);
+  settled = λ guest. run.answers_got;
+}
+from Host order lists served asks run = record {
+  at_host = whole_front _ _ run.answers_got;
+  at_guest = run.front;
+  whole = λ all. (run.answers_got, run.whole_got all);
+  settled = λ guest. absurd (other (sym asks ∙ guest));
+}
+  where
+    other : Host ≡ Guest → ⊥
+    other e = cc
 
 pub arrives_lem : Arrives
-arrives_lem kind asks lists served run = from (side_that_asks kind) kind asks lists served run.carried
+arrives_lem order lists served run = from (side_that_asks order.kind) order lists served refl run.carried
 
 pub serves_each_lem : ServesEach
-serves_each_lem kind asks lists served run = sym (length-map served (λ s. s.request)) ∙ ap length run.serves
+serves_each_lem order lists served run = run.carried.count ∙ ap (count_of order.stop) (length-map order.asks Script)

@@ -1,6 +1,6 @@
 -- Few runs come back.
 use Rattle.std.proofs.Common.{◌≡◌, ℕ, ◌+◌, ◌*◌, ◌≤◌, ◌<◌, Bool, true, false, cond, List, [], ◌∷◌, ◌++◌, length, nat_eq, sym, ap, ◌∙◌, subst, arith}
-use Rattle.std.specs.Prelude.{map, filter, Some, None}
+use Rattle.std.specs.Prelude.{map, filter, Some, None, Ok}
 use Rattle.std.specs.List.{AllByRecursion, list_any}
 use Rattle.std.proofs.lemmas.Bool.Decides.{nat_tests}
 use Rattle.std.proofs.lemmas.List.{length-map}
@@ -14,6 +14,7 @@ use Rattle.scsi_disk.proofs.OneByteLaws.{IsOneByte, new_plain}
 use Rattle.scsi_disk.proofs.RoomLaws.{by_test}
 use Rattle.util_ic.specs.declared.ic.IcAsk.{IcAsk}
 use Rattle.util_ic.specs.declared.ic.IcAnswer.{IcAnswer}
+use Rattle.script_lines.specs.Grammar.{script_of}
 use Rattle.script_lines.specs.declared.line.Line.{Line}
 use Rattle.script_lines.specs.declared.line.What.{What}
 use Rattle.script_lines.specs.declared.line.What.TheVariants.{Contact as IsContact, Offer as IsOffer, Bad as IsBad, RingSize as IsRingSize, Window as IsWindow, Ask as IsAsk, Shut as IsShut, Phase as IsPhase}
@@ -29,12 +30,14 @@ use Rattle.script_lines.proofs.Plain.{PlainAsk, PlainWhat, PlainLine, script_pla
 use Rattle.bus_model.specs.Served.{Served, done_of}
 use Rattle.bus_model.specs.Dests.{Dest, ToChannel, Known, dest_of, dest_in, dests, asked_in, asks_to, Address, At, Fixed, address_of, addresses_from}
 use Rattle.bus_model.specs.Logs.{Recorded, ic_log, disk_log, log_of, IsHistory, EachHistory}
-use Rattle.bus_model.specs.Run.{ChannelPhase, CarriesIfOpened, EachChannel, DevicePhase, served_by, EachDevice, outcomes_of, outcome_at, PhaseRuns, RunFrom}
+use Rattle.bus_model.specs.ByDevice.{IsBusRun as RunsByDevice, ChannelPhase, CarriesIfOpened, EachChannel, DevicePhase, served_by, EachDevice, outcomes_of, outcome_at, PhaseRuns, RunFrom}
 use Rattle.bus_model.specs.declared.channel_run.ChannelRun.{ChannelRun}
 use Rattle.bus_model.specs.declared.history.DeviceHistory.{DeviceHistory}
 use Rattle.bus_model.specs.declared.history.DeviceHistory.TheVariants.{Beat as BeatHistory, Down as DownHistory, Disk as DiskHistory}
 use Rattle.bus_model.specs.Laws.{FewRunsBack, ReportFits}
 use Rattle.bus_model.proofs.Counting.{one_each_lem}
+use Rattle.bus_model.proofs.NoSubs.{script_no_subs}
+use Rattle.bus_model.proofs.ToByDevice.{says_no_less_lem}
 use Rattle.bus_model.proofs.Lists.{each_append, each_map, each_unmap, each_filter, each_unfilter, each_split, each_swap, at_index, at_get, IfThere}
 use Rattle.bus_model.proofs.OneByte.{entries_few}
 use Rattle.bus_model.proofs.SeatLogs.{grows_with, replies_with}
@@ -245,12 +248,18 @@ sum_few : (results : List LineResult) → AllByRecursion FewResult results → r
 sum_few [] few = omega arith
 sum_few (r ∷ results) few = omega (arith, sum_by-cons result_runs r results, few.0, sum_few results few.1)
 
-pub few_runs_back_lem : FewRunsBack
-few_runs_back_lem bytes lines settled histories results reads run =
+few_by_device : (bytes : List ℕ) (lines : List Line) (settled : List ChannelRun) (histories : List DeviceHistory) (results : List LineResult) → script_of bytes ≡ Ok lines → RunsByDevice lines settled histories results
+    → runs_back results ≤ 36 * length results
+few_by_device bytes lines settled histories results reads run =
     let plain = each_split PlainLine ends_part lines (script_plain bytes lines reads) in
     let logs = run_plain (offered lines) 0 [] (parts lines) _ settled _ results run.phases plain (none_before (offered lines)) in
     let few = histories_few lines 0 (offered lines) histories run.legal logs in
     sum_few results (run_few (offered lines) 0 [] (parts lines) _ settled _ results run.phases plain few).1
+
+-- no script has sub-channels yet
+pub few_runs_back_lem : FewRunsBack
+few_runs_back_lem bytes lines settled histories results reads run =
+    few_by_device bytes lines settled histories results reads (says_no_less_lem lines settled histories results (script_no_subs bytes lines reads) run)
 
 pub report_fits_lem : ReportFits
 report_fits_lem bytes lines settled histories results reads script run =

@@ -1,21 +1,16 @@
 -- The run of one channel in one phase.
-use Rattle.std.specs.Prelude.{ℕ, ◌≡◌, List, map, None}
-use Rattle.script_lines.specs.declared.line.Ask.{Ask}
-use Rattle.bus_speech.specs.Wants.{startup}
-use Rattle.bus_speech.specs.declared.want.Want.{Want}
-use Rattle.bus_speech.specs.declared.want.Want.TheVariants.{Script}
+use Rattle.std.specs.Prelude.{ℕ, ◌≡◌, ◌-◌, min, nat_le, Bool, true, false, List, ◌++◌, map, take, drop, replicate, length, Option, Some, None, if◌then◌else◌}
 use Rattle.bus_speech.specs.Speeches.{speech_of}
-use Rattle.contact.specs.declared.kind.Kind.{Kind}
+use Rattle.bus_script.specs.declared.outcome.LineResult.{LineResult}
+use Rattle.bus_script.specs.declared.outcome.LineResult.TheVariants.{RescindedServed, Unserved}
 use Rattle.io_edge.specs.declared.side.Side.{Side}
 use Rattle.io_edge.specs.declared.side.Side.TheVariants.{Guest, Host}
 use Rattle.ring_model.specs.Lists.{Lists}
-use Rattle.work_model.specs.Channel.{Plan, IsChannelRun as Runs}
+use Rattle.work_model.specs.Channel.{count_of, held_of, IsChannelRun as IsTalkRun}
 use Rattle.work_model.specs.Roles.{side_that_asks}
-use Rattle.bus_model.specs.Served.{Served}
-
--- what the end that asks has to ask in a phase: the requests of the start-up, and those of the script
-abbrev pub plan_of : Kind → List Ask → Plan Want
-plan_of kind asks = record { start = startup kind; script = map Script asks; stop = None }
+use Rattle.work_model.specs.Server.{answered}
+use Rattle.bus_model.specs.Served.{Served, done_of}
+use Rattle.bus_model.specs.Orders.{Order, plan_of}
 
 -- what the end of this side sent and got
 abbrev pub sent_by : Side → Lists → List (List ℕ)
@@ -30,13 +25,39 @@ abbrev pub other : Side → Side
 other Guest = Host
 other Host = Guest
 
--- What the end that asks and the end that serves sent and got is the run of one plan: all that was sent was got, as it was sent; the packets of the
--- one end ask the start-up's and the script's requests, in order; the packets of the other end answer them, in order, with what was served
-abbrev pub Carries : Side → Kind → List Ask → Lists → List Served → Type 0
-Carries asks_at kind asks lists served =
-    Runs (speech_of kind) (plan_of kind asks) (sent_by asks_at lists) (got_by asks_at lists) (sent_by (other asks_at) lists) (got_by (other asks_at) lists) served (map (λ s. s.reply) served)
+-- how many of a channel's requests are served, and whether the answer to the last one is held
+abbrev pub served_count : Order → ℕ
+served_count order = count_of order.stop (length order.asks)
 
--- and what was served is what was asked, in order
-pub record IsChannelRun (kind : Kind) (asks : List Ask) (lists : Lists) (served : List Served) : Type 0 where
-  pub carried : Carries (side_that_asks kind) kind asks lists served
-  pub serves : map (λ s. s.request) served ≡ asks
+abbrev pub is_held : Order → Bool
+is_held order = held_of order.stop (length order.asks)
+
+-- the calls whose replies go back
+abbrev pub replies_to : Order → List Served → List Served
+replies_to order served = answered (speech_of order.kind) (is_held order) (served_count order) served
+
+-- What the end that asks and the end that serves sent and got is the run of the order's plan, with these calls: what was sent was got, as it was sent; the
+-- packets of the one end ask the start-up's and the script's requests, in order; the packets of the other end answer them, in order, with what was served.
+-- Where the service stops, requests after the stop may be missing, and the last answer where it is held
+abbrev pub Carries : Side → Order → Lists → List Served → Type 0
+Carries asks_at order lists served =
+    IsTalkRun (speech_of order.kind) (plan_of order) (sent_by asks_at lists) (got_by asks_at lists) (sent_by (other asks_at) lists) (got_by (other asks_at) lists) served (map (λ c. c.reply) (replies_to order served))
+
+-- and what was served are the first of its requests, in order: all of them where it doesn't stop
+pub record IsChannelRun (order : Order) (lists : Lists) (served : List Served) : Type 0 where
+  pub carried : Carries (side_that_asks order.kind) order lists served
+  pub serves : map (λ s. s.request) served ≡ take (served_count order) order.asks
+
+abbrev pub rescinded_of : Served → LineResult
+rescinded_of s = RescindedServed s.serial
+
+-- the outcomes of a channel's m requests, by where it stops: a request that was served is done, but for the last one where its answer is held; the others
+-- are unserved
+abbrev pub outcomes_by : Option (ℕ × Bool) → ℕ → List Served → List LineResult
+outcomes_by None m served = map done_of served
+outcomes_by (Some (k, false)) m served = map done_of served ++ replicate (m - min k m) Unserved
+outcomes_by (Some (k, true)) m served =
+    if nat_le k m then map done_of (take (k - 1) served) ++ (map rescinded_of (drop (k - 1) served) ++ replicate (m - k) Unserved) else map done_of served
+
+abbrev pub outcomes_of : Order → List Served → List LineResult
+outcomes_of order served = outcomes_by order.stop (length order.asks) served

@@ -1,31 +1,97 @@
 -- Laws of runs.
-use Rattle.std.specs.Prelude.{ℕ, ◌≡◌, ◌≤◌, ◌+◌, ◌*◌, List, length, count_by, Ok}
+use Rattle.std.specs.Prelude.{ℕ, ◌≡◌, ◌≤◌, ◌<◌, ◌+◌, ◌-◌, ◌*◌, min, true, false, List, [], ◌∷◌, ◌++◌, length, map, take, replicate, count_by, Some, None, Ok}
+use Rattle.std.specs.List.{AllByRecursion, flat_map}
+use Rattle.chan_run.specs.Runs.{IsFront}
 use Rattle.script_lines.specs.Grammar.{script_of}
 use Rattle.script_lines.specs.WellFormed.{IsScript}
 use Rattle.script_lines.specs.declared.line.Line.{Line}
 use Rattle.script_lines.specs.declared.line.Ask.{Ask}
+use Rattle.script_phases.specs.Says.{Asks, is_rescinded, is_shut}
+use Rattle.script_phases.specs.Openings.{Phase, phases, by_relid}
 use Rattle.bus_script.specs.declared.outcome.LineResult.{LineResult}
+use Rattle.bus_script.specs.declared.outcome.LineResult.TheVariants.{Done, RescindedServed, Unserved, Gone, Closed}
+use Rattle.bus_script.specs.declared.outcome.Reply.{Reply}
 use Rattle.bus_script.specs.Report.{prints, runs_back}
-use Rattle.contact.specs.declared.kind.Kind.{Kind}
+use Rattle.bus_speech.specs.Wants.{IsAskable}
+use Rattle.bus_speech.specs.Speeches.{fits_on}
+use Rattle.io_edge.specs.declared.side.Side.{Side}
+use Rattle.io_edge.specs.declared.side.Side.TheVariants.{Guest}
 use Rattle.ring_model.specs.Lists.{Lists}
-use Rattle.bus_model.specs.Served.{Served}
-use Rattle.bus_model.specs.Channel.{IsChannelRun}
-use Rattle.bus_model.specs.Run.{IsBusRun}
+use Rattle.work_model.specs.Outcome.{Outcome, Done as IsDone, RescindedServed as IsRescinded, Unserved as IsUnserved, lines_of}
+use Rattle.work_model.specs.Roles.{side_that_asks}
+use Rattle.bus_model.specs.Served.{Served, done_of}
+use Rattle.bus_model.specs.Orders.{Order}
+use Rattle.bus_model.specs.Channel.{IsChannelRun, Carries, served_count, replies_to, rescinded_of, outcomes_of}
+use Rattle.bus_model.specs.Run.{IsBusRun, Known, source_said}
 use Rattle.bus_model.specs.declared.channel_run.ChannelRun.{ChannelRun}
 use Rattle.bus_model.specs.declared.history.DeviceHistory.{DeviceHistory}
 
--- what each end of a channel got is all that the other one sent, as it was sent
-abbrev pub Arrives : Type 0
-Arrives = (kind : Kind) (asks : List Ask) (lists : Lists) (served : List Served) → IsChannelRun kind asks lists served
-    → (lists.host_got ≡ lists.guest_sent) × (lists.guest_got ≡ lists.host_sent)
+-- what each end got is a front of what the other one sent, as it was sent, and all of it where the service doesn't stop; a guest that asks got all that its host sent
+pub record Arrived (order : Order) (lists : Lists) : Type 0 where
+  pub at_host : IsFront lists.host_got lists.guest_sent
+  pub at_guest : IsFront lists.guest_got lists.host_sent
+  pub whole : order.stop ≡ None → (lists.host_got ≡ lists.guest_sent) × (lists.guest_got ≡ lists.host_sent)
+  pub settled : side_that_asks order.kind ≡ Guest → lists.guest_got ≡ lists.host_sent
 
--- each request of the script on a channel was served once
+abbrev pub Arrives : Type 0
+Arrives = (order : Order) (lists : Lists) (served : List Served) → IsChannelRun order lists served → Arrived order lists
+
+-- as many requests are served as the order says
 abbrev pub ServesEach : Type 0
-ServesEach = (kind : Kind) (asks : List Ask) (lists : Lists) (served : List Served) → IsChannelRun kind asks lists served → length served ≡ length asks
+ServesEach = (order : Order) (lists : Lists) (served : List Served) → IsChannelRun order lists served → length served ≡ served_count order
+
+-- what was served follows from what was carried: the first requests, where all can be asked
+abbrev pub ServesFirst : Type 0
+ServesFirst = (side : Side) (order : Order) (lists : Lists) (served : List Served) → AllByRecursion (IsAskable order.kind) order.asks → Carries side order lists served → map (λ s. s.request) served ≡ take (served_count order) order.asks
 
 -- each line that prints has one outcome
 abbrev pub OneEach : Type 0
 OneEach = (lines : List Line) (settled : List ChannelRun) (histories : List DeviceHistory) (results : List LineResult) → IsBusRun lines settled histories results → length results ≡ count_by prints lines
+
+-- The table of a channel's outcomes, row by row, where it has m requests
+pub record Table (m : ℕ) (order : Order) (served : List Served) : Type 0 where
+  -- no rescind here: all are done
+  pub not_rescinded : order.stop ≡ None → (length served ≡ m) × (outcomes_of order served ≡ map done_of served)
+  -- a rescind after k: the first min(k, m) are done, the rest unserved
+  pub rescinded : (k : ℕ) → order.stop ≡ Some (k, false) → (length served ≡ min k m) × (outcomes_of order served ≡ map done_of served ++ replicate (m - min k m) Unserved)
+  -- after k, held, and there are as many: the first k - 1 are done, the k-th is served and rescinded, the rest unserved
+  pub held : (k : ℕ) → order.stop ≡ Some (k, true) → 1 ≤ k → k ≤ m
+      → (first : List Served) × (last : Served) × (served ≡ first ++ last ∷ []) × (length first ≡ k - 1) × (outcomes_of order served ≡ map done_of first ++ rescinded_of last ∷ replicate (m - k) Unserved)
+  -- after k, held, and there are fewer: all are done
+  pub too_few : (k : ℕ) → order.stop ≡ Some (k, true) → m < k → (length served ≡ m) × (outcomes_of order served ≡ map done_of served)
+
+abbrev pub TableOfOutcomes : Type 0
+TableOfOutcomes = (order : Order) (lists : Lists) (served : List Served) → IsChannelRun order lists served → Table (length order.asks) order served
+
+-- the outcome of a line, by the words of both ends
+abbrev pub line_of : Outcome Reply → LineResult
+line_of (IsDone n r) = Done n r
+line_of (IsRescinded n) = RescindedServed n
+line_of IsUnserved = Unserved
+
+-- the serials of the end that serves and the replies of the end that asks tell the outcomes
+abbrev pub ListsTell : Type 0
+ListsTell = (order : Order) (lists : Lists) (served : List Served) → IsChannelRun order lists served
+    → map line_of (lines_of (length order.asks) (map (λ s. s.serial) served) (map (λ s. s.reply) (replies_to order served))) ≡ outcomes_of order served
+
+-- and what comes before the table's rows: a device that an earlier phase rescinded, and one that an earlier phase closed and none rescinded
+pub record EndedRows (p : Phase) (device : ℕ) : Type 0 where
+  pub gone : is_rescinded device p.earlier ≡ true → (before : List Line) (ask : Ask) → source_said p before (Some (device, Asks ask)) ≡ Known Gone ∷ []
+  pub closed : is_rescinded device p.earlier ≡ false → is_shut device p.earlier ≡ true → (before : List Line) (ask : Ask) → source_said p before (Some (device, Asks ask)) ≡ Known Closed ∷ []
+
+abbrev pub RowsOfEnded : Type 0
+RowsOfEnded = (p : Phase) (device : ℕ) → EndedRows p device
+
+-- phase, relid and device of what was carried, and of the channels that a phase opens
+abbrev pub carried_at : ChannelRun → ℕ × ℕ × ℕ
+carried_at r = (r.phase, r.relid, r.device)
+
+abbrev pub opened_at : Phase → List (ℕ × ℕ × ℕ)
+opened_at p = map (λ o. (p.number, o.relid, o.device)) (by_relid p.opened)
+
+-- each channel that a phase opens carried its packets, and no other one, phase by phase in order of relid
+abbrev pub CarriesOpened : Type 0
+CarriesOpened = (lines : List Line) (settled : List ChannelRun) (histories : List DeviceHistory) (results : List LineResult) → IsBusRun lines settled histories results → map carried_at settled ≡ flat_map opened_at (phases lines)
 
 -- Few runs come back: each write of a script fills whole blocks with one byte, and a new disk is all zero, so each block of a disk is a run of one byte; no other reply is longer than 36 bytes
 abbrev pub FewRunsBack : Type 0
@@ -36,3 +102,14 @@ FewRunsBack = (bytes : List ℕ) (lines : List Line) (settled : List ChannelRun)
 abbrev pub ReportFits : Type 0
 ReportFits = (bytes : List ℕ) (lines : List Line) (settled : List ChannelRun) (histories : List DeviceHistory) (results : List LineResult) → script_of bytes ≡ Ok lines → IsScript lines → IsBusRun lines settled histories results
     → 12000000 + 24 * runs_back results ≤ 67108864
+
+-- what was served is right for an order: its requests can be asked, the served ones are the first of them, and each reply is one that the device may give
+pub record Suits (order : Order) (served : List Served) : Type 0 where
+  pub can : AllByRecursion (IsAskable order.kind) order.asks
+  pub few : length order.asks ≤ 4096
+  pub serves : map (λ c. c.request) served ≡ take (served_count order) order.asks
+  pub fits : AllByRecursion (λ (c : Served). fits_on order.kind c.request c.reply ≡ true) served
+
+-- then some channel carried it: no field of a channel's run excludes another one, wherever its service stops
+abbrev pub OrdersRun : Type 0
+OrdersRun = (order : Order) (served : List Served) → Suits order served → (lists : Lists) × IsChannelRun order lists served

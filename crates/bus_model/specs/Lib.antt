@@ -1,6 +1,10 @@
 pub mod Served
+pub mod Orders
 pub mod Channel
-pub mod Dests
 pub mod Logs
 pub mod Run
 pub mod Laws
+pub mod Worked
+pub mod Dests
+pub mod ByDevice
+pub mod ByDeviceLaws

@@ -1,90 +1,108 @@
--- A run of the bus, phase by phase: what each channel carried, each device's history, and the outcomes of the lines.
-use Rattle.std.specs.Prelude.{ℕ, ◌≡◌, ◌+◌, ◌==◌, Bool, true, false, List, [], ◌∷◌, ◌++◌, map, filter, Option, Some, slice_get, slice_index_or}
-use Rattle.std.specs.List.{flat_map}
+-- A run of the bus, phase by phase: what each channel carried, how each device's history went on, and the outcomes of the lines.
+use Rattle.std.specs.Prelude.{ℕ, ◌≡◌, ◌+◌, ◌%◌, ◌/◌, ◌==◌, List, [], ◌∷◌, ◌++◌, length, map, filter, Option, Some, None, slice_get, slice_index_or, if◌then◌else◌}
+use Rattle.std.specs.List.{AllByRecursion}
+use Rattle.contact.specs.Versions.{versions_tried}
 use Rattle.script_lines.specs.declared.line.Line.{Line}
-use Rattle.script_lines.specs.declared.line.Ask.{Ask}
-use Rattle.script_lines.specs.declared.line.DeviceSpec.{DeviceSpec}
+use Rattle.script_lines.specs.declared.line.What.{What}
+use Rattle.script_lines.specs.declared.line.What.TheVariants.{Contact as IsContact}
+use Rattle.script_lines.specs.Parts.{offered}
+use Rattle.script_phases.specs.Says.{Says, Asks, Rescinds, Shuts, said, asks_of, is_rescinded, is_shut}
+use Rattle.script_phases.specs.Openings.{Opening, Phase, phases, by_relid}
 use Rattle.bus_script.specs.declared.outcome.LineResult.{LineResult}
-use Rattle.bus_model.specs.Served.{Served, done_of}
-use Rattle.bus_model.specs.Channel.{IsChannelRun}
-use Rattle.script_lines.specs.Parts.{parts, offered, kind_of}
-use Rattle.bus_model.specs.Dests.{Address, At, Fixed, dests, asks_to, addresses, is_opened}
+use Rattle.bus_script.specs.declared.outcome.LineResult.TheVariants.{Version as Agreed, Gone, Closed}
+use Rattle.bus_model.specs.Served.{Served}
+use Rattle.bus_model.specs.Orders.{order_of}
+use Rattle.bus_model.specs.Channel.{IsChannelRun, outcomes_of}
 use Rattle.bus_model.specs.Logs.{Recorded, Grows, EachHistory, log_of}
 use Rattle.bus_model.specs.declared.channel_run.ChannelRun.{ChannelRun}
 use Rattle.bus_model.specs.declared.history.DeviceHistory.{DeviceHistory}
 
--- a channel in one phase: its device, what it carried, where it was opened, and what it served
-pub record ChannelPhase : Type 0 where
-  pub device : ℕ
-  pub kind : DeviceSpec
-  pub opened : Bool
-  pub runs : List ChannelRun
+-- a channel in one phase: what was opened, what it carried, and what it served
+pub record Carried : Type 0 where
+  pub opening : Opening
+  pub run : ChannelRun
   pub served : List Served
 
--- an opened channel carried one run: of the phase, the relid and the device, with these requests. One that wasn't opened carried none
-abbrev pub CarriesIfOpened : Bool → ℕ → ℕ → ℕ → DeviceSpec → List Ask → List ChannelRun → List Served → Type 0
-CarriesIfOpened false phase relid device kind asks runs served = (runs ≡ []) × (served ≡ [])
-CarriesIfOpened true phase relid device kind asks [] served = ⊥
-CarriesIfOpened true phase relid device kind asks (r ∷ []) served =
-    (r.phase ≡ phase) × (r.relid ≡ relid) × (r.device ≡ device) × IsChannelRun (kind_of kind) asks r.settled served
-CarriesIfOpened true phase relid device kind asks (r ∷ s ∷ runs) served = ⊥
+-- it carried what the script orders of it in this phase
+pub record IsCarried (p : Phase) (c : Carried) : Type 0 where
+  pub phase : c.run.phase ≡ p.number
+  pub relid : c.run.relid ≡ c.opening.relid
+  pub device : c.run.device ≡ c.opening.device
+  pub carried : IsChannelRun (order_of p c.opening) c.run.settled c.served
 
--- the channel with this place among the phase's channels; relids count from 1
-pub record IsChannelPhase (earlier part : List Line) (phase place : ℕ) (c : ChannelPhase) : Type 0 where
-  pub device : c.device ≡ place
-  pub opened : c.opened ≡ is_opened c.device earlier part
-  pub carries : CarriesIfOpened c.opened phase (place + 1) c.device c.kind (asks_to place (dests earlier part)) c.runs c.served
+-- the channels of a device, in order: its seats
+abbrev pub seats_of : ℕ → List Carried → List Carried
+seats_of device channels = filter (λ c. c.opening.device == device) channels
 
--- the channels from one on, in order of their relids
-abbrev pub EachChannel : List Line → List Line → ℕ → ℕ → List ChannelPhase → Type 0
-EachChannel earlier part phase place [] = Unit {0}
-EachChannel earlier part phase place (c ∷ channels) = IsChannelPhase earlier part phase place c × EachChannel earlier part phase (place + 1) channels
+-- each device's history, from this device on, goes on with what its channels served
+abbrev pub EachGrows : ℕ → List Carried → List (List Recorded) → List (List Recorded) → Type 0
+EachGrows device channels [] [] = Unit {0}
+EachGrows device channels (b ∷ before) (a ∷ after) = Grows b a (map (λ c. c.served) (seats_of device channels)) × EachGrows (device + 1) channels before after
+EachGrows device channels [] (a ∷ after) = ⊥
+EachGrows device channels (b ∷ before) [] = ⊥
 
--- a device in one phase: its history before and after
-pub record DevicePhase : Type 0 where
-  pub kind : DeviceSpec
-  pub before : List Recorded
-  pub after : List Recorded
+-- what an earlier phase leaves for all requests of a device: nothing while it is served
+abbrev pub ended_as : ℕ → List Line → Option LineResult
+ended_as device earlier = if is_rescinded device earlier then Some Gone else if is_shut device earlier then Some Closed else None
 
--- what the channels of a device served: a list for each of its seats
-abbrev pub served_by : ℕ → List ChannelPhase → List (List Served)
-served_by device channels = map (λ c. c.served) (filter (λ c. c.device == device) channels)
+-- where the outcome of a line comes from: it is known from the earlier phases, or it is that of the request with this number of a device
+pub data Source : Type 0 where
+  Known : LineResult → Source
+  AskedOf : ℕ → ℕ → Source
 
--- the devices from one on, in order of offer
-abbrev pub EachDevice : ℕ → List ChannelPhase → List DevicePhase → Type 0
-EachDevice device channels [] = Unit {0}
-EachDevice device channels (d ∷ devices) = Grows d.before d.after (served_by device channels) × EachDevice (device + 1) channels devices
+abbrev pub known_or : Option LineResult → Source → Source
+known_or None source = source
+known_or (Some result) source = Known result
 
--- the outcomes of a channel's requests
-abbrev pub outcomes_of : ChannelPhase → List LineResult
-outcomes_of c = map done_of c.served
+-- the source of what is said behind these lines of the phase, where it has an outcome
+abbrev pub source_said : Phase → List Line → Option (ℕ × Says) → List Source
+source_said p before None = []
+source_said p before (Some (device, Asks ask)) = known_or (ended_as device p.earlier) (AskedOf device (length (asks_of device before))) ∷ []
+source_said p before (Some (device, Rescinds after held)) = []
+source_said p before (Some (device, Shuts)) = []
 
--- the outcome of a line
-abbrev pub outcome_at : List (List LineResult) → Address → Option LineResult
-outcome_at outcomes (At channel place) = slice_get (slice_index_or outcomes channel []) place
-outcome_at outcomes (Fixed result) = Some result
+-- a contact line has one besides, and no other line of settings (each other kind of line stands in `said`)
+abbrev pub source_of : Phase → List Line → What → List Source
+source_of p before (IsContact guest host) = Known (Agreed (length (versions_tried guest.0 host.0))) ∷ []
+source_of p before what = source_said p before (said what)
 
--- one phase behind earlier lines: a channel for each device, the devices' histories before and after it, and an outcome for each line that prints
-pub record PhaseRuns (kinds : List DeviceSpec) (phase : ℕ) (earlier part : List Line) (before after : List (List Recorded)) (runs : List ChannelRun) (told : List LineResult) : Type 0 where
-  pub channels : List ChannelPhase
-  pub devices : List DevicePhase
-  pub channel_kinds : map (λ c. c.kind) channels ≡ kinds
-  pub device_kinds : map (λ d. d.kind) devices ≡ kinds
-  pub before_is : map (λ d. d.before) devices ≡ before
-  pub after_is : map (λ d. d.after) devices ≡ after
-  pub each_channel : EachChannel earlier part phase 0 channels
-  pub each_device : EachDevice 0 channels devices
-  pub runs_are : runs ≡ flat_map (λ c. c.runs) channels
-  pub outcomes : map (λ r. Some r) told ≡ map (outcome_at (map outcomes_of channels)) (addresses earlier part)
+-- those of the lines that stand behind others in the phase
+abbrev pub sources_from : Phase → List Line → List Line → List Source
+sources_from p before [] = []
+sources_from p before (l ∷ ls) = source_of p before l.what ++ sources_from p (before ++ l ∷ []) ls
 
--- phases, one after the other, behind the lines of the earlier ones: histories go on, and what was carried and the outcomes stand in order
-abbrev pub RunFrom : List DeviceSpec → ℕ → List Line → List (List Line) → List (List Recorded) → List ChannelRun → List (List Recorded) → List LineResult → Type 0
-RunFrom kinds phase earlier [] before settled after results = (settled ≡ []) × (after ≡ before) × (results ≡ [])
-RunFrom kinds phase earlier (part ∷ rest) before settled after results =
-    (runs : List ChannelRun) × (told : List LineResult) × (between : List (List Recorded)) × (settled' : List ChannelRun) × (results' : List LineResult) ×
-    PhaseRuns kinds phase earlier part before between runs told × RunFrom kinds (phase + 1) (earlier ++ part) rest between settled' after results' × (settled ≡ runs ++ settled') × (results ≡ told ++ results')
+-- of the outcomes of a device's channels, that of the request with this number: requests are dealt to the channels in turn
+abbrev pub nth_of : List (List LineResult) → ℕ → Option LineResult
+nth_of outcomes n = slice_get (slice_index_or outcomes (n % length outcomes) []) (n / length outcomes)
+
+-- the outcomes of the channels of a device
+abbrev pub told_by : Phase → List Carried → ℕ → List (List LineResult)
+told_by p channels device = map (λ c. outcomes_of (order_of p c.opening) c.served) (seats_of device channels)
+
+abbrev pub outcome_at : Phase → List Carried → Source → Option LineResult
+outcome_at p channels (Known result) = Some result
+outcome_at p channels (AskedOf device n) = nth_of (told_by p channels device) n
+
+-- the outcomes of a phase's lines
+abbrev pub outcomes_in : Phase → List Carried → List (Option LineResult)
+outcomes_in p channels = map (outcome_at p channels) (sources_from p [] p.part)
+
+-- one phase: each channel that it opens carried its order, the devices' histories went on, and the lines have their outcomes
+pub record PhaseRuns (p : Phase) (before after : List (List Recorded)) (runs : List ChannelRun) (told : List LineResult) : Type 0 where
+  pub channels : List Carried
+  pub opened : map (λ c. c.opening) channels ≡ by_relid p.opened
+  pub each : AllByRecursion (IsCarried p) channels
+  pub runs_are : runs ≡ map (λ c. c.run) channels
+  pub histories : EachGrows 0 channels before after
+  pub outcomes : map (λ r. Some r) told ≡ outcomes_in p channels
+
+-- phases, one after the other: histories go on, and what was carried and the outcomes stand in order
+pub data RunsOf : List Phase → List (List Recorded) → List ChannelRun → List (List Recorded) → List LineResult → Type 0 where
+  over : {logs : List (List Recorded)} → RunsOf [] logs [] logs []
+  then_on : {p : Phase} {rest : List Phase} {before between after : List (List Recorded)} {runs settled : List ChannelRun} {told results : List LineResult}
+      → PhaseRuns p before between runs told → RunsOf rest between settled after results → RunsOf (p ∷ rest) before (runs ++ settled) after (told ++ results)
 
 -- The run of a script: each history begins with nothing, is legal, and goes on phase by phase
 pub record IsBusRun (lines : List Line) (settled : List ChannelRun) (histories : List DeviceHistory) (results : List LineResult) : Type 0 where
-  pub phases : RunFrom (offered lines) 0 [] (parts lines) (map (λ k. []) (offered lines)) settled (map log_of histories) results
+  pub phases_run : RunsOf (phases lines) (map (λ k. []) (offered lines)) settled (map log_of histories) results
   pub legal : EachHistory lines 0 (offered lines) histories

@@ -1,14 +1,22 @@
 //! Laws of runs. The functions do nothing: each one's contract is the law.
-ghost use Rattle.bus_model.specs.Laws.{Arrives, ServesEach, OneEach, FewRunsBack, ReportFits};
+ghost use Rattle.bus_model.specs.Laws.{Arrives, ServesEach, ServesFirst, OneEach, CarriesOpened, TableOfOutcomes, RowsOfEnded, ListsTell, FewRunsBack, ReportFits, OrdersRun};
+ghost use Rattle.bus_model.specs.Worked.{Shares, SharesOtherwise, Closes, Rescinded, Held};
+ghost use Rattle.bus_model.specs.ByDeviceLaws.{Implies, SaysNoLess};
 
-/// What each end of a channel got is all that the other one sent, as it was sent.
+/// What each end of a channel got is what the other one sent, as it was sent: all of it, unless
+/// the service stopped.
 pub fn arrives()
     ensures { Arrives }
 {}
 
-/// Each request of the script on a channel was served once.
+/// Each request of the script on a channel was served once, up to where the service stopped.
 pub fn serves_each()
     ensures { ServesEach }
+{}
+
+/// What a channel served are the first requests that it was asked.
+pub fn serves_first()
+    ensures { ServesFirst }
 {}
 
 /// Each line that prints has one outcome.
@@ -16,9 +24,46 @@ pub fn one_each()
     ensures { OneEach }
 {}
 
+/// The channels that carried packets are those that the phases open.
+pub fn carries_opened()
+    ensures { CarriesOpened }
+{}
+
+/// The table of outcomes, row by row.
+pub fn table()
+    ensures rows { TableOfOutcomes }
+    ensures ended { RowsOfEnded }
+{}
+
+/// The lists of both ends tell the outcomes of a channel's requests.
+pub fn lists_tell()
+    ensures { ListsTell }
+{}
+
 /// The bytes that come back in a run of a script have few runs of one byte, so that its report is
 /// short.
 pub fn few_runs_back()
     ensures few { FewRunsBack }
     ensures fits { ReportFits }
+{}
+
+/// Each order that can be asked has a run, wherever its service stops: no field of a run excludes
+/// another one.
+pub fn orders_run()
+    ensures { OrdersRun }
+{}
+
+/// The worked examples have runs.
+pub fn worked()
+    ensures shares { Shares }
+    ensures otherwise { SharesOtherwise }
+    ensures closes { Closes }
+    ensures rescinded { Rescinded }
+    ensures held { Held }
+{}
+
+/// Without sub-channels the run by devices and the run of the script say the same.
+pub fn by_device()
+    ensures implies { Implies }
+    ensures no_less { SaysNoLess }
 {}

@@ -7,4 +7,7 @@ mod laws;
 
 pub use channel_run::ChannelRun;
 pub use history::DeviceHistory;
-pub use laws::{arrives, few_runs_back, one_each, serves_each};
+pub use laws::{
+    arrives, by_device, carries_opened, few_runs_back, lists_tell, one_each, orders_run,
+    serves_each, serves_first, table, worked,
+};

@@ -6,7 +6,7 @@ use Rattle.script_lines.specs.declared.line.Ask.{Ask}
 use Rattle.bus_script.specs.declared.outcome.LineResult.{LineResult}
 use Rattle.bus_script.specs.declared.outcome.LineResult.TheVariants.{Version, Closed}
 use Rattle.bus_model.specs.Dests.{Dest, ToChannel, Known, Address, At, Fixed, dests, asks_to, addresses_from, addresses, wants_open}
-use Rattle.bus_model.specs.Run.{outcome_at}
+use Rattle.bus_model.specs.ByDevice.{outcome_at}
 use Rattle.bus_plan.specs.Flags.{AreMarked}
 use Rattle.bus_plan.specs.declared.address.Address.{Address as Slot}
 use Rattle.bus_plan.specs.declared.address.Address.TheVariants.{At as SlotAt, Tried as SlotTried, Closed as SlotClosed}

@@ -1,6 +1,6 @@
 //! The outcomes of the lines of a phase.
 ghost use Rattle.std.specs.Prelude.{◌≡◌, OnOk, Some};
-ghost use Rattle.bus_model.specs.Run.{outcome_at};
+ghost use Rattle.bus_model.specs.ByDevice.{outcome_at};
 ghost use Rattle.bus_plan.specs.Plans.{place_of, places_of, IsThere, AllThere, Tells};
 
 use crate::{Address, Piles};

@@ -16,7 +16,7 @@ use Rattle.end_work.specs.Plans.{AllCarried}
 use Rattle.bus_model.specs.Served.{Served, done_of}
 use Rattle.bus_model.specs.Dests.{Address, dests, asks_to, addresses, is_opened}
 use Rattle.bus_model.specs.Logs.{Grows}
-use Rattle.bus_model.specs.Run.{ChannelPhase, DevicePhase, CarriesIfOpened, EachChannel, EachDevice, served_by, outcomes_of, outcome_at}
+use Rattle.bus_model.specs.ByDevice.{ChannelPhase, DevicePhase, CarriesIfOpened, EachChannel, EachDevice, served_by, outcomes_of, outcome_at}
 use Rattle.bus_model.specs.declared.channel_run.ChannelRun.{ChannelRun}
 use Rattle.bus_plan.specs.declared.plan.PartPlan.{PartPlan}
 use Rattle.bus_plan.specs.Flags.{Marks, AreMarked, closed_by}

@@ -14,7 +14,7 @@ use Rattle.bus_script.specs.declared.outcome.LineResult.{LineResult}
 use Rattle.script_lines.specs.Parts.{parts, ends_part, offered, offered_by, bads_of}
 use Rattle.script_lines.specs.WellFormed.{AllRight, AllGo}
 use Rattle.bus_model.specs.Logs.{EachHistory, IsHistory, log_of}
-use Rattle.bus_model.specs.Run.{PhaseRuns, RunFrom, IsBusRun}
+use Rattle.bus_model.specs.ByDevice.{PhaseRuns, RunFrom, IsBusRun}
 use Rattle.bus_model.specs.declared.channel_run.ChannelRun.{ChannelRun}
 use Rattle.bus_model.specs.declared.history.DeviceHistory.{DeviceHistory}
 use Rattle.bus_plan.specs.Flags.{AreMarked, closed_by}

@@ -2,9 +2,8 @@
 use Rattle.std.specs.Prelude.{ℕ, ◌≡◌, ◌+◌, ◌≤◌, ◌<◌, Bool, ◌&&◌, not, false, List, [], ◌∷◌, ◌++◌, length, map, Option, Some, None, slice_index_or}
 use Rattle.std.specs.List.{flat_map}
 use Rattle.bus_model.specs.Served.{Served, done_of}
-use Rattle.bus_model.specs.Channel.{IsChannelRun}
 use Rattle.bus_model.specs.Logs.{Recorded, Grows, ic_log, disk_log}
-use Rattle.bus_model.specs.Run.{ChannelPhase, DevicePhase, CarriesIfOpened, outcomes_of}
+use Rattle.bus_model.specs.ByDevice.{IsChannelRun, ChannelPhase, DevicePhase, CarriesIfOpened, outcomes_of}
 use Rattle.bus_model.specs.declared.channel_run.ChannelRun.{ChannelRun}
 use Rattle.script_lines.specs.Parts.{kind_of}
 use Rattle.script_lines.specs.declared.line.Ask.{Ask}

@@ -8,7 +8,7 @@ use Rattle.bus_script.specs.declared.outcome.LineResult.{LineResult}
 use Rattle.script_lines.specs.Parts.{parts, offered, blocks_of, bads_of}
 use Rattle.script_lines.specs.WellFormed.{IsDevice}
 use Rattle.bus_model.specs.Logs.{Recorded}
-use Rattle.bus_model.specs.Run.{PhaseRuns, RunFrom}
+use Rattle.bus_model.specs.ByDevice.{PhaseRuns, RunFrom}
 use Rattle.bus_model.specs.declared.channel_run.ChannelRun.{ChannelRun}
 use Rattle.bus_plan.specs.Flags.{AreMarked, closed_by}
 use Rattle.scsi_disk.specs.DiskModel.{DiskState}

@@ -1,7 +1,7 @@
 //! The run of a script, phase by phase.
 ghost use Rattle.std.specs.Prelude.{◌≡◌, ◌+◌, ◌<◌, ◌≤◌, ◌∷◌, [], ◌++◌, List, length, map, take, drop, All, IfOk, OnOk, IsTrue, ◌↔◌, count_by, MatchOption, ⊤};
 ghost use Rattle.bus_model.specs.Logs.{log_of, EachHistory};
-ghost use Rattle.bus_model.specs.Run.{IsBusRun};
+ghost use Rattle.bus_model.specs.ByDevice.{IsBusRun};
 ghost use Rattle.script_lines.specs.Parts.{parts, offered, offered_by};
 ghost use Rattle.script_lines.specs.declared.line.Line.{Line as OneLine};
 ghost use Rattle.script_lines.specs.declared.line.DeviceSpec.{DeviceSpec as OneSpec};

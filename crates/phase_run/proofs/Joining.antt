@@ -22,7 +22,7 @@ use Rattle.work_model.specs.Channel.{AllFixed, AskerEnds, ServerEnds, IsChannelR
 use Rattle.work_model.proofs.Counts.{front_same}
 use Rattle.work_model.proofs.Ends.{joins}
 use Rattle.bus_model.specs.Served.{Served}
-use Rattle.bus_model.specs.Channel.{plan_of}
+use Rattle.bus_model.specs.ByDevice.{plan_of}
 
 -- where no call is held all are answered
 answers_all : {P A Q R : Type 0} (s : Speech P A Q R) (n : ℕ) (calls : List (Call Q R)) → length calls ≤ n → answered s false n calls ≡ calls

@@ -5,7 +5,8 @@ use Rattle.chan_run.specs.declared.event.Event.{Event}
 use Rattle.chan_run.specs.Laws.{AreOfOneRun}
 use Rattle.chan_run.specs.Runs.{sent_of, got_of}
 use Rattle.chan_run.proofs.Steps.{ends_exchanged}
-use Rattle.bus_model.specs.Channel.{IsChannelRun, plan_of, sent_by, got_by, other}
+use Rattle.bus_model.specs.ByDevice.{IsChannelRun, plan_of}
+use Rattle.bus_model.specs.Channel.{sent_by, got_by, other}
 use Rattle.bus_model.specs.Served.{Served}
 use Rattle.script_lines.specs.declared.line.Ask.{Ask}
 use Rattle.bus_script.specs.declared.outcome.Reply.{Reply}

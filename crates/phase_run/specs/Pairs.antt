@@ -1,7 +1,7 @@
 -- The two workers of a channel, and what they come to.
 use Rattle.std.specs.Prelude.{ℕ, ◌≡◌, ◌≤◌, Bool, true, false, List, [], ◌∷◌, length, map, filter, Option, Some, None}
 use Rattle.std.specs.List.{AllByRecursion, filter_map}
-use Rattle.bus_model.specs.Channel.{IsChannelRun}
+use Rattle.bus_model.specs.ByDevice.{IsChannelRun}
 use Rattle.script_lines.specs.declared.line.Ask.{Ask}
 use Rattle.bus_script.specs.declared.outcome.Reply.{Reply}
 use Rattle.bus_speech.specs.Speeches.{has_answer_on}

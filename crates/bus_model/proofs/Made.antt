@@ -1,0 +1,166 @@
+-- For each plan and for calls that fit it there are lists of a run: no field of a run excludes another one.
+use Rattle.std.proofs.Common.{◌≡◌, ℕ, zero, suc, ◌+◌, ◌≤◌, ◌^◌, Bool, true, false, List, [], ◌∷◌, ◌++◌, map, length, length-append, filter, refl, sym, ap, ◌∙◌, subst, arith, Some}
+use Rattle.std.specs.Prelude.{◌==◌, ◌&&◌, filter_map}
+use Rattle.std.proofs.lemmas.List.{append-nil}
+use Rattle.std.proofs.lemmas.List.Elements.{filter-append, filter_map-append}
+use Rattle.std.proofs.lemmas.Bool.Decides.{nat_tests}
+use Rattle.scsi_disk.proofs.RoomLaws.{by_test}
+use Rattle.chan_run.specs.Runs.{IsFront}
+use Rattle.hist_lock.specs.Seat.{Call}
+use Rattle.work_model.specs.Speech.{Speech, Keeps}
+use Rattle.work_model.specs.Asker.{Encoded}
+use Rattle.work_model.specs.Server.{Serves, ServesAsk, ServesOne, IsCall, answered}
+use Rattle.work_model.specs.Channel.{Plan, count_of, held_of, AllFixed, AllAsk, IsPlan, asks_of, IsChannelRun}
+
+module _ {P A Q R : Type 0} (s : Speech P A Q R) (keeps : Keeps s) where
+  -- the packets that ask, under the ids from this one on
+  abbrev pub packets : ℕ → List A → List P
+  packets id [] = []
+  packets id (a ∷ asks) = s.encode id a ∷ packets (id + 1) asks
+
+  length-packets : (id : ℕ) (asks : List A) → length (packets id asks) ≡ length asks
+  length-packets id [] = refl
+  length-packets id (a ∷ asks) = ap suc (length-packets (id + 1) asks)
+
+  packets_append : (id : ℕ) (start script : List A) → packets id (start ++ script) ≡ packets id start ++ packets (id + length start) script
+  packets_append id [] script = ap (λ i. packets i script) (omega arith)
+  packets_append id (a ∷ start) script =
+      ap (λ (l : List P). s.encode id a ∷ l) (packets_append (id + 1) start script ∙ ap (λ i. packets (id + 1) start ++ packets i script) (omega arith))
+
+  kept : {X : Type 0} (f : X → Bool) (x : X) (xs : List X) → f x ≡ true → filter f (x ∷ xs) ≡ x ∷ filter f xs
+  kept f x xs e = grind (arith, e)
+
+  dropped : {X : Type 0} (f : X → Bool) (x : X) (xs : List X) → f x ≡ false → filter f (x ∷ xs) ≡ filter f xs
+  dropped f x xs e = grind (arith, e)
+
+  all_ask : (id : ℕ) (asks : List A) → filter s.is_request (packets id asks) ≡ packets id asks
+  all_ask id [] = refl
+  all_ask id (a ∷ asks) = kept s.is_request (s.encode id a) (packets (id + 1) asks) (keeps.encodes id a) ∙ ap (λ (l : List P). s.encode id a ∷ l) (all_ask (id + 1) asks)
+
+  encoded : (id : ℕ) (asks : List A) → id + length asks ≤ 2 ^ 64 → Encoded s asks (packets id asks)
+  encoded id [] low = tt
+  encoded id (a ∷ asks) low = (ap (λ i. s.encode i a) (sym (keeps.id_kept id a (omega (arith, low)))), encoded (id + 1) asks (omega (arith, low)))
+
+  waiting : (id : ℕ) (asks : List A) → length (filter s.waits (packets id asks)) ≡ length (filter s.has_answer asks)
+  waiting id [] = refl
+  waiting id (a ∷ asks) =
+      by_test (s.has_answer a)
+      (λ yes. ap length (kept s.waits (s.encode id a) (packets (id + 1) asks) (keeps.waits_ask id a ∙ yes)) ∙ (ap suc (waiting (id + 1) asks) ∙ sym (ap length (kept s.has_answer a asks yes))))
+      (λ no. ap length (dropped s.waits (s.encode id a) (packets (id + 1) asks) (keeps.waits_ask id a ∙ no)) ∙ (waiting (id + 1) asks ∙ sym (ap length (dropped s.has_answer a asks no))))
+
+  -- the calls are those of the first n of these, each with a reply that fits
+  abbrev pub Fit : ℕ → ℕ → List A → List (Call Q R) → Type 0
+  Fit zero id asks calls = calls ≡ []
+  Fit (suc n) id [] calls = calls ≡ []
+  Fit (suc n) id (a ∷ asks) [] = ⊥
+  Fit (suc n) id (a ∷ asks) (c ∷ calls) = (s.read (s.encode id a) ≡ Some c.request) × (s.fits c.request c.reply ≡ true) × Fit n (id + 1) asks calls
+
+  fit_count : (n id : ℕ) (asks : List A) (calls : List (Call Q R)) → n ≤ length asks → Fit n id asks calls → length calls ≡ n
+  fit_count zero id asks calls low fit = ap length fit
+  fit_count (suc n) id [] calls low fit = absurd (omega (arith, low))
+  fit_count (suc n) id (a ∷ asks) [] low fit = absurd fit
+  fit_count (suc n) id (a ∷ asks) (c ∷ calls) low fit = ap suc (fit_count n (id + 1) asks calls (omega (arith, low)) fit.2)
+
+  -- what goes back for the script
+  record Back (held : Bool) (ps : List P) (n : ℕ) (calls : List (Call Q R)) : Type 0 where
+    pub sent : List P
+    pub serves : Serves s held ps n calls sent
+
+  script_back : (held : Bool) (n id : ℕ) (asks : List A) (calls : List (Call Q R)) → AllAsk s asks → Fit n id asks calls → Back held (packets id asks) n calls
+  script_back held zero id [] calls ask fit = record { sent = []; serves = (fit, refl) }
+  script_back held (suc n) id [] calls ask fit = record { sent = []; serves = (fit, refl) }
+  script_back held zero id (a ∷ asks) calls ask fit =
+      let p = s.encode id a in
+      let q = ask.0 id in
+      record { sent = []; serves = subst (λ o. ServesOne s held p o zero calls [] (λ m later rest. Serves s held (packets (id + 1) asks) m later rest)) (sym q.1) (fit, refl) }
+  script_back held (suc n) id (a ∷ asks) [] ask fit = absurd fit
+  script_back held (suc n) id (a ∷ asks) (c ∷ calls) ask fit =
+      let p = s.encode id a in
+      let more = λ (m : ℕ) (later : List (Call Q R)) (rest : List P). Serves s held (packets (id + 1) asks) m later rest in
+      let on = script_back held n (id + 1) asks calls ask.1 fit.2 in
+      let call : IsCall s c.request c = record { asked = refl; fits = fit.1 } in
+      by_test (held && n == 0)
+      (λ last.
+      let none : n ≡ 0 = ends held n last in
+      record {
+        sent = [];
+        serves = subst (λ o. ServesOne s held p o (suc n) (c ∷ calls) [] more) (sym fit.0) (call, subst (λ b. ServesAsk s b p n c calls [] more) (sym last) (no_more n id asks calls none fit.2, refl));
+      })
+      (λ no.
+      record {
+        sent = s.gives p c.reply 0 ++ on.sent;
+        serves = subst (λ o. ServesOne s held p o (suc n) (c ∷ calls) (s.gives p c.reply 0 ++ on.sent) more) (sym fit.0)
+            (call, subst (λ b. ServesAsk s b p n c calls (s.gives p c.reply 0 ++ on.sent) more) (sym no) (0, on.sent, refl, on.serves));
+      })
+    where
+      ends : (held : Bool) (n : ℕ) → (held && n == 0) ≡ true → n ≡ 0
+      ends true n e = grind (arith, nat_tests, e)
+      ends false n e = absurd (cc)
+
+      no_more : (n id : ℕ) (asks : List A) (calls : List (Call Q R)) → n ≡ 0 → Fit n (id + 1) asks calls → calls ≡ []
+      no_more zero id asks calls e fit = fit
+      no_more (suc n) id asks calls e fit = absurd (omega (arith, e))
+
+  -- and before it for the start-up
+  start_back : (held : Bool) (n id : ℕ) (start : List A) (ps : List P) (calls : List (Call Q R)) → AllFixed s start → Back held ps n calls → Back held (packets id start ++ ps) n calls
+  start_back held n id [] ps calls fixed back = back
+  start_back held n id (a ∷ start) ps calls fixed back =
+      let p = s.encode id a in
+      let on = start_back held n (id + 1) start ps calls fixed.1 back in
+      record {
+        sent = s.fixed p ++ on.sent;
+        serves = subst (λ o. ServesOne s held p o n calls (s.fixed p ++ on.sent) (λ m later rest. Serves s held (packets (id + 1) start ++ ps) m later rest)) (sym (fixed.0 id)) (on.sent, refl, on.serves);
+      }
+
+  none_read : (id : ℕ) (start : List A) → AllFixed s start → filter_map s.read (packets id start) ≡ []
+  none_read id [] fixed = refl
+  none_read id (a ∷ start) fixed = let e = fixed.0 id in let on = none_read (id + 1) start fixed.1 in grind (arith, e, on)
+
+  read_first : (n id : ℕ) (asks : List A) (calls : List (Call Q R)) → Fit n id asks calls → IsFront (map (λ c. c.request) calls) (filter_map s.read (packets id asks))
+  read_first zero id asks [] fit = (filter_map s.read (packets id asks), refl)
+  read_first zero id asks (c ∷ calls) fit = absurd (cc)
+  read_first (suc n) id [] [] fit = ([], refl)
+  read_first (suc n) id [] (c ∷ calls) fit = absurd (cc)
+  read_first (suc n) id (a ∷ asks) [] fit = absurd fit
+  read_first (suc n) id (a ∷ asks) (c ∷ calls) fit =
+      let on = read_first n (id + 1) asks calls fit.2 in
+      (on.0, map_first (s.encode id a) (packets (id + 1) asks) c.request fit.0 ∙ ap (λ (l : List Q). c.request ∷ l) on.1)
+    where
+      map_first : (x : P) (xs : List P) (y : Q) → s.read x ≡ Some y → filter_map s.read (x ∷ xs) ≡ y ∷ filter_map s.read xs
+      map_first x xs y e = grind (arith, e)
+
+  pub record Made (plan : Plan A) (calls : List (Call Q R)) : Type 0 where
+    pub sent : List P
+    pub back : List P
+    pub runs : IsChannelRun s plan sent back back sent calls (map (λ c. c.reply) (answered s (held_of plan.stop (length plan.script)) (count_of plan.stop (length plan.script)) calls))
+
+  pub made : (plan : Plan A) (calls : List (Call Q R)) → IsPlan s plan → 1 + length (asks_of s plan) ≤ 2 ^ 64 → count_of plan.stop (length plan.script) ≤ length plan.script
+      → Fit (count_of plan.stop (length plan.script)) (1 + length plan.start) plan.script calls → Made plan calls
+  made plan calls is low few fit =
+      let n = count_of plan.stop (length plan.script) in
+      let held = held_of plan.stop (length plan.script) in
+      let sent = packets 1 (asks_of s plan) in
+      let two = packets_append 1 plan.start plan.script in
+      let back = start_back held n 1 plan.start (packets (1 + length plan.start) plan.script) calls is.fixed (script_back held n (1 + length plan.start) plan.script calls is.asks fit) in
+      let first = read_first n (1 + length plan.start) plan.script calls fit in
+      let all = all_ask 1 (asks_of s plan) in
+      record {
+        sent = sent;
+        back = back.sent;
+        runs = record {
+          front = ([], sym (append-nil sent));
+          whole_got = λ e. refl;
+          answers_got = refl;
+          requests = subst (Encoded s (asks_of s plan)) (sym all) (encoded 1 (asks_of s plan) low);
+          whole = λ e. ap length all ∙ length-packets 1 (asks_of s plan);
+          served = subst (λ l. Serves s held l n calls back.sent) (sym two) back.serves;
+          started = omega (arith, ap (λ l. length (filter s.waits l)) all, waiting 1 (asks_of s plan), ap length (filter-append s.has_answer plan.start plan.script), length-append (filter s.has_answer plan.start) (filter s.has_answer plan.script));
+          asked = (
+            first.0,
+            ap (filter_map s.read) two ∙ (filter_map-append s.read (packets 1 plan.start) (packets (1 + length plan.start) plan.script)
+                ∙ (ap (λ l. l ++ filter_map s.read (packets (1 + length plan.start) plan.script)) (none_read 1 plan.start is.fixed) ∙ first.1)),
+          );
+          count = fit_count n (1 + length plan.start) plan.script calls few fit;
+          replies = refl;
+        };
+      }

@@ -1,0 +1,39 @@
+-- What the script orders of a channel.
+use Rattle.std.specs.Prelude.{ℕ, ◌==◌, Bool, List, [], map, Option, if◌then◌else◌}
+use Rattle.contact.specs.declared.kind.Kind.{Kind}
+use Rattle.script_lines.specs.declared.line.Ask.{Ask}
+use Rattle.script_lines.specs.Parts.{kind_of, channels_of}
+use Rattle.script_phases.specs.Says.{asks_of, stop_of}
+use Rattle.script_phases.specs.Openings.{Opening, Phase, subs_of}
+use Rattle.script_phases.specs.Shares.{share}
+use Rattle.bus_speech.specs.declared.want.Want.{Want}
+use Rattle.bus_speech.specs.declared.want.Want.TheVariants.{Script}
+use Rattle.bus_speech.specs.Wants.{startup}
+use Rattle.work_model.specs.Channel.{Plan}
+
+-- a channel's kind, its number among the device's channels, how many sub-channels that has, its requests, and where its service stops: after some of
+-- them, the answer to the last one held or not
+pub record Order : Type 0 where
+  pub kind : Kind
+  pub sub : ℕ
+  pub subs : ℕ
+  pub asks : List Ask
+  pub stop : Option (ℕ × Bool)
+
+-- what the script orders of a channel that a phase opens
+abbrev pub order_of : Phase → Opening → Order
+order_of p o = record {
+  kind = kind_of o.spec;
+  sub = o.sub;
+  subs = subs_of o.spec;
+  asks = share (channels_of o.spec) o.sub 0 (asks_of o.device p.part);
+  stop = stop_of o.device p.part;
+}
+
+-- a sub-channel has no start-up
+abbrev pub startup_of : Order → List Want
+startup_of order = if order.sub == 0 then startup order.kind else []
+
+-- what the end that asks has to ask, and where the other one stops
+abbrev pub plan_of : Order → Plan Want
+plan_of order = record { start = startup_of order; script = map Script order.asks; stop = order.stop }

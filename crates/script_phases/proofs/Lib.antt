@@ -1,0 +1,3 @@
+pub mod Dealing
+pub mod Seating
+pub mod Following

@@ -1,0 +1,4 @@
+pub mod Says
+pub mod Openings
+pub mod Shares
+pub mod Laws
