@@ -5,6 +5,7 @@ ghost use Rattle.contact.specs.Classes.{instance_id, offer, offers_from, Offers,
 use crate::Kind;
 use crate::class::{class_id, kind_of};
 use std::alloc::{AllocError, Global};
+use thiserror::Error;
 use vmbus_msg::Msg;
 
 /// What an offer says of its channel.
@@ -19,9 +20,10 @@ pub struct Offered {
 }
 
 /// Why an offer is refused.
-#[derive(Clone, Copy, Debug, PartialEq, Eq)]
+#[derive(Clone, Copy, Debug, PartialEq, Eq, Error)]
 pub enum OfferFault {
     /// No kind of device has this class id.
+    #[error("class {id:?}")]
     Class {
         /// The class id, as it came.
         id: [u8; 16],

@@ -14,6 +14,6 @@ mod progress;
 pub use assembler::Assembler;
 pub use cut::to_messages;
 pub use fault::GpadlFault;
-pub use law::assembled;
+pub use law::{assembled, one_cut};
 pub use page_list::PageList;
 pub use progress::Progress;

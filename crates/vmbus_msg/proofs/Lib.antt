@@ -1,3 +1,4 @@
+pub mod Forms
 pub mod FrameLaws
 pub mod MsgLaws
 pub mod PartLaws
