@@ -5,3 +5,5 @@ pub mod Guest
 pub mod Host
 pub mod Openings
 pub mod Dealing
+pub mod Said
+pub mod GuestAt

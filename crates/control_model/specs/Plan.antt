@@ -14,9 +14,13 @@ pub record BusPlan : Type 0 where
   pub kinds : List Kind
   pub phases : List (List Opening)
 
+-- the openings of a phase
+abbrev pub phase_of : BusPlan → ℕ → List Opening
+phase_of plan phase = slice_index_or plan.phases phase []
+
 -- an opening of a phase, by its place
 abbrev pub opening_at : BusPlan → ℕ → ℕ → Option Opening
-opening_at plan phase place = slice_get (slice_index_or plan.phases phase []) place
+opening_at plan phase place = slice_get (phase_of plan phase) place
 
 -- the opening with this place in the phase that starts or ends in a part
 abbrev pub opening_in : BusPlan → Option Part → ℕ → Option Opening

@@ -1,10 +1,11 @@
 -- Both begin the next part.
-use Rattle.std.proofs.Common.{◌≡◌, ◌∙◌, ℕ, suc, ◌+◌, ◌<◌, nat_le, nat_lt, Bool, true, false, List, [], ◌∷◌, ◌++◌, length, map, Option, Some, None, if◌then◌else◌, refl, sym, ap, subst, arith}
+use Rattle.std.proofs.Common.{◌≡◌, ◌∙◌, ℕ, suc, ◌+◌, ◌<◌, nat_le, nat_lt, Bool, true, false, List, [], ◌∷◌, ◌++◌, length, map, drop, Option, Some, None, if◌then◌else◌, refl, sym, ap, subst, arith}
+use Rattle.std.specs.List.{flat_map}
 use Rattle.std.proofs.lemmas.Bool.Decides.{nat_tests}
 use Rattle.contact.specs.declared.version.Version.{Version}
 use Rattle.contact.specs.declared.part.Part.{Part}
 use Rattle.contact.specs.declared.part.Part.TheVariants.{Contact, PhaseStart, PhaseEnd, Unload}
-use Rattle.contact.specs.Versions.{version}
+use Rattle.contact.specs.Versions.{version, versions_tried}
 use Rattle.chan_state.specs.declared.state.State.TheVariants.{Opened}
 use Rattle.chan_state.specs.declared.chan_state.ChanState.{ChanState}
 use Rattle.vmbus_msg.specs.declared.msg.Msg.{Msg}
@@ -15,37 +16,56 @@ use Rattle.control_model.specs.declared.burst.Burst.TheVariants.{One}
 use Rattle.control_model.specs.declared.guest_wait.GuestWait.TheVariants.{Nothing, Unloaded}
 use Rattle.control_model.specs.declared.guest_turn.GuestTurn.{GuestTurn}
 use Rattle.control_model.specs.declared.host_wait.HostWait.TheVariants.{Nothing as HostNothing, Unload as AwaitsUnload}
-use Rattle.control_model.specs.Plan.{BusPlan, part_after, IsPlan}
-use Rattle.control_model.specs.Messages.{farewell, Sends}
+use Rattle.control_model.specs.Plan.{BusPlan, part_after, IsPlan, phase_of}
+use Rattle.control_model.specs.Channels.{changed}
+use Rattle.control_model.specs.Messages.{propose, request, farewell, farewell_taken, Sends}
+use Rattle.control_model.specs.Said.{agreed, guest_closes, host_closes, from_3_0}
+use Rattle.control_model.specs.GuestAt.{guest_from, host_from, to_say, to_hear}
 use Rattle.control_model.specs.Guest.{GuestSeen, idle, guest_begins, guest_after}
 use Rattle.control_model.specs.Host.{HostSeen, HostTurn, at_rest, host_begins, host_after}
-use Rattle.control_run.specs.Stand.{phase_of, At, marked, guest_is, host_is, guest_before, host_before}
+use Rattle.control_run.specs.Stand.{At, marked, guest_is, host_is, guest_before, host_before}
 use Rattle.control_run.specs.Talk.{Logs, Talk, Meet, a_guest, a_host, live_ones}
 use Rattle.control_run.specs.Talk.Talk.{fresh, proposes, contacted, started, ended, leaves, is_over}
 use Rattle.control_run.proofs.Marks.{by_test, marked_here}
 use Rattle.control_run.proofs.Plans.{facts}
 use Rattle.control_run.proofs.Lower.{tries_first}
 use Rattle.control_run.proofs.Next.{NextIsOpen, next_list, next_close}
+use Rattle.control_run.proofs.Tried.{first_tried, agreed_is}
+use Rattle.control_run.proofs.Saying.{lists_said, lists_heard, closes_said, closes_heard, guest_from_phase, host_from_phase, guest_at_last, host_at_last}
 
 -- what both sides sent and were fed, once a part began
 abbrev pub begun_logs : Logs → List Msg → Logs
 begun_logs logs sent = record { guest_posted = logs.guest_posted ++ sent; guest_fed = logs.guest_fed ++ []; host_posted = logs.host_posted ++ []; host_fed = logs.host_fed ++ [] }
 
--- both agree once a part began
+-- both agree once a part began with these turns, and the guest said what it had to
+pub record Begun (plan : BusPlan) (logs : Logs) (g : GuestSeen) (h : HostSeen) (part : Part) (turn : GuestTurn) (host : HostTurn) (sent : List Msg) : Type 0 where
+  pub talk : Talk plan (begun_logs logs sent) (guest_after g (Some part) turn sent []) (host_after h (Some part) host [] []) sent []
+  pub says : to_say plan g.part g.awaits ≡ sent ++ to_say plan (Some part) turn.awaits
+  pub hears : to_hear plan g.part g.awaits (length g.channels) ≡ to_hear plan (Some part) turn.awaits (length (changed (changed g.channels turn.heard) turn.wished))
+
 abbrev pub Begins : BusPlan → Logs → GuestSeen → HostSeen → Part → Type 0
-Begins plan logs g h part = (sent : List Msg) → Sends plan (guest_begins g part).burst sent
-    → Talk plan (begun_logs logs sent) (guest_after g (Some part) (guest_begins g part) sent []) (host_after h (Some part) (host_begins h part) [] []) sent []
+Begins plan logs g h part = (sent : List Msg) → Sends plan (guest_begins g part).burst sent → Begun plan logs g h part (guest_begins g part) (host_begins h part) sent
 
 begins_contact : (plan : BusPlan) (logs : Logs) → IsPlan plan → Begins plan logs (a_guest plan logs None Nothing None []) (a_host plan logs None HostNothing None [] (live_ones [])) Contact
 begins_contact plan logs planned = λ sent e.
     let g : GuestSeen = a_guest plan logs None Nothing None [] in
     let h : HostSeen = a_host plan logs None HostNothing None [] (live_ones []) in
-    subst (λ s. Talk plan (begun_logs logs sent) (guest_after g (Some Contact) (guest_begins g Contact) sent []) (host_after h (Some Contact) (host_begins h Contact) [] []) s []) (sym e) (proposes plan.guest (tries_first plan planned))
+    let tries = tries_first plan planned in
+    record {
+      talk = subst (λ s. Talk plan (begun_logs logs sent) (guest_after g (Some Contact) (guest_begins g Contact) sent []) (host_after h (Some Contact) (host_begins h Contact) [] []) s []) (sym e) (proposes plan.guest tries);
+      says = ap (λ vs. (map propose vs ++ request ∷ []) ++ guest_from plan 0) (first_tried plan plan.guest planned tries)
+          ∙ ap (λ s. s ++ ((map propose (drop 1 (versions_tried plan.guest.0 plan.host.0)) ++ request ∷ []) ++ guest_from plan 0)) (sym e);
+      hears = refl;
+    }
 
 begins_phase : (plan : BusPlan) (logs : Logs) (part : Option Part) (v : Version) (guests : List Channel) (hosts : List ChanState) (phase : ℕ) → IsPlan plan → phase < length plan.phases → Meet plan v guests hosts (guest_before plan phase) (host_before plan phase)
+    → to_say plan part Nothing ≡ guest_from plan phase → to_hear plan part Nothing (length guests) ≡ host_from plan phase
     → Begins plan logs (a_guest plan logs part Nothing (Some v) guests) (a_host plan logs part HostNothing (Some v) hosts (live_ones [])) (PhaseStart phase)
-begins_phase plan logs part v guests hosts phase planned in_plan meet = λ sent sends.
-    (next_list plan v guests hosts phase 0 [] (phase_of plan phase) Nothing Same planned in_plan refl refl meet (begun_logs logs sent) sent sends).talk
+begins_phase plan logs part v guests hosts phase planned in_plan meet left to_come = λ sent sends. record {
+  talk = (next_list plan v guests hosts phase 0 [] (phase_of plan phase) Nothing Same planned in_plan refl refl meet (begun_logs logs sent) sent sends).talk;
+  says = left ∙ guest_from_phase plan phase in_plan ∙ lists_said plan v phase 0 [] (phase_of plan phase) Nothing Same sent refl refl sends (flat_map guest_closes (phase_of plan phase) ++ guest_from plan (suc phase));
+  hears = to_come ∙ host_from_phase plan phase in_plan ∙ ap (λ xs. xs ++ (flat_map host_closes (phase_of plan phase) ++ host_from plan (suc phase))) (lists_heard plan v phase 0 [] (phase_of plan phase) Nothing Same refl refl);
+}
 
 first_open : (plan : BusPlan) (v : Version) (guests : List Channel) (hosts : List ChanState) (phase : ℕ) (os : List Opening) → IsPlan plan → phase < length plan.phases → phase_of plan phase ≡ os
     → Meet plan v guests hosts (marked (guest_is Opened) os (guest_before plan phase)) (marked (host_is Opened) os (host_before plan phase)) → NextIsOpen guests os
@@ -59,20 +79,34 @@ begins_end : (plan : BusPlan) (logs : Logs) (v : Version) (guests : List Channel
     → Meet plan v guests hosts (marked (guest_is Opened) (phase_of plan phase) (guest_before plan phase)) (marked (host_is Opened) (phase_of plan phase) (host_before plan phase))
     → Begins plan logs (a_guest plan logs (Some (PhaseStart phase)) Nothing (Some v) guests) (a_host plan logs (Some (PhaseStart phase)) HostNothing (Some v) hosts (live_ones (map (λ o. o.gpadl) (phase_of plan phase)))) (PhaseEnd phase)
 begins_end plan logs v guests hosts phase planned in_plan meet = λ sent sends.
-    (next_close plan v guests hosts phase 0 [] (phase_of plan phase) Nothing Same planned in_plan refl refl meet (first_open plan v guests hosts phase (phase_of plan phase) planned in_plan refl meet) (begun_logs logs sent) sent sends).talk
+    let first = first_open plan v guests hosts phase (phase_of plan phase) planned in_plan refl meet in
+    record {
+      talk = (next_close plan v guests hosts phase 0 [] (phase_of plan phase) Nothing Same planned in_plan refl refl meet first (begun_logs logs sent) sent sends).talk;
+      says = closes_said plan v guests phase 0 [] (phase_of plan phase) Nothing Same sent in_plan refl refl first sends (guest_from plan (suc phase));
+      hears = ap (λ xs. xs ++ host_from plan (suc phase)) (closes_heard plan v guests phase 0 [] (phase_of plan phase) Nothing Same refl refl first);
+    }
 
-begins_unload : (plan : BusPlan) (logs : Logs) (part : Option Part) (v : Version) (guests : List Channel) (hosts : List ChanState) → Meet plan v guests hosts (guest_before plan (length plan.phases)) (host_before plan (length plan.phases))
+begins_unload : (plan : BusPlan) (logs : Logs) (part : Option Part) (v : Version) (guests : List Channel) (hosts : List ChanState) → IsPlan plan → Meet plan v guests hosts (guest_before plan (length plan.phases)) (host_before plan (length plan.phases))
+    → to_say plan part Nothing ≡ from_3_0 plan (farewell ∷ []) → to_hear plan part Nothing (length guests) ≡ from_3_0 plan (farewell_taken ∷ [])
     → Begins plan logs (a_guest plan logs part Nothing (Some v) guests) (a_host plan logs part HostNothing (Some v) hosts (live_ones [])) Unload
-begins_unload plan logs part v guests hosts meet =
+begins_unload plan logs part v guests hosts planned meet left to_come =
     let g : GuestSeen = a_guest plan logs part Nothing (Some v) guests in
     let h : HostSeen = a_host plan logs part HostNothing (Some v) hosts (live_ones []) in
     let turn : Bool → GuestTurn = λ b. if b then record (idle g) { awaits = Unloaded; burst = One farewell } else record (idle g) { awaits = Nothing } in
     let host : Bool → HostTurn = λ b. record (at_rest h) { awaits = if b then AwaitsUnload else HostNothing } in
-    let P : Bool → Type 0 = λ b. (sent : List Msg) → Sends plan (turn b).burst sent
-    → Talk plan (begun_logs logs sent) (guest_after g (Some Unload) (turn b) sent []) (host_after h (Some Unload) (host b) [] []) sent [] in
+    let P : Bool → Type 0 = λ b. (sent : List Msg) → Sends plan (turn b).burst sent → Begun plan logs g h Unload (turn b) (host b) sent in
+    let late : nat_le (version 3 0) (agreed plan) ≡ nat_le (version 3 0) v.0 = ap (nat_le (version 3 0)) (sym (agreed_is plan v planned meet.agreed)) in
     by_test {P = P (nat_le (version 3 0) v.0)} (nat_le (version 3 0) v.0)
-    (λ e. subst P (sym e) (λ sent f. subst (λ s. Talk plan (begun_logs logs sent) (guest_after g (Some Unload) (turn true) sent []) (host_after h (Some Unload) (host true) [] []) s []) (sym f) (leaves v guests hosts meet)))
-    (λ e. subst P (sym e) (λ sent f. subst (λ s. Talk plan (begun_logs logs sent) (guest_after g (Some Unload) (turn false) sent []) (host_after h (Some Unload) (host false) [] []) s []) (sym f) (is_over v guests hosts meet)))
+    (λ e. subst P (sym e) (λ sent f. record {
+      talk = subst (λ s. Talk plan (begun_logs logs sent) (guest_after g (Some Unload) (turn true) sent []) (host_after h (Some Unload) (host true) [] []) s []) (sym f) (leaves v guests hosts meet);
+      says = left ∙ ap (λ b. if b then farewell ∷ [] else []) (late ∙ e) ∙ ap (λ s. s ++ []) (sym f);
+      hears = to_come ∙ ap (λ b. if b then farewell_taken ∷ [] else []) (late ∙ e);
+    }))
+    (λ e. subst P (sym e) (λ sent f. record {
+      talk = subst (λ s. Talk plan (begun_logs logs sent) (guest_after g (Some Unload) (turn false) sent []) (host_after h (Some Unload) (host false) [] []) s []) (sym f) (is_over v guests hosts meet);
+      says = left ∙ ap (λ b. if b then farewell ∷ [] else []) (late ∙ e) ∙ ap (λ s. s ++ []) (sym f);
+      hears = to_come ∙ ap (λ b. if b then farewell_taken ∷ [] else []) (late ∙ e);
+    }))
 
 begins_behind : (plan : BusPlan) (logs : Logs) (v : Version) (guests : List Channel) (hosts : List ChanState) (phase : ℕ) (part : Part) → IsPlan plan → phase < length plan.phases → Meet plan v guests hosts (guest_before plan (suc phase)) (host_before plan (suc phase))
     → part_after plan (Some (PhaseEnd phase)) ≡ Some part
@@ -87,20 +121,20 @@ begins_behind plan logs v guests hosts phase part planned in_plan meet is =
     let so : Some (PhaseStart (phase + 1)) ≡ Some part = sym (ap (λ b. if b then Some (PhaseStart (phase + 1)) else Some Unload) e) ∙ is in
     let same_part : PhaseStart (phase + 1) ≡ part = cc in
     let now : Meet plan v guests hosts (guest_before plan (phase + 1)) (host_before plan (phase + 1)) = subst (λ n. Meet plan v guests hosts (guest_before plan n) (host_before plan n)) one meet in
-    subst (Begins plan logs g h) same_part (begins_phase plan logs (Some (PhaseEnd phase)) v guests hosts (phase + 1) planned less now))
+    subst (Begins plan logs g h) same_part (begins_phase plan logs (Some (PhaseEnd phase)) v guests hosts (phase + 1) planned less now (ap (guest_from plan) one) (ap (host_from plan) one)))
     (λ e.
     let last : suc phase ≡ length plan.phases = grind (arith, nat_tests, e, in_plan) in
     let so : Some Unload ≡ Some part = sym (ap (λ b. if b then Some (PhaseStart (phase + 1)) else Some Unload) e) ∙ is in
     let same_part : Unload ≡ part = cc in
     let now : Meet plan v guests hosts (guest_before plan (length plan.phases)) (host_before plan (length plan.phases)) = subst (λ n. Meet plan v guests hosts (guest_before plan n) (host_before plan n)) last meet in
-    subst (Begins plan logs g h) same_part (begins_unload plan logs (Some (PhaseEnd phase)) v guests hosts now))
+    subst (Begins plan logs g h) same_part (begins_unload plan logs (Some (PhaseEnd phase)) v guests hosts planned now (ap (guest_from plan) last ∙ guest_at_last plan) (ap (host_from plan) last ∙ host_at_last plan)))
 
 pub begins : (plan : BusPlan) (logs : Logs) (g : GuestSeen) (h : HostSeen) (part : Part) → IsPlan plan → Talk plan logs g h [] [] → part_after plan g.part ≡ Some part → Begins plan logs g h part
 begins plan logs g h part planned fresh is = let same_part : Contact ≡ part = cc in subst (Begins plan logs (a_guest plan logs None Nothing None []) (a_host plan logs None HostNothing None [] (live_ones []))) same_part (begins_contact plan logs planned)
 begins plan logs g h part planned (contacted v guests hosts meet) is =
     let some = planned.some in
     let same_part : PhaseStart 0 ≡ part = cc in
-    subst (Begins plan logs (a_guest plan logs (Some Contact) Nothing (Some v) guests) (a_host plan logs (Some Contact) HostNothing (Some v) hosts (live_ones []))) same_part (begins_phase plan logs (Some Contact) v guests hosts 0 planned (omega (arith, some)) meet)
+    subst (Begins plan logs (a_guest plan logs (Some Contact) Nothing (Some v) guests) (a_host plan logs (Some Contact) HostNothing (Some v) hosts (live_ones []))) same_part (begins_phase plan logs (Some Contact) v guests hosts 0 planned (omega (arith, some)) meet refl refl)
 begins plan logs g h part planned (started v guests hosts phase in_plan meet) is =
     let same_part : PhaseEnd phase ≡ part = cc in
     subst (Begins plan logs (a_guest plan logs (Some (PhaseStart phase)) Nothing (Some v) guests) (a_host plan logs (Some (PhaseStart phase)) HostNothing (Some v) hosts (live_ones (map (λ o. o.gpadl) (phase_of plan phase))))) same_part (begins_end plan logs v guests hosts phase planned in_plan meet)

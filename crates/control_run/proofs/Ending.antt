@@ -1,7 +1,7 @@
 -- Both are done where no message is on its way; few are; and how both stand at the end.
 use Rattle.std.proofs.Common.{◌≡◌, ◌∙◌, ℕ, zero, suc, ◌+◌, ◌≤◌, ◌==◌, ◌||◌, Bool, true, false, List, [], ◌∷◌, length, take, Some, is_some, if◌then◌else◌, refl, sym, ap, length-append, arith}
 use Rattle.std.specs.List.{list_any}
-use Rattle.std.proofs.lemmas.List.{take_all}
+use Rattle.std.proofs.lemmas.List.{take_all, append-nil}
 use Rattle.std.proofs.lemmas.List.Folds.{list_any-append}
 use Rattle.contact.specs.declared.part.Part.TheVariants.{Unload}
 use Rattle.contact.specs.Classes.{offers_from}
@@ -12,17 +12,20 @@ use Rattle.io_edge.specs.declared.side.Side.TheVariants.{Host as HostSide}
 use Rattle.vmbus_msg.specs.declared.msg.Msg.{Msg}
 use Rattle.control_model.specs.declared.opening.Opening.{Opening}
 use Rattle.control_model.specs.declared.channel.Channel.{Channel}
-use Rattle.control_model.specs.Plan.{BusPlan, all_openings, IsPlan}
+use Rattle.control_model.specs.Plan.{BusPlan, all_openings, IsPlan, phase_of}
 use Rattle.control_model.specs.Messages.{delivered}
-use Rattle.control_model.specs.Guest.{GuestSeen, offered_channel, guest_done, can_begin, state_at}
-use Rattle.control_model.specs.Host.{HostSeen, host_done, host_can_begin, life_at}
+use Rattle.control_model.specs.Guest.{GuestSeen, offered_channel, guest_done, can_begin}
+use Rattle.control_model.specs.Host.{HostSeen, host_done, host_can_begin}
+use Rattle.control_model.specs.Said.{last_state}
+use Rattle.control_model.specs.GuestAt.{GuestAt}
 use Rattle.control_model.proofs.PlanLaws.{offers_length}
-use Rattle.control_run.specs.Stand.{phase_of, marked, before_phase, guest_is, host_is}
+use Rattle.control_run.specs.Stand.{marked, before_phase, guest_is, host_is}
 use Rattle.control_run.specs.Talk.{Logs, Talk}
 use Rattle.control_run.specs.Talk.Talk.{fresh, proposes, accepts, refuses, asks, offering, offered, contacted, lists, listed, opens, is_open, started, closes, tears, torn, ended, leaves, may_leave, is_over}
-use Rattle.control_run.specs.Laws.{last_state, IsOver}
+use Rattle.control_run.specs.Over.{IsOver}
 use Rattle.control_run.proofs.Marks.{by_test}
 use Rattle.control_run.proofs.Plans.{openings_more}
+use Rattle.control_run.proofs.States.{all_stand}
 
 -- both are in one part of one plan
 pub same_part : (plan : BusPlan) (logs : Logs) (g : GuestSeen) (h : HostSeen) (to_host to_guest : List Msg) → Talk plan logs g h to_host to_guest → (g.plan ≡ plan) × (h.plan ≡ plan) × (h.part ≡ g.part)
@@ -118,12 +121,12 @@ at_last plan state closed unopened relid first is =
     ∙ ap (λ phases. if list_any (λ o. o.relid == relid) (all_openings phases) then Closed else Offered) (take_all (length plan.phases) plan.phases (omega arith))
 
 -- how both stand at the end
-pub is_ended : (plan : BusPlan) (logs : Logs) (g : GuestSeen) (h : HostSeen) → Talk plan logs g h [] [] → g.part ≡ Some Unload → g.posted ≡ h.fed → h.posted ≡ g.fed → IsOver plan g h
-is_ended plan logs g h fresh last guest_sent host_sent = absurd (cc)
-is_ended plan logs g h (contacted v guests hosts meet) last guest_sent host_sent = absurd (cc)
-is_ended plan logs g h (started v guests hosts phase in_plan meet) last guest_sent host_sent = absurd (cc)
-is_ended plan logs g h (ended v guests hosts phase in_plan meet) last guest_sent host_sent = absurd (cc)
-is_ended plan logs g h (is_over v guests hosts meet) last guest_sent host_sent = record {
+pub is_ended : (plan : BusPlan) (logs : Logs) (g : GuestSeen) (h : HostSeen) → Talk plan logs g h [] [] → GuestAt plan g → g.part ≡ Some Unload → g.posted ≡ h.fed → h.posted ≡ g.fed → IsOver plan g h
+is_ended plan logs g h fresh at last guest_sent host_sent = absurd (cc)
+is_ended plan logs g h (contacted v guests hosts meet) at last guest_sent host_sent = absurd (cc)
+is_ended plan logs g h (started v guests hosts phase in_plan meet) at last guest_sent host_sent = absurd (cc)
+is_ended plan logs g h (ended v guests hosts phase in_plan meet) at last guest_sent host_sent = absurd (cc)
+is_ended plan logs g h (is_over v guests hosts meet) at last guest_sent host_sent = record {
   guest_part = refl;
   host_part = refl;
   guest_done = refl;
@@ -132,12 +135,13 @@ is_ended plan logs g h (is_over v guests hosts meet) last guest_sent host_sent =
   agreed = meet.agreed;
   at_guest = refl;
   at_host = refl;
-  guest_many = meet.guest.many;
-  host_many = meet.host.many;
-  guest_each = λ relid one few. ap state_at (meet.guest.each relid one few) ∙ ap (λ s. Some s) (at_last plan (λ (c : Channel). c.life.state) (guest_is Closed) offered_channel relid refl (λ o. refl));
-  host_each = λ relid one few. ap life_at (meet.host.each relid one few) ∙ ap (λ s. Some s) (at_last plan (λ (c : ChanState). c.state) (host_is Closed) (record { side = HostSide; state = Offered }) relid refl (λ o. refl));
-  guest_sent = guest_sent;
-  host_sent = host_sent;
+  guest_stands = all_stand (λ (c : Channel). c.life.state) guests plan (before_phase plan (guest_is Closed) offered_channel (length plan.phases)) meet.guest (λ relid. at_last plan (λ (c : Channel). c.life.state) (guest_is Closed) offered_channel relid refl (λ o. refl));
+  host_stands = all_stand (λ (c : ChanState). c.state) hosts plan (before_phase plan (host_is Closed) (record { side = HostSide; state = Offered }) (length plan.phases)) meet.host
+      (λ relid. at_last plan (λ (c : ChanState). c.state) (host_is Closed) (record { side = HostSide; state = Offered }) relid refl (λ o. refl));
+  guest_said = sym (at.said ∙ append-nil g.posted);
+  host_said = host_sent ∙ sym (at.heard ∙ append-nil g.fed);
+  guest_fed = sym host_sent;
+  host_fed = sym guest_sent;
 }
 
 -- where no message is on its way, both may begin

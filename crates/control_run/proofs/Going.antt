@@ -12,6 +12,7 @@ use Rattle.control_run.specs.Laws.{logs_of, Agrees, measure, NewOnesAgree, BothB
 use Rattle.control_run.proofs.GuestSteps.{guest_step}
 use Rattle.control_run.proofs.HostSteps.{HostStep, step_proposes, step_asks, step_opens, step_closes, step_tears, step_leaves}
 use Rattle.control_run.proofs.HostLists.{step_lists}
+use Rattle.control_run.proofs.Saying.{at_after}
 use Rattle.control_run.proofs.Beginning.{begins}
 use Rattle.control_run.proofs.Ending.{same_part, few_on_way, both_are_done, is_ended}
 
@@ -26,7 +27,7 @@ host_step plan logs g h m to_host to_guest planned (tears v guests hosts phase p
 host_step plan logs g h m to_host to_guest planned (leaves v guests hosts meet) = step_leaves plan logs v guests hosts meet
 
 pub new_ones_law : NewOnesAgree
-new_ones_law plan planned = record { planned = planned; talk = fresh; guest_sent = refl; host_sent = refl }
+new_ones_law plan planned = record { planned = planned; guest_at = record { said = refl; heard = refl }; talk = fresh; guest_sent = refl; host_sent = refl }
 
 pub host_law : HostGoesOn
 host_law plan g h m to_host to_guest agrees =
@@ -40,6 +41,7 @@ host_law plan g h m to_host to_guest agrees =
           let now : after ≡ host_after h h.part step.turn sent (m ∷ []) = takes.now ∙ ap (λ t. host_after h h.part t sent (m ∷ [])) (sym turn) in
           let there : Agrees plan g (host_after h h.part step.turn sent (m ∷ [])) to_host (to_guest ++ sent) = record {
             planned = agrees.planned;
+            guest_at = agrees.guest_at;
             talk = step.goes sent sends;
             guest_sent = agrees.guest_sent ∙ sym (append_assoc h.fed (m ∷ []) to_host);
             host_sent = ap (λ xs. xs ++ sent) agrees.host_sent ∙ append_assoc g.fed to_guest sent;
@@ -59,6 +61,7 @@ guest_law plan g h m to_host to_guest agrees =
           let now : after ≡ guest_after g g.part step.turn sent (m ∷ []) = takes.now ∙ ap (λ t. guest_after g g.part t sent (m ∷ [])) (sym turn) in
           let there : Agrees plan (guest_after g g.part step.turn sent (m ∷ [])) h (to_host ++ sent) to_guest = record {
             planned = agrees.planned;
+            guest_at = at_after plan g g.part step.turn sent (m ∷ []) agrees.guest_at (step.says sent sends) step.heard;
             talk = step.goes sent sends;
             guest_sent = ap (λ xs. xs ++ sent) agrees.guest_sent ∙ append_assoc h.fed to_host sent;
             host_sent = agrees.host_sent ∙ sym (append_assoc g.fed (m ∷ []) to_guest);
@@ -70,9 +73,11 @@ pub begin_law : BothBegin
 begin_law plan g g' h h' part sent agrees is guest host =
     let plans = same_part plan (logs_of g h) g h [] [] agrees.talk in
     let sends : Sends plan (guest_begins g part).burst sent = subst (λ p. Sends p (guest_begins g part).burst sent) plans.0 guest.sends in
+    let begun = begins plan (logs_of g h) g h part agrees.planned agrees.talk is sent sends in
     let there : Agrees plan (guest_after g (Some part) (guest_begins g part) sent []) (host_after h (Some part) (host_begins h part) [] []) sent [] = record {
       planned = agrees.planned;
-      talk = begins plan (logs_of g h) g h part agrees.planned agrees.talk is sent sends;
+      guest_at = at_after plan g (Some part) (guest_begins g part) sent [] agrees.guest_at begun.says begun.hears;
+      talk = begun.talk;
       guest_sent = ap (λ xs. xs ++ sent) (agrees.guest_sent ∙ append-nil h.fed) ∙ ap (λ xs. xs ++ sent) (sym (append-nil h.fed));
       host_sent = append-nil h.posted ∙ agrees.host_sent ∙ sym (append-nil (g.fed ++ []));
     } in
@@ -88,4 +93,4 @@ pub few_law : FewOnTheirWay
 few_law plan g h to_host to_guest agrees = few_on_way plan (logs_of g h) g h to_host to_guest agrees.planned agrees.talk
 
 pub ends_law : EndsWell
-ends_law plan g h agrees last = is_ended plan (logs_of g h) g h agrees.talk last (agrees.guest_sent ∙ append-nil h.fed) (agrees.host_sent ∙ append-nil g.fed)
+ends_law plan g h agrees last = is_ended plan (logs_of g h) g h agrees.talk agrees.guest_at last (agrees.guest_sent ∙ append-nil h.fed) (agrees.host_sent ∙ append-nil g.fed)

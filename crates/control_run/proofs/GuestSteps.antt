@@ -1,9 +1,13 @@
 -- The guest takes the first message on its way to it.
-use Rattle.std.proofs.Common.{◌≡◌, ◌≢◌, ◌∙◌, ℕ, suc, ◌+◌, ◌-◌, ◌<◌, ◌==◌, true, List, [], ◌∷◌, ◌++◌, length, replicate, slice_get, slice_set, Some, None, Ok, refl, sym, ap, subst, append_assoc, length-append, arith}
+use Rattle.std.proofs.Common.{◌≡◌, ◌≢◌, ◌∙◌, ℕ, suc, ◌+◌, ◌-◌, ◌<◌, ◌==◌, true, false, nat_le, if◌then◌else◌, List, [], ◌∷◌, ◌++◌, length, map, drop, replicate, slice_get, slice_set, Some, None, Ok, refl, sym, ap, subst, append_assoc, length-append, arith}
+use Rattle.std.specs.List.{flat_map}
 use Rattle.std.proofs.lemmas.Bool.{eq-eqb}
+use Rattle.std.proofs.lemmas.Bool.Decides.{nat_tests}
+use Rattle.std.proofs.lemmas.List.Concat.{flat_map-cons}
 use Rattle.std.proofs.lemmas.List.{length-replicate}
 use Rattle.contact.specs.declared.version.Version.{Version}
 use Rattle.contact.specs.declared.kind.Kind.{Kind}
+use Rattle.contact.specs.Versions.{versions_tried}
 use Rattle.contact.specs.declared.part.Part.TheVariants.{Contact, PhaseStart, PhaseEnd, Unload}
 use Rattle.contact.specs.Classes.{class_id, offer, offers_from}
 use Rattle.chan_state.specs.declared.state.State.TheVariants.{Opening as IsOpening, Opened, Closing, Closed}
@@ -17,13 +21,15 @@ use Rattle.control_model.specs.declared.burst.Burst.TheVariants.{One}
 use Rattle.control_model.specs.declared.guest_wait.GuestWait.TheVariants.{Nothing, Response, Offers, Created, Opened as AwaitsOpened, Torn, Unloaded}
 use Rattle.control_model.specs.declared.guest_turn.GuestTurn.{GuestTurn}
 use Rattle.control_model.specs.declared.host_wait.HostWait.TheVariants.{Nothing as HostNothing, Contact as AwaitsContact, Request, Open as AwaitsOpen}
-use Rattle.control_model.specs.Plan.{BusPlan, opening_at, IsPlan}
-use Rattle.control_model.specs.Channels.{by_relid, lived, is_handle, place_of_list}
-use Rattle.control_model.specs.Messages.{respond, delivered, created, open_on, opened, torndown, farewell_taken, Sends}
+use Rattle.control_model.specs.Plan.{BusPlan, opening_at, IsPlan, phase_of}
+use Rattle.control_model.specs.Channels.{by_relid, lived, changed, is_handle, place_of_list}
+use Rattle.control_model.specs.Messages.{propose, respond, request, delivered, created, open_on, opened, torndown, farewell_taken, Sends}
 use Rattle.control_model.specs.Guest.{GuestSeen, idle, offered_channel, proposal, proposes, answered, takes_offer, hears_offer, opens, created_for, hears_created, opened_for, hears_result, torn_at, torn_for, hears_torndown, lists_next, closes_next, guest_hears, guest_after}
 use Rattle.control_model.specs.Host.{HostSeen, waits_list, waits_close}
+use Rattle.control_model.specs.Said.{answer_to, guest_opens, host_opens, guest_closes, host_closes}
+use Rattle.control_model.specs.GuestAt.{guest_from, host_from, opens_listed, answers_open, to_say, to_hear}
 use Rattle.control_model.proofs.KindLaws.{kind_of_class}
-use Rattle.control_run.specs.Stand.{phase_of, At, marked, guest_is, host_is, guest_before, host_before, Stand, handles}
+use Rattle.control_run.specs.Stand.{At, marked, guest_is, host_is, guest_before, host_before, Stand, handles}
 use Rattle.control_run.specs.Talk.{Logs, Talk, Meet, Tries, Agreed, a_guest, a_host, live_ones}
 use Rattle.control_run.specs.Talk.Talk.{proposes as IsProposing, accepts, refuses, asks, offering, offered, contacted, listed, opens as IsOpened, is_open, torn, may_leave, is_over}
 use Rattle.control_run.specs.Laws.{measure}
@@ -33,6 +39,8 @@ use Rattle.control_run.proofs.Lower.{lower_one}
 use Rattle.control_run.proofs.Offering.{kind_same, one_more, all_alike}
 use Rattle.control_run.proofs.Handles.{all_front, can_open, find_list, closing_handle}
 use Rattle.control_run.proofs.Next.{heard_so, NextIsOpen, next_list, next_close}
+use Rattle.control_run.proofs.Tried.{one_tried, next_tried, first_tried}
+use Rattle.control_run.proofs.Saying.{drop_done, drop_all, left_at, left_behind, lists_said, lists_heard, closes_said, closes_heard}
 
 -- what both sides sent and were fed, once the guest took a message
 abbrev pub guest_logs : Logs → List Msg → Msg → Logs
@@ -44,6 +52,8 @@ pub record GuestStep (plan : BusPlan) (logs : Logs) (g : GuestSeen) (h : Logs �
   pub hears : guest_hears g m ≡ Ok turn
   pub goes : (sent : List Msg) → Sends plan turn.burst sent → Talk plan (guest_logs logs sent m) (guest_after g g.part turn sent (m ∷ [])) (h (guest_logs logs sent m)) (to_host ++ sent) to_guest
   pub falls : (sent : List Msg) → Sends plan turn.burst sent → measure (guest_after g g.part turn sent (m ∷ [])) (to_host ++ sent) < measure g to_host
+  pub says : (sent : List Msg) → Sends plan turn.burst sent → to_say plan g.part g.awaits ≡ sent ++ to_say plan g.part turn.awaits
+  pub heard : to_hear plan g.part g.awaits (length g.channels) ≡ m ∷ to_hear plan g.part turn.awaits (length (changed (changed g.channels turn.heard) turn.wished))
 
 -- VERSION_RESPONSE
 pub step_accepts : (plan : BusPlan) (logs : Logs) (v : Version) → IsPlan plan → Agreed plan v
@@ -52,6 +62,9 @@ step_accepts plan logs v planned agreed =
     let g : GuestSeen = a_guest plan logs (Some Contact) (Response v) None [] in
     let turn : GuestTurn = answered g v 1 in
     let few = planned.few in
+    let one = one_tried plan v agreed in
+    let within = agreed.within_host in
+    let has : nat_le v.0 plan.host.0 ≡ true = grind (arith, nat_tests, within) in
     record {
       turn = turn;
       hears = refl;
@@ -59,6 +72,8 @@ step_accepts plan logs v planned agreed =
           let h : HostSeen = a_host plan (guest_logs logs sent (respond 1)) (Some Contact) Request (Some v) [] (live_ones []) in
           subst (λ s. Talk plan (guest_logs logs sent (respond 1)) (guest_after g g.part turn sent (respond 1 ∷ [])) h s []) (sym e) (asks v agreed);
       falls = λ sent e. let count = ap length e in omega (arith, count, few);
+      says = λ sent e. ap (λ vs. (map propose (drop 1 vs) ++ request ∷ []) ++ guest_from plan 0) one ∙ ap (λ s. s ++ guest_from plan 0) (sym e);
+      heard = ap (λ vs. (map (answer_to plan) vs ++ (offers_from 1 plan.kinds ++ delivered ∷ [])) ++ host_from plan 0) one ∙ ap (λ b. respond (if b then 1 else 0) ∷ ((offers_from 1 plan.kinds ++ delivered ∷ []) ++ host_from plan 0)) has;
     }
 
 pub step_refuses : (plan : BusPlan) (logs : Logs) (v : Version) → IsPlan plan → Tries plan v → plan.host.0 < v.0
@@ -68,6 +83,9 @@ step_refuses plan logs v planned tries above =
     let low = lower_one plan v planned tries above in
     let turn : GuestTurn = proposal g low.lower in
     let less = low.less in
+    let next = next_tried plan v planned tries above low in
+    let first = first_tried plan low.lower planned low.tries in
+    let lacks : nat_le v.0 plan.host.0 ≡ false = grind (arith, nat_tests, above) in
     record {
       turn = turn;
       hears = ap (λ x. Ok (proposes g x)) low.is;
@@ -75,6 +93,10 @@ step_refuses plan logs v planned tries above =
           let h : HostSeen = a_host plan (guest_logs logs sent (respond 0)) (Some Contact) AwaitsContact None [] (live_ones []) in
           subst (λ s. Talk plan (guest_logs logs sent (respond 0)) (guest_after g g.part turn sent (respond 0 ∷ [])) h s []) (sym e) (IsProposing low.lower low.tries);
       falls = λ sent e. let count = ap length e in omega (arith, count, less);
+      says = λ sent e. ap (λ vs. (map propose (drop 1 vs) ++ request ∷ []) ++ guest_from plan 0) next ∙ ap (λ vs. (map propose vs ++ request ∷ []) ++ guest_from plan 0) first
+          ∙ ap (λ s. s ++ ((map propose (drop 1 (versions_tried low.lower.0 plan.host.0)) ++ request ∷ []) ++ guest_from plan 0)) (sym e);
+      heard = ap (λ vs. (map (answer_to plan) vs ++ (offers_from 1 plan.kinds ++ delivered ∷ [])) ++ host_from plan 0) next
+          ∙ ap (λ b. respond (if b then 1 else 0) ∷ ((map (answer_to plan) (versions_tried low.lower.0 plan.host.0) ++ (offers_from 1 plan.kinds ++ delivered ∷ [])) ++ host_from plan 0)) lacks;
     }
 
 -- OFFERCHANNEL
@@ -99,6 +121,11 @@ step_offering plan logs v hosts n seen kind left agreed stand is count =
     let here : slice_get plan.kinds n ≡ Some kind = ap (λ ks. slice_get ks n) is ∙ ap (slice_get (seen ++ kind ∷ left)) count ∙ get_from seen (kind ∷ left) in
     let takes : takes_offer g kind 0 (n + 1) ≡ turn = rw (many, same (n + 1), here, kind_same kind) refl in
     let next : suc n ≡ n + 1 = omega arith in
+    let long : length (guests ++ offered_channel ∷ []) ≡ n + 1 = omega (arith, many, length-append guests (offered_channel ∷ [])) in
+    let these : drop (length guests) plan.kinds ≡ kind ∷ left = ap (drop (length guests)) is ∙ ap (λ k. drop k (seen ++ kind ∷ left)) (many ∙ count) ∙ drop_done seen (kind ∷ left) in
+    let front : n + 1 ≡ length (seen ++ kind ∷ []) = omega (arith, count, length-append seen (kind ∷ [])) in
+    let those : drop (length (guests ++ offered_channel ∷ [])) plan.kinds ≡ left =
+    ap (drop (length (guests ++ offered_channel ∷ []))) (is ∙ sym (append_assoc seen (kind ∷ []) left)) ∙ ap (λ k. drop k ((seen ++ kind ∷ []) ++ left)) (long ∙ front) ∙ drop_done (seen ++ kind ∷ []) left in
     let more : guests ++ offered_channel ∷ [] ≡ replicate (n + 1) offered_channel = one_more n offered_channel ∙ ap (λ k. replicate k offered_channel) next in
     record {
       turn = turn;
@@ -114,6 +141,8 @@ step_offering plan logs v hosts n seen kind left agreed stand is count =
           let sends = ap length e in
           let longer : length (guests ++ offered_channel ∷ []) ≡ length guests + 1 = length-append guests (offered_channel ∷ []) in
           omega (arith, sends, longer, many, all, count);
+      says = λ sent e. ap (λ s. s ++ guest_from plan 0) (sym e);
+      heard = (λ i. (offers_from (many i + 1) (these i) ++ delivered ∷ []) ++ host_from plan 0) ∙ ap (λ xs. m ∷ ((xs ++ delivered ∷ []) ++ host_from plan 0)) (sym (λ i. offers_from (long i + 1) (those i)));
     }
 
 -- ALLOFFERS_DELIVERED
@@ -124,6 +153,7 @@ step_offered plan logs v hosts n agreed stand all =
     let g : GuestSeen = a_guest plan logs (Some Contact) Offers (Some v) guests in
     let turn : GuestTurn = record (idle g) { awaits = Nothing } in
     let many : length guests ≡ length plan.kinds = length-replicate n offered_channel ∙ all in
+    let none : drop (length guests) plan.kinds ≡ [] = ap (λ k. drop k plan.kinds) many ∙ drop_all plan.kinds in
     let whole : (length guests == length plan.kinds) ≡ true = eq-eqb (length guests) (length plan.kinds) many in
     record {
       turn = turn;
@@ -133,6 +163,8 @@ step_offered plan logs v hosts n agreed stand all =
           let h : HostSeen = a_host plan logs2 (Some Contact) HostNothing (Some v) hosts (live_ones []) in
           subst (λ s. Talk plan logs2 (a_guest plan logs2 (Some Contact) Nothing (Some v) guests) h s []) (sym e) (contacted v guests hosts (record { agreed = agreed; guest = all_alike plan n offered_channel all; host = stand }));
       falls = λ sent e. let sends = ap length e in omega (arith, sends, many);
+      says = λ sent e. ap (λ s. s ++ guest_from plan 0) (sym e);
+      heard = ap (λ ks. (offers_from (length guests + 1) ks ++ delivered ∷ []) ++ host_from plan 0) none;
     }
 
 -- GPADL_CREATED
@@ -147,6 +179,7 @@ step_listed plan logs v guests hosts phase place done o left planned at meet =
     let now : Channel = guest_is IsOpening o in
     let turn : GuestTurn = record (idle g) { awaits = AwaitsOpened place; wished = Now o.relid now; burst = One (open_on o) } in
     let known : by_relid guests o.relid ≡ Some c = stand_at guests plan (guest_is Opened) done o (guest_before plan phase) c meet.guest fact.fits.named fact.known fact.done_apart refl in
+    let here : drop place (phase_of plan phase) ≡ o ∷ left = left_at plan phase place done (o ∷ left) at.phase_is at.place_is in
     let asked : created_for g place o.relid o.gpadl 0 c (Some o) ≡ opens g place o (lived c WantOpen) = rw (same o.relid, same o.gpadl) refl in
     let after : Stand (slice_set guests (o.relid - 1) now) plan (marked (guest_is Opened) done (marked (guest_is IsOpening) (o ∷ []) (guest_before plan phase))) =
     stand_mark guests plan (guest_is Opened) (guest_is IsOpening) done o (guest_before plan phase) (guest_before plan phase) meet.guest fact.fits.named fact.known fact.done_apart (λ q off. refl) in
@@ -159,6 +192,14 @@ step_listed plan logs v guests hosts phase place done o left planned at meet =
           subst (λ s. Talk plan logs2 (guest_after g g.part turn sent (m ∷ [])) h s []) (sym e)
           (IsOpened v (slice_set guests (o.relid - 1) now) hosts phase place done o left at (record { agreed = meet.agreed; guest = after; host = meet.host }));
       falls = λ sent e. let sends = ap length e in omega (arith, sends);
+      says = λ sent e.
+          let asks = sym e in
+          let behind = sym (left_behind plan phase place done o left at) in
+          let later : List Msg = flat_map guest_closes (phase_of plan phase) ++ guest_from plan (suc phase) in
+          ap (λ os. opens_listed os ++ later) here ∙ (λ i. asks i ++ (flat_map guest_opens (behind i) ++ later));
+      heard =
+          let later : List Msg = flat_map host_closes (phase_of plan phase) ++ host_from plan (suc phase) in
+          ap (λ os. flat_map host_opens os ++ later) here ∙ ap (λ xs. xs ++ later) (flat_map-cons host_opens o left) ∙ ap (λ os. m ∷ (answers_open os ++ later)) (sym here);
     }
 
 -- OPENCHANNEL_RESULT
@@ -184,6 +225,14 @@ step_open plan logs v guests hosts phase place done o left planned at meet =
       hears = ap (hears_result g o.relid 0) known ∙ ap (λ x. Ok (opened_for g heard place o.relid 0 x)) (opening_here plan phase place done o left at) ∙ ap (λ t. Ok t) asked;
       goes = λ sent sends. (goes_on (guest_logs logs sent m) sent sends).talk;
       falls = λ sent sends. let most = (goes_on (guest_logs logs sent m) sent sends).few in omega (arith, most, few);
+      says = λ sent sends.
+          let later : List Msg = flat_map guest_closes (phase_of plan phase) ++ guest_from plan (suc phase) in
+          ap (λ os. flat_map guest_opens os ++ later) (left_behind plan phase place done o left at)
+          ∙ lists_said plan v phase (place + 1) (done ++ o ∷ []) left (AwaitsOpened place) (Now o.relid now) sent (done_more plan phase place done o left at) (place_more plan phase place done o left at) sends later;
+      heard =
+          let later : List Msg = flat_map host_closes (phase_of plan phase) ++ host_from plan (suc phase) in
+          ap (λ os. answers_open os ++ later) (left_at plan phase place done (o ∷ left) at.phase_is at.place_is)
+          ∙ ap (λ xs. m ∷ (xs ++ later)) (lists_heard plan v phase (place + 1) (done ++ o ∷ []) left (AwaitsOpened place) (Now o.relid now) (done_more plan phase place done o left at) (place_more plan phase place done o left at));
     }
 
 -- GPADL_TORNDOWN
@@ -219,14 +268,23 @@ step_torn plan logs v guests hosts phase place done o left planned at meet =
     let asked : torn_for g (heard o.relid) place o.relid (Some o) ≡ turn = rw (same o.relid) refl in
     let after : Stand (slice_set guests (o.relid - 1) now) plan (marked (guest_is Closed) (done ++ o ∷ []) base) =
     stand_join guests plan (guest_is Closed) done o (marked (guest_is Closing) (o ∷ []) base) base meet.guest fact.fits.named fact.known fact.done_apart (λ q off. sym (marked_there (guest_is Closing) o [] base q off)) in
+    let next = next_opened plan v guests hosts phase place done o left (marked (host_is Closed) (done ++ o ∷ []) (marked (host_is Opened) left (host_before plan phase))) planned at meet in
     let goes_on = next_close plan v guests hosts phase (place + 1) (done ++ o ∷ []) left (Torn place) (Now o.relid now) planned at.in_plan (done_more plan phase place done o left at) (place_more plan phase place done o left at) (record { agreed = meet.agreed; guest = after; host = meet.host })
-    (next_opened plan v guests hosts phase place done o left (marked (host_is Closed) (done ++ o ∷ []) (marked (host_is Opened) left (host_before plan phase))) planned at meet) in
+    next in
     let few : place < length (phase_of plan phase) = omega (arith, at.place_is, ap length at.phase_is, length-append done (o ∷ left)) in
     record {
       turn = turn;
       hears = ap (hears_torndown g o.gpadl) found ∙ ap (torn_at g o.gpadl (o.relid - 1)) known ∙ ap (λ r. Ok (torn_for g (heard r) place r (opening_at plan phase place))) back ∙ ap (λ x. Ok (torn_for g (heard o.relid) place o.relid x)) (opening_here plan phase place done o left at) ∙ ap (λ t. Ok t) asked;
       goes = λ sent sends. (goes_on (guest_logs logs sent m) sent sends).talk;
       falls = λ sent sends. let most = (goes_on (guest_logs logs sent m) sent sends).few in omega (arith, most, few);
+      says = λ sent sends.
+          let later : List Msg = guest_from plan (suc phase) in
+          ap (λ os. flat_map guest_closes os ++ later) (left_behind plan phase place done o left at)
+          ∙ closes_said plan v guests phase (place + 1) (done ++ o ∷ []) left (Torn place) (Now o.relid now) sent at.in_plan (done_more plan phase place done o left at) (place_more plan phase place done o left at) next sends later;
+      heard =
+          let later : List Msg = host_from plan (suc phase) in
+          ap (λ os. flat_map host_closes os ++ later) (left_at plan phase place done (o ∷ left) at.phase_is at.place_is) ∙ ap (λ xs. xs ++ later) (flat_map-cons host_closes o left)
+          ∙ ap (λ xs. m ∷ (xs ++ later)) (closes_heard plan v guests phase (place + 1) (done ++ o ∷ []) left (Torn place) (Now o.relid now) (done_more plan phase place done o left at) (place_more plan phase place done o left at) next);
     }
 
 -- UNLOAD_RESPONSE
@@ -242,6 +300,8 @@ step_left plan logs v guests hosts meet =
           let logs2 : Logs = guest_logs logs sent farewell_taken in
           subst (λ s. Talk plan logs2 (guest_after g g.part turn sent (farewell_taken ∷ [])) (a_host plan logs2 (Some Unload) HostNothing (Some v) hosts (live_ones [])) s []) (sym e) (is_over v guests hosts meet);
       falls = λ sent e. let sends = ap length e in omega (arith, sends);
+      says = λ sent e. ap (λ s. s ++ []) (sym e);
+      heard = refl;
     }
 
 -- each moment at which a message is on its way to the guest

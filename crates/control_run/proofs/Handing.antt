@@ -11,7 +11,8 @@ use Rattle.control_model.specs.Guest.{GuestSeen, can_begin, guest_hears, GuestBe
 use Rattle.control_model.specs.Host.{HostSeen, HostTurn, host_can_begin, host_hears, HostBegins, HostTakes}
 use Rattle.host_end.specs.Feeding.{Comes}
 use Rattle.contact.specs.declared.part.Part.TheVariants.{Unload}
-use Rattle.control_run.specs.Laws.{logs_of, Agrees, measure, IsOver}
+use Rattle.control_run.specs.Laws.{logs_of, Agrees, measure}
+use Rattle.control_run.specs.Over.{IsOver}
 use Rattle.control_run.specs.Path.{PathSeen, Rests, Ran}
 use Rattle.control_run.proofs.Ending.{same_part, both_can_begin}
 use Rattle.control_run.proofs.Going.{host_law, guest_law, begin_law, done_law, ends_law}

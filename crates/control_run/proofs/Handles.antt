@@ -11,10 +11,10 @@ use Rattle.chan_state.specs.declared.action.Action.TheVariants.{SendResult}
 use Rattle.chan_state.specs.declared.chan_state.ChanState.{ChanState}
 use Rattle.control_model.specs.declared.opening.Opening.{Opening}
 use Rattle.control_model.specs.declared.channel.Channel.{Channel}
-use Rattle.control_model.specs.Plan.{BusPlan}
+use Rattle.control_model.specs.Plan.{BusPlan, phase_of}
 use Rattle.control_model.specs.Channels.{lived, row_of, is_handle, place_of_list}
 use Rattle.control_model.specs.Guest.{offered_channel}
-use Rattle.control_run.specs.Stand.{phase_of, marked, before_phase, guest_is, host_is, guest_before, host_before, Stand}
+use Rattle.control_run.specs.Stand.{marked, before_phase, guest_is, host_is, guest_before, host_before, Stand}
 use Rattle.control_run.proofs.Marks.{differ, at_relid, marked_has, marked_there}
 use Rattle.control_run.proofs.Plans.{Facts}
 

@@ -3,6 +3,9 @@ pub mod Plans
 pub mod Lower
 pub mod Pieces
 pub mod Next
+pub mod Tried
+pub mod Saying
+pub mod States
 pub mod Offering
 pub mod Handles
 pub mod GuestSteps

@@ -4,20 +4,20 @@ use Rattle.std.specs.List.{AllByRecursion, list_any}
 use Rattle.std.proofs.lemmas.Bool.{eqb-true}
 use Rattle.std.proofs.lemmas.Bool.Decides.{nat_tests}
 use Rattle.contact.specs.declared.version.Version.{Version}
-use Rattle.contact.specs.Versions.{versions}
+use Rattle.contact.specs.Versions.{versions, IsVersion}
 use Rattle.control_model.specs.Plan.{BusPlan, IsPlan}
 use Rattle.control_model.specs.Channels.{first_below, version_below, accepts}
 use Rattle.control_run.specs.Talk.{Tries}
 use Rattle.control_run.proofs.Marks.{by_test, by_place, same, differ}
 
-abbrev Falling : List ℕ → Type 0
+abbrev pub Falling : List ℕ → Type 0
 Falling [] = Unit {0}
 Falling (x ∷ xs) = AllByRecursion (λ y. y < x) xs × Falling xs
 
-listed : ℕ → List ℕ → Bool
+unfoldable pub listed : ℕ → List ℕ → Bool
 listed u xs = list_any (λ w. w == u) xs
 
-under : (x u : ℕ) (xs : List ℕ) → AllByRecursion (λ y. y < x) xs → listed u xs ≡ true → u < x
+pub under : (x u : ℕ) (xs : List ℕ) → AllByRecursion (λ y. y < x) xs → listed u xs ≡ true → u < x
 unfolding listed
 under x u [] all is = absurd (let off : false ≡ true = is in cc)
 under x u (y ∷ ys) all is = by_test {P = u < x} (y == u)
@@ -53,7 +53,7 @@ find v m (x ∷ xs) falls is less = by_test {P = Found v (x ∷ xs)} (nat_lt x v
       greatest = λ u any small. let other : x ≢ u = λ eq. absurd (omega (arith, eq, over, small)) in rest.greatest u (rw (differ x u other) at any) small;
     })
 
-falling : Falling versions
+pub falling : Falling versions
 falling = ((omega arith, (omega arith, (omega arith, (omega arith, (omega arith, (omega arith, tt)))))), ((omega arith, (omega arith, (omega arith, (omega arith, (omega arith, tt))))), ((omega arith, (omega arith, (omega arith, (omega arith, tt)))), ((omega arith, (omega arith, (omega arith, tt))), ((omega arith, (omega arith, tt)), ((omega arith, tt), (tt, tt)))))))
 
 -- the next version to try, where the host does not know this one
@@ -62,6 +62,7 @@ pub record Lower (plan : BusPlan) (v : Version) : Type 0 where
   pub is : version_below v ≡ Some lower
   pub tries : Tries plan lower
   pub less : lower.0 < v.0
+  pub greatest : (u : ℕ) → IsVersion u → u < v.0 → u ≤ lower.0
 
 pub lower_one : (plan : BusPlan) (v : Version) → IsPlan plan → Tries plan v → plan.host.0 < v.0 → Lower plan v
 unfolding listed
@@ -74,6 +75,7 @@ lower_one plan v planned tries above =
       is = found.is;
       tries = record { listed = found.in_list; within = omega (arith, less, within); greatest = λ u known at_guest at_host. found.greatest u known (omega (arith, at_host, above)) };
       less = less;
+      greatest = λ u known small. found.greatest u known small;
     }
 
 -- the guest tries its highest version first

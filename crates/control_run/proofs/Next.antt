@@ -15,12 +15,12 @@ use Rattle.control_model.specs.declared.burst.Burst.TheVariants.{Empty}
 use Rattle.control_model.specs.declared.guest_wait.GuestWait.{GuestWait}
 use Rattle.control_model.specs.declared.guest_wait.GuestWait.TheVariants.{Torn}
 use Rattle.control_model.specs.declared.guest_turn.GuestTurn.{GuestTurn}
-use Rattle.control_model.specs.Plan.{BusPlan, opening_at, IsPlan}
+use Rattle.control_model.specs.Plan.{BusPlan, opening_at, IsPlan, phase_of}
 use Rattle.control_model.specs.Channels.{by_relid, changed}
 use Rattle.control_model.specs.Messages.{Sends}
 use Rattle.control_model.specs.Guest.{GuestSeen, lists_next, closes, closes_next}
 use Rattle.control_model.specs.Host.{HostSeen, waits_list, waits_close}
-use Rattle.control_run.specs.Stand.{phase_of, At, marked, guest_is, host_is, guest_before, host_before, Stand, handles}
+use Rattle.control_run.specs.Stand.{At, marked, guest_is, host_is, guest_before, host_before, Stand, handles}
 use Rattle.control_run.specs.Talk.{Logs, Talk, Meet, a_host, live_ones}
 use Rattle.control_run.specs.Talk.Talk.{lists, started, closes as IsClosing, ended}
 use Rattle.control_run.specs.Laws.{measure}

@@ -7,9 +7,9 @@ use Rattle.std.proofs.Math.Seq.{get_or-append_seam}
 use Rattle.chan_state.specs.declared.state.State.TheVariants.{Closed}
 use Rattle.control_model.specs.declared.opening.Opening.{Opening}
 use Rattle.control_model.specs.declared.channel.Channel.{Channel}
-use Rattle.control_model.specs.Plan.{BusPlan, opening_at, IsOpening, Rising, Follows, all_openings, first_gpadl, list_pages, IsPlan}
+use Rattle.control_model.specs.Plan.{BusPlan, opening_at, IsOpening, Rising, Follows, all_openings, first_gpadl, list_pages, IsPlan, phase_of}
 use Rattle.control_model.specs.Channels.{is_handle}
-use Rattle.control_run.specs.Stand.{phase_of, At, guest_is, guest_before}
+use Rattle.control_run.specs.Stand.{At, guest_is, guest_before}
 use Rattle.control_run.proofs.Marks.{differ, marked_has}
 
 pub all_weaker : {X : Type 0} (P Q : X → Type 0) → ((x : X) → P x → Q x) → (xs : List X) → AllByRecursion P xs → AllByRecursion Q xs

@@ -1,27 +1,26 @@
 -- What holds of a guest and its host at each moment of their talk.
-use Rattle.std.specs.Prelude.{◌≡◌, ℕ, ◌+◌, ◌*◌, ◌-◌, ◌<◌, ◌≤◌, ◌==◌, true, List, [], ◌∷◌, ◌++◌, length, Option, Some, None, is_some, Ok, if◌then◌else◌}
-use Rattle.std.specs.List.{list_any}
-use Rattle.contact.specs.declared.version.Version.{Version}
+use Rattle.std.specs.Prelude.{◌≡◌, ℕ, ◌+◌, ◌*◌, ◌-◌, ◌<◌, ◌≤◌, true, List, [], ◌∷◌, ◌++◌, length, Option, Some, is_some, Ok}
 use Rattle.contact.specs.declared.part.Part.{Part}
 use Rattle.contact.specs.declared.part.Part.TheVariants.{PhaseStart, PhaseEnd, Unload}
-use Rattle.chan_state.specs.declared.state.State.{State}
-use Rattle.chan_state.specs.declared.state.State.TheVariants.{Offered, Closed}
 use Rattle.vmbus_msg.specs.declared.msg.Msg.{Msg}
 use Rattle.control_model.specs.declared.guest_turn.GuestTurn.{GuestTurn}
 use Rattle.control_model.specs.declared.guest_wait.GuestWait.{GuestWait}
 use Rattle.control_model.specs.declared.guest_wait.GuestWait.TheVariants.{Nothing, Response, Offers, Created, Opened, Torn, Unloaded}
-use Rattle.control_model.specs.Plan.{BusPlan, part_after, all_openings, IsPlan}
-use Rattle.control_model.specs.Guest.{new_guest, GuestSeen, state_of, guest_done, guest_hears, GuestBegins, GuestTakes}
-use Rattle.control_model.specs.Host.{new_host, HostSeen, HostTurn, host_state_of, host_done, host_hears, HostBegins, HostTakes}
-use Rattle.control_run.specs.Stand.{phase_of}
-use Rattle.control_run.specs.Talk.{Logs, Talk, Agreed}
+use Rattle.control_model.specs.Plan.{BusPlan, part_after, IsPlan, phase_of}
+use Rattle.control_model.specs.Said.{agreed}
+use Rattle.control_model.specs.GuestAt.{GuestAt}
+use Rattle.control_model.specs.Guest.{new_guest, GuestSeen, guest_done, guest_hears, GuestBegins, GuestTakes}
+use Rattle.control_model.specs.Host.{new_host, HostSeen, HostTurn, host_done, host_hears, HostBegins, HostTakes}
+use Rattle.control_run.specs.Talk.{Logs, Talk}
+use Rattle.control_run.specs.Over.{IsOver, StandsSo}
 
 abbrev pub logs_of : GuestSeen → HostSeen → Logs
 logs_of g h = record { guest_posted = g.posted; guest_fed = g.fed; host_posted = h.posted; host_fed = h.fed }
 
--- Both controls and the messages on their way to the host and to the guest are at one moment of a talk, and each side was fed what the other sent, but for what is on its way.
+-- Both controls and the messages on their way to the host and to the guest are at one moment of a talk, the guest said and heard what it has to up to there, and each side was fed what the other sent, but for what is on its way.
 pub record Agrees (plan : BusPlan) (g : GuestSeen) (h : HostSeen) (to_host to_guest : List Msg) : Type 0 where
   pub planned : IsPlan plan
+  pub guest_at : GuestAt plan g
   pub talk : Talk plan (logs_of g h) g h to_host to_guest
   pub guest_sent : g.posted ≡ h.fed ++ to_host
   pub host_sent : h.posted ≡ g.fed ++ to_guest
@@ -75,26 +74,13 @@ BothDone = (plan : BusPlan) (g : GuestSeen) (h : HostSeen) → Agrees plan g h [
 abbrev pub FewOnTheirWay : Type 0
 FewOnTheirWay = (plan : BusPlan) (g : GuestSeen) (h : HostSeen) (to_host to_guest : List Msg) → Agrees plan g h to_host to_guest → (length to_host ≤ 32) × (length to_guest ≤ 32)
 
--- at the end a channel that a phase opened is closed, and each other one is offered
-abbrev pub last_state : BusPlan → ℕ → State
-last_state plan relid = if list_any (λ o. o.relid == relid) (all_openings plan.phases) then Closed else Offered
-
--- both are done with the farewell: one version, which is the greatest that both know; channels that were opened are closed at both, and the others are offered; and each was fed what the other sent
-pub record IsOver (plan : BusPlan) (g : GuestSeen) (h : HostSeen) : Type 0 where
-  pub guest_part : g.part ≡ Some Unload
-  pub host_part : h.part ≡ Some Unload
-  pub guest_done : guest_done g ≡ true
-  pub host_done : host_done h ≡ true
-  pub version : Version
-  pub agreed : Agreed plan version
-  pub at_guest : g.version ≡ Some version
-  pub at_host : h.version ≡ Some version
-  pub guest_many : length g.channels ≡ length plan.kinds
-  pub host_many : length h.channels ≡ length plan.kinds
-  pub guest_each : (relid : ℕ) → 1 ≤ relid → relid ≤ length plan.kinds → state_of g relid ≡ Some (last_state plan relid)
-  pub host_each : (relid : ℕ) → 1 ≤ relid → relid ≤ length plan.kinds → host_state_of h relid ≡ Some (last_state plan relid)
-  pub guest_sent : g.posted ≡ h.fed
-  pub host_sent : h.posted ≡ g.fed
-
 abbrev pub EndsWell : Type 0
 EndsWell = (plan : BusPlan) (g : GuestSeen) (h : HostSeen) → Agrees plan g h [] [] → g.part ≡ Some Unload → IsOver plan g h
+
+-- the state of each channel at the end, from the states of all
+abbrev pub EndTellsEach : Type 0
+EndTellsEach = (plan : BusPlan) (g : GuestSeen) (h : HostSeen) → IsOver plan g h → StandsSo plan g h
+
+-- the version at the end is the lower one of both ends' highest
+abbrev pub EndsAtLower : Type 0
+EndsAtLower = (plan : BusPlan) (g : GuestSeen) (h : HostSeen) → IsPlan plan → IsOver plan g h → (g.version ≡ Some (record { 0 = agreed plan })) × (h.version ≡ Some (record { 0 = agreed plan }))

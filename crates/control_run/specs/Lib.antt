@@ -1,4 +1,6 @@
 pub mod Stand
 pub mod Talk
+pub mod Over
 pub mod Laws
+pub mod Rows
 pub mod Path

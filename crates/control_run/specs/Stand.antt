@@ -1,18 +1,14 @@
 -- Where the channels of both sides stand.
-use Rattle.std.specs.Prelude.{◌≡◌, ℕ, zero, suc, ◌<◌, ◌≤◌, ◌==◌, List, [], ◌∷◌, ◌++◌, length, map, slice_index_or, Some, if◌then◌else◌}
+use Rattle.std.specs.Prelude.{◌≡◌, ℕ, zero, suc, ◌<◌, ◌≤◌, ◌==◌, List, [], ◌∷◌, ◌++◌, length, map, Some, if◌then◌else◌}
 use Rattle.io_edge.specs.declared.side.Side.TheVariants.{Guest as GuestSide, Host as HostSide}
 use Rattle.chan_state.specs.declared.state.State.{State}
 use Rattle.chan_state.specs.declared.state.State.TheVariants.{Offered, Closed}
 use Rattle.chan_state.specs.declared.chan_state.ChanState.{ChanState}
 use Rattle.control_model.specs.declared.opening.Opening.{Opening}
 use Rattle.control_model.specs.declared.channel.Channel.{Channel}
-use Rattle.control_model.specs.Plan.{BusPlan}
+use Rattle.control_model.specs.Plan.{BusPlan, phase_of}
 use Rattle.control_model.specs.Channels.{by_relid}
 use Rattle.control_model.specs.Guest.{offered_channel}
-
--- the openings of a phase
-abbrev pub phase_of : BusPlan → ℕ → List Opening
-phase_of plan phase = slice_index_or plan.phases phase []
 
 -- an opening's place in a phase: those before it, and those behind it
 pub record At (plan : BusPlan) (phase place : ℕ) (done : List Opening) (o : Opening) (left : List Opening) : Type 0 where

@@ -19,11 +19,11 @@ use Rattle.control_model.specs.declared.guest_wait.GuestWait.{GuestWait}
 use Rattle.control_model.specs.declared.guest_wait.GuestWait.TheVariants.{Nothing, Response, Offers, Created, Opened as AwaitsOpened, Torn, Unloaded}
 use Rattle.control_model.specs.declared.host_wait.HostWait.{HostWait}
 use Rattle.control_model.specs.declared.host_wait.HostWait.TheVariants.{Nothing as HostNothing, Contact as AwaitsContact, Request, List as AwaitsList, Open, Close, Teardown, Unload as AwaitsUnload}
-use Rattle.control_model.specs.Plan.{BusPlan, opening_at}
+use Rattle.control_model.specs.Plan.{BusPlan, opening_at, phase_of}
 use Rattle.control_model.specs.Messages.{propose, respond, request, delivered, pages_from, created, open_on, opened, close, teardown, torndown, farewell, farewell_taken}
 use Rattle.control_model.specs.Guest.{GuestSeen, offered_channel}
 use Rattle.control_model.specs.Host.{HostSeen, waits_list, waits_close}
-use Rattle.control_run.specs.Stand.{phase_of, At, marked, guest_is, host_is, guest_before, host_before, Stand, handles}
+use Rattle.control_run.specs.Stand.{At, marked, guest_is, host_is, guest_before, host_before, Stand, handles}
 
 -- what both sides have sent and were fed
 pub record Logs : Type 0 where

@@ -1,6 +1,7 @@
 //! Laws of the talk between a guest's control and its host's. The functions do nothing: each one's
 //! contract is the law.
-ghost use Rattle.control_run.specs.Laws.{NewOnesAgree, BothBegin, HostGoesOn, GuestGoesOn, BothDone, FewOnTheirWay, EndsWell};
+ghost use Rattle.control_run.specs.Laws.{NewOnesAgree, BothBegin, HostGoesOn, GuestGoesOn, BothDone, FewOnTheirWay, EndsWell, EndTellsEach, EndsAtLower};
+ghost use Rattle.control_run.specs.Rows.{GuestSays, HostSays, GuestSaysNone, HostSaysNone};
 
 /// A guest and a host that were made from one plan agree.
 pub fn new_ones_agree()
@@ -35,4 +36,24 @@ pub fn few_on_their_way()
 /// What holds of both once they are done with the farewell.
 pub fn ends_well()
     ensures { EndsWell }
+{}
+
+/// At the end there is a channel for each device, and each one that was ever opened is closed at
+/// both sides, and each other one is offered.
+pub fn end_tells_each()
+    ensures { EndTellsEach }
+{}
+
+/// The version at the end is the lower one of both ends' highest.
+pub fn ends_at_lower()
+    ensures { EndsAtLower }
+{}
+
+/// What both say over a small plan: versions, the offers, a channel that is opened and closed, and a
+/// farewell, which isn't said below 3.0.
+pub fn say_so()
+    ensures guest { GuestSays }
+    ensures host { HostSays }
+    ensures guest_old { GuestSaysNone }
+    ensures host_old { HostSaysNone }
 {}

@@ -6,7 +6,8 @@ ghost use Rattle.control_model.specs.Plan.{part_after};
 ghost use Rattle.control_model.specs.Openings.{plan_of};
 ghost use Rattle.control_model.specs.Guest.{new_guest};
 ghost use Rattle.control_model.specs.Host.{new_host};
-ghost use Rattle.control_run.specs.Laws.{Agrees, measure, IsOver};
+ghost use Rattle.control_run.specs.Laws.{Agrees, measure};
+ghost use Rattle.control_run.specs.Over.{IsOver};
 ghost use Rattle.control_run.specs.Path.{Agree, Rests, Continues, Ran, HandedOver};
 
 use bus_script::Script;
@@ -90,8 +91,8 @@ impl ControlPath {
     }
 
     /// Both controls, once they are done with the farewell: they have one version, the greatest that
-    /// both know; each was fed what the other sent; and each channel that was ever opened is closed at
-    /// both, and each other one is offered.
+    /// both know; each said all that it has to say for its plan, and was fed what the other said; and
+    /// each channel that was ever opened is closed at both, and each other one is offered.
     pub fn end(self) -> (GuestControl, HostControl)
         requires rests { Rests self }
         requires last { self.guest.part ≡ Some Unload }

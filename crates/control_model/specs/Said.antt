@@ -1,0 +1,67 @@
+-- All that a guest and its host say to each other over a plan, in order, and where its channels stand then.
+use Rattle.std.specs.Prelude.{ℕ, ◌==◌, min, nat_le, List, [], ◌∷◌, ◌++◌, length, map, if◌then◌else◌}
+use Rattle.std.specs.List.{flat_map, list_any, range_with_len}
+use Rattle.contact.specs.Versions.{version, versions_tried}
+use Rattle.contact.specs.Classes.{offers_from}
+use Rattle.chan_state.specs.declared.state.State.{State}
+use Rattle.chan_state.specs.declared.state.State.TheVariants.{Offered, Closed}
+use Rattle.gpadl.specs.Cut.{cut}
+use Rattle.vmbus_msg.specs.declared.msg.Msg.{Msg}
+use Rattle.control_model.specs.declared.opening.Opening.{Opening}
+use Rattle.control_model.specs.Plan.{BusPlan, all_openings}
+use Rattle.control_model.specs.Messages.{propose, respond, request, delivered, pages_from, created, open_on, opened, close, teardown, torndown, farewell, farewell_taken}
+
+-- the version that both agree on
+abbrev pub agreed : BusPlan → ℕ
+agreed plan = min plan.guest.0 plan.host.0
+
+-- the guest proposes each version from its highest down to the agreed one, and asks for the offers
+abbrev pub guest_contacts : BusPlan → List Msg
+guest_contacts plan = map propose (versions_tried plan.guest.0 plan.host.0) ++ request ∷ []
+
+-- the host answers each by 1 where it has the version and by 0 otherwise, and offers each device
+abbrev pub answer_to : BusPlan → ℕ → Msg
+answer_to plan v = respond (if nat_le v plan.host.0 then 1 else 0)
+
+abbrev pub host_contacts : BusPlan → List Msg
+host_contacts plan = map (answer_to plan) (versions_tried plan.guest.0 plan.host.0) ++ (offers_from 1 plan.kinds ++ delivered ∷ [])
+
+-- a channel is opened: the guest sends its page list, which the host knows then, and opens it on that list, which the host answers
+abbrev pub guest_opens : Opening → List Msg
+guest_opens o = cut o.relid o.gpadl (pages_from o) ++ open_on o ∷ []
+
+abbrev pub host_opens : Opening → List Msg
+host_opens o = created o.relid o.gpadl ∷ opened o.relid o.relid ∷ []
+
+-- a channel is closed: the guest closes it and tears its page list down, which the host lets go
+abbrev pub guest_closes : Opening → List Msg
+guest_closes o = close o.relid ∷ teardown o ∷ []
+
+abbrev pub host_closes : Opening → List Msg
+host_closes o = torndown o.gpadl ∷ []
+
+-- a phase opens its channels at its start, and closes them at its end, both in order of offer
+abbrev pub guest_in_phase : List Opening → List Msg
+guest_in_phase os = flat_map guest_opens os ++ flat_map guest_closes os
+
+abbrev pub host_in_phase : List Opening → List Msg
+host_in_phase os = flat_map host_opens os ++ flat_map host_closes os
+
+-- the farewell is said from version 3.0 on
+abbrev pub from_3_0 : BusPlan → List Msg → List Msg
+from_3_0 plan said = if nat_le (version 3 0) (agreed plan) then said else []
+
+-- all that each side says: the contact, each phase, and the farewell
+abbrev pub said_by_guest : BusPlan → List Msg
+said_by_guest plan = guest_contacts plan ++ (flat_map guest_in_phase plan.phases ++ from_3_0 plan (farewell ∷ []))
+
+abbrev pub said_by_host : BusPlan → List Msg
+said_by_host plan = host_contacts plan ++ (flat_map host_in_phase plan.phases ++ from_3_0 plan (farewell_taken ∷ []))
+
+-- at the end a channel that a phase opened is closed, and each other one is offered
+abbrev pub last_state : BusPlan → ℕ → State
+last_state plan relid = if list_any (λ o. o.relid == relid) (all_openings plan.phases) then Closed else Offered
+
+-- where all channels stand at the end, in order of relid
+abbrev pub at_end : BusPlan → List State
+at_end plan = map (last_state plan) (range_with_len 1 (length plan.kinds))

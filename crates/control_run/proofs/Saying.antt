@@ -1,0 +1,145 @@
+-- What a guest has still to say and to hear, as it goes on.
+use Rattle.std.proofs.Common.{◌≡◌, ◌∙◌, ℕ, zero, suc, ◌<◌, List, [], ◌∷◌, ◌++◌, length, drop, slice_get, slice_index_or, Option, refl, sym, ap, subst, append_assoc, length-append, arith}
+use Rattle.std.specs.List.{flat_map}
+use Rattle.std.proofs.lemmas.List.Concat.{flat_map-cons}
+use Rattle.contact.specs.declared.version.Version.{Version}
+use Rattle.contact.specs.declared.part.Part.{Part}
+use Rattle.vmbus_msg.specs.declared.msg.Msg.{Msg}
+use Rattle.gpadl.specs.Cut.{cut}
+use Rattle.gpadl.proofs.Cutting.{cuts_so}
+use Rattle.control_model.specs.declared.opening.Opening.{Opening}
+use Rattle.control_model.specs.declared.channel.Channel.{Channel}
+use Rattle.control_model.specs.declared.change.Change.{Change}
+use Rattle.control_model.specs.declared.guest_wait.GuestWait.{GuestWait}
+use Rattle.control_model.specs.declared.guest_wait.GuestWait.TheVariants.{Torn}
+use Rattle.control_model.specs.declared.guest_turn.GuestTurn.{GuestTurn}
+use Rattle.control_model.specs.Plan.{BusPlan, opening_at, phase_of}
+use Rattle.control_model.specs.Channels.{changed}
+use Rattle.control_model.specs.Messages.{pages_from, open_on, farewell, farewell_taken, Sends}
+use Rattle.control_model.specs.Said.{guest_opens, host_opens, guest_closes, host_closes, guest_in_phase, host_in_phase, from_3_0}
+use Rattle.control_model.specs.GuestAt.{guest_from, host_from, opens_listed, start_to_say, start_to_hear, end_to_say, end_to_hear, to_say, to_hear, GuestAt}
+use Rattle.control_model.specs.Guest.{GuestSeen, lists_next, closes, closes_next, guest_after}
+use Rattle.control_run.specs.Stand.{At}
+use Rattle.control_run.proofs.Plans.{opening_from, done_more}
+use Rattle.control_run.proofs.Next.{heard_so, NextIsOpen}
+
+-- behind those that are done, the others are left
+pub drop_done : {X : Type 0} (xs ys : List X) → drop (length xs) (xs ++ ys) ≡ ys
+drop_done [] ys = refl
+drop_done (x ∷ xs) ys = drop_done xs ys
+
+pub drop_all : {X : Type 0} (xs : List X) → drop (length xs) xs ≡ []
+drop_all [] = refl
+drop_all (x ∷ xs) = drop_all xs
+
+pub drop_one : {X : Type 0} (xs : List X) (i : ℕ) (d : X) → i < length xs → drop i xs ≡ slice_index_or xs i d ∷ drop (suc i) xs
+drop_one [] i d less = absurd (omega (arith, less))
+drop_one (x ∷ xs) zero d less = refl
+drop_one (x ∷ xs) (suc i) d less = drop_one xs i d (omega (arith, less))
+
+pub left_at : (plan : BusPlan) (phase place : ℕ) (done left : List Opening) → phase_of plan phase ≡ done ++ left → place ≡ length done → drop place (phase_of plan phase) ≡ left
+left_at plan phase place done left is at = ap (drop place) is ∙ ap (λ n. drop n (done ++ left)) at ∙ drop_done done left
+
+pub left_behind : (plan : BusPlan) (phase place : ℕ) (done : List Opening) (o : Opening) (left : List Opening) → At plan phase place done o left → drop (suc place) (phase_of plan phase) ≡ left
+left_behind plan phase place done o left at =
+    left_at plan phase (suc place) (done ++ o ∷ []) left (done_more plan phase place done o left at) (omega (arith, at.place_is, length-append done (o ∷ [])))
+
+-- a guest lists the pages of the next channel, if there is one
+opens_more : (o : Opening) (os : List Opening) (later : List Msg) → flat_map guest_opens (o ∷ os) ++ later ≡ cut o.relid o.gpadl (pages_from o) ++ (opens_listed (o ∷ os) ++ later)
+opens_more o os later =
+    let list : List Msg = cut o.relid o.gpadl (pages_from o) in
+    ap (λ xs. xs ++ later) (flat_map-cons guest_opens o os) ∙ append_assoc (list ++ open_on o ∷ []) (flat_map guest_opens os) later ∙ append_assoc list (open_on o ∷ []) (flat_map guest_opens os ++ later)
+
+abbrev ListsSaid : BusPlan → ℕ → List Opening → List Msg → GuestTurn → Type 0
+ListsSaid plan phase left sent turn = Sends plan turn.burst sent → (later : List Msg) → flat_map guest_opens left ++ later ≡ sent ++ (start_to_say (phase_of plan phase) turn.awaits ++ later)
+
+lists_said_from : (plan : BusPlan) (v : Version) (phase place : ℕ) (done left : List Opening) (awaits : GuestWait) (heard : Change) (sent : List Msg) → phase_of plan phase ≡ done ++ left → place ≡ length done
+    → ListsSaid plan phase left sent (lists_next (heard_so awaits v heard) place (slice_get left 0))
+lists_said_from plan v phase place done [] awaits heard sent is at = λ e later. ap (λ s. s ++ later) (sym e)
+lists_said_from plan v phase place done (o ∷ left) awaits heard sent is at = λ sends later.
+    let here = sym (left_at plan phase place done (o ∷ left) is at) in
+    let whole = sym (cuts_so o.relid o.gpadl (pages_from o) sent sends) in
+    opens_more o left later ∙ (λ i. whole i ++ (opens_listed (here i) ++ later))
+
+pub lists_said : (plan : BusPlan) (v : Version) (phase place : ℕ) (done left : List Opening) (awaits : GuestWait) (heard : Change) (sent : List Msg) → phase_of plan phase ≡ done ++ left → place ≡ length done
+    → ListsSaid plan phase left sent (lists_next (heard_so awaits v heard) place (opening_at plan phase place))
+lists_said plan v phase place done left awaits heard sent is at =
+    subst (λ x. ListsSaid plan phase left sent (lists_next (heard_so awaits v heard) place x)) (sym (opening_from plan phase place done left is at)) (lists_said_from plan v phase place done left awaits heard sent is at)
+
+abbrev ListsHeard : BusPlan → ℕ → List Opening → GuestTurn → Type 0
+ListsHeard plan phase left turn = flat_map host_opens left ≡ start_to_hear (phase_of plan phase) turn.awaits
+
+lists_heard_from : (plan : BusPlan) (v : Version) (phase place : ℕ) (done left : List Opening) (awaits : GuestWait) (heard : Change) → phase_of plan phase ≡ done ++ left → place ≡ length done
+    → ListsHeard plan phase left (lists_next (heard_so awaits v heard) place (slice_get left 0))
+lists_heard_from plan v phase place done [] awaits heard is at = refl
+lists_heard_from plan v phase place done (o ∷ left) awaits heard is at = ap (flat_map host_opens) (sym (left_at plan phase place done (o ∷ left) is at))
+
+pub lists_heard : (plan : BusPlan) (v : Version) (phase place : ℕ) (done left : List Opening) (awaits : GuestWait) (heard : Change) → phase_of plan phase ≡ done ++ left → place ≡ length done
+    → ListsHeard plan phase left (lists_next (heard_so awaits v heard) place (opening_at plan phase place))
+lists_heard plan v phase place done left awaits heard is at =
+    subst (λ x. ListsHeard plan phase left (lists_next (heard_so awaits v heard) place x)) (sym (opening_from plan phase place done left is at)) (lists_heard_from plan v phase place done left awaits heard is at)
+
+-- a guest closes the next channel, if there is one
+abbrev ClosesSaid : BusPlan → ℕ → List Opening → List Msg → GuestTurn → Type 0
+ClosesSaid plan phase left sent turn = Sends plan turn.burst sent → (later : List Msg) → flat_map guest_closes left ++ later ≡ sent ++ (end_to_say (phase_of plan phase) turn.awaits ++ later)
+
+closes_said_from : (plan : BusPlan) (v : Version) (guests : List Channel) (phase place : ℕ) (done left : List Opening) (awaits : GuestWait) (heard : Change) (sent : List Msg) → phase < length plan.phases → phase_of plan phase ≡ done ++ left → place ≡ length done → NextIsOpen guests left
+    → ClosesSaid plan phase left sent (closes_next (heard_so awaits v heard) guests place (slice_get left 0))
+closes_said_from plan v guests phase place done [] awaits heard sent in_plan is at next = λ e later. ap (λ s. s ++ later) (sym e)
+closes_said_from plan v guests phase place done (o ∷ left) awaits heard sent in_plan is at next =
+    subst (λ c. ClosesSaid plan phase (o ∷ left) sent (closes (record (heard_so awaits v heard) { awaits = Torn place }) o c)) (sym next)
+    (λ e later.
+    let behind = sym (left_behind plan phase place done o left (record { in_plan = in_plan; phase_is = is; place_is = at })) in
+    let two = sym e in
+    ap (λ xs. xs ++ later) (flat_map-cons guest_closes o left) ∙ (λ i. two i ++ (flat_map guest_closes (behind i) ++ later)))
+
+pub closes_said : (plan : BusPlan) (v : Version) (guests : List Channel) (phase place : ℕ) (done left : List Opening) (awaits : GuestWait) (heard : Change) (sent : List Msg) → phase < length plan.phases → phase_of plan phase ≡ done ++ left → place ≡ length done → NextIsOpen guests left
+    → ClosesSaid plan phase left sent (closes_next (heard_so awaits v heard) guests place (opening_at plan phase place))
+closes_said plan v guests phase place done left awaits heard sent in_plan is at next =
+    subst (λ x. ClosesSaid plan phase left sent (closes_next (heard_so awaits v heard) guests place x)) (sym (opening_from plan phase place done left is at)) (closes_said_from plan v guests phase place done left awaits heard sent in_plan is at next)
+
+abbrev ClosesHeard : BusPlan → ℕ → List Opening → GuestTurn → Type 0
+ClosesHeard plan phase left turn = flat_map host_closes left ≡ end_to_hear (phase_of plan phase) turn.awaits
+
+closes_heard_from : (plan : BusPlan) (v : Version) (guests : List Channel) (phase place : ℕ) (done left : List Opening) (awaits : GuestWait) (heard : Change) → phase_of plan phase ≡ done ++ left → place ≡ length done → NextIsOpen guests left
+    → ClosesHeard plan phase left (closes_next (heard_so awaits v heard) guests place (slice_get left 0))
+closes_heard_from plan v guests phase place done [] awaits heard is at next = refl
+closes_heard_from plan v guests phase place done (o ∷ left) awaits heard is at next =
+    subst (λ c. ClosesHeard plan phase (o ∷ left) (closes (record (heard_so awaits v heard) { awaits = Torn place }) o c)) (sym next) (ap (flat_map host_closes) (sym (left_at plan phase place done (o ∷ left) is at)))
+
+pub closes_heard : (plan : BusPlan) (v : Version) (guests : List Channel) (phase place : ℕ) (done left : List Opening) (awaits : GuestWait) (heard : Change) → phase_of plan phase ≡ done ++ left → place ≡ length done → NextIsOpen guests left
+    → ClosesHeard plan phase left (closes_next (heard_so awaits v heard) guests place (opening_at plan phase place))
+closes_heard plan v guests phase place done left awaits heard is at next =
+    subst (λ x. ClosesHeard plan phase left (closes_next (heard_so awaits v heard) guests place x)) (sym (opening_from plan phase place done left is at)) (closes_heard_from plan v guests phase place done left awaits heard is at next)
+
+-- what is said and heard from a phase on
+pub guest_from_phase : (plan : BusPlan) (phase : ℕ) → phase < length plan.phases → guest_from plan phase ≡ flat_map guest_opens (phase_of plan phase) ++ (flat_map guest_closes (phase_of plan phase) ++ guest_from plan (suc phase))
+guest_from_phase plan phase less =
+    let os : List Opening = phase_of plan phase in
+    let last : List Msg = from_3_0 plan (farewell ∷ []) in
+    let rest : List Msg = flat_map guest_in_phase (drop (suc phase) plan.phases) in
+    ap (λ ps. flat_map guest_in_phase ps ++ last) (drop_one plan.phases phase [] less) ∙ ap (λ xs. xs ++ last) (flat_map-cons guest_in_phase os (drop (suc phase) plan.phases))
+    ∙ append_assoc (guest_in_phase os) rest last ∙ append_assoc (flat_map guest_opens os) (flat_map guest_closes os) (rest ++ last)
+
+pub host_from_phase : (plan : BusPlan) (phase : ℕ) → phase < length plan.phases → host_from plan phase ≡ flat_map host_opens (phase_of plan phase) ++ (flat_map host_closes (phase_of plan phase) ++ host_from plan (suc phase))
+host_from_phase plan phase less =
+    let os : List Opening = phase_of plan phase in
+    let last : List Msg = from_3_0 plan (farewell_taken ∷ []) in
+    let rest : List Msg = flat_map host_in_phase (drop (suc phase) plan.phases) in
+    ap (λ ps. flat_map host_in_phase ps ++ last) (drop_one plan.phases phase [] less) ∙ ap (λ xs. xs ++ last) (flat_map-cons host_in_phase os (drop (suc phase) plan.phases))
+    ∙ append_assoc (host_in_phase os) rest last ∙ append_assoc (flat_map host_opens os) (flat_map host_closes os) (rest ++ last)
+
+-- behind the last phase only the farewell is left
+pub guest_at_last : (plan : BusPlan) → guest_from plan (length plan.phases) ≡ from_3_0 plan (farewell ∷ [])
+guest_at_last plan = ap (λ ps. flat_map guest_in_phase ps ++ from_3_0 plan (farewell ∷ [])) (drop_all plan.phases)
+
+pub host_at_last : (plan : BusPlan) → host_from plan (length plan.phases) ≡ from_3_0 plan (farewell_taken ∷ [])
+host_at_last plan = ap (λ ps. flat_map host_in_phase ps ++ from_3_0 plan (farewell_taken ∷ [])) (drop_all plan.phases)
+
+-- a guest after a turn
+pub at_after : (plan : BusPlan) (g : GuestSeen) (part : Option Part) (turn : GuestTurn) (sent fed : List Msg) → GuestAt plan g → to_say plan g.part g.awaits ≡ sent ++ to_say plan part turn.awaits
+    → to_hear plan g.part g.awaits (length g.channels) ≡ fed ++ to_hear plan part turn.awaits (length (changed (changed g.channels turn.heard) turn.wished)) → GuestAt plan (guest_after g part turn sent fed)
+at_after plan g part turn sent fed at says hears = record {
+  said = at.said ∙ ap (λ xs. g.posted ++ xs) says ∙ sym (append_assoc g.posted sent (to_say plan part turn.awaits));
+  heard = at.heard ∙ ap (λ xs. g.fed ++ xs) hears ∙ sym (append_assoc g.fed fed (to_hear plan part turn.awaits (length (changed (changed g.channels turn.heard) turn.wished))));
+}

@@ -1,0 +1,14 @@
+use Rattle.std.proofs.Common.{refl}
+use Rattle.control_run.proofs.laws.say_so.Goals as goal
+
+pub returns-clause-guest : goal.returns-clause-guest
+returns-clause-guest c = refl
+
+pub returns-clause-host : goal.returns-clause-host
+returns-clause-host c = refl
+
+pub returns-clause-guest_old : goal.returns-clause-guest_old
+returns-clause-guest_old c = refl
+
+pub returns-clause-host_old : goal.returns-clause-host_old
+returns-clause-host_old c = refl

@@ -1,0 +1,33 @@
+-- How both controls stand once all is said.
+use Rattle.std.specs.Prelude.{◌≡◌, ℕ, ◌≤◌, true, length, map, Some}
+use Rattle.contact.specs.declared.version.Version.{Version}
+use Rattle.contact.specs.declared.part.Part.TheVariants.{Unload}
+use Rattle.control_model.specs.Plan.{BusPlan}
+use Rattle.control_model.specs.Said.{said_by_guest, said_by_host, last_state, at_end}
+use Rattle.control_model.specs.Guest.{GuestSeen, state_of, guest_done}
+use Rattle.control_model.specs.Host.{HostSeen, host_state_of, host_done}
+use Rattle.control_run.specs.Talk.{Agreed}
+
+-- both are done with the farewell: they have one version, which is the greatest that both know; their channels stand as they are to at the end; each said all that it has to say, and was fed what the other said
+pub record IsOver (plan : BusPlan) (g : GuestSeen) (h : HostSeen) : Type 0 where
+  pub guest_part : g.part ≡ Some Unload
+  pub host_part : h.part ≡ Some Unload
+  pub guest_done : guest_done g ≡ true
+  pub host_done : host_done h ≡ true
+  pub version : Version
+  pub agreed : Agreed plan version
+  pub at_guest : g.version ≡ Some version
+  pub at_host : h.version ≡ Some version
+  pub guest_stands : map (λ c. c.life.state) g.channels ≡ at_end plan
+  pub host_stands : map (λ c. c.state) h.channels ≡ at_end plan
+  pub guest_said : g.posted ≡ said_by_guest plan
+  pub host_said : h.posted ≡ said_by_host plan
+  pub guest_fed : g.fed ≡ h.posted
+  pub host_fed : h.fed ≡ g.posted
+
+-- there is a channel for each device, and each stands as it is to at the end
+pub record StandsSo (plan : BusPlan) (g : GuestSeen) (h : HostSeen) : Type 0 where
+  pub guest_many : length g.channels ≡ length plan.kinds
+  pub host_many : length h.channels ≡ length plan.kinds
+  pub guest_each : (relid : ℕ) → 1 ≤ relid → relid ≤ length plan.kinds → state_of g relid ≡ Some (last_state plan relid)
+  pub host_each : (relid : ℕ) → 1 ≤ relid → relid ≤ length plan.kinds → host_state_of h relid ≡ Some (last_state plan relid)
