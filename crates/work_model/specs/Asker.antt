@@ -73,12 +73,3 @@ module _ {P A Q R : Type 0} (s : Speech P A Q R) where
   replies_of asks (Empty ∷ past) = replies_of asks past
   replies_of asks (Marked ∷ past) = replies_of asks past
   replies_of asks (Saw ∷ past) = replies_of asks past
-
-  -- each request was sent under an id that was free
-  abbrev pub Fresh : List A → List (Event P) → Type 0
-  Fresh asks [] = Unit {0}
-  Fresh asks (Sent p ∷ past) = (s.is_request p ≡ true → under (s.id_of p) (open_of asks past) ≡ None) × Fresh asks past
-  Fresh asks (Got p ∷ past) = Fresh asks past
-  Fresh asks (Empty ∷ past) = Fresh asks past
-  Fresh asks (Marked ∷ past) = Fresh asks past
-  Fresh asks (Saw ∷ past) = Fresh asks past
