@@ -1,13 +1,14 @@
 //! Both ends of a channel over one memory, by turns.
-ghost use Rattle.std.specs.Prelude.{IsTrue, IfOk};
+ghost use Rattle.std.specs.Prelude.{IsTrue};
 ghost use Rattle.ring_machine.specs.States.{IsPacket};
 ghost use Rattle.ring_model.specs.Pair.{IsPair};
 
 use crate::check::check;
+use crate::packet::packet;
 use ring_core::{Room, SendRefusal, Side, Signalled, TakeRefusal};
 use ring_model::{Settled, SoloPair, finish};
-use std::alloc::{AllocError, Global};
-use std::test::Fail;
+use std::alloc::AllocGlobal;
+use std::process::Abort;
 
 fn is_packet(p: &[u64]) -> bool
     ensures { IsTrue result → IsPacket p.now }
@@ -16,19 +17,6 @@ fn is_packet(p: &[u64]) -> bool
         && p[0] / 4294967296 % 65536 == p.len() as u64
         && p[0] / 65536 % 65536 >= 2
         && p[0] / 65536 % 65536 <= p.len() as u64
-}
-
-// A packet of n words whose others are this mark.
-fn packet(alloc: Global, n: u64, mark: u64) -> Result<Vec<u64>, AllocError> {
-    let mut p = Vec::new(alloc);
-    for i in 0..n {
-        if i == 0 {
-            p.push(n.wrapping_mul(4294967296).wrapping_add(131078))?;
-        } else {
-            p.push(mark)?;
-        }
-    }
-    Ok(p)
 }
 
 // A send, where it may be called.
@@ -90,17 +78,17 @@ fn passes(pair: &mut SoloPair, from: Side, to: Side, p: &[u64]) -> bool
 }
 
 // Both ends of a new channel, each with room for 8 packets.
-fn opened(alloc: Global) -> Result<SoloPair, AllocError>
-    ensures { IfOk result IsPair }
+fn opened(rt: &(impl Abort + AllocGlobal)) -> SoloPair
+    ensures { IsPair result }
 {
-    let mut pair = SoloPair::make(alloc, 4096)?;
+    let mut pair = SoloPair::make(rt.alloc(), 4096).expect(rt, "memory");
     let room = Room {
         packets: 8,
         words: 4096,
     };
-    pair.reserve(Side::Guest, room, room)?;
-    pair.reserve(Side::Host, room, room)?;
-    Ok(pair)
+    pair.reserve(Side::Guest, room, room).expect(rt, "memory");
+    pair.reserve(Side::Host, room, room).expect(rt, "memory");
+    pair
 }
 
 // The second long packet goes on at the first cell.
@@ -137,24 +125,23 @@ fn settles(settled: &Settled, long: &[u64]) -> bool {
 }
 
 #[test]
-fn packets_come_as_they_went(rt: HostRuntime) -> Result<(), Fail> {
-    let mut pair = opened(rt.alloc())?;
-    let long = packet(rt.alloc(), 510, 7)?;
-    let short = packet(rt.alloc(), 3, 9)?;
+fn packets_come_as_they_went(rt: HostRuntime) {
+    let mut pair = opened(&rt);
+    let long = packet(&rt, 510, 7);
+    let short = packet(&rt, 3, 9);
     check(
         &rt,
         goes_round(&mut pair, long.as_slice(), short.as_slice()),
     );
     let settled = finish(pair);
     check(&rt, settles(&settled, long.as_slice()));
-    Ok(())
 }
 
 #[test]
-fn a_full_ring_refuses_until_a_commit(rt: HostRuntime) -> Result<(), Fail> {
-    let mut pair = opened(rt.alloc())?;
-    let long = packet(rt.alloc(), 510, 7)?;
-    let short = packet(rt.alloc(), 2, 9)?;
+fn a_full_ring_refuses_until_a_commit(rt: HostRuntime) {
+    let mut pair = opened(&rt);
+    let long = packet(&rt, 510, 7);
+    let short = packet(&rt, 2, 9);
     check(
         &rt,
         stays_full(&mut pair, long.as_slice(), short.as_slice()),
@@ -164,5 +151,4 @@ fn a_full_ring_refuses_until_a_commit(rt: HostRuntime) -> Result<(), Fail> {
         &rt,
         passes(&mut pair, Side::Guest, Side::Host, short.as_slice()),
     );
-    Ok(())
 }

@@ -1,42 +1,35 @@
 //! Both ends of a channel, on one thread and on two.
-ghost use Rattle.std.specs.Prelude.{◌≡◌, IfOk, true, false};
 ghost use Rattle.ring_machine.specs.declared.machine.Stage.TheVariants.{Idle};
 ghost use Rattle.ring_seat.specs.Settling.{AreOfOneChannel, IsSameEnd};
 
 use crate::check::check;
+use crate::packet::packet;
 use ring_core::{Armed, End, Room, SendRefusal, Signalled, TakeRefusal};
 use ring_rows::{may_send, may_take};
 use ring_seat::{ChannelMem, GuestEnd, HostEnd, Settled, Sleeper, TableSeat, finish};
-use std::alloc::{AllocError, Global};
+use std::alloc::AllocGlobal;
+use std::process::Abort;
 use std::sync::Wait;
-use std::test::Fail;
-use std::thread::join;
+use std::thread::{join, yield_now};
 
-// A packet of n words: in-band data, whose other words are this mark.
-fn packet(alloc: Global, n: u64, mark: u64) -> Result<Vec<u64>, AllocError> {
-    let mut p = Vec::new(alloc);
-    for i in 0..n {
-        if i == 0 {
-            p.push(n.wrapping_mul(0x1_0000_0000).wrapping_add(0x2_0006))?;
-        } else {
-            p.push(mark)?;
-        }
-    }
-    Ok(p)
-}
-
-// Both ends of a new channel of one page, with room for so many packets.
-fn opened(alloc: Global, packets: u64) -> Result<(GuestEnd, HostEnd), AllocError>
-    ensures { IfOk result (λ r. AreOfOneChannel r.0 r.1) }
+// The same end, with room for so many packets.
+fn with_room(rt: &impl Abort, mut e: End<TableSeat>, packets: u64) -> End<TableSeat>
+    ensures { IsSameEnd e result }
 {
-    let (mut guest, mut host) = ChannelMem::make(alloc, 1, 0)?;
     let room = Room {
         packets,
         words: 8192,
     };
-    guest.reserve(room, room)?;
-    host.reserve(room, room)?;
-    Ok((guest, host))
+    e.reserve(room, room).expect(rt, "memory");
+    e
+}
+
+// Both ends of a new channel of one page, with room for so many packets.
+fn opened(rt: &(impl Abort + AllocGlobal), packets: u64) -> (GuestEnd, HostEnd)
+    ensures { AreOfOneChannel result.0 result.1 }
+{
+    let (guest, host) = ChannelMem::make(rt.alloc(), 1, 0).expect(rt, "memory");
+    (with_room(rt, guest, packets), with_room(rt, host, packets))
 }
 
 // A send, where it may be called.
@@ -135,10 +128,10 @@ fn has_all(settled: &Settled, p: &[u64], count: usize) -> bool {
 }
 
 #[test]
-fn a_full_ring_refuses_a_second_packet(rt: HostRuntime) -> Result<(), Fail> {
-    let (mut guest, mut host) = opened(rt.alloc(), 8)?;
-    let long = packet(rt.alloc(), 510, 7)?;
-    let short = packet(rt.alloc(), 2, 9)?;
+fn a_full_ring_refuses_a_second_packet(rt: HostRuntime) {
+    let (mut guest, mut host) = opened(&rt, 8);
+    let long = packet(&rt, 510, 7);
+    let short = packet(&rt, 2, 9);
     let full = Some(Err(SendRefusal::Full { free: 8, need: 24 }));
     check(
         &rt,
@@ -149,13 +142,12 @@ fn a_full_ring_refuses_a_second_packet(rt: HostRuntime) -> Result<(), Fail> {
     check(&rt, finds_none(&mut host));
     let settled = finish(guest, host);
     check(&rt, has_all(&settled, long.as_slice(), 1));
-    Ok(())
 }
 
 #[test]
-fn packets_cross_between_threads(rt: HostRuntime) -> Result<(), Fail> {
-    let (guest, host) = opened(rt.alloc(), 1000)?;
-    let p = packet(rt.alloc(), 2, 9)?;
+fn packets_cross_between_threads(rt: HostRuntime) {
+    let (guest, host) = opened(&rt, 1000);
+    let p = packet(&rt, 2, 9);
     let words = p.as_slice();
     let run = &rt;
     let (guest, host) = join(
@@ -169,5 +161,42 @@ fn packets_cross_between_threads(rt: HostRuntime) -> Result<(), Fail> {
     );
     let settled = finish(guest, host);
     check(&rt, has_all(&settled, words, 1000));
-    Ok(())
+}
+
+// Sleeps until the peer raises the signal: long after it has spun, so that its thread is parked by then.
+fn sleep_parked<R: Wait>(rt: &R, mut e: HostEnd) -> HostEnd
+    ensures { IsSameEnd e result }
+{
+    rest(rt, &mut e, false);
+    e
+}
+
+// Marks itself after a million turns of other threads, which raises the peer's signal.
+fn mark_late(mut e: GuestEnd) -> GuestEnd
+    ensures { IsSameEnd e result }
+{
+    for _ in 0..1_000_000 {
+        yield_now();
+    }
+    if e.is_ready() {
+        e.mark();
+    }
+    e
+}
+
+// A raise ends the sleep of a thread that is parked: if it didn't wake it, this would wait for ever.
+#[test]
+fn a_raise_wakes_a_parked_thread(rt: HostRuntime) {
+    let (guest, host) = opened(&rt, 1);
+    let run = &rt;
+    let (guest, host) = join(
+        run,
+        move || -> GuestEnd
+            ensures { IsSameEnd guest result }
+        { mark_late(guest) },
+        move || -> HostEnd
+            ensures { IsSameEnd host result }
+        { sleep_parked(run, host) },
+    );
+    check(&rt, guest.is_marked() && host.is_ready());
 }
