@@ -1,5 +1,5 @@
 //! The worker of the end that serves.
-ghost use Rattle.std.specs.Prelude.{◌≡◌, ◌<◌, ◌≤◌, ◌+◌, ◌*◌, [], ◌∷◌, ◌++◌, length, take, drop, map, Some, None, true, false, IfOk, if◌then◌else◌, ℕ};
+ghost use Rattle.std.specs.Prelude.{◌≡◌, ◌<◌, ◌≤◌, ◌+◌, ◌*◌, [], ◌∷◌, ◌++◌, length, take, drop, map, Some, None, true, false, IfOk, ℕ};
 ghost use Rattle.chan_run.specs.Runs.{got_of, is_drained};
 ghost use Rattle.ring_seat.specs.Seats.{new_end};
 ghost use Rattle.ring_seat.specs.Settling.{IsSameEnd};
@@ -116,8 +116,7 @@ impl<T: Talk, S: Seat<T>> Server<T, S> {
         if !self.port.take() {
             return false;
         }
-        let waiting = self.desk.is_waiting(self.port.last());
-        self.missing = missing_after(self.missing, waiting);
+        self.missing = self.desk.missing_after(self.missing, self.port.last());
         true
     }
 
@@ -446,16 +445,5 @@ fn marked_by(seen: bool) -> Ended
         Ended::PeerMarked
     } else {
         Ended::Marked
-    }
-}
-
-/// What may be missing of the start-up after one more packet.
-fn missing_after(missing: u32, waiting: bool) -> u32
-    ensures { missing ≤ result + (if waiting then 1 else 0) }
-{
-    if waiting {
-        missing.saturating_sub(1)
-    } else {
-        missing
     }
 }
