@@ -10,7 +10,7 @@ use Rattle.script_lines.specs.declared.line.Line.{Line}
 use Rattle.script_lines.specs.declared.line.What.{What}
 use Rattle.script_lines.specs.declared.line.What.TheVariants.{Contact as IsContact, Offer as IsOffer, Bad as IsBad, RingSize as IsRingSize, Window as IsWindow, Ask as IsAsk, Shut as IsShut, Phase as IsPhase}
 use Rattle.script_lines.specs.declared.line.DeviceSpec.{DeviceSpec}
-use Rattle.script_lines.specs.Parts.{pages_by, ring_pages_of, window_by, window_of}
+use Rattle.script_lines.specs.Parts.{pages_by, window_by}
 use Rattle.script_lines.specs.WellFormed.{IsRight, AllRight}
 use Rattle.bus_run.specs.Settings.{HasLimits, SettingsOf, settings_of, unset}
 use Rattle.bus_run.specs.declared.settings.Settings.{Settings}

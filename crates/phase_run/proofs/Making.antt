@@ -1,5 +1,5 @@
 -- The two workers of a channel are made.
-use Rattle.std.proofs.Common.{◌≡◌, ◌≤◌, ◌+◌, ◌*◌, ℕ, length, filter, map, List, [], ◌∷◌, Option, Some, None, is_some, Result, Ok, Err, ap, sym, ◌∙◌, subst, arith}
+use Rattle.std.proofs.Common.{◌≡◌, ◌≤◌, ◌+◌, ◌*◌, ℕ, length, filter, List, [], Option, Some, None, is_some, Result, Ok, Err, ap, sym, ◌∙◌, subst, arith}
 use Rattle.std.specs.Prelude.{IfOk}
 use Rattle.std.specs.List.{AllByRecursion}
 use Rattle.script_lines.specs.declared.line.Ask.{Ask}

@@ -1,5 +1,5 @@
 -- What both workers of a pair come to, once they ended.
-use Rattle.std.proofs.Common.{◌≡◌, ◌≤◌, ◌+◌, ℕ, length, filter, arith, true, false, Bool, List, [], ◌++◌, map, Option, Some, None, refl, sym, ap, ◌∙◌, subst}
+use Rattle.std.proofs.Common.{◌≡◌, ◌≤◌, ◌+◌, ℕ, length, filter, arith, true, false, List, [], ◌++◌, map, Option, refl, sym, ap, ◌∙◌, subst}
 use Rattle.std.proofs.lemmas.List.{length-map, append-nil}
 use Rattle.chan_run.specs.declared.event.Event.{Event}
 use Rattle.chan_run.specs.Laws.{AreOfOneRun}
@@ -39,7 +39,7 @@ use Rattle.end_work.specs.declared.worker.ChannelWorker.{ChannelWorker}
 use Rattle.end_work.specs.declared.worker.ChannelWorker.TheVariants.{Asks, Serves}
 use Rattle.end_work.specs.declared.worker.WorkerDone.{WorkerDone}
 use Rattle.end_work.proofs.SeatLaws.{same_place}
-use Rattle.phase_run.specs.Pairs.{MadeFor, Opens, Ran, RunsPair, ComesBack, KeepsSeats, first_of, is_whole}
+use Rattle.phase_run.specs.Pairs.{MadeFor, RunsPair, ComesBack, first_of, is_whole}
 use Rattle.phase_run.specs.declared.pair.PairDone.{PairDone}
 use Rattle.phase_run.proofs.Asked.{few_asked}
 use Rattle.phase_run.proofs.Joining.{BothEnd, told_is, runs, serves_asks}

@@ -1,7 +1,7 @@
-use Rattle.std.proofs.Common.{◌≡◌, ◌∙◌, ap, map, sym, subst}
+use Rattle.std.proofs.Common.{◌∙◌, ap, map, sym, subst}
 use Rattle.worker_core.specs.Serving.{EndsBy}
 use Rattle.worker_core.proofs.DeskLaws.{behind_is, front_is}
-use Rattle.worker_core.proofs.ServeSteps.{ends_on, lacks_on, on_refl, on_trans}
+use Rattle.worker_core.proofs.ServeSteps.{ends_on, on_refl, on_trans}
 use Rattle.worker_core.proofs.server.Server.run.Goals as goal
 
 pub loop-init : goal.loop-init
