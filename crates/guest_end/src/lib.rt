@@ -15,4 +15,3 @@ mod tearing;
 mod turns;
 
 pub use control::GuestControl;
-pub use control_model::ControlFault;
