@@ -1,12 +1,12 @@
 -- The channels of a run are those that the controls opened.
-use Rattle.std.proofs.Common.{◌≡◌, ℕ, ◌+◌, Bool, true, false, cond, not, ◌&&◌, List, [], ◌∷◌, ◌++◌, map, filter, length, refl, sym, ap, ◌∙◌, subst, Some, None}
-use Rattle.std.specs.Prelude.{Option, Ok, is_none, if◌then◌else◌}
+use Rattle.std.proofs.Common.{◌≡◌, ℕ, ◌+◌, Bool, true, false, cond, not, ◌&&◌, List, [], ◌∷◌, ◌++◌, map, filter, length, refl, sym, ap, ◌∙◌, Some, None}
+use Rattle.std.specs.Prelude.{is_none, if◌then◌else◌}
 use Rattle.std.specs.List.{AllByRecursion, flat_map, list_any, range_with_len}
 use Rattle.std.proofs.lemmas.List.{map-append}
 use Rattle.script_lines.specs.declared.line.Line.{Line}
 use Rattle.script_lines.specs.declared.line.DeviceSpec.{DeviceSpec}
 use Rattle.script_lines.specs.Parts.{parts, offered, shuts as line_shuts, ring_pages_of}
-use Rattle.script_phases.specs.Openings.{Opening, Phase, subs_of, is_opened, subs_from, channels_from, opened_from as phase_opens, others, by_relid, phases_from, phases}
+use Rattle.script_phases.specs.Openings.{Opening, Phase, subs_of, is_opened, subs_from, opened_from as phase_opens, others, by_relid, phases_from}
 use Rattle.bus_script.specs.declared.outcome.LineResult.{LineResult}
 use Rattle.bus_model.specs.Dests.{wants_open}
 use Rattle.bus_model.specs.Laws.{carried_at, opened_at}
@@ -16,7 +16,7 @@ use Rattle.bus_model.proofs.Opened.{carries_opened_lem}
 use Rattle.bus_model.proofs.SameLines.{opened_same}
 use Rattle.bus_model.proofs.ToByDevice.{all_first, by_relid_same}
 use Rattle.control_model.specs.declared.opening.Opening.{Opening as ControlOpening}
-use Rattle.control_model.specs.Openings.{is_opened as control_opens, wants_open as control_wants, devices_by_phase, openings_from, numbered, pages_in, plan_of}
+use Rattle.control_model.specs.Openings.{is_opened as control_opens, devices_by_phase, openings_from, numbered, pages_in, plan_of}
 use Rattle.control_model.specs.Plan.{list_pages, first_gpadl}
 use Rattle.vmbus_main.specs.Opened.{SameOpenings, CarriedOnOpened, opened_from, opened_in, carried_on}
 
