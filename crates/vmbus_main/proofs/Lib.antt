@@ -1,2 +1,3 @@
 pub mod Parting
 pub mod Refusing
+mod Opened

@@ -4,3 +4,4 @@ pub mod Between
 pub mod Answer
 pub mod Answered
 pub mod Call
+pub mod Opened

@@ -4,8 +4,10 @@
 mod answer;
 mod call;
 mod command;
+mod laws;
 mod outcome;
 mod run;
 
 pub use call::vmbus;
+pub use laws::opened_is_carried;
 pub use outcome::{Controls, Outcome};
