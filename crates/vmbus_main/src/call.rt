@@ -36,7 +36,7 @@ pub fn vmbus<R: Threads + Wait + Sync, S: Source, K: Sink, G: Gate>(
     // Status 2 comes with the fault of the input: its first wrong line, or a byte too many.
     ensures refused { MatchOption result.fault (result.status ≢ 2) (λ fault. (result.status ≡ 2) × IsRefused (command_of words.now) (S.left source.old) fault) }
     // With status 0 the whole answer was written: the report of a run of the bus, in which these are the packets and the histories. Both controls
-    // went by the script to its end, and each was fed what the other one posted.
+    // went by the script to its end: each posted all that its side says for the script, and was fed what the other one posted.
     ensures written { result.status ≡ 0 → IsWritten (command_of words.now) (S.left source.old) (K.written sink.old) (K.written sink.new) result.controls result.settled.items result.histories.items }
     // With status 4 a front of it was.
     ensures in_part { result.status ≡ 4 → IsWrittenInPart (command_of words.now) (S.left source.old) (K.written sink.old) (K.written sink.new) result.controls result.settled.items result.histories.items }
