@@ -1,2 +1,4 @@
 pub mod PayloadLaws
 pub mod PacketLaws
+pub mod RangeLaws
+pub mod RoundLaws

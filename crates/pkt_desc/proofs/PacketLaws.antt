@@ -16,15 +16,15 @@ two_then (a ∷ b ∷ old) new words first second n k room fits is =
     rw e (ap (λ (l : List ℕ). first ∷ second ∷ l) (cut ∙ is))
 
 -- the fields of a first word
-pub head_fields : (kind len8 flags : ℕ) → kind < 2 ^ 16 → len8 < 2 ^ 16 → flags < 2 ^ 16
-    → (kind_in (head kind 2 len8 flags) ≡ kind) × (offset8_of (head kind 2 len8 flags) ≡ 2) × (len8_of (head kind 2 len8 flags) ≡ len8) × (flags_in (head kind 2 len8 flags) ≡ flags)
-head_fields kind len8 flags k l f = (omega arith, omega arith, omega arith, omega arith)
+pub head_fields : (kind offset8 len8 flags : ℕ) → kind < 2 ^ 16 → offset8 < 2 ^ 16 → len8 < 2 ^ 16 → flags < 2 ^ 16
+    → (kind_in (head kind offset8 len8 flags) ≡ kind) × (offset8_of (head kind offset8 len8 flags) ≡ offset8) × (len8_of (head kind offset8 len8 flags) ≡ len8) × (flags_in (head kind offset8 len8 flags) ≡ flags)
+head_fields kind offset8 len8 flags k o l f = (omega arith, omega arith, omega arith, omega arith)
 
 -- such a packet is one, with what it was made of
 pub plain_carries : (kind tid flags : ℕ) (payload : List ℕ) → kind < 2 ^ 16 → flags < 2 ^ 16 → 2 + words_for (length payload) ≤ 384 → ((i : ℕ) → get_or payload i 0 < 256) → Carries (plain_packet kind tid flags payload) kind tid flags payload
 plain_carries kind tid flags payload k f few bytes =
     let n = words_for (length payload) in
-    let fields = head_fields kind (2 + n) flags k (omega arith) f in
+    let fields = head_fields kind 2 (2 + n) flags k (omega arith) (omega arith) f in
     let words = words_of payload in
     let long : length words ≡ n = length-words_from n payload in
     let part : payload_of (plain_packet kind tid flags payload) ≡ words = ap (λ j. drop j (plain_packet kind tid flags payload)) fields.1 in

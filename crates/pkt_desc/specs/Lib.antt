@@ -1,2 +1,5 @@
 pub mod Packets
+pub mod Ranges
+pub mod Lending
+pub mod Built
 pub mod Faults

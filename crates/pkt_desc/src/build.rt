@@ -4,21 +4,21 @@ ghost use Rattle.std.specs.Prelude.{◌≡◌, ◌+◌, ◌*◌, ◌<◌, ◌≤
 ghost use Rattle.vm_page.specs.Words.{words_for, words_of, bytes_in, padded};
 ghost use Rattle.pkt_desc.specs.Packets.{IsPacket, Carries, head, plain_packet, inband_packet, completion_packet, payload_of};
 
+use crate::kind::{COMPLETION, INBAND};
 use vm_page::word_of;
 
-const INBAND: u16 = 6;
-
-const COMPLETION: u16 = 11;
-
-// The first word of a packet whose payload follows the descriptor.
-fn first_word(kind: u16, len8: u16, flags: u16) -> u64
-    ensures { result ≡ head kind 2 len8 flags }
+/// The first word of a packet.
+pub(crate) fn first_word(kind: u16, offset8: u16, len8: u16, flags: u16) -> u64
+    ensures { result ≡ head kind offset8 len8 flags }
 {
-    u64::from(kind) + (2 << 16) + (u64::from(len8) << 32) + (u64::from(flags) << 48)
+    u64::from(kind)
+        + (u64::from(offset8) << 16)
+        + (u64::from(len8) << 32)
+        + (u64::from(flags) << 48)
 }
 
-// The payload's words, the last one padded with zeros.
-fn put_payload(out: &mut [u64], payload: &[u8])
+/// The payload's words, the last one padded with zeros.
+pub(crate) fn put_payload(out: &mut [u64], payload: &[u8])
     requires { words_for (length payload.now) ≤ length out.old }
     ensures words { take (words_for (length payload.now)) out.new ≡ words_of payload.now }
     ensures rest { drop (words_for (length payload.now)) out.new ≡ drop (words_for (length payload.now)) out.old }
@@ -38,7 +38,7 @@ fn build(out: &mut [u64], kind: u16, tid: u64, flags: u16, payload: &[u8]) -> us
     ensures carries { Carries (take result out.new) kind tid flags payload.now }
 {
     let words = 2 + payload.len().div_ceil(8);
-    out[0] = first_word(kind, words as u16, flags);
+    out[0] = first_word(kind, 2, words as u16, flags);
     out[1] = tid;
     put_payload(&mut out[2..], payload);
     words

@@ -5,7 +5,8 @@ use thiserror::Error;
 /// A packet's descriptor (Linux 6.12, `include/linux/hyperv.h`, struct vmpacket_descriptor).
 #[derive(Clone, Copy, Debug, PartialEq, Eq)]
 pub struct Desc {
-    /// The type: 6 is in-band data, 11 is a completion (`VM_PKT_DATA_INBAND`, `VM_PKT_COMP`).
+    /// The type: 6 is in-band data, 7 data using transfer pages, 9 data using GPA direct, 11 a completion
+    /// (`VM_PKT_DATA_INBAND`, `VM_PKT_DATA_USING_XFER_PAGES`, `VM_PKT_DATA_USING_GPA_DIRECT`, `VM_PKT_COMP`).
     pub kind: u16,
     /// Where the payload begins, in units of 8 bytes.
     pub offset8: u16,
@@ -35,5 +36,13 @@ pub enum PacketFault {
         offset8: u16,
         /// The length that the descriptor gives, in words.
         len8: u16,
+    },
+    /// The ranges of a packet of type 7 or 9 go past the payload's beginning.
+    #[error("{count} ranges in {have} words before the payload")]
+    Ranges {
+        /// The number of ranges; 0 where the payload begins before it.
+        count: u32,
+        /// The words between descriptor and payload.
+        have: u64,
     },
 }
