@@ -1,13 +1,16 @@
 //! Packets of a ring.
 
+ghost use Rattle.std.specs.Prelude.{◌≤◌};
+
 use crate::came::Came;
 use pkt_desc::{build_comp, build_inband};
 use vm_page::bytes_of;
 
-// How many bytes a packet has at most, and its words.
+// How many bytes a packet has at most.
 const MOST_BYTES: usize = 3072;
 
-const MOST_WORDS: usize = 384;
+/// How many words a packet has at most.
+pub(crate) const MOST_WORDS: usize = 384;
 
 /// What a packet is made of: its id, its flags, and how many bytes of payload it has.
 #[derive(Clone, Copy)]
@@ -30,25 +33,21 @@ fn read(meaning: &str) -> Option<Made> {
     })
 }
 
-/// What the packet with these digits came to: it is built of what the line says.
-pub(crate) fn built(kind: u16, digits: &str, meaning: &str) -> Came {
-    let Some(made) = read(meaning) else {
-        return Came::NoPacket;
-    };
-    if made.payload > 1024 {
-        return Came::NoPacket;
-    }
+/// The bytes 7i + 1 of a payload.
+pub(crate) fn payload() -> [u8; 1024] {
     let mut payload = [0; 1024];
     for (i, byte) in payload.iter_mut().enumerate() {
         *byte = ((7 * i + 1) % 256) as u8;
     }
-    let mut words = [0; MOST_WORDS];
-    let count = match kind {
-        6 => build_inband(&mut words, made.id, made.flags, &payload[..made.payload]),
-        _ => build_comp(&mut words, made.id, &payload[..made.payload]),
-    };
+    payload
+}
+
+/// What a packet with these digits came to of which so many words were built.
+pub(crate) fn compare(words: &[u64; MOST_WORDS], count: usize, digits: &str) -> Came
+    requires { count ≤ 384 }
+{
     let mut bytes = [0; MOST_BYTES];
-    bytes_of(&words, &mut bytes);
+    bytes_of(words, &mut bytes);
     let mut want = [0; MOST_BYTES];
     let len = 8 * count;
     if digits.len() == 2 * len
@@ -59,4 +58,21 @@ pub(crate) fn built(kind: u16, digits: &str, meaning: &str) -> Came {
     } else {
         Came::Differs
     }
+}
+
+/// What the packet with these digits came to: it is built of what the line says.
+pub(crate) fn built(kind: u16, digits: &str, meaning: &str) -> Came {
+    let Some(made) = read(meaning) else {
+        return Came::NoPacket;
+    };
+    if made.payload > 1024 {
+        return Came::NoPacket;
+    }
+    let bytes = payload();
+    let mut words = [0; MOST_WORDS];
+    let count = match kind {
+        6 => build_inband(&mut words, made.id, made.flags, &bytes[..made.payload]),
+        _ => build_comp(&mut words, made.id, &bytes[..made.payload]),
+    };
+    compare(&words, count, digits)
 }

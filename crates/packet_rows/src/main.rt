@@ -3,11 +3,13 @@
 
 mod built;
 mod came;
+mod ranged;
 mod stored;
 
 use built::built;
 use came::Came;
 use io_edge::{StdSource, read_all};
+use ranged::{gpa, xfer};
 use std::io;
 use std::rt::Runtime;
 use stored::Storage;
@@ -27,6 +29,8 @@ fn found(storage: &mut Storage, line: &str) -> Came {
     match parts(line) {
         Some(("in-band", digits, meaning)) => built(6, digits, meaning),
         Some(("completion", digits, meaning)) => built(11, digits, meaning),
+        Some(("gpa-direct", digits, meaning)) => gpa(digits, meaning),
+        Some(("transfer-pages", digits, meaning)) => xfer(digits, meaning),
         Some((_, digits, _)) => storage.found(digits),
         None => Came::NoPacket,
     }
