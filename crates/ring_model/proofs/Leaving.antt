@@ -10,15 +10,14 @@ use Rattle.ring_core.specs.Seen.{Seen}
 use Rattle.ring_core.specs.Taking.{Takes}
 use Rattle.ring_core.specs.declared.told.Told.{Told}
 use Rattle.ring_core.specs.Told.{Held, Memory}
-use Rattle.ring_model.specs.declared.solo_pair.SoloPair.{SoloPair}
-use Rattle.ring_model.specs.Pair.{IsPair, SendKeeps, TakeKeeps, end_of, with_end, handed}
+use Rattle.ring_model.specs.Pair.{TwoEnds, IsPair, SendKeeps, TakeKeeps, end_of, with_end, handed}
 use Rattle.ring_model.proofs.Pairing.{handed_state, handed_spare, lent_is}
 
-idle_in : (s : SoloPair) (x : Side) → IsPair s → (end_of s x).state.machine.stage ≡ Idle
+idle_in : (s : TwoEnds) (x : Side) → IsPair s → (end_of s x).state.machine.stage ≡ Idle
 idle_in s Guest ok = ok.rest.guest_rests.idle
 idle_in s Host ok = ok.rest.host_rests.idle
 
-module _ (s : SoloPair) (x : Side) (old new : Seen Held) (is : old ≡ end_of (handed s x) x) where
+module _ (s : TwoEnds) (x : Side) (old new : Seen Held) (is : old ≡ end_of (handed s x) x) where
   before : old.state ≡ (end_of s x).state
   before = ap (λ (o : Seen Held). o.state) is ∙ handed_state s x
 

@@ -17,3 +17,4 @@ pub mod Leaving
 pub mod Knowing
 pub mod Raising
 pub mod Signalling
+pub mod Calling

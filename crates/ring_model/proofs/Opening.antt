@@ -13,8 +13,7 @@ use Rattle.ring_machine.specs.States.{IsPacket, resting}
 use Rattle.ring_core.specs.Told.{opening}
 use Rattle.ring_model.specs.Ring.{RingOk, AtRest, ring_in}
 use Rattle.ring_core.specs.Told.{Held}
-use Rattle.ring_model.specs.declared.solo_pair.SoloPair.{SoloPair}
-use Rattle.ring_model.specs.Pair.{IsPair}
+use Rattle.ring_model.specs.Pair.{TwoEnds, IsPair}
 use Rattle.ring_model.proofs.Turns.{small_mod}
 use Rattle.ring_model.proofs.Pairing.{pair_by}
 
@@ -97,7 +96,7 @@ new_channel n a b = record {
   host_rests = record { idle = refl; clear = refl };
 }
 
-pub new_pair : (s : SoloPair) (n : ℕ) → s.at ≡ Guest → s.guest.state ≡ resting (machine_new Guest n) [] [] [] → s.host.state ≡ resting (machine_new Host n) [] [] []
+pub new_pair : (s : TwoEnds) (n : ℕ) → s.at ≡ Guest → s.guest.state ≡ resting (machine_new Guest n) [] [] [] → s.host.state ≡ resting (machine_new Host n) [] [] []
     → s.guest.seat ≡ record { cells = n; memory = record { words = opening n; steps = 0; due = [] } } → 512 ≤ n → n ≤ 8192 → IsPair s
 new_pair s n at guest host seat a b =
     let rest : AtRest n s.guest.seat.memory.words s.guest.state s.host.state =

@@ -16,15 +16,15 @@ use Rattle.ring_machine.specs.declared.state.EndState.{EndState}
 use Rattle.ring_machine.specs.Places.{peer_of, free}
 use Rattle.ring_machine.specs.Steps.{IsSound, is_copying_at, is_broken, is_sent, is_took, call_by, send_begun, take_begun, commit_begun}
 use Rattle.ring_machine.specs.States.{IsPacket, IsAwake, entered, sent_by, Begins, BeginsSend, BeginsTake, BeginsCommit, BeginsArm, BeginsPoll, BeginsMark, BeginsPeerMark}
-use Rattle.ring_machine.specs.Endings.{Leaves, LeavesBy, send_answer, take_refusal}
+use Rattle.ring_machine.specs.Endings.{Leaves, send_answer, take_refusal}
 use Rattle.ring_core.specs.Told.{Memory, Held, Ran}
 use Rattle.ring_core.specs.Seen.{Seen, Kept}
 use Rattle.ring_core.specs.Taking.{TakesIdle}
 use Rattle.ring_machine.specs.Endings.{refused}
 use Rattle.ring_machine.proofs.Sound.{send_sound, take_sound, commit_sound, arm_sound, poll_sound, mark_sound, peer_mark_sound}
-use Rattle.ring_model.specs.declared.solo_pair.SoloPair.{SoloPair}
 use Rattle.ring_model.specs.Ring.{Resting, AtRest}
-use Rattle.ring_model.specs.Pair.{Stays, end_of, with_end, handed_from, handed, memory_of, cells_of, IsPair}
+use Rattle.ring_model.specs.Pair.{TwoEnds, Stays, end_of, with_end, handed_from, handed, swapped, memory_of, cells_of, IsPair}
+use Rattle.ring_model.specs.Calls.{SendSays}
 use Rattle.ring_model.specs.Results.{waiting_for, room_for, need_of, SendMeets, TakeRefused}
 use Rattle.ring_model.proofs.Keeping.{end_at, Both, Goes, both_of, channel_of, call_keeps}
 use Rattle.ring_model.proofs.Meets.{had_room, write_same, none_waiting, took_first, read_same}
@@ -41,26 +41,26 @@ begins_sound e m q s b =
     (λ (c : BeginsPeerMark e m q). subst IsSound (sym c.0) (peer_mark_sound e.machine s c.2.idle c.2.awake c.2.unmarked))))))) b.1
 
 -- the ends of a pair once the memory is at the side x
-pub seat_at : (s : SoloPair) (a x : Side) → (end_of (handed_from a x s) x).seat ≡ (end_of s a).seat
+pub seat_at : (s : TwoEnds) (a x : Side) → (end_of (handed_from a x s) x).seat ≡ (end_of s a).seat
 seat_at s Guest Guest = refl
 seat_at s Guest Host = refl
 seat_at s Host Guest = refl
 seat_at s Host Host = refl
 
-state_at : (s : SoloPair) (a x : Side) → (end_of (handed_from a x s) x).state ≡ end_at x s.guest.state s.host.state
+state_at : (s : TwoEnds) (a x : Side) → (end_of (handed_from a x s) x).state ≡ end_at x s.guest.state s.host.state
 state_at s Guest Guest = refl
 state_at s Guest Host = refl
 state_at s Host Guest = refl
 state_at s Host Host = refl
 
 -- a pair by the side that has the memory
-pub pair_by : (f : SoloPair) (x : Side) → f.at ≡ x → (end_of f x).seat.memory.due ≡ [] → AtRest (cells_of f) (end_of f x).seat.memory.words f.guest.state f.host.state → IsPair f
+pub pair_by : (f : TwoEnds) (x : Side) → f.at ≡ x → (end_of f x).seat.memory.due ≡ [] → AtRest (cells_of f) (end_of f x).seat.memory.words f.guest.state f.host.state → IsPair f
 pair_by f x is alone rest = record {
   alone = subst (λ (y : Side). (end_of f y).seat.memory.due ≡ []) (sym is) alone;
   rest = subst (λ (y : Side). AtRest (cells_of f) (end_of f y).seat.memory.words f.guest.state f.host.state) (sym is) rest;
 }
 
-placed : (s : SoloPair) (a x : Side) (new : Seen Held) → s.at ≡ a → new.seat.memory.due ≡ [] → new.state.machine.cells ≡ cells_of s
+placed : (s : TwoEnds) (a x : Side) (new : Seen Held) → s.at ≡ a → new.seat.memory.due ≡ [] → new.state.machine.cells ≡ cells_of s
     → AtRest (cells_of s) new.seat.memory.words (end_at x new.state s.guest.state) (end_at x s.host.state new.state) → IsPair (with_end (handed_from a x s) x new)
 placed s Guest Guest new is alone cells rest = pair_by _ Guest is alone (subst (λ (n : ℕ). AtRest n new.seat.memory.words new.state s.host.state) (sym cells) rest)
 placed s Guest Host new is alone cells rest = pair_by _ Host refl alone rest
@@ -75,13 +75,13 @@ idle_copies : (st : Stage) → st ≡ Idle → is_copying_at st ≡ false
 idle_copies st i = ap is_copying_at i
 
 -- a call of the end at the side x, with the channel's memory
-pub record Called (s : SoloPair) (x : Side) (q : List ℕ) (new : Seen Held) : Type 0 where
+pub record Called (s : TwoEnds) (x : Side) (q : List ℕ) (new : Seen Held) : Type 0 where
   pub pair : IsPair (with_end (handed s x) x new)
   pub goes : Goes (cells_of s) x q new.seat.memory.words new.state (end_at (peer_of x) s.guest.state s.host.state)
   pub before : Both (cells_of s) x (memory_of s).words (end_of (handed s x) x).state (end_at (peer_of x) s.guest.state s.host.state)
   pub idle : new.state.machine.stage ≡ Idle
 
-pub call_on : (s : SoloPair) (x : Side) → IsPair s → (m : Machine) (q : List ℕ) (new : Seen Held) → Begins (end_of (handed s x) x).state m q
+pub call_on : (s : TwoEnds) (x : Side) → IsPair s → (m : Machine) (q : List ℕ) (new : Seen Held) → Begins (end_of (handed s x) x).state m q
     → Ran (entered (end_of (handed s x) x).state m q) new.state None None (Some (end_of (handed s x) x).seat.memory) (Some new.seat.memory)
     → new.state.machine.stage ≡ cond (is_broken new.state.machine.ended) Stopped Idle → Called s x q new
 call_on s x ok m q new begins ran stage =
@@ -194,80 +194,108 @@ take_refused n x ws ws' q e p t b g idle call whole none_took got = by_ending t.
 pub take_gave : (n : ℕ) (x : Side) (ws' q : List ℕ) (e p t : EndState) (w : List ℕ) → Goes n x q ws' t p → t.got ≡ e.got ++ w ∷ [] → waiting_for e p ≡ w ∷ waiting_for t p
 take_gave n x ws' q e p t w g got = took_first e t p w g.both.inn.waiting got g.both.inn.sent_is
 
-own_state : (s : SoloPair) (x : Side) → (end_of s x).state ≡ end_at x s.guest.state s.host.state
+own_state : (s : TwoEnds) (x : Side) → (end_of s x).state ≡ end_at x s.guest.state s.host.state
 own_state s Guest = refl
 own_state s Host = refl
 
-other_state : (s : SoloPair) (x : Side) → (end_of s (peer_of x)).state ≡ end_at (peer_of x) s.guest.state s.host.state
+other_state : (s : TwoEnds) (x : Side) → (end_of s (peer_of x)).state ≡ end_at (peer_of x) s.guest.state s.host.state
 other_state s Guest = refl
 other_state s Host = refl
 
 -- the end at the side x, with the channel's memory
-pub handed_state : (s : SoloPair) (x : Side) → (end_of (handed s x) x).state ≡ (end_of s x).state
+pub handed_state : (s : TwoEnds) (x : Side) → (end_of (handed s x) x).state ≡ (end_of s x).state
 handed_state s x = state_at s s.at x ∙ sym (own_state s x)
 
-spare_at : (s : SoloPair) (a x : Side) → ((end_of (handed_from a x s) x).spare_sent ≡ (end_of s x).spare_sent) × ((end_of (handed_from a x s) x).spare_got ≡ (end_of s x).spare_got)
+spare_at : (s : TwoEnds) (a x : Side) → ((end_of (handed_from a x s) x).spare_sent ≡ (end_of s x).spare_sent) × ((end_of (handed_from a x s) x).spare_got ≡ (end_of s x).spare_got)
 spare_at s Guest Guest = (refl, refl)
 spare_at s Guest Host = (refl, refl)
 spare_at s Host Guest = (refl, refl)
 spare_at s Host Host = (refl, refl)
 
-pub handed_spare : (s : SoloPair) (x : Side) → ((end_of (handed s x) x).spare_sent ≡ (end_of s x).spare_sent) × ((end_of (handed s x) x).spare_got ≡ (end_of s x).spare_got)
+pub handed_spare : (s : TwoEnds) (x : Side) → ((end_of (handed s x) x).spare_sent ≡ (end_of s x).spare_sent) × ((end_of (handed s x) x).spare_got ≡ (end_of s x).spare_got)
 handed_spare s x = spare_at s s.at x
 
 -- the end that was lent, and the other one
-pub lent_is : (s : SoloPair) (x : Side) (new : Seen Held) → end_of (with_end s x new) x ≡ new
+pub lent_is : (s : TwoEnds) (x : Side) (new : Seen Held) → end_of (with_end s x new) x ≡ new
 lent_is s Guest new = refl
 lent_is s Host new = refl
 
-stays_at : (s : SoloPair) (a x : Side) (new : Seen Held) → Stays (end_of s (peer_of x)) (end_of (with_end (handed_from a x s) x new) (peer_of x))
+stays_at : (s : TwoEnds) (a x : Side) (new : Seen Held) → Stays (end_of s (peer_of x)) (end_of (with_end (handed_from a x s) x new) (peer_of x))
 stays_at s Guest Guest new = record { state = refl; spare_sent = refl; spare_got = refl }
 stays_at s Guest Host new = record { state = refl; spare_sent = refl; spare_got = refl }
 stays_at s Host Guest new = record { state = refl; spare_sent = refl; spare_got = refl }
 stays_at s Host Host new = record { state = refl; spare_sent = refl; spare_got = refl }
 
-pub stays : (s : SoloPair) (x : Side) (new : Seen Held) → Stays (end_of s (peer_of x)) (end_of (with_end (handed s x) x new) (peer_of x))
+pub stays : (s : TwoEnds) (x : Side) (new : Seen Held) → Stays (end_of s (peer_of x)) (end_of (with_end (handed s x) x new) (peer_of x))
 stays s x new = stays_at s s.at x new
 
 rest_same : (n : ℕ) (x : Side) (ws : List ℕ) (g h t : EndState) → t ≡ end_at x g h → AtRest n ws g h → AtRest n ws (end_at x t g) (end_at x h t)
 rest_same n Guest ws g h t is r = subst (λ (y : EndState). AtRest n ws y h) (sym is) r
 rest_same n Host ws g h t is r = subst (λ (y : EndState). AtRest n ws g y) (sym is) r
 
-pub own_cells : (s : SoloPair) (x : Side) → IsPair s → (end_of s x).state.machine.cells ≡ cells_of s
+pub own_cells : (s : TwoEnds) (x : Side) → IsPair s → (end_of s x).state.machine.cells ≡ cells_of s
 own_cells s Guest ok = refl
 own_cells s Host ok = ok.rest.channel.host_fits.cells
 
-own_rests : (s : SoloPair) (x : Side) → IsPair s → Resting (end_of s x).state
+own_rests : (s : TwoEnds) (x : Side) → IsPair s → Resting (end_of s x).state
 own_rests s Guest ok = ok.rest.guest_rests
 own_rests s Host ok = ok.rest.host_rests
 
 -- the end that was lent made no step
-pub same_on : (s : SoloPair) (x : Side) → IsPair s → (old new : Seen Held) → old ≡ end_of (handed s x) x → new.state ≡ old.state → new.seat ≡ old.seat → IsPair (with_end (handed s x) x new)
+pub same_on : (s : TwoEnds) (x : Side) → IsPair s → (old new : Seen Held) → old ≡ end_of (handed s x) x → new.state ≡ old.state → new.seat ≡ old.seat → IsPair (with_end (handed s x) x new)
 same_on s x ok old new is state seat =
     let m : new.seat ≡ (end_of s s.at).seat = seat ∙ (ap (λ (o : Seen Held). o.seat) is ∙ seat_at s s.at x) in
     let t : new.state ≡ end_at x s.guest.state s.host.state = state ∙ (ap (λ (o : Seen Held). o.state) is ∙ state_at s s.at x) in
     placed s s.at x new refl (ap (λ (k : Held). k.memory.due) m ∙ ok.alone) (ap (λ (y : EndState). y.machine.cells) (t ∙ sym (own_state s x)) ∙ own_cells s x ok)
     (rest_same (cells_of s) x new.seat.memory.words s.guest.state s.host.state new.state t (subst (λ (k : Held). AtRest (cells_of s) k.memory.words s.guest.state s.host.state) (sym m) ok.rest))
 
--- what a send of an end with the channel's memory says of itself
-pub record Sends (old new : Seen Held) (q : List ℕ) (result : Result Signalled SendRefusal) : Type 0 where
-  pub ran : old.state.machine.stage ≡ Idle → Ran (entered old.state (send_begun old.state.machine (length q)) q) new.state None None (Some old.seat.memory) (Some new.seat.memory)
-  pub answer : old.state.machine.stage ≡ Idle → (result ≡ send_answer new.state.machine.ended new.state.machine) × (call_by new.state.machine.ended ≡ 1)
-  pub leaves : old.state.machine.stage ≡ Idle → Leaves old.state.machine new.state.machine
-  pub after : old.state.machine.stage ≡ Idle → LeavesBy 1 old.state.machine new.state.machine
-  pub sent : old.state.machine.stage ≡ Idle → new.state.sent ≡ sent_by new.state.machine old.state.sent q
+-- the pair whose memory was handed on
+handed_at : (s : TwoEnds) (a x : Side) → s.at ≡ a → (handed_from a x s).at ≡ x
+handed_at s Guest Guest is = is
+handed_at s Guest Host is = refl
+handed_at s Host Guest is = refl
+handed_at s Host Host is = is
 
--- what it leaves
-pub record SendLeaves (s : SoloPair) (x : Side) (q : List ℕ) (new : Seen Held) (result : Result Signalled SendRefusal) : Type 0 where
+rest_at : (s : TwoEnds) (a x : Side) → AtRest (cells_of s) (end_of s a).seat.memory.words s.guest.state s.host.state
+    → AtRest (cells_of (handed_from a x s)) (end_of (handed_from a x s) x).seat.memory.words (handed_from a x s).guest.state (handed_from a x s).host.state
+rest_at s Guest Guest r = r
+rest_at s Guest Host r = r
+rest_at s Host Guest r = r
+rest_at s Host Host r = r
+
+pub handed_pair : (s : TwoEnds) (x : Side) → IsPair s → IsPair (handed s x)
+handed_pair s x ok = pair_by (handed s x) x (handed_at s s.at x refl) (ap (λ (k : Held). k.memory.due) (seat_at s s.at x) ∙ ok.alone) (rest_at s s.at x ok.rest)
+
+stays_by : (s : TwoEnds) (a x y : Side) → Stays (end_of s y) (end_of (handed_from a x s) y)
+stays_by s Guest Guest y = record { state = refl; spare_sent = refl; spare_got = refl }
+stays_by s Guest Host Guest = record { state = refl; spare_sent = refl; spare_got = refl }
+stays_by s Guest Host Host = record { state = refl; spare_sent = refl; spare_got = refl }
+stays_by s Host Guest Guest = record { state = refl; spare_sent = refl; spare_got = refl }
+stays_by s Host Guest Host = record { state = refl; spare_sent = refl; spare_got = refl }
+stays_by s Host Host y = record { state = refl; spare_sent = refl; spare_got = refl }
+
+pub handed_stays : (s : TwoEnds) (x y : Side) → Stays (end_of s y) (end_of (handed s x) y)
+handed_stays s x y = stays_by s s.at x y
+
+pub exchanged : (s : TwoEnds) (a : Side) → handed_from a (peer_of a) s ≡ swapped s (peer_of a)
+exchanged s Guest = refl
+exchanged s Host = refl
+
+-- the channel's memory goes along
+pub handed_memory : (s : TwoEnds) (x : Side) → memory_of (handed s x) ≡ memory_of s
+handed_memory s x = ap (λ (y : Side). (end_of (handed s x) y).seat.memory) (handed_at s s.at x refl) ∙ ap (λ (k : Held). k.memory) (seat_at s s.at x)
+
+-- what a send of an end with the channel's memory leaves
+pub record SendLeaves (s : TwoEnds) (x : Side) (q : List ℕ) (new : Seen Held) (result : Result Signalled SendRefusal) : Type 0 where
   pub pair : IsPair (with_end (handed s x) x new)
   pub meets : SendMeets result q (end_of s x).state new.state (end_of s (peer_of x)).state
   pub idle : new.state.machine.stage ≡ Idle
 
-pub send_on : (s : SoloPair) (x : Side) (q : List ℕ) (new : Seen Held) (result : Result Signalled SendRefusal) → IsPair s → (old : Seen Held) → old ≡ end_of (handed s x) x
-    → ((end_of s x).state.machine.asleep ≡ false) × ((end_of s x).state.machine.marked ≡ false) → IsPacket q → length q + 1 < (end_of s x).state.machine.cells → Sends old new q result → SendLeaves s x q new result
-send_on s x q new result ok old is awake packet fits sends = subst (λ (o : Seen Held). Sends o new q result → SendLeaves s x q new result) (sym is) on sends
+pub send_on : (s : TwoEnds) (x : Side) (q : List ℕ) (new : Seen Held) (result : Result Signalled SendRefusal) → IsPair s → (old : Seen Held) → old ≡ end_of (handed s x) x
+    → ((end_of s x).state.machine.asleep ≡ false) × ((end_of s x).state.machine.marked ≡ false) → IsPacket q → length q + 1 < (end_of s x).state.machine.cells → SendSays old new q result → SendLeaves s x q new result
+send_on s x q new result ok old is awake packet fits sends = subst (λ (o : Seen Held). SendSays o new q result → SendLeaves s x q new result) (sym is) on sends
   where
-    on : Sends (end_of (handed s x) x) new q result → SendLeaves s x q new result
+    on : SendSays (end_of (handed s x) x) new q result → SendLeaves s x q new result
     on f =
         let e : EndState = (end_of (handed s x) x).state in
         let same : (end_of s x).state ≡ e = sym (handed_state s x) in
@@ -283,7 +311,7 @@ send_on s x q new result ok old is awake packet fits sends = subst (λ (o : Seen
         }
 
 -- the lists and their spare room, where the end's memory was handed to it before
-pub kept_on : (s : SoloPair) (x : Side) (old new : Seen Held) → old ≡ end_of (handed s x) x → Kept old new → Kept (end_of s x) (end_of (with_end (handed s x) x new) x)
+pub kept_on : (s : TwoEnds) (x : Side) (old new : Seen Held) → old ≡ end_of (handed s x) x → Kept old new → Kept (end_of s x) (end_of (with_end (handed s x) x new) x)
 kept_on s x old new is k =
     let same : old.state ≡ (end_of s x).state = ap (λ (o : Seen Held). o.state) is ∙ handed_state s x in
     let spare = handed_spare s x in
@@ -295,7 +323,7 @@ kept_on s x old new is k =
     })
 
 -- a commit of an end with the channel's memory
-pub commit_on : (s : SoloPair) (x : Side) (new : Seen Held) → IsPair s → (old : Seen Held) → old ≡ end_of (handed s x) x → ((end_of s x).state.machine.asleep ≡ false) × ((end_of s x).state.machine.marked ≡ false)
+pub commit_on : (s : TwoEnds) (x : Side) (new : Seen Held) → IsPair s → (old : Seen Held) → old ≡ end_of (handed s x) x → ((end_of s x).state.machine.asleep ≡ false) × ((end_of s x).state.machine.marked ≡ false)
     → Ran (entered old.state (commit_begun old.state.machine) []) new.state None None (Some old.seat.memory) (Some new.seat.memory) → Leaves old.state.machine new.state.machine → IsPair (with_end (handed s x) x new)
 commit_on s x new ok old is awake ran leaves =
     subst (λ (o : Seen Held). Ran (entered o.state (commit_begun o.state.machine) []) new.state None None (Some o.seat.memory) (Some new.seat.memory) → Leaves o.state.machine new.state.machine → IsPair (with_end (handed s x) x new)) (sym is) on ran leaves
@@ -315,12 +343,12 @@ abbrev pub TakeMeets : Option TakeRefusal → EndState → EndState → EndState
 TakeMeets None e t p = (w : List ℕ) → t.got ≡ e.got ++ w ∷ [] → waiting_for e p ≡ w ∷ waiting_for t p
 TakeMeets (Some r) e t p = TakeRefused r e t p
 
-pub record TakeLeaves (s : SoloPair) (x : Side) (new : Seen Held) (refusal : Option TakeRefusal) : Type 0 where
+pub record TakeLeaves (s : TwoEnds) (x : Side) (new : Seen Held) (refusal : Option TakeRefusal) : Type 0 where
   pub pair : IsPair (with_end (handed s x) x new)
   pub meets : TakeMeets refusal (end_of s x).state new.state (end_of s (peer_of x)).state
 
 -- a take of an end with the channel's memory
-pub take_on : (s : SoloPair) (x : Side) (new : Seen Held) (refusal : Option TakeRefusal) → IsPair s → (old : Seen Held) → old ≡ end_of (handed s x) x → ((end_of s x).state.machine.asleep ≡ false) × ((end_of s x).state.machine.marked ≡ false)
+pub take_on : (s : TwoEnds) (x : Side) (new : Seen Held) (refusal : Option TakeRefusal) → IsPair s → (old : Seen Held) → old ≡ end_of (handed s x) x → ((end_of s x).state.machine.asleep ≡ false) × ((end_of s x).state.machine.marked ≡ false)
     → (old.state.machine.stage ≡ Idle → TakesIdle Held (λ _. None) (λ (k : Held). Some k.memory) old new refusal) → TakeLeaves s x new refusal
 take_on s x new refusal ok old is awake takes =
     subst (λ (o : Seen Held). (o.state.machine.stage ≡ Idle → TakesIdle Held (λ _. None) (λ (k : Held). Some k.memory) o new refusal) → TakeLeaves s x new refusal) (sym is) on takes
@@ -346,7 +374,7 @@ take_on s x new refusal ok old is awake takes =
             (take_refused (cells_of s) x _ _ [] (end_of (handed s x) x).state (end_at (peer_of x) s.guest.state s.host.state) new.state c.before c.goes c.idle f.call (f.after.whole c.idle) i (f.refused i).0)
 
 -- a take by its answer: the words that it lent are the first waiting packet
-pub take_match : {T : Type 0} (words : T → List ℕ) (result : Result T TakeRefusal) (s : SoloPair) (x : Side) (new : Seen Held) (old_got : List (List ℕ)) → old_got ≡ (end_of s x).state.got → TakeLeaves s x new (refused result)
+pub take_match : {T : Type 0} (words : T → List ℕ) (result : Result T TakeRefusal) (s : TwoEnds) (x : Side) (new : Seen Held) (old_got : List (List ℕ)) → old_got ≡ (end_of s x).state.got → TakeLeaves s x new (refused result)
     → IfOk result (λ k. IsPacket (words k) × (length (words k) ≡ new.state.machine.len) × (new.state.got ≡ old_got ++ words k ∷ []))
     → MatchResult result (λ k. IsPacket (words k) × (length (words k) ≡ (end_of (with_end (handed s x) x new) x).state.machine.len) × (waiting_for (end_of s x).state (end_of s (peer_of x)).state ≡ words k ∷ waiting_for (end_of (with_end (handed s x) x new) x).state (end_of (with_end (handed s x) x new) (peer_of x)).state) × ((end_of (with_end (handed s x) x new) x).state.got ≡ (end_of s x).state.got ++ words k ∷ []))
     (λ r. TakeRefused r (end_of s x).state (end_of (with_end (handed s x) x new) x).state (end_of s (peer_of x)).state)

@@ -12,25 +12,24 @@ use Rattle.ring_machine.specs.Steps.{send_begun, commit_begun}
 use Rattle.ring_machine.specs.Endings.{send_answer, commit_answer}
 use Rattle.ring_core.specs.Seen.{Seen}
 use Rattle.ring_core.specs.Told.{Held, Memory, Ran}
-use Rattle.ring_model.specs.declared.solo_pair.SoloPair.{SoloPair}
-use Rattle.ring_model.specs.Pair.{IsPair, end_of, with_end, handed, handed_from, memory_of, cells_of}
+use Rattle.ring_model.specs.Pair.{TwoEnds, IsPair, end_of, with_end, handed, handed_from, memory_of, cells_of}
 use Rattle.ring_model.specs.Signals.{send_raises, commit_raises, signalled, words_committed}
 use Rattle.ring_model.proofs.Pairing.{handed_state, seat_at, own_cells}
 use Rattle.ring_model.proofs.Knowing.{call_knows}
 use Rattle.ring_model.proofs.Raising.{Committing, commit_keeps, commit_ends, Sending, send_keeps, send_ends}
 
-own_side : (s : SoloPair) (x : Side) → IsPair s → (end_of s x).state.machine.side ≡ x
+own_side : (s : TwoEnds) (x : Side) → IsPair s → (end_of s x).state.machine.side ≡ x
 own_side s Guest ok = ok.rest.channel.guest_fits.side
 own_side s Host ok = ok.rest.channel.host_fits.side
 
 -- the memory of a pair whose end at the side x was lent
-lent_at : (s : SoloPair) (a x : Side) (new : Seen Held) → s.at ≡ a → memory_of (with_end (handed_from a x s) x new) ≡ new.seat.memory
+lent_at : (s : TwoEnds) (a x : Side) (new : Seen Held) → s.at ≡ a → memory_of (with_end (handed_from a x s) x new) ≡ new.seat.memory
 lent_at s Guest Guest new is = ap (λ (y : Side). (end_of (with_end s Guest new) y).seat.memory) is
 lent_at s Guest Host new is = refl
 lent_at s Host Guest new is = refl
 lent_at s Host Host new is = ap (λ (y : Side). (end_of (with_end s Host new) y).seat.memory) is
 
-module _ (s : SoloPair) (x : Side) (ok : IsPair s) (old new : Seen Held) (is : old ≡ end_of (handed s x) x) where
+module _ (s : TwoEnds) (x : Side) (ok : IsPair s) (old new : Seen Held) (is : old ≡ end_of (handed s x) x) where
   before : old.state ≡ (end_of s x).state
   before = ap (λ (o : Seen Held). o.state) is ∙ handed_state s x
 

@@ -4,3 +4,4 @@ pub mod Results
 pub mod Lists
 pub mod Pair
 pub mod Signals
+pub mod Calls

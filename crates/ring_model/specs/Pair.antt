@@ -1,48 +1,47 @@
 -- Both ends of a channel over one memory, which one of them has at each moment.
 use Rattle.std.specs.Prelude.{◌≡◌, ℕ, List, [], ◌≤◌, ◌+◌, false, Some, None}
-use Rattle.std.specs.Borrow.{Lends, MutBor, Fml}
 use Rattle.io_edge.specs.declared.side.Side.{Side}
 use Rattle.io_edge.specs.declared.side.Side.TheVariants.{Guest, Host}
-use Rattle.ring_core.specs.declared.seat.Seatlike.{Ghosts}
 use Rattle.ring_machine.specs.declared.machine.Machine.{Machine}
 use Rattle.ring_machine.specs.Endings.{Leaves}
 use Rattle.ring_machine.specs.States.{entered, Begins}
 use Rattle.ring_core.specs.Told.{Memory, Held, Ran}
 use Rattle.ring_core.specs.Seen.{Seen}
-use Rattle.ring_core.specs.contracts.end.End.{the_row as end_row}
-use Rattle.ring_core.specs.contracts.solo_mem.SoloMem.{the_row as memory_row}
-use Rattle.ring_model.specs.declared.solo_pair.SoloPair.{SoloPair}
-use Rattle.ring_model.specs.contracts.solo_pair.SoloPair.{the_row}
 use Rattle.ring_model.specs.Ring.{AtRest}
 
-abbrev pub end_of : SoloPair → Side → Seen Held
+-- what a contract sees of the two ends of a channel, each over a memory that nobody else changes, and the side whose end has the channel's memory. The
+-- other end has a spare one of the same size
+pub record TwoEnds : Type 0 where
+  pub guest : Seen Held
+  pub host : Seen Held
+  pub at : Side
+
+abbrev pub end_of : TwoEnds → Side → Seen Held
 end_of s Guest = s.guest
 end_of s Host = s.host
 
 -- the pair with another end at this side
-abbrev pub with_end : SoloPair → Side → Seen Held → SoloPair
+abbrev pub with_end : TwoEnds → Side → Seen Held → TwoEnds
 with_end s Guest e = record s { guest = e }
 with_end s Host e = record s { host = e }
 
 -- the pair with the memories of its ends exchanged, and the channel's memory at this side
-abbrev pub swapped : SoloPair → Side → SoloPair
+abbrev pub swapped : TwoEnds → Side → TwoEnds
 swapped s x = record { guest = record s.guest { seat = s.host.seat }; host = record s.host { seat = s.guest.seat }; at = x }
 
-abbrev pub handed_from : Side → Side → SoloPair → SoloPair
+abbrev pub handed_from : Side → Side → TwoEnds → TwoEnds
 handed_from Guest Guest s = s
 handed_from Guest Host s = swapped s Host
 handed_from Host Guest s = swapped s Guest
 handed_from Host Host s = s
 
 -- the pair once the channel's memory is at this side
-abbrev pub handed : SoloPair → Side → SoloPair
+abbrev pub handed : TwoEnds → Side → TwoEnds
 handed s x = handed_from s.at x s
 
-abbrev pub LendsSide : Ghosts Held → MutBor SoloPair → Side → MutBor (Seen Held) → Fml
-LendsSide k s x r = Lends the_row (end_row memory_row k) s r (with_end s.now x)
-
-abbrev pub LendsEnd : Ghosts Held → MutBor SoloPair → Side → MutBor (Seen Held) → Fml
-LendsEnd k s x r = Lends the_row (end_row memory_row k) s r (with_end (handed s.now x) x)
+-- the pair once a call of this side's end, which has the channel's memory, left that end so
+abbrev pub called : TwoEnds → Side → Seen Held → TwoEnds
+called s x new = with_end (handed s x) x new
 
 -- the lists, the indices and the spare room of an end that wasn't called
 pub record Stays (old new : Seen Held) : Type 0 where
@@ -51,20 +50,20 @@ pub record Stays (old new : Seen Held) : Type 0 where
   pub spare_got : new.spare_got ≡ old.spare_got
 
 -- the channel's memory
-abbrev pub memory_of : SoloPair → Memory
+abbrev pub memory_of : TwoEnds → Memory
 memory_of s = (end_of s s.at).seat.memory
 
 -- the cells of each ring
-abbrev pub cells_of : SoloPair → ℕ
+abbrev pub cells_of : TwoEnds → ℕ
 cells_of s = s.guest.state.machine.cells
 
 -- the two ends and the channel's memory belong together, no call is under way, and nobody else changes the memory
-pub record IsPair (s : SoloPair) : Type 0 where
+pub record IsPair (s : TwoEnds) : Type 0 where
   pub alone : (memory_of s).due ≡ []
   pub rest : AtRest (cells_of s) (memory_of s).words s.guest.state s.host.state
 
 -- The end at this side has the channel's memory, begins a call, and runs on that memory to the call's end: that leaves a pair again
-abbrev pub KeepsPair : SoloPair → Side → Type 0
+abbrev pub KeepsPair : TwoEnds → Side → Type 0
 KeepsPair s x = (m : Machine) (q : List ℕ) (new : Seen Held) → Begins (end_of (handed s x) x).state m q
     → Ran (entered (end_of (handed s x) x).state m q) new.state None None (Some (end_of (handed s x) x).seat.memory) (Some new.seat.memory)
     → Leaves (end_of (handed s x) x).state.machine new.state.machine → IsPair (with_end (handed s x) x new)

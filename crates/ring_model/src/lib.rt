@@ -1,9 +1,4 @@
-//! What the words of a channel and its two ends have to do with each other, and both ends over one memory.
+//! What the words of a channel and its two ends have to do with each other, and laws of both ends over one memory that nobody else changes.
 #![tactic(auto)]
 
 pub mod laws;
-mod settled;
-mod solo_pair;
-
-pub use settled::{Settled, finish};
-pub use solo_pair::SoloPair;

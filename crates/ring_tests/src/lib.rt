@@ -8,6 +8,8 @@ mod chan_run_tests;
 #[cfg(test)]
 mod check;
 #[cfg(test)]
+mod ends;
+#[cfg(test)]
 mod packet;
 #[cfg(test)]
 mod ring_core_tests;

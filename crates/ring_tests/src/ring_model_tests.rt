@@ -1,154 +1,143 @@
-//! Both ends of a channel over one memory, by turns.
-ghost use Rattle.std.specs.Prelude.{IsTrue};
+//! Both ends over one memory, by turns.
+ghost use Rattle.std.specs.Prelude.{◌≡◌, ℕ, ◌+◌, ◌<◌, ◌≤◌, List, Result, false, length};
+ghost use Rattle.ring_machine.specs.declared.machine.Stage.TheVariants.{Idle};
 ghost use Rattle.ring_machine.specs.States.{IsPacket};
-ghost use Rattle.ring_model.specs.Pair.{IsPair};
+ghost use Rattle.ring_machine.specs.declared.last.TakeRefusal.{TakeRefusal as Refusal};
+ghost use Rattle.ring_machine.specs.Endings.{refused};
+ghost use Rattle.ring_model.specs.Calls.{SendSays, CommitSays, TakeSays};
 
 use crate::check::check;
+use crate::ends::solo_end;
 use crate::packet::packet;
-use ring_core::{Room, SendRefusal, Side, Signalled, TakeRefusal};
-use ring_model::{Settled, SoloPair, finish};
-use std::alloc::AllocGlobal;
-use std::process::Abort;
+use ring_core::{End, Room, SendRefusal, Side, Signalled, SoloMem, TakeRefusal};
+use ring_rows::{may_send, may_take};
 
-fn is_packet(p: &[u64]) -> bool
-    ensures { IsTrue result → IsPacket p.now }
+// The room of each list.
+const ROOM: Room = Room {
+    packets: 8,
+    words: 4096,
+};
+
+// A send, which says what the laws of a pair take of it.
+fn send(e: &mut End<SoloMem>, p: &[u64]) -> Result<Signalled, SendRefusal>
+    requires awake { (e.old.state.machine.asleep ≡ false) × (e.old.state.machine.marked ≡ false) }
+    requires packet { IsPacket p.now × (length p.now + 1 < e.old.state.machine.cells) }
+    requires room { (0 < e.old.spare_sent.packets) × (length p.now ≤ e.old.spare_sent.words) }
+    ensures { SendSays e.old e.new p.now result }
 {
-    p.len() > 1
-        && p[0] / 4294967296 % 65536 == p.len() as u64
-        && p[0] / 65536 % 65536 >= 2
-        && p[0] / 65536 % 65536 <= p.len() as u64
+    e.send(p)
 }
 
-// A send, where it may be called.
-fn send(pair: &mut SoloPair, side: Side, p: &[u64]) -> Option<Result<Signalled, SendRefusal>>
-    requires { IsPair pair.old }
-    ensures { IsPair pair.new }
+// A commit, which says what the laws of a pair take of it.
+fn commit(e: &mut End<SoloMem>) -> Signalled
+    requires { (e.old.state.machine.stage ≡ Idle) × (e.old.state.machine.asleep ≡ false) × (e.old.state.machine.marked ≡ false) }
+    ensures { CommitSays e.old e.new result }
 {
-    let e = pair.end(side);
-    let room = e.spare_sent();
-    if p.len() > 8190 || !is_packet(p) || e.is_asleep() || e.is_marked() {
-        return None;
-    }
-    if !e.fits(p.len() as u32) || room.packets == 0 || room.words < p.len() as u64 {
-        return None;
-    }
-    Some(pair.send(side, p))
+    e.commit()
 }
 
-// A take, where it may be called: whether it gave this packet.
-fn take(pair: &mut SoloPair, side: Side, p: &[u64]) -> Option<Result<bool, TakeRefusal>>
-    requires { IsPair pair.old }
-    ensures { IsPair pair.new }
+// A take, and whether it gave these words. It says what the laws of a pair take of it.
+fn take(e: &mut End<SoloMem>, want: &[u64]) -> Result<bool, TakeRefusal>
+    requires awake { (e.old.state.machine.asleep ≡ false) × (e.old.state.machine.marked ≡ false) }
+    requires room { (0 < e.old.spare_got.packets) × (e.old.state.machine.cells ≤ e.old.spare_got.words) }
+    ensures { (r : Result (List ℕ) Refusal) × (refused r ≡ refused result) × TakeSays e.old e.new r }
 {
-    let e = pair.end(side);
-    let room = e.spare_got();
-    if room.packets == 0 || room.words < e.cells() as u64 || e.is_asleep() || e.is_marked() {
-        return None;
-    }
-    match pair.take(side) {
-        Ok(taken) => Some(Ok(taken.words() == p)),
-        Err(refusal) => Some(Err(refusal)),
+    match e.take() {
+        Ok(taken) => Ok(taken.words() == want),
+        Err(refusal) => Err(refusal),
     }
 }
 
-fn commit(pair: &mut SoloPair, side: Side) -> Option<Signalled>
-    requires { IsPair pair.old }
-    ensures { IsPair pair.new }
-{
-    let e = pair.end(side);
-    if e.is_asleep() || e.is_marked() {
-        return None;
+// Whether a send may be made, and answers so.
+fn sends(e: &mut End<SoloMem>, p: &[u64], want: Result<Signalled, SendRefusal>) -> bool {
+    if !may_send(e, p) {
+        return false;
     }
-    Some(pair.commit(side))
+    send(e, p) == want
 }
 
-// A packet one way: it is sent, taken, and given back, and no other one waits.
-fn passes(pair: &mut SoloPair, from: Side, to: Side, p: &[u64]) -> bool
-    requires { IsPair pair.old }
-    ensures { IsPair pair.new }
-{
-    let sent = send(pair, from, p);
-    let taken = take(pair, to, p);
-    let given_back = commit(pair, to);
-    let empty = take(pair, to, p);
-    sent == Some(Ok(Signalled::Quiet))
-        && taken == Some(Ok(true))
-        && given_back == Some(Signalled::Quiet)
-        && matches!(empty, Some(Err(TakeRefusal::Empty { .. })))
+// Whether a take may be made, and answers so.
+fn takes(e: &mut End<SoloMem>, p: &[u64], want: Result<bool, TakeRefusal>) -> bool {
+    if !may_take(e) {
+        return false;
+    }
+    take(e, p) == want
 }
 
-// Both ends of a new channel, each with room for 8 packets.
-fn opened(rt: &(impl Abort + AllocGlobal)) -> SoloPair
-    ensures { IsPair result }
-{
-    let mut pair = SoloPair::make(rt.alloc(), 4096).expect(rt, "memory");
-    let room = Room {
-        packets: 8,
-        words: 4096,
-    };
-    pair.reserve(Side::Guest, room, room).expect(rt, "memory");
-    pair.reserve(Side::Host, room, room).expect(rt, "memory");
-    pair
+// Whether a commit may be made, and raises nothing.
+fn commits(e: &mut End<SoloMem>) -> bool {
+    e.is_ready() && commit(e) == Signalled::Quiet
+}
+
+// Whether the channel's memory can go from one end to the other, and does.
+fn hands(from: &mut End<SoloMem>, to: &mut End<SoloMem>) -> bool {
+    if from.cells() != to.cells() {
+        return false;
+    }
+    from.swap_memory(to);
+    true
+}
+
+// A packet one way: it is sent, taken, and given back, and no other one waits at this offset.
+fn passes(from: &mut End<SoloMem>, to: &mut End<SoloMem>, p: &[u64], at: u32) -> bool {
+    let sent = sends(from, p, Ok(Signalled::Quiet));
+    let handed = hands(from, to);
+    let taken = takes(to, p, Ok(true));
+    let given_back = commits(to);
+    let empty = takes(to, p, Err(TakeRefusal::Empty { at }));
+    sent && handed && taken && given_back && empty
 }
 
 // The second long packet goes on at the first cell.
-fn goes_round(pair: &mut SoloPair, long: &[u64], short: &[u64]) -> bool
-    requires { IsPair pair.old }
-    ensures { IsPair pair.new }
-{
-    let first = passes(pair, Side::Guest, Side::Host, long);
-    let second = passes(pair, Side::Host, Side::Guest, short);
-    let third = passes(pair, Side::Guest, Side::Host, long);
-    let fourth = passes(pair, Side::Host, Side::Guest, long);
+fn goes_round(g: &mut End<SoloMem>, h: &mut End<SoloMem>, long: &[u64], short: &[u64]) -> bool {
+    let first = passes(g, h, long, 4088);
+    let second = passes(h, g, short, 32);
+    let third = passes(g, h, long, 4080);
+    let fourth = passes(h, g, long, 24);
     first && second && third && fourth
 }
 
 // There is no room for the short packet behind the long one, also once that is taken, before it is given back.
-fn stays_full(pair: &mut SoloPair, long: &[u64], short: &[u64]) -> bool
-    requires { IsPair pair.old }
-    ensures { IsPair pair.new }
-{
-    let full = Some(Err(SendRefusal::Full { free: 8, need: 24 }));
-    let sent = send(pair, Side::Guest, long);
-    let second = send(pair, Side::Guest, short);
-    let taken = take(pair, Side::Host, long);
-    let third = send(pair, Side::Guest, short);
-    sent == Some(Ok(Signalled::Quiet)) && second == full && taken == Some(Ok(true)) && third == full
+fn stays_full(g: &mut End<SoloMem>, h: &mut End<SoloMem>, long: &[u64], short: &[u64]) -> bool {
+    let full = Err(SendRefusal::Full { free: 8, need: 24 });
+    let sent = sends(g, long, Ok(Signalled::Quiet));
+    let second = sends(g, short, full);
+    let handed = hands(g, h);
+    let taken = takes(h, long, Ok(true));
+    let back = hands(h, g);
+    let third = sends(g, short, full);
+    sent && second && handed && taken && back && third
 }
 
-fn settles(settled: &Settled, long: &[u64]) -> bool {
-    settled.guest_sent().len() == 2
-        && settled.host_got().len() == 2
-        && settled.host_sent().len() == 2
-        && settled.guest_got().len() == 2
-        && settled.guest_got().get(1) == Some(long)
+// Whether an end sent two packets and got two, the last of which was this one.
+fn ends(e: End<SoloMem>, last: &[u64]) -> bool {
+    let (memory, sent, got) = e.into_parts();
+    drop(memory);
+    sent.len() == 2 && got.len() == 2 && got.get(1) == Some(last)
 }
 
 #[test]
 fn packets_come_as_they_went(rt: HostRuntime) {
-    let mut pair = opened(&rt);
+    let mut g = solo_end(&rt, Side::Guest, ROOM);
+    let mut h = solo_end(&rt, Side::Host, ROOM);
     let long = packet(&rt, 510, 7);
     let short = packet(&rt, 3, 9);
-    check(
-        &rt,
-        goes_round(&mut pair, long.as_slice(), short.as_slice()),
-    );
-    let settled = finish(pair);
-    check(&rt, settles(&settled, long.as_slice()));
+    let round = goes_round(&mut g, &mut h, long.as_slice(), short.as_slice());
+    let guest = ends(g, long.as_slice());
+    let host = ends(h, long.as_slice());
+    check(&rt, round && guest && host);
 }
 
 #[test]
 fn a_full_ring_refuses_until_a_commit(rt: HostRuntime) {
-    let mut pair = opened(&rt);
+    let mut g = solo_end(&rt, Side::Guest, ROOM);
+    let mut h = solo_end(&rt, Side::Host, ROOM);
     let long = packet(&rt, 510, 7);
     let short = packet(&rt, 2, 9);
-    check(
-        &rt,
-        stays_full(&mut pair, long.as_slice(), short.as_slice()),
-    );
-    check(&rt, commit(&mut pair, Side::Host) == Some(Signalled::Quiet));
-    check(
-        &rt,
-        passes(&mut pair, Side::Guest, Side::Host, short.as_slice()),
-    );
+    let full = stays_full(&mut g, &mut h, long.as_slice(), short.as_slice());
+    let to_host = hands(&mut g, &mut h);
+    let given_back = commits(&mut h);
+    let to_guest = hands(&mut h, &mut g);
+    let passed = passes(&mut g, &mut h, short.as_slice(), 16);
+    check(&rt, full && to_host && given_back && to_guest && passed);
 }

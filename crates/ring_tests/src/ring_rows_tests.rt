@@ -3,6 +3,7 @@ ghost use Rattle.std.specs.Prelude.{◌≡◌};
 ghost use Rattle.ring_machine.specs.Places.{IsPlaceOf};
 
 use crate::check::check;
+use crate::ends::solo_end;
 use crate::packet::packet;
 use ring_core::{
     Bad, Change, End, Place, Ring, Room, Seatlike, SendRefusal, Side, Signalled, SoloMem,
@@ -240,14 +241,6 @@ fn a_length_is_loaded_once(rt: HostRuntime) {
     committed(&rt, &mut e, Signalled::Quiet, 7);
     untaken(&rt, &mut e, TakeRefusal::Empty { at: 32 }, 8);
     check(&rt, e.is_ready());
-}
-
-// An end over a solo memory of one page, with room for this in each list.
-fn solo_end(rt: &(impl Abort + AllocGlobal), side: Side, room: Room) -> End<SoloMem> {
-    let solo = SoloMem::make(rt.alloc(), 4096).expect(rt, "memory");
-    let mut e = End::make(rt.alloc(), side, 4096, solo).expect(rt, "memory");
-    e.reserve(room, room).expect(rt, "memory");
-    e
 }
 
 // Exchanges the memories of two ends whose rings have one size.

@@ -1,5 +1,8 @@
-use Rattle.ring_model.proofs.Pairing.{call_on}
+use Rattle.ring_model.proofs.Pairing.{call_on, stays}
 use Rattle.ring_model.proofs.laws.calls_keep_the_pair.Goals as goal
 
-pub returns : goal.returns
-returns c m q new begins ran leaves = (call_on c.args._pair.now c.args._side c.requires m q new begins ran leaves.stage).pair
+pub returns-clause-pair : goal.returns-clause-pair
+returns-clause-pair c = λ s x ok m q new begins ran leaves. (call_on s x ok m q new begins ran leaves.stage).pair
+
+pub returns-clause-other : goal.returns-clause-other
+returns-clause-other c = stays
