@@ -284,6 +284,9 @@ asker_ends = record { encoded = (refl, (refl, tt)); replies = refl; end = inl (r
 
 server_ends : ServerEnds speech plan (host_of run) calls
 server_ends = record {
+  served = got_of (host_of run);
+  first = ([], refl);
+  missing = [];
   serves = (at 9 (Back 7) ∷ at 1 Done ∷ [], refl, (record { asked = refl; fits = refl }, (9, [], refl, (refl, refl))));
   order = (([], refl), (([], refl), (([], refl), (([], refl), ((1 ∷ [], refl), ((1 ∷ [], refl), (([], refl), ((1 ∷ [], refl), tt))))))));
   end = inr (refl, (refl, tt));

@@ -1,5 +1,5 @@
 -- Both ends together make a run of the channel.
-use Rattle.std.proofs.Common.{◌≡◌, ℕ, ◌≤◌, List, [], ◌∷◌, ◌++◌, map, length, Bool, true, false, cond, filter, refl, sym, ap, ◌∙◌, subst, arith, Option, Some, None}
+use Rattle.std.proofs.Common.{◌≡◌, ℕ, ◌+◌, ◌≤◌, List, [], ◌∷◌, ◌++◌, map, length, Bool, true, false, cond, filter, refl, sym, ap, ◌∙◌, subst, arith, Option, Some, None}
 use Rattle.std.specs.Prelude.{filter_map, ◌⊎◌}
 use mathlib.Core.Logic.{inl, inr}
 use Rattle.std.proofs.lemmas.List.{append-nil, length-append, length-map}
@@ -10,7 +10,7 @@ use Rattle.chan_run.specs.Laws.{Follows}
 use Rattle.hist_lock.specs.Seat.{Call}
 use Rattle.work_model.specs.Speech.{Speech, Keeps}
 use Rattle.work_model.specs.Asker.{listed, Encoded, requests_of, answers_of, open_of}
-use Rattle.work_model.specs.Server.{answered}
+use Rattle.work_model.specs.Server.{Serves, answered}
 use Rattle.work_model.specs.Settled.{pairs, said_all, IsSettled}
 use Rattle.work_model.specs.Channel.{Plan, count_of, held_of, IsPlan, asks_of, AskerEnds, ServerStops, ServerEnds, IsChannelRun}
 use Rattle.chan_run.proofs.Fronts.{front_filter, front_trans}
@@ -18,6 +18,7 @@ use Rattle.chan_run.proofs.Pasts.{drained_seen}
 use Rattle.work_model.proofs.Runs.{guest_front, host_front, guest_drained, host_drained, follow_none}
 use Rattle.work_model.proofs.Opens.{by_test, settled, pairs_ids}
 use Rattle.work_model.proofs.Served.{says}
+use Rattle.work_model.proofs.Serving.{serves_idle}
 use Rattle.work_model.proofs.Parts.{Ends, waited, in_order, ends, no_more}
 use Rattle.work_model.proofs.Counts.{front_same, front_le, front_map_of, reads_waited, reads_requests, calls_front, calls_most, all_called, encoded_waits, plan_reads}
 
@@ -104,8 +105,12 @@ module _ {P A Q R : Type 0} (s : Speech P A Q R) (keeps : Keeps s) (plan : Plan 
   same_length f g xs ys e = sym (length-map xs f) ∙ (ap length e ∙ length-map ys g)
 
   -- what the replies are, where all answers were got
-  replies_join : IsRun past → AskerEnds s plan t told → ServerEnds s plan u calls → IsSettled s asks t → got_of t ≡ sent_of u → told ≡ map (λ c. c.reply) (answered s held n calls)
-  replies_join run a b ss all =
+  -- all that the serving end got is served, and all that goes back for it was sent
+  abbrev Whole : Type 0
+  Whole = Serves s held (got_of u) n calls (sent_of u)
+
+  replies_join : IsRun past → AskerEnds s plan t told → Whole → IsSettled s asks t → got_of t ≡ sent_of u → told ≡ map (λ c. c.reply) (answered s held n calls)
+  replies_join run a w ss all =
       let front = host_front past run in
       let cut : sent_of t ≡ got_of u ++ front.0 = front.1 in
       let cut' : requests_of s t ≡ filter s.is_request (got_of u) ++ filter s.is_request front.0 = ap (filter s.is_request) cut ∙ filter-append s.is_request (got_of u) front.0 in
@@ -114,7 +119,7 @@ module _ {P A Q R : Type 0} (s : Speech P A Q R) (keeps : Keeps s) (plan : Plan 
       let still : List (ℕ × A) = open_of s asks t in
       let le1 : length (filter s.is_answer (sent_of u)) ≤ length ss.done =
       omega (arith, same_length (λ o. o.0) s.id_of ss.done (answers_of s t) ss.ids, ap (λ l. length (filter s.is_answer l)) all) in
-      let inside = front_le _ _ (in_order s keeps held (got_of u) n calls (sent_of u) b.serves) in
+      let inside = front_le _ _ (in_order s keeps held (got_of u) n calls (sent_of u) w) in
       let le2 : length (filter s.is_answer (sent_of u)) ≤ length (pairs s (filter s.is_request (got_of u)) asks) =
       omega (arith, inside, length-map (filter s.is_answer (sent_of u)) s.id_of, length-map (waited s (got_of u)) s.id_of, same_length (λ o. o.0) s.id_of _ _ (pairs_ids s (filter s.is_request (got_of u)) asks enc)) in
       let pieces : ss.done ++ still ≡ pairs s (filter s.is_request (got_of u)) asks ++ part.0 = sym ss.split ∙ (ap (λ l. pairs s l asks) cut' ∙ part.1) in
@@ -122,64 +127,98 @@ module _ {P A Q R : Type 0} (s : Speech P A Q R) (keeps : Keeps s) (plan : Plan 
       ∙ (sym (said_part s ss.done still [] (sent_of u) le1)
       ∙ (ap (λ l. said_all s l [] (sent_of u)) pieces
       ∙ (said_part s (pairs s (filter s.is_request (got_of u)) asks) part.0 [] (sent_of u) le2
-      ∙ says s keeps held asks (got_of u) n calls (sent_of u) enc b.serves)))))
+      ∙ says s keeps held asks (got_of u) n calls (sent_of u) enc w)))))
 
   -- all that is left to show
-  finish_run : IsRun past → AskerEnds s plan t told → ServerEnds s plan u calls → IsSettled s asks t → got_of t ≡ sent_of u → (plan.stop ≡ None → got_of u ≡ sent_of t)
+  finish_run : IsRun past → AskerEnds s plan t told → Whole → IsSettled s asks t → got_of t ≡ sent_of u → (plan.stop ≡ None → got_of u ≡ sent_of t)
       → (plan.stop ≡ None → length (requests_of s t) ≡ length asks) → length calls ≡ n → length (filter s.has_answer plan.start) ≤ length (waited s (got_of u)) → The
-  finish_run run a b ss all whole_got whole count started =
+  finish_run run a w ss all whole_got whole count started =
       record {
         front = host_front past run;
         whole_got = whole_got;
         answers_got = all;
         requests = a.encoded;
         whole = whole;
-        served = b.serves;
+        served = w;
         started = started;
-        asked = front_trans _ _ _ (calls_front s keeps held (got_of u) n calls (sent_of u) b.serves) (front_map_of s.read (got_of u) (sent_of t) (host_front past run));
+        asked = front_trans _ _ _ (calls_front s keeps held (got_of u) n calls (sent_of u) w) (front_map_of s.read (got_of u) (sent_of t) (host_front past run));
         count = count;
-        replies = replies_join run a b ss all;
+        replies = replies_join run a w ss all;
       }
 
   stop_none : (after : ℕ × Bool) → plan.stop ≡ Some after → plan.stop ≡ None → ⊥
   stop_none after e f = let bad : Some after ≡ None = sym e ∙ f in absurd (cc)
 
-  -- the asking end settled all
-  all_settled : IsPlan s plan → IsRun past → AskerEnds s plan t told → ServerEnds s plan u calls → IsSettled s asks t
-      → length (requests_of s t) ≡ length asks → open_of s asks t ≡ [] → (plan.stop ≡ None → got_of u ≡ sent_of t) → The
-  all_settled is run a b ss all_asked none whole_got =
-      let back = guest_front past run in
-      let ids : length (answers_of s t) ≡ length (waited s (sent_of t)) =
+  -- where no request is open, there are as many answers as requests that have some
+  all_answered : (a : AskerEnds s plan t told) → (ss : IsSettled s asks t) → open_of s asks t ≡ [] → length (answers_of s t) ≡ length (waited s (sent_of t))
+  all_answered a ss none =
       sym (same_length (λ o. o.0) s.id_of ss.done (answers_of s t) ss.ids)
-      ∙ (ap length (sym (append-nil ss.done)) ∙ (ap (λ l. length (ss.done ++ l)) (sym none) ∙ (ap length (sym ss.split) ∙ same_length (λ o. o.0) s.id_of _ _ (pairs_ids s (requests_of s t) asks a.encoded)))) in
+      ∙ (ap length (sym (append-nil ss.done)) ∙ (ap (λ l. length (ss.done ++ l)) (sym none) ∙ (ap length (sym ss.split) ∙ same_length (λ o. o.0) s.id_of _ _ (pairs_ids s (requests_of s t) asks a.encoded))))
+
+  -- a serving end that stopped has served all
+  whole_stopped : (b : ServerEnds s plan u calls) → b.served ≡ got_of u → b.missing ≡ [] → Whole
+  whole_stopped b same none =
+      subst (λ l. Serves s held l n calls (sent_of u)) same
+      (subst (λ l. Serves s held b.served n calls l) (ap (λ l. sent_of u ++ l) none ∙ append-nil (sent_of u)) b.serves)
+
+  -- and so has one that followed an end which settled all: there are as many answers as requests, so none is missing, and what isn't served asks for none
+  whole_settled : IsRun past → AskerEnds s plan t told → (b : ServerEnds s plan u calls) → IsSettled s asks t → open_of s asks t ≡ [] → Whole
+  whole_settled run a b ss none =
+      let back = guest_front past run in
+      let rest : List P = b.first.0 in
+      let ids = all_answered a ss none in
+      let more = ap length (ap (filter s.is_answer) back.1 ∙ filter-append s.is_answer (got_of t) back.0) ∙ length-append (answers_of s t) (filter s.is_answer back.0) in
+      let inside = front_le _ _ (in_order s keeps held b.served n calls (sent_of u ++ b.missing) b.serves) in
+      let inside' : length (filter s.is_answer (sent_of u ++ b.missing)) ≤ length (waited s b.served) =
+      omega (arith, inside, length-map (filter s.is_answer (sent_of u ++ b.missing)) s.id_of, length-map (waited s b.served) s.id_of) in
+      let cut = ap length (filter-append s.is_answer (sent_of u) b.missing) ∙ length-append (filter s.is_answer (sent_of u)) (filter s.is_answer b.missing) in
+      let split : length (waited s (got_of u)) ≡ length (waited s b.served) + length (waited s rest) =
+      ap (λ l. length (waited s l)) b.first.1
+      ∙ (ap (λ l. length (filter s.waits l)) (filter-append s.is_request b.served rest)
+      ∙ (ap length (filter-append s.waits (filter s.is_request b.served) (filter s.is_request rest)) ∙ length-append (waited s b.served) (waited s rest))) in
+      let there = front_le _ _ (front_filter s.waits _ _ (front_filter s.is_request (got_of u) (sent_of t) (host_front past run))) in
+      let no_missing : b.missing ≡ [] =
+      no_more s.is_answer (sent_of u) b.missing (ends s keeps held b.served n calls (sent_of u ++ b.missing) b.serves)
+      (no_length (filter s.is_answer b.missing) (omega (arith, ids, more, inside', cut, split, there))) in
+      let no_rest : waited s rest ≡ [] = no_length (waited s rest) (omega (arith, ids, more, inside', cut, split, there)) in
+      subst (λ l. Serves s held l n calls (sent_of u)) (sym b.first.1)
+      (serves_idle s keeps held b.served rest n calls (sent_of u) no_rest
+      (subst (λ l. Serves s held b.served n calls l) (ap (λ l. sent_of u ++ l) no_missing ∙ append-nil (sent_of u)) b.serves))
+
+  -- the asking end settled all
+  all_settled : IsPlan s plan → IsRun past → AskerEnds s plan t told → Whole → IsSettled s asks t
+      → length (requests_of s t) ≡ length asks → open_of s asks t ≡ [] → (plan.stop ≡ None → got_of u ≡ sent_of t) → The
+  all_settled is run a w ss all_asked none whole_got =
+      let back = guest_front past run in
+      let ids = all_answered a ss none in
       let more : filter s.is_answer (sent_of u) ≡ answers_of s t ++ filter s.is_answer back.0 = ap (filter s.is_answer) back.1 ∙ filter-append s.is_answer (got_of t) back.0 in
-      let served = front_le _ _ (in_order s keeps held (got_of u) n calls (sent_of u) b.serves) in
+      let served = front_le _ _ (in_order s keeps held (got_of u) n calls (sent_of u) w) in
       let served' : length (filter s.is_answer (sent_of u)) ≤ length (waited s (got_of u)) = omega (arith, served, length-map (filter s.is_answer (sent_of u)) s.id_of, length-map (waited s (got_of u)) s.id_of) in
       let there : IsFront (waited s (got_of u)) (waited s (sent_of t)) = front_filter s.waits _ _ (front_filter s.is_request (got_of u) (sent_of t) (host_front past run)) in
       let there' = front_le _ _ there in
       let sum = ap length more ∙ length-append (answers_of s t) (filter s.is_answer back.0) in
       let rest_none : back.0 ≡ [] =
-      no_more s.is_answer (got_of t) back.0 (subst (Ends s.is_answer) back.1 (ends s keeps held (got_of u) n calls (sent_of u) b.serves))
+      no_more s.is_answer (got_of t) back.0 (subst (Ends s.is_answer) back.1 (ends s keeps held (got_of u) n calls (sent_of u) w))
       (no_length (filter s.is_answer back.0) (omega (arith, ids, sum, served', there'))) in
       let all : got_of t ≡ sent_of u = sym (append-nil (got_of t)) ∙ (ap (λ l. got_of t ++ l) (sym rest_none) ∙ sym back.1) in
       let same : waited s (got_of u) ≡ waited s (sent_of t) = front_same _ _ there (omega (arith, ids, sum, served')) in
       let reads : filter_map s.read (got_of u) ≡ filter_map s.read (requests_of s t) =
       reads_waited s keeps (got_of u) ∙ (ap (filter_map s.read) same ∙ (sym (reads_waited s keeps (sent_of t)) ∙ reads_requests s keeps (sent_of t))) in
       let called : length calls ≡ m =
-      all_called s keeps held (got_of u) n calls (sent_of u) b.serves (omega (arith, ids, sum, there'))
+      all_called s keeps held (got_of u) n calls (sent_of u) w (omega (arith, ids, sum, there'))
       ∙ (ap length reads ∙ plan_reads s keeps plan.start plan.script (requests_of s t) is.fixed is.asks a.encoded all_asked) in
-      let count : length calls ≡ n = omega (arith, called, calls_most s keeps held (got_of u) n calls (sent_of u) b.serves, count_most plan.stop m) in
+      let count : length calls ≡ n = omega (arith, called, calls_most s keeps held (got_of u) n calls (sent_of u) w, count_most plan.stop m) in
       let waits = encoded_waits s keeps asks (requests_of s t) a.encoded all_asked in
       let split = ap length (filter-append s.has_answer plan.start plan.script) ∙ length-append (filter s.has_answer plan.start) (filter s.has_answer plan.script) in
-      finish_run run a b ss all whole_got (λ e. all_asked) count (omega (arith, ap length same, waits, split))
+      finish_run run a w ss all whole_got (λ e. all_asked) count (omega (arith, ap length same, waits, split))
 
-  by_ends : IsPlan s plan → IsRun past → AskerEnds s plan t told → ServerEnds s plan u calls → IsSettled s asks t
+  by_ends : IsPlan s plan → IsRun past → AskerEnds s plan t told → (b : ServerEnds s plan u calls) → IsSettled s asks t
       → ((length (requests_of s t) ≡ length asks) × (open_of s asks t ≡ [])) ⊎ ((is_drained t ≡ true) × Follows t)
-      → ServerStops s plan u calls ⊎ ((is_drained u ≡ true) × Follows u) → The
-  by_ends is run a b ss (inl x) (inl y) = all_settled is run a b ss x.0 x.1 (λ e. absurd (stop_none y.after y.stop e))
-  by_ends is run a b ss (inl x) (inr y) = all_settled is run a b ss x.0 x.1 (λ e. host_drained past run y.0)
+      → (ServerStops s plan u calls × (b.served ≡ got_of u) × (b.missing ≡ [])) ⊎ ((is_drained u ≡ true) × Follows u) → The
+  by_ends is run a b ss (inl x) (inl y) = all_settled is run a (whole_stopped b y.1 y.2) ss x.0 x.1 (λ e. absurd (stop_none y.0.after y.0.stop e))
+  by_ends is run a b ss (inl x) (inr y) = all_settled is run a (whole_settled run a b ss x.1) ss x.0 x.1 (λ e. host_drained past run y.0)
   by_ends is run a b ss (inr x) (inl y) =
-      finish_run run a b ss (guest_drained past run x.0) (λ e. absurd (stop_none y.after y.stop e)) (λ e. absurd (stop_none y.after y.stop e)) y.count y.started
+      finish_run run a (whole_stopped b y.1 y.2) ss (guest_drained past run x.0) (λ e. absurd (stop_none y.0.after y.0.stop e)) (λ e. absurd (stop_none y.0.after y.0.stop e)) y.0.count y.0.started
   by_ends is run a b ss (inr x) (inr y) =
       let bad : true ≡ false = sym (drained_seen t x.0) ∙ follow_none past run x.1 y.1 in absurd (cc)
 

@@ -1,5 +1,5 @@
 -- The steps of the serving end.
-use Rattle.std.proofs.Common.{◌≡◌, ℕ, zero, suc, List, [], ◌∷◌, ◌++◌, map, length, Bool, true, false, filter, refl, sym, ap, ◌∙◌, subst, append_assoc, Option, Some, None, ◌⊎◌}
+use Rattle.std.proofs.Common.{◌≡◌, ℕ, zero, suc, List, [], ◌∷◌, ◌++◌, map, length, Bool, true, false, filter, refl, sym, ap, ◌∙◌, subst, append_assoc, Option, Some, None, ◌⊎◌, inl, inr}
 use Rattle.std.specs.Prelude.{◌==◌, ◌&&◌, if◌then◌else◌}
 use Rattle.std.proofs.lemmas.List.{append-nil, map-append}
 use Rattle.std.proofs.lemmas.List.Elements.{filter-append}
@@ -14,7 +14,7 @@ use Rattle.work_model.specs.Channel.{Plan, count_of, held_of, ServerStops, Serve
 use Rattle.work_model.specs.Workers.{left_after, ServerKept}
 use Rattle.chan_run.proofs.Fronts.{front_less, front_trans, front_map, front_filter}
 use Rattle.work_model.proofs.Opens.{by_test}
-use Rattle.work_model.proofs.Parts.{in_order}
+use Rattle.work_model.proofs.Parts.{in_order, waited, waited_one, waited_none}
 
 some_none : {A : Type 0} (x : A) → Some x ≡ None → ⊥
 some_none x e = absurd (cc)
@@ -81,6 +81,27 @@ module _ {P A Q R : Type 0} (s : Speech P A Q R) where
   pub left_more : (held : Bool) (got : List P) (p : P) (n : ℕ) → left_of s held (got ++ p ∷ []) n ≡ left_after s held (s.read p) (left_of s held got n)
   left_more held [] p n = refl
   left_more held (x ∷ got) p n = left_go held (s.read x) n (λ m. left_of s held got m) (λ m. left_of s held (got ++ p ∷ []) m) (left_after s held (s.read p)) (λ k. left_more held got p k) refl
+
+module _ {P A Q R : Type 0} (s : Speech P A Q R) (keeps : Keeps s) (held : Bool) where
+  -- nothing goes back for packets that have no answer
+  idle_none : (more : List P) (m : ℕ) → waited s more ≡ [] → Serves s held more m [] []
+  idle_none [] m e = (refl, refl)
+  idle_none (p ∷ more) m e =
+      by_test (s.waits p)
+      (λ f. let bad : p ∷ waited s more ≡ [] = sym (waited_one s keeps p more f) ∙ e in absurd (cc))
+      (λ f.
+      subst (λ o. ServesOne s held p o m [] [] (λ k later rest. Serves s held more k later rest)) (sym (keeps.unread p f))
+      ([], sym (ap (λ l. l ++ []) (keeps.silent p f)), idle_none more m (sym (waited_none s keeps p more f) ∙ e)))
+
+  -- so they may come behind all that was served
+  pub serves_idle : (got more : List P) (n : ℕ) (calls : List (Call Q R)) (sent : List P) → waited s more ≡ [] → Serves s held got n calls sent → Serves s held (got ++ more) n calls sent
+  serves_idle got more n calls sent e h = by_left (left_of s held got n) refl
+    where
+      by_left : (o : Option ℕ) → left_of s held got n ≡ o → Serves s held (got ++ more) n calls sent
+      by_left None left = serves_over s held got more n calls sent left h
+      by_left (Some m) left =
+          subst (λ l. Serves s held (got ++ more) n l sent) (append-nil calls)
+          (subst (λ l. Serves s held (got ++ more) n (calls ++ []) l) (append-nil sent) (serves_more s held got more n m calls [] sent [] left (idle_none more m e) h))
 
 module _ {P A Q R : Type 0} (s : Speech P A Q R) (keeps : Keeps s) (held : Bool) (n : ℕ) where
   -- the requests that have answers
@@ -153,18 +174,18 @@ module _ {P A Q R : Type 0} (s : Speech P A Q R) (keeps : Keeps s) (held : Bool)
       let serves : Serves s held h.served n calls (sent_of (e ∷ past) ++ owed) = rw same h.serves in
       record { served = h.served; got_is = got; serves = serves; stands = h.stands; order = (order_now (e ∷ past) h.served rest calls owed got serves, h.order) }
 
--- the end of the serving end
-pub server_ends : {P A Q R : Type 0} (s : Speech P A Q R) (plan : Plan A) (past : List (Event P)) (calls : List (Call Q R)) (left : Option ℕ)
-    → ServerKept s (held_of plan.stop (length plan.script)) (count_of plan.stop (length plan.script)) past calls [] left []
-    → ServerStops s plan past calls ⊎ ((is_drained past ≡ true) × Follows past) → ServerEnds s plan past calls
-server_ends s plan past calls left h end =
-    let all : h.served ≡ got_of past = sym (append-nil h.served) ∙ sym h.got_is in
-    record {
-      serves = subst (λ l. Serves s (held_of plan.stop (length plan.script)) l (count_of plan.stop (length plan.script)) calls (sent_of past)) all
-          (subst (Serves s (held_of plan.stop (length plan.script)) h.served (count_of plan.stop (length plan.script)) calls) (append-nil (sent_of past)) h.serves);
-      order = h.order;
-      end = end;
-    }
+module _ {P A Q R : Type 0} (s : Speech P A Q R) (plan : Plan A) (past : List (Event P)) (calls : List (Call Q R)) (left : Option ℕ) where
+  abbrev Kept : List P → List P → Type 0
+  Kept owed rest = ServerKept s (held_of plan.stop (length plan.script)) (count_of plan.stop (length plan.script)) past calls owed left rest
+
+  -- the end of the serving end, which follows the other end's mark whatever it owes
+  pub server_follows : (owed rest : List P) → Kept owed rest → is_drained past ≡ true → Follows past → ServerEnds s plan past calls
+  server_follows owed rest h drained follows = record { served = h.served; first = (rest, h.got_is); missing = owed; serves = h.serves; order = h.order; end = inr (drained, follows) }
+
+  -- and where all that came is served, and nothing is owed
+  pub server_ends : Kept [] [] → ServerStops s plan past calls ⊎ ((is_drained past ≡ true) × Follows past) → ServerEnds s plan past calls
+  server_ends h (inl stops) = record { served = h.served; first = ([], h.got_is); missing = []; serves = h.serves; order = h.order; end = inl (stops, sym (append-nil h.served) ∙ sym h.got_is, refl) }
+  server_ends h (inr follows) = server_follows [] [] h follows.0 follows.1
 
 -- it breaks off
 pub server_breaks : {P A Q R : Type 0} (s : Speech P A Q R) (held : Bool) (n : ℕ) (past : List (Event P)) (calls : List (Call Q R)) (owed : List P) (left : Option ℕ) (rest : List P)

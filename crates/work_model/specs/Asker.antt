@@ -1,5 +1,5 @@
 -- The end that asks.
-use Rattle.std.specs.Prelude.{ℕ, ◌≡◌, true, cond, ◌==◌, List, [], ◌∷◌, ◌++◌, length, drop, filter, find, Option, Some, None}
+use Rattle.std.specs.Prelude.{ℕ, ◌≡◌, cond, ◌==◌, List, [], ◌∷◌, ◌++◌, length, drop, filter, find, Option, Some, None}
 use Rattle.chan_run.specs.declared.event.Event.{Event}
 use Rattle.chan_run.specs.declared.event.Event.TheVariants.{Sent, Got, Empty, Marked, Saw}
 use Rattle.chan_run.specs.Runs.{sent_of, got_of}

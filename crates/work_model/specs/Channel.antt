@@ -53,10 +53,15 @@ module _ {P A Q R : Type 0} (s : Speech P A Q R) where
     pub count : length calls ≡ count_of plan.stop (length plan.script)
     pub started : length (filter s.has_answer plan.start) ≤ length (filter s.waits (filter s.is_request (got_of past)))
 
+  -- it stopped there with all served that it got, and all sent that it owed; or the other end had marked itself, and takes nothing more: then the last answers may
+  -- be missing, and packets may be left that it didn't serve
   pub record ServerEnds (plan : Plan A) (past : List (Event P)) (calls : List (Call Q R)) : Type 0 where
-    pub serves : Serves s (held_of plan.stop (length plan.script)) (got_of past) (count_of plan.stop (length plan.script)) calls (sent_of past)
+    pub served : List P
+    pub first : IsFront served (got_of past)
+    pub missing : List P
+    pub serves : Serves s (held_of plan.stop (length plan.script)) served (count_of plan.stop (length plan.script)) calls (sent_of past ++ missing)
     pub order : InOrder s past
-    pub end : ServerStops plan past calls ⊎ ((is_drained past ≡ true) × Follows past)
+    pub end : (ServerStops plan past calls × (served ≡ got_of past) × (missing ≡ [])) ⊎ ((is_drained past ≡ true) × Follows past)
 
   -- what the asking end gives where it found no room in its lists: some of its last requests are missing, and some are open
   pub record AskerBreaks (asks : List A) (past : List (Event P)) (told : List R) : Type 0 where

@@ -1,7 +1,7 @@
 -- The asking worker's steps keep what it keeps.
-use Rattle.std.proofs.Common.{◌≡◌, ℕ, zero, suc, ◌+◌, ◌-◌, ◌<◌, ◌≤◌, ◌^◌, List, [], ◌∷◌, ◌++◌, length, drop, replicate, refl, sym, ap, ◌∙◌, subst, arith, Option, Some, None, Bool, true, false, cond}
+use Rattle.std.proofs.Common.{◌≡◌, ℕ, zero, suc, ◌+◌, ◌-◌, ◌<◌, ◌≤◌, ◌^◌, List, [], ◌∷◌, ◌++◌, length, drop, replicate, refl, sym, ap, ◌∙◌, subst, arith, Option, Some, None, Bool, true, false, cond, count_by, is_some}
 use Rattle.std.specs.Prelude.{◌==◌, ◌||◌, if◌then◌else◌, slice_get, slice_set}
-use Rattle.std.proofs.lemmas.List.{drop_all, drop_more}
+use Rattle.std.proofs.lemmas.List.{drop_all, drop_more, length-drop}
 use Rattle.std.proofs.lemmas.Option.{get_or_from_slice_get, slice_get_within}
 use Rattle.std.proofs.lemmas.Bool.Decides.{nat_tests}
 use Rattle.chan_run.specs.declared.event.Event.{Event}
@@ -12,13 +12,13 @@ use Rattle.ring_core.specs.Seen.{Seen}
 use Rattle.ring_seat.specs.declared.table_seat.TableSeat.{TableSeat}
 use Rattle.txn_table.specs.Open.{request_of}
 use Rattle.work_model.specs.Speech.{Speech, Keeps}
-use Rattle.work_model.specs.Asker.{opened, said, under, open_of}
+use Rattle.work_model.specs.Asker.{Encoded, opened, said, under, without, open_of, requests_of}
 use Rattle.work_model.specs.Channel.{AskerBreaks}
 use Rattle.work_model.specs.Workers.{ask_of, Apart, AskerKept}
 use Rattle.work_model.proofs.Opens.{by_test}
 use Rattle.work_model.proofs.Asking.{asker_accepted, asker_sent, asker_told, asker_answered, asker_stray, asker_open, asker_empty, asker_marked, asker_saw, asker_settled, asker_stopped}
 use Rattle.worker_core.specs.Line.{SleepsFor}
-use Rattle.worker_core.specs.Asking.{Asking, IsAsking, AsksAll, Holds, HasSettled, answer_of, ask_at, asked_in, waits_in, waits_under, want_by, pending, AsksOn, AsksBy}
+use Rattle.worker_core.specs.Asking.{Asking, IsAsking, IsPaced, AsksAll, Holds, HasSettled, answer_of, ask_at, asked_in, waits_in, waits_under, want_by, pending, AsksOn, AsksBy}
 use Rattle.worker_core.specs.declared.asker.Hold.{Hold}
 use Rattle.worker_core.specs.declared.asker.Hold.TheVariants.{Done, Place, Answer, Room}
 use Rattle.worker_core.specs.declared.ended.Ended.{Ended}
@@ -86,6 +86,38 @@ module _ {A Q R : Type 0} (s : Speech (List ℕ) A Q R) where
   said_answer None found p e = ap (λ f. answer_of s f p) (sym e)
   said_answer (Some o) found p e = ap (λ f. answer_of s f p) (sym e)
 
+cond_none : {A : Type 0} (b : Bool) → cond {A = List A} b [] [] ≡ []
+cond_none true = refl
+cond_none false = refl
+
+module _ {A Q R : Type 0} (s : Speech (List ℕ) A Q R) where
+  -- what comes opens nothing
+  none_opens : (p : List ℕ) (os : List (ℕ × A)) → os ≡ [] → cond (s.is_answer p) (without s (s.id_of p) os) os ≡ []
+  none_opens p os none = ap (λ l. cond (s.is_answer p) (without s (s.id_of p) l) l) none ∙ cond_none (s.is_answer p)
+
+  -- where no id has a request, none is open
+  none_left : (os ws : List (ℕ × A)) → ((id : ℕ) → ask_of (under s id (os ++ ws)) ≡ None) → os ≡ []
+  none_left [] ws h = refl
+  none_left (o ∷ os) ws h =
+      let same : (o.0 == o.0) ≡ true = grind (arith, nat_tests) in
+      some_none o.1 (sym (ap ask_of (ap (λ b. cond b (Some o) (under s o.0 (os ++ ws))) same)) ∙ h o.0)
+
+  pub encoded_few : (asks : List A) (ps : List (List ℕ)) → Encoded s asks ps → length ps ≤ length asks
+  encoded_few asks [] enc = omega arith
+  encoded_few [] (p ∷ ps) enc = absurd enc
+  encoded_few (a ∷ asks) (p ∷ ps) enc = omega (arith, encoded_few asks ps enc.1)
+
+module _ {T A Q R : Type 0} (s : Speech (List ℕ) A Q R) (asks : List A) (w : Asking T R) where
+  -- as many requests were sent as stand before the next one
+  sent_next : IsAsking s asks w → length (requests_of s w.end.state.past) ≡ w.next
+  sent_next h =
+      let few = encoded_few s asks (requests_of s w.end.state.past) h.kept.encoded in
+      omega (arith, few, h.within, length-drop (length (requests_of s w.end.state.past)) asks, length-drop w.next asks, ap length h.kept.rest)
+
+  -- none is open where the table is empty
+  none_stands : IsAsking s asks w → count_by is_some w.table ≡ 0 → open_of s asks w.end.state.past ≡ []
+  none_stands h none = none_left s (open_of s asks w.end.state.past) (waits_in (drop w.next asks) w.waiting) (λ id. sym (h.kept.opens id) ∙ ap (ask_at asks) (none_open w.table none id))
+
 module _ {T A Q R : Type 0} (s : Speech (List ℕ) A Q R) (keeps : Keeps s) (single : (p : List ℕ) → s.is_answer p ≡ true) (asks : List A) (w : Asking T R) where
   -- the table as a map, and what waits
   abbrev tabled : ℕ → Option A
@@ -102,6 +134,8 @@ module _ {T A Q R : Type 0} (s : Speech (List ℕ) A Q R) (keeps : Keeps s) (sin
     asked = h.asked;
     saw = ap has_seen is ∙ h.saw;
     rests = λ e. not_both end'.state.machine.asleep awake e;
+    paced = subst (IsPaced s w.starts asks) (sym is) h.paced;
+    alone = λ id e few. ap (open_of s asks) is ∙ h.alone id e few;
   }
 
   pub saw_kept : (end' : Seen TableSeat) (hold' : Hold) → end'.state.past ≡ Saw ∷ w.end.state.past → end'.state.machine.asleep ≡ false → IsAsking s asks w → IsAsking s asks (record w { end = end'; seen = true; hold = hold' })
@@ -112,6 +146,8 @@ module _ {T A Q R : Type 0} (s : Speech (List ℕ) A Q R) (keeps : Keeps s) (sin
     asked = h.asked;
     saw = ap has_seen is;
     rests = λ e. not_both end'.state.machine.asleep awake e;
+    paced = subst (IsPaced s w.starts asks) (sym is) h.paced;
+    alone = λ id e few. ap (open_of s asks) is ∙ h.alone id e few;
   }
 
   -- nothing was done that the peer sees
@@ -124,6 +160,8 @@ module _ {T A Q R : Type 0} (s : Speech (List ℕ) A Q R) (keeps : Keeps s) (sin
     asked = h.asked;
     saw = ap has_seen is ∙ h.saw;
     rests = rests;
+    paced = subst (IsPaced s w.starts asks) (sym is) h.paced;
+    alone = λ id e few. ap (open_of s asks) is ∙ h.alone id e few;
   }
 
   -- an answer was taken
@@ -143,6 +181,8 @@ module _ {T A Q R : Type 0} (s : Speech (List ℕ) A Q R) (keeps : Keeps s) (sin
         asked = h.asked;
         saw = ap has_seen is ∙ h.saw;
         rests = λ e. not_both end'.state.machine.asleep awake e;
+        paced = subst (IsPaced s w.starts asks) (sym is) h.paced;
+        alone = λ id e few. ap (open_of s asks) is ∙ none_opens s p (open_of s asks w.end.state.past) (h.alone id e few);
       }
 
 module _ {T A Q R : Type 0} (s : Speech (List ℕ) A Q R) (keeps : Keeps s) (single : (p : List ℕ) → s.is_answer p ≡ true) (asks : List A) (w : Asking T R) where
@@ -163,12 +203,14 @@ module _ {T A Q R : Type 0} (s : Speech (List ℕ) A Q R) (keeps : Keeps s) (sin
         asked = h.asked;
         saw = ap has_seen is ∙ h.saw;
         rests = λ e. not_both end'.state.machine.asleep awake e;
+        paced = subst (IsPaced s w.starts asks) (sym is) h.paced;
+        alone = λ j e few. ap (open_of s asks) is ∙ none_opens s p (open_of s asks w.end.state.past) (h.alone j e few);
       }
 
   -- the next request got a free id
   pub accepted_kept : (table' : List (Option ℕ)) (id : ℕ) (a : A) → slice_get asks w.next ≡ Some a → s.has_answer a ≡ true → w.waiting ≡ None → 1 ≤ id → id ≤ length w.table → length w.table ≤ 64 → request_of w.table id ≡ None
-      → table' ≡ slice_set w.table (id - 1) (Some w.next) → w.end.state.machine.asleep ≡ false → IsAsking s asks w → IsAsking s asks (record w { table = table'; waiting = Some id })
-  accepted_kept table' id a at answers none one le few free is awake h =
+      → (w.next ≤ w.starts → count_by is_some w.table ≡ 0) → table' ≡ slice_set w.table (id - 1) (Some w.next) → w.end.state.machine.asleep ≡ false → IsAsking s asks w → IsAsking s asks (record w { table = table'; waiting = Some id })
+  accepted_kept table' id a at answers none one le few free alone is awake h =
       let first = first_of asks w.next a at in
       let none' : waits_in (drop w.next asks) w.waiting ≡ [] = ap (waits_in (drop w.next asks)) none in
       let here : waits_in (drop w.next asks) (Some id) ≡ (id, a) ∷ [] = ap (λ l. waits_in l (Some id)) first in
@@ -183,12 +225,14 @@ module _ {T A Q R : Type 0} (s : Speech (List ℕ) A Q R) (keeps : Keeps s) (sin
         asked = λ j e. (a, at, answers, subst (λ n. n < 2 ^ 64) (some_same id j e) (omega (arith, le, few)));
         saw = h.saw;
         rests = λ e. not_both w.end.state.machine.asleep awake e;
+        paced = h.paced;
+        alone = λ j e few. none_stands s asks w h (alone few);
       }
 
   -- it was sent
   pub sent_kept : (end' : Seen TableSeat) (id : ℕ) (a : A) (p : List ℕ) → slice_get asks w.next ≡ Some a → w.waiting ≡ Some id → p ≡ s.encode id a → end'.state.past ≡ Sent p ∷ w.end.state.past → end'.state.machine.asleep ≡ false
-      → IsAsking s asks w → IsAsking s asks (record w { end = end'; next = w.next + 1; waiting = None })
-  sent_kept end' id a p at waits made is awake h =
+      → w.seen ≡ false → IsAsking s asks w → IsAsking s asks (record w { end = end'; next = w.next + 1; waiting = None })
+  sent_kept end' id a p at waits made is awake unseen h =
       let asked = h.asked id waits in
       let same_ask : asked.0 ≡ a = some_same asked.0 a (sym asked.1 ∙ at) in
       let answers : s.has_answer a ≡ true = ap s.has_answer (sym same_ask) ∙ asked.2 in
@@ -209,12 +253,14 @@ module _ {T A Q R : Type 0} (s : Speech (List ℕ) A Q R) (keeps : Keeps s) (sin
         asked = λ j e. some_none j (sym e);
         saw = ap has_seen is ∙ h.saw;
         rests = λ e. not_both end'.state.machine.asleep awake e;
+        paced = subst (IsPaced s w.starts asks) (sym is) (λ _ few. h.alone id waits (omega (arith, few, sent_next s asks w h)), h.saw ∙ unseen, h.paced);
+        alone = λ j e few. some_none j (sym e);
       }
 
   -- a request that has no answer was sent
-  pub told_kept : (end' : Seen TableSeat) (a : A) (p : List ℕ) → slice_get asks w.next ≡ Some a → w.waiting ≡ None → s.has_answer a ≡ false → p ≡ s.encode 0 a → end'.state.past ≡ Sent p ∷ w.end.state.past → end'.state.machine.asleep ≡ false
-      → IsAsking s asks w → IsAsking s asks (record w { end = end'; next = w.next + 1 })
-  told_kept end' a p at none silent made is awake h =
+  pub told_kept : (end' : Seen TableSeat) (a : A) (p : List ℕ) → slice_get asks w.next ≡ Some a → w.waiting ≡ None → (w.next ≤ w.starts → count_by is_some w.table ≡ 0) → s.has_answer a ≡ false → p ≡ s.encode 0 a → end'.state.past ≡ Sent p ∷ w.end.state.past → end'.state.machine.asleep ≡ false
+      → w.seen ≡ false → IsAsking s asks w → IsAsking s asks (record w { end = end'; next = w.next + 1 })
+  told_kept end' a p at none alone silent made is awake unseen h =
       let first = first_of asks w.next a at in
       let none' : waits_in (drop w.next asks) w.waiting ≡ [] = ap (waits_in (drop w.next asks)) none in
       let none'' : waits_in (drop (w.next + 1) asks) w.waiting ≡ [] = ap (waits_in (drop (w.next + 1) asks)) none in
@@ -229,6 +275,8 @@ module _ {T A Q R : Type 0} (s : Speech (List ℕ) A Q R) (keeps : Keeps s) (sin
         asked = λ j e. some_none j (sym e ∙ none);
         saw = ap has_seen is ∙ h.saw;
         rests = λ e. not_both end'.state.machine.asleep awake e;
+        paced = subst (IsPaced s w.starts asks) (sym is) (λ _ few. none_stands s asks w h (alone (omega (arith, few, sent_next s asks w h))), h.saw ∙ unseen, h.paced);
+        alone = λ j e few. some_none j (sym e ∙ none);
       }
 
   marked_kept : IsAsking s asks w → AskerKept s asks (Marked ∷ w.end.state.past) (drop w.next asks) (waits_in (drop w.next asks) w.waiting) (asked_in asks w.table) [] w.told
@@ -275,6 +323,8 @@ module _ {T A Q R : Type 0} (s : Speech (List ℕ) A Q R) (keeps : Keeps s) (sin
     asked = λ id e. some_none id (sym e ∙ waiting);
     saw = ap has_seen past ∙ sym seen;
     rests = λ e. not_both w.end.state.machine.asleep awake e;
+    paced = subst (IsPaced s w.starts asks) (sym past) tt;
+    alone = λ id e few. some_none id (sym e ∙ waiting);
   }
 
   -- why nothing is sent doesn't lie with the end

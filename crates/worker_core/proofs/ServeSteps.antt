@@ -20,11 +20,11 @@ use Rattle.work_model.specs.Channel.{Plan, count_of, held_of, ServerStops, Serve
 use Rattle.work_model.specs.Workers.{ServerKept}
 use Rattle.work_model.proofs.Opens.{by_test, filter_yes, filter_no}
 use Rattle.work_model.proofs.Counts.{calls_left}
-use Rattle.work_model.proofs.Serving.{server_took, server_served, server_passed, server_gave, server_quiet, server_new, server_ends, server_breaks}
+use Rattle.work_model.proofs.Serving.{server_took, server_served, server_passed, server_gave, server_quiet, server_new, server_ends, server_follows, server_breaks}
 use Rattle.worker_core.specs.Line.{SleepsFor}
 use Rattle.worker_core.specs.Owed.{is_nil, need_of}
 use Rattle.worker_core.specs.Rooms.{SentAtMost, AskedOver, ServeLacksFor}
-use Rattle.worker_core.specs.Serving.{Desk, Serving, IsServing, Rests, ServesPacket, Orders, EndsAll, BreaksOff, CallsEach, EndsBy, LacksRoom, ServesOn, has_served, is_asked, lacks_call, marked_by}
+use Rattle.worker_core.specs.Serving.{Desk, Serving, IsServing, Rests, ServesPacket, Orders, EndsAll, BreaksOff, CallsEach, EndsBy, LeavesOff, LacksRoom, ServesOn, has_served, is_asked, lacks_call, marked_by}
 use Rattle.worker_core.specs.declared.ended.Ended.{Ended}
 use Rattle.worker_core.specs.declared.ended.Ended.TheVariants.{Marked as EndedMarked, PeerMarked, Room}
 
@@ -182,16 +182,19 @@ module _ {T S A Q R : Type 0} (s : Speech (List ℕ) A Q R) (keeps : Keeps s) (w
       }
 
   -- a worker that ended gives what the plan asks for
-  ends_plan : (plan : Plan A) → Orders s plan w → IsServing s w → w.desk.owed ≡ [] → w.served ≡ length w.end.state.got → ServerStops s plan w.end.state.past w.desk.calls ⊎ ((is_drained w.end.state.past ≡ true) × Follows w.end.state.past)
-      → ServerEnds s plan w.end.state.past w.desk.calls
+  kept_plan : (plan : Plan A) → Orders s plan w → IsServing s w
+      → ServerKept s (held_of plan.stop (length plan.script)) (count_of plan.stop (length plan.script)) w.end.state.past w.desk.calls w.desk.owed w.desk.left (drop w.served w.end.state.got)
+  kept_plan plan is h =
+      subst (λ b. ServerKept s b (count_of plan.stop (length plan.script)) w.end.state.past w.desk.calls w.desk.owed w.desk.left (drop w.served w.end.state.got)) is.held
+      (subst (λ n. ServerKept s w.desk.held n w.end.state.past w.desk.calls w.desk.owed w.desk.left (drop w.served w.end.state.got)) is.serve h.kept)
+
+  ends_plan : (plan : Plan A) → Orders s plan w → IsServing s w → w.desk.owed ≡ [] → w.served ≡ length w.end.state.got → ServerStops s plan w.end.state.past w.desk.calls → ServerEnds s plan w.end.state.past w.desk.calls
   ends_plan plan is h none all end =
       let nothing : drop w.served w.end.state.got ≡ [] = drop_all w.served w.end.state.got (omega (arith, all)) in
       let k : ServerKept s (held_of plan.stop (length plan.script)) (count_of plan.stop (length plan.script)) w.end.state.past w.desk.calls [] w.desk.left [] =
-      subst (λ b. ServerKept s b (count_of plan.stop (length plan.script)) w.end.state.past w.desk.calls [] w.desk.left []) is.held
-      (subst (λ n. ServerKept s w.desk.held n w.end.state.past w.desk.calls [] w.desk.left []) is.serve
-      (subst (λ l. ServerKept s w.desk.held w.serve w.end.state.past w.desk.calls [] w.desk.left l) nothing
-      (subst (λ l. ServerKept s w.desk.held w.serve w.end.state.past w.desk.calls l w.desk.left (drop w.served w.end.state.got)) none h.kept))) in
-      server_ends s plan w.end.state.past w.desk.calls w.desk.left k end
+      subst (λ l. ServerKept s (held_of plan.stop (length plan.script)) (count_of plan.stop (length plan.script)) w.end.state.past w.desk.calls [] w.desk.left l) nothing
+      (subst (λ l. ServerKept s (held_of plan.stop (length plan.script)) (count_of plan.stop (length plan.script)) w.end.state.past w.desk.calls l w.desk.left (drop w.served w.end.state.got)) none (kept_plan plan is h)) in
+      server_ends s plan w.end.state.past w.desk.calls w.desk.left k (inl end)
 
   served_all : (left : Option ℕ) (rest : List (List ℕ)) → has_served left ≡ true → ServerKept s w.desk.held w.serve w.end.state.past w.desk.calls w.desk.owed left rest → length w.desk.calls ≡ w.serve
   served_all None rest e h = (calls_left s keeps w.desk.held h.served w.serve w.desk.calls (sent_of w.end.state.past ++ w.desk.owed) h.serves).1 h.stands
@@ -238,16 +241,16 @@ module _ {T S A Q R : Type 0} (s : Speech (List ℕ) A Q R) (keeps : Keeps s) (w
   ends_stopped : w.stops ≡ true → w.desk.owed ≡ [] → w.served ≡ length w.end.state.got → has_served w.desk.left ≡ true → w.missing ≡ 0 → IsServing s w → EndsAll s w w.end.state.past w.desk.calls
   ends_stopped stops none all served started h plan is =
       let after = the_stop plan.stop (sym stops ∙ is.stops) in
-      ends_plan plan is h none all (inl (record {
+      ends_plan plan is h none all (record {
         after = after.0;
         stop = after.1;
         count = served_all w.desk.left (drop w.served w.end.state.got) served h.kept ∙ is.serve;
         started = omega (arith, h.started, started, is.starts);
-      }))
+      })
 
   -- the other end had ended
-  ends_drained : w.desk.owed ≡ [] → w.served ≡ length w.end.state.got → is_drained w.end.state.past ≡ true → Follows w.end.state.past → IsServing s w → EndsAll s w w.end.state.past w.desk.calls
-  ends_drained none all drained follows h plan is = ends_plan plan is h none all (inr (drained, follows))
+  ends_drained : is_drained w.end.state.past ≡ true → Follows w.end.state.past → IsServing s w → EndsAll s w w.end.state.past w.desk.calls
+  ends_drained drained follows h plan is = server_follows s plan w.end.state.past w.desk.calls w.desk.left w.desk.owed (drop w.served w.end.state.got) (kept_plan plan is h) drained follows
 
 module _ {T S A Q R : Type 0} (s : Speech (List ℕ) A Q R) (keeps : Keeps s) (w : Serving T S Q R) where
   marked_kept : (end' : Seen TableSeat) → end'.state.past ≡ Marked ∷ w.end.state.past → end'.state.got ≡ w.end.state.got → end'.state.machine.asleep ≡ false → IsServing s w → IsServing s (record w { end = end' })
@@ -260,9 +263,9 @@ module _ {T S A Q R : Type 0} (s : Speech (List ℕ) A Q R) (keeps : Keeps s) (w
       ends_stopped s keeps (record w { end = end' }) stops none (all ∙ ap length (sym got)) served started (marked_kept end' is got awake h)
 
   pub marks_drained : (end' : Seen TableSeat) → end'.state.past ≡ Marked ∷ w.end.state.past → end'.state.got ≡ w.end.state.got → end'.state.machine.asleep ≡ false
-      → w.desk.owed ≡ [] → w.served ≡ length w.end.state.got → is_drained w.end.state.past ≡ true → has_marked w.end.state.past ≡ false → IsServing s w → EndsAll s (record w { end = end' }) end'.state.past w.desk.calls
-  marks_drained end' is got awake none all drained unmarked h =
-      ends_drained s keeps (record w { end = end' }) none (all ∙ ap length (sym got)) (ap is_drained is ∙ drained) (subst Follows (sym is) (drained_seen w.end.state.past drained, follows_unmarked w.end.state.past unmarked))
+      → is_drained w.end.state.past ≡ true → has_marked w.end.state.past ≡ false → IsServing s w → EndsAll s (record w { end = end' }) end'.state.past w.desk.calls
+  marks_drained end' is got awake drained unmarked h =
+      ends_drained s keeps (record w { end = end' }) (ap is_drained is ∙ drained) (subst Follows (sym is) (drained_seen w.end.state.past drained, follows_unmarked w.end.state.past unmarked))
       (marked_kept end' is got awake h)
 
   -- none waited after the mark was seen
@@ -276,12 +279,12 @@ module _ {T S A Q R : Type 0} (s : Speech (List ℕ) A Q R) (keeps : Keeps s) (w
 
   -- a mark ends it, whether the other end's mark was seen or not
   pub ends_by : (seen : Bool) (past : List (Event (List ℕ))) → EndsAll s w past w.desk.calls → CallsEach s w past w.desk.calls → has_marked past ≡ true → has_seen past ≡ seen → EndsBy s (marked_by seen) w past w.desk.calls
-  ends_by true past all each marked saw = (all, each, marked, saw)
+  ends_by true past all each marked saw = (all, marked, saw)
   ends_by false past all each marked saw = (all, each, marked, saw)
 
-  pub lacks_none : (left_at : S → ℕ) (seen : Bool) → SentAtMost (length (got_of w.end.state.past)) w.end.state.past → LacksRoom left_at s (marked_by seen) w
-  lacks_none left_at true sent = sent
-  lacks_none left_at false sent = sent
+  pub lacks_none : (left_at : S → ℕ) (seen : Bool) → SentAtMost (length (got_of w.end.state.past)) w.end.state.past → LeavesOff s w → LacksRoom left_at s (marked_by seen) w
+  lacks_none left_at true sent leaves = (sent, leaves)
+  lacks_none left_at false sent leaves = sent
 
   pub breaks : IsServing s w → BreaksOff s w w.end.state.past w.desk.calls
   breaks h = server_breaks s w.desk.held w.serve w.end.state.past w.desk.calls w.desk.owed w.desk.left (drop w.served w.end.state.got) h.kept
@@ -340,7 +343,7 @@ module _ {T S Q R : Type 0} (same : S → S → Type 0) where
     where
       by : (how : Ended) → EndsBy (sp u.desk.talk) how w past calls → EndsBy (sp u.desk.talk) how u past calls
       by EndedMarked h = (λ plan is. h.0 plan (orders_on (sp u.desk.talk) plan u w on is), λ go. h.1 (on.stops ∙ go), h.2, h.3)
-      by PeerMarked h = (λ plan is. h.0 plan (orders_on (sp u.desk.talk) plan u w on is), λ go. h.1 (on.stops ∙ go), h.2, h.3)
+      by PeerMarked h = (λ plan is. h.0 plan (orders_on (sp u.desk.talk) plan u w on is), h.1, h.2)
       by (Room packets words left) h = subst (λ b. ServerBreaks (sp u.desk.talk) b u.serve past calls) on.held (subst (λ n. ServerBreaks (sp u.desk.talk) w.desk.held n past calls) on.serve h)
 
   -- and so is what it lacked

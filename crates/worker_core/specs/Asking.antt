@@ -2,13 +2,14 @@
 use Rattle.std.specs.Prelude.{ℕ, ◌≡◌, ◌<◌, ◌≤◌, ◌+◌, ◌*◌, ◌^◌, ◌==◌, Bool, true, false, List, [], ◌∷◌, length, drop, Option, Some, None, IsSome, All, is_some, slice_get}
 use Rattle.std.specs.List.{count_by}
 use Rattle.chan_run.specs.declared.event.Event.{Event}
+use Rattle.chan_run.specs.declared.event.Event.TheVariants.{Sent, Got, Empty, Marked as EventMarked, Saw}
 use Rattle.chan_run.specs.Runs.{has_marked, has_seen}
 use Rattle.ring_core.specs.Seen.{Seen}
 use Rattle.ring_seat.specs.Settling.{IsSameEnd}
 use Rattle.ring_seat.specs.declared.table_seat.TableSeat.{TableSeat}
 use Rattle.txn_table.specs.Open.{request_of}
 use Rattle.work_model.specs.Speech.{Speech}
-use Rattle.work_model.specs.Asker.{listed}
+use Rattle.work_model.specs.Asker.{listed, requests_of, open_of}
 use Rattle.work_model.specs.Channel.{Plan, asks_of, AskerEnds, AskerBreaks}
 use Rattle.work_model.specs.Workers.{AskerKept}
 use Rattle.worker_core.specs.Line.{SleepsFor, LacksTake}
@@ -76,6 +77,16 @@ abbrev pub want_by : Hold → Option ℕ
 want_by (HoldRoom need) = Some need
 want_by _ = None
 
+-- what was sent was sent before the other end's mark was seen; and each request of the start-up, of which there are so many, and the first one behind them,
+-- while no request was open
+abbrev pub IsPaced : {A Q R : Type 0} → Speech (List ℕ) A Q R → ℕ → List A → List (Event (List ℕ)) → Type 0
+IsPaced s starts asks [] = Unit {0}
+IsPaced s starts asks (Sent p ∷ past) = (s.is_request p ≡ true → length (requests_of s past) ≤ starts → open_of s asks past ≡ []) × (has_seen past ≡ false) × IsPaced s starts asks past
+IsPaced s starts asks (Got p ∷ past) = IsPaced s starts asks past
+IsPaced s starts asks (Empty ∷ past) = IsPaced s starts asks past
+IsPaced s starts asks (EventMarked ∷ past) = IsPaced s starts asks past
+IsPaced s starts asks (Saw ∷ past) = IsPaced s starts asks past
+
 -- while this end isn't marked
 pub record IsAsking {T A Q R : Type 0} (s : Speech (List ℕ) A Q R) (asks : List A) (w : Asking T R) : Type 0 where
   pub kept : AskerKept s asks w.end.state.past (drop w.next asks) (waits_in (drop w.next asks) w.waiting) (asked_in asks w.table) [] w.told
@@ -84,6 +95,8 @@ pub record IsAsking {T A Q R : Type 0} (s : Speech (List ℕ) A Q R) (asks : Lis
   pub asked : (id : ℕ) → w.waiting ≡ Some id → (a : A) × (slice_get asks w.next ≡ Some a) × (s.has_answer a ≡ true) × (id < 2 ^ 64)
   pub saw : has_seen w.end.state.past ≡ w.seen
   pub rests : w.end.state.machine.asleep ≡ true → Holds s asks w.hold w × SleepsFor (want_by w.hold) w.end
+  pub paced : IsPaced s w.starts asks w.end.state.past
+  pub alone : (id : ℕ) → w.waiting ≡ Some id → w.next ≤ w.starts → open_of s asks w.end.state.past ≡ []
 
 -- what a request says to an answer
 abbrev pub answer_of : {A Q R : Type 0} → Speech (List ℕ) A Q R → Option A → List ℕ → List R
@@ -109,12 +122,12 @@ abbrev pub HasNone : List (Option ℕ) → Type 0
 HasNone rs = (id : ℕ) → request_of rs id ≡ None
 
 -- The table is empty; or the next packet that comes lacks room, and so more came than room was reserved for. No send lacks room: what was sent is at most
--- one packet an ask
+-- one packet an ask, those of the start-up one at a time
 abbrev pub AskLacks : {T A Q R : Type 0} → Speech (List ℕ) A Q R → List A → Ended → Asking T R → Type 0
-AskLacks s asks Marked w = HasNone w.table × SentAtMost (length asks) w.end.state.past
-AskLacks s asks PeerMarked w = HasNone w.table × SentAtMost (length asks) w.end.state.past
+AskLacks s asks Marked w = HasNone w.table × SentAtMost (length asks) w.end.state.past × IsPaced s w.starts asks w.end.state.past
+AskLacks s asks PeerMarked w = HasNone w.table × SentAtMost (length asks) w.end.state.past × IsPaced s w.starts asks w.end.state.past
 AskLacks s asks (Room packets words left) w =
-    (left ≡ 0) × LacksTake packets words w.end × HasReserved (length asks) w.end × CameOver (length asks) w.end.state.past × SentAtMost (length asks) w.end.state.past
+    (left ≡ 0) × LacksTake packets words w.end × HasReserved (length asks) w.end × CameOver (length asks) w.end.state.past × SentAtMost (length asks) w.end.state.past × IsPaced s w.starts asks w.end.state.past
 
 -- how a turn ends
 abbrev pub AskTurns : {T A Q R : Type 0} → Speech (List ℕ) A Q R → List A → Turn → Asking T R → Type 0

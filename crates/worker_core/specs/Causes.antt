@@ -88,9 +88,9 @@ TakesOrArms Moved before e = HasTaken before e ⊎ FoundWork (Empty ∷ before) 
 TakesOrArms Idle before e = FellAsleep (Empty ∷ before) e
 TakesOrArms (TurnEnded how) before e = Unit {0}
 
--- a turn of the serving worker, awake, after this past: it sent what is owed; or took a packet; or none came, and it armed
+-- a turn of the serving worker, awake, after this past: it sent what is owed; or took a packet; or none came, and it sent what is owed, or armed
 abbrev pub GivesOrTakes : Turn → List (Event (List ℕ)) → Seen TableSeat → Type 0
-GivesOrTakes Moved before e = HasSent before e ⊎ TakesOrArms Moved before e
+GivesOrTakes Moved before e = (HasSent before e ⊎ HasSent (Empty ∷ before) e) ⊎ TakesOrArms Moved before e
 GivesOrTakes Idle before e = TakesOrArms Idle before e
 GivesOrTakes (TurnEnded how) before e = Unit {0}
 

@@ -34,6 +34,14 @@ pub record LacksSend (packets words : ℕ) (owed : List (List ℕ)) (e : Seen Ta
   pub words_is : words ≡ e.spare_sent.words
   pub lacks : (packets ≡ 0) ⊎ (words < length packet)
 
+-- the first of these packets found too little room in the ring: no more free cells than its words and its trailer take
+pub record MetFull (owed : List (List ℕ)) (e : Seen TableSeat) : Type 0 where
+  pub packet : List ℕ
+  pub rest : List (List ℕ)
+  pub first : owed ≡ packet ∷ rest
+  pub room : e.state.machine.room ≤ length packet + 1
+  pub words : e.state.machine.words ≡ length packet
+
 -- a need of a packet of 2 to 384 words
 abbrev pub IsNeed : Option ℕ → Type 0
 IsNeed None = Unit {0}

@@ -13,7 +13,7 @@ use Rattle.work_model.specs.Server.{Serves}
 use Rattle.work_model.specs.Channel.{Plan, count_of, held_of, ServerEnds, ServerBreaks}
 use Rattle.work_model.specs.Workers.{left_after, ServerKept}
 use Rattle.worker_core.specs.Line.{SleepsFor, LacksTake}
-use Rattle.worker_core.specs.Owed.{is_nil, need_of, LacksSend}
+use Rattle.worker_core.specs.Owed.{is_nil, need_of, LacksSend, MetFull}
 use Rattle.worker_core.specs.Rooms.{SentAtMost, ServeLacksFor, ServesInRoom}
 use Rattle.worker_core.specs.declared.ended.Ended.{Ended}
 use Rattle.worker_core.specs.declared.ended.Ended.TheVariants.{Marked, PeerMarked, Room}
@@ -119,7 +119,7 @@ CallsEach s w past calls = w.stops ≡ false → length (filter (is_asked s) (go
 -- what a worker gives that ended so: it marked its end, and had seen the other end's mark or not
 abbrev pub EndsBy : {T S A Q R : Type 0} → Speech (List ℕ) A Q R → Ended → Serving T S Q R → List (Event (List ℕ)) → List (Call Q R) → Type 0
 EndsBy s Marked w past calls = EndsAll s w past calls × CallsEach s w past calls × (has_marked past ≡ true) × (has_seen past ≡ false)
-EndsBy s PeerMarked w past calls = EndsAll s w past calls × CallsEach s w past calls × (has_marked past ≡ true) × (has_seen past ≡ true)
+EndsBy s PeerMarked w past calls = EndsAll s w past calls × (has_marked past ≡ true) × (has_seen past ≡ true)
 EndsBy s (Room packets words left) w past calls = BreaksOff s w past calls
 
 -- how a worker has ended that marked its end, by whether it had seen the other end's mark
@@ -138,10 +138,15 @@ pub record LacksCall {T S A Q R : Type 0} (s : Speech (List ℕ) A Q R) (packets
 abbrev pub Lacks : {T S A Q R : Type 0} → Speech (List ℕ) A Q R → ℕ → ℕ → Serving T S Q R → Type 0
 Lacks s packets words w = (LacksSend packets words w.desk.owed w.end ⊎ LacksTake packets words w.end) ⊎ LacksCall s packets words w
 
--- How much it sent; and where it lacks room or a call, what the seat has left, and that more came than room or calls were made for
+-- where it ends after the other end's mark it owes nothing, with all that came served; or the packet that it owes first found no room, which the other end
+-- makes no more
+abbrev pub LeavesOff : {T S A Q R : Type 0} → Speech (List ℕ) A Q R → Serving T S Q R → Type 0
+LeavesOff s w = ((w.desk.owed ≡ []) × (w.served ≡ length w.end.state.got) × CallsEach s w w.end.state.past w.desk.calls) ⊎ MetFull w.desk.owed w.end
+
+-- How much it sent, and what it let go; and where it lacks room or a call, what the seat has left, and that more came than room or calls were made for
 abbrev pub LacksRoom : {T S A Q R : Type 0} → (S → ℕ) → Speech (List ℕ) A Q R → Ended → Serving T S Q R → Type 0
 LacksRoom left_at s Marked w = SentAtMost (length (got_of w.end.state.past)) w.end.state.past
-LacksRoom left_at s PeerMarked w = SentAtMost (length (got_of w.end.state.past)) w.end.state.past
+LacksRoom left_at s PeerMarked w = SentAtMost (length (got_of w.end.state.past)) w.end.state.past × LeavesOff s w
 LacksRoom left_at s (Room packets words left) w =
     Lacks s packets words w × (left ≡ left_at w.desk.seat) × ServesInRoom (w.starts + w.come) w.served (length w.desk.owed) w.end
     × ServeLacksFor (is_asked s) (w.starts + w.come) w.serve w.stops (Room packets words left) w.end.state.past × SentAtMost (length (got_of w.end.state.past)) w.end.state.past
@@ -161,7 +166,7 @@ Turns left_at s (TurnEnded how) w = EndsBy s how w w.end.state.past w.desk.calls
 -- a packet that is owed was sent, or nothing changed
 abbrev pub GaveOne : {T S Q R : Type 0} → Given → Serving T S Q R → Serving T S Q R → Type 0
 GaveOne GivenSent old new = Unit {0}
-GaveOne GivenFull old new = (new.desk ≡ old.desk) × (new.served ≡ old.served) × (new.end.state.got ≡ old.end.state.got) × (new.seen ≡ old.seen)
+GaveOne GivenFull old new = (new.desk ≡ old.desk) × (new.served ≡ old.served) × (new.end.state.got ≡ old.end.state.got) × (new.seen ≡ old.seen) × (new.end.state.past ≡ old.end.state.past) × MetFull new.desk.owed new.end
 GaveOne (GivenLacks packets words) old new = LacksSend packets words new.desk.owed new.end × (got_of new.end.state.past ≡ new.end.state.got)
 
 -- the same worker, with the same orders

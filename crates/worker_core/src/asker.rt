@@ -7,7 +7,7 @@ ghost use Rattle.work_model.specs.Channel.{AskerBreaks};
 ghost use Rattle.worker_core.specs.declared.ended.Ended.TheVariants.{Marked as MarkedEnd, PeerMarked as PeerMarkedEnd, Room as RoomEnd};
 ghost use Rattle.worker_core.specs.Causes.{Arms, AskCause, AskerActs, AsksOne, AsksOrArms, Polls};
 ghost use Rattle.worker_core.specs.Line.{IsReady, HasTakeRoom, LacksTake, TookOne};
-ghost use Rattle.worker_core.specs.Asking.{AsksBy, AskTurns, AskLacks, AsksOn, AskEnds, Holds, HasSettled, HasNone, waits_under, want_by, AskedBy};
+ghost use Rattle.worker_core.specs.Asking.{AsksBy, AskTurns, IsPaced, AskLacks, AsksOn, AskEnds, Holds, HasSettled, HasNone, waits_under, want_by, AskedBy};
 ghost use Rattle.worker_core.specs.Rooms.{CameOver, HasReserved, LacksFor, SentAtMost};
 
 use crate::ended::{Ended, Turn};
@@ -116,8 +116,9 @@ impl<T: Talk> Asker<T> {
         requires ready { IsReady self.old.end }
         requires next { self.old.next < length (T.asks self.old.talk) }
         requires none { self.old.waiting ≡ None }
+        requires alone { self.old.next ≤ self.old.starts → count_by is_some self.old.table ≡ 0 }
         requires answers { (a : T.Ask) → slice_get (T.asks self.old.talk) self.old.next ≡ Some a → (T.speech self.old.talk).has_answer a ≡ true }
-        ensures next { (self.new.next ≡ self.old.next) × (self.new.end ≡ self.old.end) }
+        ensures next { (self.new.next ≡ self.old.next) × (self.new.end ≡ self.old.end) × (self.new.seen ≡ self.old.seen) }
         ensures waits { result ≡ true → (id : ℕ) × (self.new.waiting ≡ Some id) }
         ensures full { result ≡ false → (self.new.waiting ≡ None) × All IsSome self.new.table }
         ensures on { AsksOn self.old self.new }
@@ -136,6 +137,7 @@ impl<T: Talk> Asker<T> {
         requires ready { IsReady self.old.end }
         requires next { self.old.next < length (T.asks self.old.talk) }
         requires waits { self.old.waiting ≡ Some id }
+        requires unseen { self.old.seen ≡ false }
         ensures asked { AskedBy (T.speech self.new.talk) (T.asks self.new.talk) result self.new }
         ensures cause { AsksOne result self.old.end.state.past self.new.end }
         ensures ready { IsReady self.new.end }
@@ -160,6 +162,8 @@ impl<T: Talk> Asker<T> {
         requires ready { IsReady self.old.end }
         requires next { self.old.next < length (T.asks self.old.talk) }
         requires none { self.old.waiting ≡ None }
+        requires alone { self.old.next ≤ self.old.starts → count_by is_some self.old.table ≡ 0 }
+        requires unseen { self.old.seen ≡ false }
         requires answers { (a : T.Ask) → slice_get (T.asks self.old.talk) self.old.next ≡ Some a → (T.speech self.old.talk).has_answer a ≡ false }
         ensures asked { AskedBy (T.speech self.new.talk) (T.asks self.new.talk) result self.new }
         ensures cause { AsksOne result self.old.end.state.past self.new.end }
@@ -203,6 +207,7 @@ impl<T: Talk> Asker<T> {
     // Asks the next request. One of the start-up, and the first one of the script, waits while an answer of the start-up is missing.
     fn ask<G: Gate>(&mut self, gate: &G) -> Asked
         requires ready { IsReady self.old.end }
+        requires unseen { self.old.seen ≡ false }
         ensures asked { AskedBy (T.speech self.new.talk) (T.asks self.new.talk) result self.new }
         ensures cause { AsksOne result self.old.end.state.past self.new.end }
         ensures ready { IsReady self.new.end }
@@ -265,6 +270,7 @@ impl<T: Talk> Asker<T> {
         ensures ends { AsksBy (T.speech self.new.talk) MarkedEnd (T.asks self.new.talk) self.new.end.state.past self.new.told }
         ensures none { HasNone self.new.table }
         ensures sent { SentAtMost (length (T.asks self.new.talk)) self.new.end.state.past }
+        ensures paced { IsPaced (T.speech self.new.talk) self.new.starts (T.asks self.new.talk) self.new.end.state.past }
         ensures on { AsksOn self.old self.new }
     {
         self.port.mark();
@@ -277,6 +283,7 @@ impl<T: Talk> Asker<T> {
         ensures ends { AsksBy (T.speech self.new.talk) PeerMarkedEnd (T.asks self.new.talk) self.new.end.state.past self.new.told }
         ensures none { HasNone self.new.table }
         ensures sent { SentAtMost (length (T.asks self.new.talk)) self.new.end.state.past }
+        ensures paced { IsPaced (T.speech self.new.talk) self.new.starts (T.asks self.new.talk) self.new.end.state.past }
         ensures on { AsksOn self.old self.new }
     {
         self.table.rescind_all(&mut self.rescinded);
@@ -293,6 +300,7 @@ impl<T: Talk> Asker<T> {
         ensures reserved { HasReserved (length (T.asks self.now.talk)) self.now.end }
         ensures over { CameOver (length (T.asks self.now.talk)) self.now.end.state.past }
         ensures sent { SentAtMost (length (T.asks self.now.talk)) self.now.end.state.past }
+        ensures paced { IsPaced (T.speech self.now.talk) self.now.starts (T.asks self.now.talk) self.now.end.state.past }
     {
         let _ = &self.next;
         Ended::Room {
@@ -305,6 +313,7 @@ impl<T: Talk> Asker<T> {
     // Asks, or rests.
     fn ask_or_rest<G: Gate>(&mut self, gate: &G) -> Turn
         requires ready { IsReady self.old.end }
+        requires unseen { self.old.seen ≡ false }
         ensures turns { AskTurns (T.speech self.new.talk) (T.asks self.new.talk) result self.new }
         ensures cause { AsksOrArms result self.old.end.state.past self.new.end }
         ensures on { AsksOn self.old self.new }

@@ -141,6 +141,7 @@ impl Port {
         ensures stays { Stays self.old self.new }
         ensures got { (self.new.state.got ≡ self.old.state.got) × (self.new.spare_got ≡ self.old.spare_got) }
         ensures full { result ≡ false → self.new.spare_sent ≡ self.old.spare_sent }
+        ensures found { result ≡ false → (self.new.state.machine.room ≤ length packet.now + 1) × (self.new.state.machine.words ≡ length packet.now) }
         ensures into { SentInto (length packet.now) self.old self.new }
     {
         self.end.send(packet).is_ok()
@@ -217,6 +218,7 @@ impl Port {
         ensures marked { self.new.state.machine.marked ≡ true }
         ensures awake { self.new.state.machine.asleep ≡ false }
         ensures first { has_marked self.old.state.past ≡ false }
+        ensures found { (self.new.state.machine.room ≡ self.old.state.machine.room) × (self.new.state.machine.words ≡ self.old.state.machine.words) }
         ensures got { got_of self.new.state.past ≡ self.new.state.got }
         ensures stays { Stays self.old self.new }
         ensures lists { (self.new.state.got ≡ self.old.state.got) × (self.new.spare_got ≡ self.old.spare_got) × (self.new.spare_sent ≡ self.old.spare_sent) }

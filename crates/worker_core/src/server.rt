@@ -5,7 +5,7 @@ ghost use Rattle.ring_seat.specs.Seats.{new_end};
 ghost use Rattle.ring_seat.specs.Settling.{IsSameEnd};
 ghost use Rattle.worker_core.specs.Causes.{Arms, GivesOne, GivesOrTakes, Polls, ServeCause, TakesOrArms};
 ghost use Rattle.worker_core.specs.Line.{IsReady, HasTakeRoom, LacksTake, TookOne};
-ghost use Rattle.worker_core.specs.Owed.{is_nil, LacksSend};
+ghost use Rattle.worker_core.specs.Owed.{is_nil, LacksSend, MetFull};
 ghost use Rattle.worker_core.specs.Rooms.{SentAtMost, ServeLacksFor, ServesInRoom};
 ghost use Rattle.worker_core.specs.Serving.{EndsBy, Lacks, LacksRoom, Turns, GaveOne, ServeEnds, ServesOn, BreaksOff, calls_behind, has_served, is_asked, lacks_call, marked_by};
 ghost use Rattle.worker_core.specs.declared.ended.Ended.TheVariants.{PeerMarked as PeerMarkedEnd, Room as RoomEnd};
@@ -143,7 +143,19 @@ impl<T: Talk, S: Seat<T>> Server<T, S> {
         requires served { self.old.served ≡ length self.old.end.state.got }
         requires drained { is_drained self.old.end.state.past ≡ true }
         ensures ends { EndsBy (T.speech self.new.desk.talk) PeerMarkedEnd self.new self.new.end.state.past self.new.desk.calls }
-        ensures sent { SentAtMost (length (got_of self.new.end.state.past)) self.new.end.state.past }
+        ensures room { LacksRoom S.left (T.speech self.new.desk.talk) PeerMarkedEnd self.new }
+        ensures on { ServesOn S.same self.old self.new }
+    {
+        self.port.mark();
+    }
+
+    // Ends after the other end, and lets go what it owes, for which there is no room: the other end, which has marked itself, makes no more.
+    fn let_go(&mut self)
+        requires ready { IsReady self.old.end }
+        requires full { MetFull self.old.desk.owed self.old.end }
+        requires drained { is_drained self.old.end.state.past ≡ true }
+        ensures ends { EndsBy (T.speech self.new.desk.talk) PeerMarkedEnd self.new self.new.end.state.past self.new.desk.calls }
+        ensures room { LacksRoom S.left (T.speech self.new.desk.talk) PeerMarkedEnd self.new }
         ensures on { ServesOn S.same self.old self.new }
     {
         self.port.mark();
@@ -226,6 +238,31 @@ impl<T: Talk, S: Seat<T>> Server<T, S> {
         self.rest()
     }
 
+    // After the other end's mark: takes what it had sent first, and then sends what is owed. Where that finds no room it is let go, and this end follows.
+    fn take_or_give(&mut self) -> Turn
+        requires ready { IsReady self.old.end }
+        requires owed { is_nil self.old.desk.owed ≡ false }
+        requires seen { self.old.seen ≡ true }
+        ensures turns { Turns S.left (T.speech self.new.desk.talk) result self.new }
+        ensures cause { GivesOrTakes result self.old.end.state.past self.new.end }
+        ensures on { ServesOn S.same self.old self.new }
+    {
+        if let Some(room) = self.port.lacks_take() {
+            return Turn::Ended(self.broken(room.packets, room.words));
+        }
+        if self.take_one() {
+            return Turn::Moved;
+        }
+        match self.give() {
+            Given::Sent => Turn::Moved,
+            Given::Lacks { packets, words } => Turn::Ended(self.broken(packets, words)),
+            Given::Full => {
+                self.let_go();
+                Turn::Ended(Ended::PeerMarked)
+            }
+        }
+    }
+
     // Sends what is owed. An end that waits for room goes on taking.
     fn give_or_take(&mut self) -> Turn
         requires ready { IsReady self.old.end }
@@ -234,6 +271,9 @@ impl<T: Talk, S: Seat<T>> Server<T, S> {
         ensures cause { GivesOrTakes result self.old.end.state.past self.new.end }
         ensures on { ServesOn S.same self.old self.new }
     {
+        if self.seen {
+            return self.take_or_give();
+        }
         match self.give() {
             Given::Sent => Turn::Moved,
             Given::Lacks { packets, words } => Turn::Ended(self.broken(packets, words)),

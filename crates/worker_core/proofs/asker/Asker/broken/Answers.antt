@@ -3,6 +3,7 @@ use Rattle.work_model.specs.Channel.{AskerBreaks}
 use Rattle.worker_core.proofs.AskSteps.{breaks}
 use Rattle.worker_core.specs.Rooms.{HasReserved, SentAtMost}
 use Rattle.worker_core.proofs.RoomLaws.{lacks_over, sent_so_far}
+use Rattle.worker_core.specs.Asking.{IsPaced}
 use Rattle.worker_core.proofs.asker.Asker.broken.Goals as goal
 
 pub returns-clause-breaks : goal.returns-clause-breaks
@@ -39,3 +40,9 @@ returns-clause-sent g c =
     let v = c.self.view_is in
     let l = c.self.invariant (ap (λ w. w.end.state.machine.marked) v ∙ c.requires.unmarked) in
     subst (λ w. SentAtMost (length (g.T.Talk.asks w.talk)) w.end.state.past) v (sent_so_far (length (g.T.Talk.asks c.self.inside.talk)) c.self.inside.next c.self.inside.port l.live.within l.room)
+
+pub returns-clause-paced : goal.returns-clause-paced
+returns-clause-paced g c =
+    let v = c.self.view_is in
+    let l = c.self.invariant (ap (λ w. w.end.state.machine.marked) v ∙ c.requires.unmarked) in
+    subst (λ w. IsPaced (g.T.Talk.speech w.talk) w.starts (g.T.Talk.asks w.talk) w.end.state.past) v l.live.paced

@@ -3,6 +3,7 @@ use Rattle.chan_run.specs.Runs.{has_marked, has_seen}
 use Rattle.worker_core.specs.Asking.{HasSettled}
 use Rattle.worker_core.proofs.AskSteps.{marks_settled}
 use Rattle.worker_core.proofs.RoomLaws.{sent_marked}
+use Rattle.worker_core.specs.Asking.{IsPaced}
 use Rattle.worker_core.proofs.asker.Asker.finish.Goals as goal
 
 pub returns-clause-ends : goal.returns-clause-ends
@@ -30,3 +31,8 @@ returns-clause-sent g c =
     let v = c.self.view_is in
     let l = c.self.invariant (ap (λ w. w.end.state.machine.marked) v ∙ c.requires.ready.unmarked) in
     sent_marked (length (g.T.Talk.asks c.self.inside.talk)) c.self.inside.next _ _ c.mark.ensures.past l.live.within l.room
+
+pub returns-clause-paced : goal.returns-clause-paced
+returns-clause-paced g c =
+    let l = c.self.invariant (ap (λ w. w.end.state.machine.marked) c.self.view_is ∙ c.requires.ready.unmarked) in
+    subst (IsPaced (g.T.Talk.speech c.self.inside.talk) c.self.inside.starts (g.T.Talk.asks c.self.inside.talk)) (sym c.mark.ensures.past) l.live.paced

@@ -1,8 +1,9 @@
-use Rattle.std.proofs.Common.{ap, ◌∙◌, length}
+use Rattle.std.proofs.Common.{ap, sym, ◌∙◌, length, subst}
 use Rattle.chan_run.specs.Runs.{is_drained, has_marked, has_seen}
 use Rattle.chan_run.proofs.Pasts.{drained_seen}
 use Rattle.worker_core.proofs.AskSteps.{marks_drained}
 use Rattle.worker_core.proofs.RoomLaws.{sent_marked}
+use Rattle.worker_core.specs.Asking.{IsPaced}
 use Rattle.worker_core.proofs.asker.Asker.give_up.Goals as goal
 
 pub returns-clause-ends : goal.returns-clause-ends
@@ -31,3 +32,8 @@ returns-clause-sent g c =
     let v = c.self.view_is in
     let l = c.self.invariant (ap (λ w. w.end.state.machine.marked) v ∙ c.requires.ready.unmarked) in
     sent_marked (length (g.T.Talk.asks c.self.inside.talk)) c.self.inside.next _ _ c.mark.ensures.past l.live.within l.room
+
+pub returns-clause-paced : goal.returns-clause-paced
+returns-clause-paced g c =
+    let l = c.self.invariant (ap (λ w. w.end.state.machine.marked) c.self.view_is ∙ c.requires.ready.unmarked) in
+    subst (IsPaced (g.T.Talk.speech c.self.inside.talk) c.self.inside.starts (g.T.Talk.asks c.self.inside.talk)) (sym c.mark.ensures.past) l.live.paced

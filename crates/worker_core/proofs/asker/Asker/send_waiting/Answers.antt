@@ -13,7 +13,7 @@ invariant_of-self-2 g c =
     let at = l.live.asked c.args.id waits in
     let made = c.packet.ensures.value ∙ c.encode.ensures.value at.0 at.1 in
     λ _. record {
-      live = sent_kept (g.T.Talk.speech c.self.inside.talk) (g.T.Talk.keeps c.self.inside.talk) (g.T.Talk.answers c.self.inside.talk) (g.T.Talk.asks c.self.inside.talk) _ _ c.args.id at.0 c.packet.result.now at.1 waits made c.if-not-send.ensures.past c.send.ensures.ready.awake l.live;
+      live = sent_kept (g.T.Talk.speech c.self.inside.talk) (g.T.Talk.keeps c.self.inside.talk) (g.T.Talk.answers c.self.inside.talk) (g.T.Talk.asks c.self.inside.talk) _ _ c.args.id at.0 c.packet.result.now at.1 waits made c.if-not-send.ensures.past c.send.ensures.ready.awake (ap (λ w. w.seen) v ∙ c.requires.unseen) l.live;
       replies = omega (arith, l.replies, slice_get_within (g.T.Talk.asks c.self.inside.talk) c.self.inside.next at.0 at.1, ap pending waits);
       spare = l.spare;
       size = l.size;

@@ -1,4 +1,4 @@
-use Rattle.std.proofs.Common.{◌≡◌, ◌+◌, ◌*◌, ◌<◌, ap, sym, ◌∙◌, length, subst, arith, false, Some, is_some}
+use Rattle.std.proofs.Common.{◌≡◌, ◌+◌, ◌*◌, ◌<◌, ◌≤◌, count_by, ap, sym, ◌∙◌, length, subst, arith, false, Some, is_some}
 use Rattle.std.specs.Prelude.{slice_get}
 use Rattle.std.proofs.lemmas.Option.{slice_get_within}
 use Rattle.worker_core.specs.Asking.{id_in}
@@ -13,7 +13,7 @@ invariant_of-self-2 g c =
     let at = at_least (g.T.Talk.asks c.self.inside.talk) c.self.inside.next (subst (λ w. w.next < length (g.T.Talk.asks w.talk)) (sym v) c.requires.next) in
     let made = c.packet.ensures.value ∙ c.encode.ensures.value at.0 at.1 in
     λ _. record {
-      live = told_kept (g.T.Talk.speech c.self.inside.talk) (g.T.Talk.keeps c.self.inside.talk) (g.T.Talk.answers c.self.inside.talk) (g.T.Talk.asks c.self.inside.talk) _ _ at.0 c.packet.result.now at.1 (ap (λ w. w.waiting) v ∙ c.requires.none) (subst (λ w. (a : g.row.T-Ask.Denot) → slice_get (g.T.Talk.asks w.talk) w.next ≡ Some a → (g.T.Talk.speech w.talk).has_answer a ≡ false) (sym v) c.requires.answers at.0 at.1) made c.if-not-send.ensures.past c.send.ensures.ready.awake l.live;
+      live = told_kept (g.T.Talk.speech c.self.inside.talk) (g.T.Talk.keeps c.self.inside.talk) (g.T.Talk.answers c.self.inside.talk) (g.T.Talk.asks c.self.inside.talk) _ _ at.0 c.packet.result.now at.1 (ap (λ w. w.waiting) v ∙ c.requires.none) (subst (λ w. w.next ≤ w.starts → count_by is_some w.table ≡ 0) (sym v) c.requires.alone) (subst (λ w. (a : g.row.T-Ask.Denot) → slice_get (g.T.Talk.asks w.talk) w.next ≡ Some a → (g.T.Talk.speech w.talk).has_answer a ≡ false) (sym v) c.requires.answers at.0 at.1) made c.if-not-send.ensures.past c.send.ensures.ready.awake (ap (λ w. w.seen) v ∙ c.requires.unseen) l.live;
       replies = omega (arith, l.replies, slice_get_within (g.T.Talk.asks c.self.inside.talk) c.self.inside.next at.0 at.1);
       spare = l.spare;
       size = l.size;

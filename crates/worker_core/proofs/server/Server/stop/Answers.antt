@@ -1,4 +1,4 @@
-use Rattle.std.proofs.Common.{refl, ap, sym, ◌∙◌, length, ◌+◌}
+use Rattle.std.proofs.Common.{refl, ap, sym, ◌∙◌, length, ◌+◌, inl}
 use Rattle.chan_run.specs.declared.event.Event.TheVariants.{Marked}
 use Rattle.chan_run.specs.Runs.{sent_of, has_marked, has_seen}
 use Rattle.worker_core.specs.Serving.{has_served}
@@ -25,5 +25,9 @@ returns-clause-ends g c =
 
 pub returns-clause-room : goal.returns-clause-room
 returns-clause-room g c =
+    let v = c.self.view_is in
+    let all = ap (λ w. w.served) v ∙ (c.requires.served ∙ ap (λ w. length w.end.state.got) (sym v)) in
     rw c.marked_by.ensures (lacks_none (g.T.Talk.speech c.self.inside.desk.talk) (g.T.Talk.keeps c.self.inside.desk.talk) _ g.S.Seat.left c.self.inside.seen
-    (marked_back (g.T.Talk.speech c.self.inside.desk.talk) (g.T.Talk.answers c.self.inside.desk.talk) (c.self.inside.starts + c.self.inside.come) c.self.inside.served (length c.self.inside.desk.owed) c.self.inside.port _ c.mark.ensures.past c.self.invariant.live.kept.order c.self.invariant.room))
+    (marked_back (g.T.Talk.speech c.self.inside.desk.talk) (g.T.Talk.answers c.self.inside.desk.talk) (c.self.inside.starts + c.self.inside.come) c.self.inside.served (length c.self.inside.desk.owed) c.self.inside.port _ c.mark.ensures.past c.self.invariant.live.kept.order c.self.invariant.room)
+    (inl
+    (ap (λ w. w.desk.owed) v ∙ c.requires.owed, all ∙ ap length (sym c.mark.ensures.lists.0), calls_each (g.T.Talk.speech c.self.inside.desk.talk) (g.T.Talk.keeps c.self.inside.desk.talk) _ c.mark.new.self.state.past (c.mark.ensures.got ∙ c.mark.ensures.lists.0) all c.self.invariant.live)))
