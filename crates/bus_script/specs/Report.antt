@@ -11,7 +11,7 @@ use Rattle.util_ic.specs.declared.ic.IcAsk.{IcAsk}
 use Rattle.util_ic.specs.declared.ic.IcAsk.TheVariants.{Beat as AskBeat, Down as AskDown}
 use Rattle.script_lines.specs.declared.line.Line.{Line}
 use Rattle.script_lines.specs.declared.line.What.{What}
-use Rattle.script_lines.specs.declared.line.What.TheVariants.{Contact as IsContact, Offer as IsOffer, Bad as IsBad, RingSize as IsRingSize, Window as IsWindow, Ask as IsAsk, Shut as IsShut, Phase as IsPhase}
+use Rattle.script_lines.specs.declared.line.What.TheVariants.{Contact as IsContact, Offer as IsOffer, Bad as IsBad, RingSize as IsRingSize, Window as IsWindow, Ask as IsAsk, Rescind as IsRescind, Shut as IsShut, Phase as IsPhase}
 use Rattle.script_lines.specs.declared.line.Ask.{Ask}
 use Rattle.script_lines.specs.declared.line.Ask.TheVariants.{Ic, Disk as AskDisk}
 use Rattle.bus_script.specs.declared.outcome.Reply.{Reply}
@@ -117,6 +117,7 @@ outcome_text (IsBad device lba) result = []
 outcome_text (IsRingSize device pages) result = []
 outcome_text (IsWindow device size) result = []
 outcome_text (IsAsk device ask) result = ask_text ask result
+outcome_text (IsRescind device after held) result = []
 outcome_text (IsShut device) result = []
 outcome_text IsPhase result = []
 
@@ -132,6 +133,7 @@ tells (IsBad device lba) = false
 tells (IsRingSize device pages) = false
 tells (IsWindow device size) = false
 tells (IsAsk device ask) = true
+tells (IsRescind device after held) = false
 tells (IsShut device) = false
 tells IsPhase = false
 
@@ -180,6 +182,7 @@ HasVersion (IsBad device lba) = Unit {0}
 HasVersion (IsRingSize device pages) = Unit {0}
 HasVersion (IsWindow device size) = Unit {0}
 HasVersion (IsAsk device ask) = Unit {0}
+HasVersion (IsRescind device after held) = Unit {0}
 HasVersion (IsShut device) = Unit {0}
 HasVersion IsPhase = Unit {0}
 
@@ -191,5 +194,6 @@ most_text (IsBad device lba) = 0
 most_text (IsRingSize device pages) = 0
 most_text (IsWindow device size) = 0
 most_text (IsAsk device ask) = 51
+most_text (IsRescind device after held) = 0
 most_text (IsShut device) = 0
 most_text IsPhase = 0

@@ -1,7 +1,7 @@
 -- What is kept of the lines before stays right as lines come.
 use Rattle.std.proofs.Common.{◌≡◌, ◌≢◌, ℕ, ◌+◌, ◌<◌, ◌≤◌, Bool, true, false, List, [], ◌∷◌, ◌++◌, length, refl, sym, ap, ◌∙◌, subst, arith, length-append}
 use Rattle.std.proofs.Common.{◌⊎◌, inl, inr, ⊎_elim, zero, suc}
-use Rattle.std.specs.Prelude.{◌||◌, ◌&&◌, ◌==◌, not, Option, Some, None, slice_get, slice_index_or, slice_set, sum_by, position, nat_lt, cond}
+use Rattle.std.specs.Prelude.{◌||◌, ◌&&◌, ◌==◌, not, Option, Some, None, slice_get, slice_index_or, slice_set, sum_by, position, nat_lt, cond, map}
 use Rattle.std.specs.List.{list_any, list_all, position_or_len}
 use Rattle.std.specs.Option.{option_or}
 use Rattle.std.proofs.lemmas.Bool.Decides.{nat_tests}
@@ -9,25 +9,28 @@ use Rattle.std.proofs.lemmas.List.{append-nil, length-set}
 use Rattle.std.proofs.lemmas.Option.{slice_get-get_or}
 use Rattle.std.proofs.lemmas.List.Sums.{sum_by-cons}
 use Rattle.contact.specs.declared.version.Version.{Version}
+use Rattle.contact.specs.declared.kind.Kind.{Kind}
+use Rattle.contact.specs.declared.kind.Kind.TheVariants.{Disk as KindDisk}
 use Rattle.script_lines.specs.declared.line.Ask.{Ask}
 use Rattle.std.proofs.lemmas.List.Folds.{list_any-append, list_all-append}
 use Rattle.std.proofs.lemmas.Grind.{flat_map-append}
 use Rattle.script_lines.specs.declared.line.Line.{Line}
 use Rattle.script_lines.specs.declared.line.What.{What}
-use Rattle.script_lines.specs.declared.line.What.TheVariants.{Contact as IsContact, Offer as IsOffer, Bad as IsBad, RingSize as IsRingSize, Window as IsWindow, Ask as IsAsk, Shut as IsShut, Phase as IsPhase}
+use Rattle.script_lines.specs.declared.line.What.TheVariants.{Contact as IsContact, Offer as IsOffer, Bad as IsBad, RingSize as IsRingSize, Window as IsWindow, Ask as IsAsk, Rescind as IsRescind, Shut as IsShut, Phase as IsPhase}
 use Rattle.script_lines.specs.declared.line.DeviceSpec.{DeviceSpec}
 use Rattle.script_lines.specs.declared.bad_place.BadPlace.{BadPlace}
 use Rattle.script_lines.specs.declared.draft.Seen.{Seen}
-use Rattle.script_lines.specs.Parts.{is_settings, is_ask, asks_in, this_part, offered, offered_by, names, named_by, channels, channels_of, ends_part, sets_ring, sets_window, sets_bad, shuts, has_bad, has_ring, has_window, phases_over, phase_behind, closed_from, closed_in}
+use Rattle.script_lines.specs.Parts.{is_settings, is_ask, asks_in, this_part, offered, offered_by, names, named_by, channels, channels_of, ends_part, sets_ring, sets_window, sets_bad, rescinds, shuts, has_bad, has_ring, has_window, phases_over, phase_behind, phase_from, rescinded_in, closed_in, kind_of}
 use Rattle.script_lines.specs.WellFormed.{IsRight, AllRight, Fits}
 use Rattle.script_lines.specs.Draft.{IsSeen, places_by, places, Keeps}
-use Rattle.script_lines.proofs.Phases.{by_test, closed_on, closed_more, close_at, this_phase, this_other, count_yes, count_no}
+use Rattle.script_lines.proofs.Phases.{by_test, phase_on, phase_more, phase_at, this_phase, this_other, count_yes, count_no}
 use Rattle.script_lines.proofs.Scripts.{offered_more, names_more, channels_more, slice_get_front, script_push}
 
 -- a line that says nothing of a device that was offered before
 pub record Quiet (device : ℕ) (what : What) : Type 0 where
   pub ring : sets_ring device what ≡ false
   pub window : sets_window device what ≡ false
+  pub rescind : rescinds device what ≡ false
   pub shut : shuts device what ≡ false
 
 or_false : (b : Bool) → (b || false) ≡ b
@@ -54,9 +57,14 @@ ring_kept device ls l is = sym (ring_more device ls l false is ∙ or_false _)
 window_kept : (device : ℕ) (ls : List Line) (l : Line) → sets_window device l.what ≡ false → has_window device ls ≡ has_window device (ls ++ l ∷ [])
 window_kept device ls l is = sym (window_more device ls l false is ∙ or_false _)
 
-closed_kept : (device : ℕ) (ls : List Line) (l : Line) → shuts device l.what ≡ false → closed_in device ls ≡ closed_in device (ls ++ l ∷ [])
-closed_kept device ls l is =
-    sym (closed_more device ls l ∙ ap (λ b. option_or (closed_in device ls) (close_at (phases_over ls) b)) is ∙ or_none (closed_in device ls))
+phase_kept : (kind : What → Bool) (ls : List Line) (l : Line) → kind l.what ≡ false → phase_from kind 0 ls ≡ phase_from kind 0 (ls ++ l ∷ [])
+phase_kept kind ls l is =
+    sym (phase_more kind ls l ∙ ap (λ b. option_or (phase_from kind 0 ls) (phase_at (phases_over ls) b)) is ∙ or_none (phase_from kind 0 ls))
+
+-- the first line of a kind, in the phase that goes on
+phase_new : (kind : What → Bool) (ls : List Line) (l : Line) (phase : ℕ) → kind l.what ≡ true → phase_from kind 0 ls ≡ None → phase ≡ phases_over ls → Some phase ≡ phase_from kind 0 (ls ++ l ∷ [])
+phase_new kind ls l phase is none same =
+    ap Some same ∙ sym (phase_more kind ls l ∙ ap (λ b. option_or (phase_from kind 0 ls) (phase_at (phases_over ls) b)) is ∙ ap (λ o. option_or o (Some (phases_over ls))) none)
 
 spec_kept : (device : ℕ) (ls : List Line) (l : Line) (spec : DeviceSpec) → slice_get (offered ls) device ≡ Some spec → slice_get (offered (ls ++ l ∷ [])) device ≡ Some spec
 spec_kept device ls l spec is = ap (λ ds. slice_get ds device) (offered_more ls l) ∙ slice_get_front (offered ls) (offered_by l.what) device spec is
@@ -66,7 +74,8 @@ seen_kept ls l device seen quiet is = record {
   spec = spec_kept device ls l seen.spec is.spec;
   ring = is.ring ∙ ring_kept device ls l quiet.ring;
   window = is.window ∙ window_kept device ls l quiet.window;
-  closed = is.closed ∙ closed_kept device ls l quiet.shut;
+  rescinded = is.rescinded ∙ phase_kept (rescinds device) ls l quiet.rescind;
+  closed = is.closed ∙ phase_kept (shuts device) ls l quiet.shut;
 }
 
 eq_self : (n : ℕ) → (n == n) ≡ true
@@ -80,7 +89,8 @@ ring_here ls number device pages seen is = let l : Line = record { number = numb
   spec = spec_kept device ls l seen.spec is.spec;
   ring = sym (ring_more device ls l true (eq_self device) ∙ or_true _);
   window = is.window ∙ window_kept device ls l refl;
-  closed = is.closed ∙ closed_kept device ls l refl;
+  rescinded = is.rescinded ∙ phase_kept (rescinds device) ls l refl;
+  closed = is.closed ∙ phase_kept (shuts device) ls l refl;
 }
 
 pub window_here : (ls : List Line) (number device size : ℕ) (seen : Seen) → IsSeen ls device seen → IsSeen (ls ++ record { number = number; what = IsWindow device size } ∷ []) device (record seen { window = true })
@@ -88,27 +98,41 @@ window_here ls number device size seen is = let l : Line = record { number = num
   spec = spec_kept device ls l seen.spec is.spec;
   ring = is.ring ∙ ring_kept device ls l refl;
   window = sym (window_more device ls l true (eq_self device) ∙ or_true _);
-  closed = is.closed ∙ closed_kept device ls l refl;
+  rescinded = is.rescinded ∙ phase_kept (rescinds device) ls l refl;
+  closed = is.closed ∙ phase_kept (shuts device) ls l refl;
+}
+
+pub rescind_here : (ls : List Line) (number device after : ℕ) (held : Bool) (phase : ℕ) (seen : Seen) → rescinded_in device ls ≡ None → phase ≡ phases_over ls → IsSeen ls device seen
+    → IsSeen (ls ++ record { number = number; what = IsRescind device after held } ∷ []) device (record seen { rescinded = Some phase })
+rescind_here ls number device after held phase seen none same is = let l : Line = record { number = number; what = IsRescind device after held } in record {
+  spec = spec_kept device ls l seen.spec is.spec;
+  ring = is.ring ∙ ring_kept device ls l refl;
+  window = is.window ∙ window_kept device ls l refl;
+  rescinded = phase_new (rescinds device) ls l phase (eq_self device) none same;
+  closed = is.closed ∙ phase_kept (shuts device) ls l refl;
 }
 
 pub shut_here : (ls : List Line) (number device phase : ℕ) (seen : Seen) → closed_in device ls ≡ None → phase ≡ phases_over ls → IsSeen ls device seen
     → IsSeen (ls ++ record { number = number; what = IsShut device } ∷ []) device (record seen { closed = Some phase })
-shut_here ls number device phase seen unclosed same is = let l : Line = record { number = number; what = IsShut device } in record {
+shut_here ls number device phase seen none same is = let l : Line = record { number = number; what = IsShut device } in record {
   spec = spec_kept device ls l seen.spec is.spec;
   ring = is.ring ∙ ring_kept device ls l refl;
   window = is.window ∙ window_kept device ls l refl;
-  closed = ap Some same ∙ sym (closed_more device ls l ∙ ap (λ b. option_or (closed_in device ls) (close_at (phases_over ls) b)) (eq_self device)
-      ∙ ap (λ o. option_or o (Some (phases_over ls))) unclosed);
+  rescinded = is.rescinded ∙ phase_kept (rescinds device) ls l refl;
+  closed = phase_new (shuts device) ls l phase (eq_self device) none same;
 }
 
 pub ring_else : (device other pages : ℕ) → other ≢ device → Quiet other (IsRingSize device pages)
-ring_else device other pages not = record { ring = eq_else device other not; window = refl; shut = refl }
+ring_else device other pages not = record { ring = eq_else device other not; window = refl; rescind = refl; shut = refl }
 
 pub window_else : (device other size : ℕ) → other ≢ device → Quiet other (IsWindow device size)
-window_else device other size not = record { ring = refl; window = eq_else device other not; shut = refl }
+window_else device other size not = record { ring = refl; window = eq_else device other not; rescind = refl; shut = refl }
+
+pub rescind_else : (device other after : ℕ) (held : Bool) → other ≢ device → Quiet other (IsRescind device after held)
+rescind_else device other after held not = record { ring = refl; window = refl; rescind = eq_else device other not; shut = refl }
 
 pub shut_else : (device other : ℕ) → other ≢ device → Quiet other (IsShut device)
-shut_else device other not = record { ring = refl; window = refl; shut = eq_else device other not }
+shut_else device other not = record { ring = refl; window = refl; rescind = refl; shut = eq_else device other not }
 
 -- the places of a list with one element changed
 slice_get_set : {X : Type 0} (xs : List X) (i j : ℕ) (x y : X) → slice_get (slice_set xs i x) j ≡ Some y → ((i ≡ j) × (x ≡ y)) ⊎ ((j ≢ i) × (slice_get xs j ≡ Some y))
@@ -126,16 +150,23 @@ seen_set ls l device new seen all here quiet d s is = ⊎_elim
     (λ rest. seen_kept ls l d s (quiet d rest.0) (all d s rest.1))
     (slice_get_set seen device d new s is)
 
+-- a device that has a kind is offered
+of_kind_within : (kinds : List DeviceSpec) (device : ℕ) (kind : Kind) → slice_get (map kind_of kinds) device ≡ Some kind → device < length kinds
+of_kind_within [] device kind is = absurd (cc)
+of_kind_within (k ∷ kinds) zero kind is = omega arith
+of_kind_within (k ∷ kinds) (suc device) kind is = omega (arith, of_kind_within kinds device kind is)
+
 -- a line that is right says nothing of a device that isn't offered
 unsaid : (kinds : List DeviceSpec) (what : What) (device : ℕ) → IsRight kinds what → length kinds ≤ device → Quiet device what
-unsaid kinds (IsContact guest host) device right more = record { ring = refl; window = refl; shut = refl }
-unsaid kinds (IsOffer name spec) device right more = record { ring = refl; window = refl; shut = refl }
-unsaid kinds (IsBad d lba) device right more = record { ring = refl; window = refl; shut = refl }
+unsaid kinds (IsContact guest host) device right more = record { ring = refl; window = refl; rescind = refl; shut = refl }
+unsaid kinds (IsOffer name spec) device right more = record { ring = refl; window = refl; rescind = refl; shut = refl }
+unsaid kinds (IsBad d lba) device right more = record { ring = refl; window = refl; rescind = refl; shut = refl }
 unsaid kinds (IsRingSize d pages) device right more = ring_else d device pages (λ same. absurd (omega (arith, same, right.0)))
 unsaid kinds (IsWindow d size) device right more = window_else d device size (λ same. absurd (omega (arith, same, right.0)))
-unsaid kinds (IsAsk d ask) device right more = record { ring = refl; window = refl; shut = refl }
+unsaid kinds (IsAsk d ask) device right more = record { ring = refl; window = refl; rescind = refl; shut = refl }
+unsaid kinds (IsRescind d after held) device right more = rescind_else d device after held (λ same. absurd (omega (arith, same, of_kind_within kinds d KindDisk right.0)))
 unsaid kinds (IsShut d) device right more = shut_else d device (λ same. absurd (omega (arith, same, right)))
-unsaid kinds IsPhase device right more = record { ring = refl; window = refl; shut = refl }
+unsaid kinds IsPhase device right more = record { ring = refl; window = refl; rescind = refl; shut = refl }
 
 or_both : (a b : Bool) → a ≡ false → b ≡ false → (a || b) ≡ false
 or_both false b is more = more
@@ -150,9 +181,9 @@ none_window : (kinds : List DeviceSpec) (ls : List Line) (device : ℕ) → AllR
 none_window kinds [] device right more = refl
 none_window kinds (l ∷ ls) device right more = or_both _ _ (unsaid kinds l.what device right.0 more).window (none_window kinds ls device right.1 more)
 
-none_closed : (kinds : List DeviceSpec) (ls : List Line) (phase device : ℕ) → AllRight kinds ls → length kinds ≤ device → closed_from phase device ls ≡ None
-none_closed kinds [] phase device right more = refl
-none_closed kinds (l ∷ ls) phase device right more = closed_on phase device l ls ((unsaid kinds l.what device right.0 more).shut) ∙ none_closed kinds ls (phase_behind phase l) device right.1 more
+none_phase : (kind : What → Bool) (kinds : List DeviceSpec) (ls : List Line) (phase : ℕ) → AllRight kinds ls → ((what : What) → IsRight kinds what → kind what ≡ false) → phase_from kind phase ls ≡ None
+none_phase kind kinds [] phase right none = refl
+none_phase kind kinds (l ∷ ls) phase right none = phase_on kind phase l ls (none l.what right.0) ∙ none_phase kind kinds ls (phase_behind phase l) right.1 none
 
 slice_get_snoc : {X : Type 0} (xs : List X) (x y : X) (i : ℕ) → slice_get (xs ++ x ∷ []) i ≡ Some y → ((i ≡ length xs) × (x ≡ y)) ⊎ (slice_get xs i ≡ Some y)
 slice_get_snoc [] x y zero is = inl (refl, cc)
@@ -166,7 +197,7 @@ slice_get_end (z ∷ xs) x = slice_get_end xs x
 
 -- a new device, of which no line speaks yet
 pub seen_new : (ls : List Line) (number : ℕ) (name : List ℕ) (spec : DeviceSpec) (new : Seen) (seen : List Seen) → AllRight (offered ls) ls → length seen ≡ length (offered ls)
-    → new ≡ record { spec = spec; ring = false; window = false; closed = None }
+    → new ≡ record { spec = spec; ring = false; window = false; rescinded = None; closed = None }
     → ((d : ℕ) (s : Seen) → slice_get seen d ≡ Some s → IsSeen ls d s)
     → (d : ℕ) (s : Seen) → slice_get (seen ++ new ∷ []) d ≡ Some s → IsSeen (ls ++ record { number = number; what = IsOffer name spec } ∷ []) d s
 seen_new ls number name spec new seen right count made all d s is =
@@ -176,14 +207,15 @@ seen_new ls number name spec new seen right count made all d s is =
     (λ here.
     let place : d ≡ length kinds = here.0 ∙ count in
     let past : length kinds ≤ d = omega (arith, place) in
-    let same : record { spec = spec; ring = false; window = false; closed = None } ≡ s = sym made ∙ here.1 in
+    let same : record { spec = spec; ring = false; window = false; rescinded = None; closed = None } ≡ s = sym made ∙ here.1 in
     subst (λ e. IsSeen (ls ++ l ∷ []) d e) same (record {
       spec = ap (λ ds. slice_get ds d) (offered_more ls l) ∙ ap (λ i. slice_get (kinds ++ spec ∷ []) i) place ∙ slice_get_end kinds spec;
       ring = sym (none_ring kinds ls d right past) ∙ ring_kept d ls l refl;
       window = sym (none_window kinds ls d right past) ∙ window_kept d ls l refl;
-      closed = sym (none_closed kinds ls 0 d right past) ∙ closed_kept d ls l refl;
+      rescinded = sym (none_phase (rescinds d) kinds ls 0 right (λ what is. (unsaid kinds what d is past).rescind)) ∙ phase_kept (rescinds d) ls l refl;
+      closed = sym (none_phase (shuts d) kinds ls 0 right (λ what is. (unsaid kinds what d is past).shut)) ∙ phase_kept (shuts d) ls l refl;
     }))
-    (λ rest. seen_kept ls l d s (record { ring = refl; window = refl; shut = refl }) (all d s rest))
+    (λ rest. seen_kept ls l d s (record { ring = refl; window = refl; rescind = refl; shut = refl }) (all d s rest))
     (slice_get_snoc seen new s d is)
 
 and_false : (b : Bool) → (b && (false && true)) ≡ false
@@ -226,6 +258,7 @@ any_placed device lba (IsBad d l) rest = refl
 any_placed device lba (IsRingSize d pages) rest = refl
 any_placed device lba (IsWindow d size) rest = refl
 any_placed device lba (IsAsk d ask) rest = refl
+any_placed device lba (IsRescind d after held) rest = refl
 any_placed device lba (IsShut d) rest = refl
 any_placed device lba IsPhase rest = refl
 
@@ -233,6 +266,13 @@ any_placed device lba IsPhase rest = refl
 pub any_places : (device lba : ℕ) (ls : List Line) → list_any (is_place device lba) (places ls) ≡ has_bad device lba ls
 any_places device lba [] = refl
 any_places device lba (l ∷ ls) = any_placed device lba l.what (places ls) ∙ ap (λ b. sets_bad device lba l.what || b) (any_places device lba ls)
+
+module _ (ls : List Line) (keys : List (List ℕ)) (seen : List Seen) (count asks phase : ℕ) (settings : Bool) (bad : List BadPlace) (kept : Keeps ls keys seen count asks phase settings bad) where
+  -- what is kept of a device that was offered
+  pub seen_at : (device : ℕ) (s : Seen) → device < length (offered ls) → s ≡ slice_index_or seen device s → IsSeen ls device s
+  seen_at device s less is =
+      let within : device < length seen = omega (arith, less, kept.many) in
+      kept.each device s (slice_get-get_or seen device s within ∙ ap Some (sym is))
 
 module _ (ls : List Line) (keys : List (List ℕ)) (seen : List Seen) (count asks phase : ℕ) (settings : Bool) (bad : List BadPlace) (kept : Keeps ls keys seen count asks phase settings bad) (number : ℕ) where
   -- a line that speaks of a device, or asks it, where what is kept of the devices fits
@@ -263,21 +303,21 @@ module _ (ls : List Line) (keys : List (List ℕ)) (seen : List Seen) (count ask
 
   pub keeps_ask : (device : ℕ) (ask : Ask) → Fits ls (IsAsk device ask) → Keeps (ls ++ record { number = number; what = IsAsk device ask } ∷ []) keys seen count (asks + 1) phase false bad
   keeps_ask device ask fits = let l : Line = record { number = number; what = IsAsk device ask } in
-      settles (IsAsk device ask) seen fits refl refl refl refl (quietly (IsAsk device ask) (λ d. record { ring = refl; window = refl; shut = refl })) (asks + 1) phase false
+      settles (IsAsk device ask) seen fits refl refl refl refl (quietly (IsAsk device ask) (λ d. record { ring = refl; window = refl; rescind = refl; shut = refl })) (asks + 1) phase false
       (ap (λ n. n + 1) kept.asked ∙ sym (ap asks_in (this_other ls l refl) ∙ count_yes (λ k. is_ask k.what) (this_part ls) l refl))
       (kept.over ∙ sym (count_no ends_part ls l refl))
       (sym (settings_no ls l refl))
 
   pub keeps_phase : Fits ls IsPhase → Keeps (ls ++ record { number = number; what = IsPhase } ∷ []) keys seen count 0 (phase + 1) false bad
   keeps_phase fits = let l : Line = record { number = number; what = IsPhase } in
-      settles IsPhase seen fits refl refl refl refl (quietly IsPhase (λ d. record { ring = refl; window = refl; shut = refl })) 0 (phase + 1) false
+      settles IsPhase seen fits refl refl refl refl (quietly IsPhase (λ d. record { ring = refl; window = refl; rescind = refl; shut = refl })) 0 (phase + 1) false
       (sym (ap asks_in (this_phase ls l refl)))
       (ap (λ n. n + 1) kept.over ∙ sym (count_yes ends_part ls l refl))
       (sym (settings_no ls l refl))
 
   pub keeps_contact : (guest host : Version) → Fits ls (IsContact guest host) → Keeps (ls ++ record { number = number; what = IsContact guest host } ∷ []) keys seen count asks phase settings bad
   keeps_contact guest host fits = let l : Line = record { number = number; what = IsContact guest host } in
-      settles (IsContact guest host) seen fits refl refl refl refl (quietly (IsContact guest host) (λ d. record { ring = refl; window = refl; shut = refl })) asks phase settings
+      settles (IsContact guest host) seen fits refl refl refl refl (quietly (IsContact guest host) (λ d. record { ring = refl; window = refl; rescind = refl; shut = refl })) asks phase settings
       (kept.asked ∙ sym (ap asks_in (this_other ls l refl) ∙ count_no (λ k. is_ask k.what) (this_part ls) l refl))
       (kept.over ∙ sym (count_no ends_part ls l refl))
       (kept.all_settings ∙ sym (settings_yes ls l refl))
@@ -289,7 +329,7 @@ module _ (ls : List Line) (keys : List (List ℕ)) (seen : List Seen) (count ask
     names = kept.names ∙ sym (names_none ls l refl);
     bad_places = ap (λ ps. ps ++ p ∷ []) kept.bad_places ∙ ap (λ q. places ls ++ q ∷ []) made ∙ sym (places_more ls l);
     many = kept.many ∙ sym (ap length (offers_none ls l refl));
-    each = quietly (IsBad device lba) (λ d. record { ring = refl; window = refl; shut = refl });
+    each = quietly (IsBad device lba) (λ d. record { ring = refl; window = refl; rescind = refl; shut = refl });
     channels = kept.channels ∙ sym (ap (sum_by channels_of) (offers_none ls l refl));
     asked = kept.asked ∙ sym (ap asks_in (this_other ls l refl) ∙ count_no (λ k. is_ask k.what) (this_part ls) l refl);
     over = kept.over ∙ sym (count_no ends_part ls l refl);
@@ -314,6 +354,17 @@ module _ (ls : List Line) (keys : List (List ℕ)) (seen : List Seen) (count ask
       (kept.over ∙ sym (count_no ends_part ls l refl))
       (kept.all_settings ∙ sym (settings_yes ls l refl))
 
+  pub keeps_rescind : (device after : ℕ) (held : Bool) (s : Seen) → Fits ls (IsRescind device after held) → s ≡ slice_index_or seen device s
+      → Keeps (ls ++ record { number = number; what = IsRescind device after held } ∷ []) keys (slice_set seen device (record s { rescinded = Some phase })) count asks phase false bad
+  keeps_rescind device after held s fits at = let l : Line = record { number = number; what = IsRescind device after held } in
+      settles (IsRescind device after held) (slice_set seen device (record s { rescinded = Some phase })) fits refl refl refl (length-set seen device (record s { rescinded = Some phase }))
+      (seen_set ls l device (record s { rescinded = Some phase }) seen kept.each
+      (rescind_here ls number device after held phase s (fits.rescinded device (eq_self device)) kept.over
+      (kept.each device s (placed device s (of_kind_within (offered ls ++ []) device KindDisk fits.right.0) at))) (λ d other. rescind_else device d after held other)) asks phase false
+      (kept.asked ∙ sym (ap asks_in (this_other ls l refl) ∙ count_no (λ k. is_ask k.what) (this_part ls) l refl))
+      (kept.over ∙ sym (count_no ends_part ls l refl))
+      (sym (settings_no ls l refl))
+
   pub keeps_shut : (device : ℕ) (s : Seen) → Fits ls (IsShut device) → s ≡ slice_index_or seen device s
       → Keeps (ls ++ record { number = number; what = IsShut device } ∷ []) keys (slice_set seen device (record s { closed = Some phase })) count asks phase false bad
   keeps_shut device s fits at = let l : Line = record { number = number; what = IsShut device } in
@@ -324,7 +375,7 @@ module _ (ls : List Line) (keys : List (List ℕ)) (seen : List Seen) (count ask
       (kept.over ∙ sym (count_no ends_part ls l refl))
       (sym (settings_no ls l refl))
 
-  pub keeps_offer : (name : List ℕ) (spec : DeviceSpec) (new : Seen) (more : ℕ) → Fits ls (IsOffer name spec) → new ≡ record { spec = spec; ring = false; window = false; closed = None } → more ≡ channels_of spec
+  pub keeps_offer : (name : List ℕ) (spec : DeviceSpec) (new : Seen) (more : ℕ) → Fits ls (IsOffer name spec) → new ≡ record { spec = spec; ring = false; window = false; rescinded = None; closed = None } → more ≡ channels_of spec
       → Keeps (ls ++ record { number = number; what = IsOffer name spec } ∷ []) (keys ++ name ∷ []) (seen ++ new ∷ []) (count + more) asks phase settings bad
   keeps_offer name spec new more fits made is = let l : Line = record { number = number; what = IsOffer name spec } in record {
     script = script_push ls l kept.script fits;
@@ -351,6 +402,7 @@ one_each (IsBad device lba) = refl
 one_each (IsRingSize device pages) = refl
 one_each (IsWindow device size) = refl
 one_each (IsAsk device ask) = refl
+one_each (IsRescind device after held) = refl
 one_each (IsShut device) = refl
 one_each IsPhase = refl
 

@@ -1,6 +1,6 @@
 -- A line against which nothing stands fits behind the lines before it.
 use Rattle.std.proofs.Common.{◌≡◌, ℕ, ◌+◌, ◌<◌, ◌≤◌, Bool, true, false, List, [], ◌∷◌, ◌++◌, length, map, refl, sym, ap, ◌∙◌, subst, arith, zero, suc, is_some, IfSome, cond}
-use Rattle.std.specs.Prelude.{◌||◌, ◌&&◌, ◌==◌, not, nat_lt, nat_le, Option, Some, None, slice_get, unwrap_or, option_map}
+use Rattle.std.specs.Prelude.{◌||◌, ◌&&◌, ◌==◌, not, nat_le, Option, Some, None, slice_get, unwrap_or, option_map}
 use Rattle.std.specs.List.{list_all}
 use Rattle.std.specs.Option.{option_or, option_map_or}
 use Rattle.std.proofs.lemmas.Bool.Decides.{nat_tests}
@@ -11,7 +11,8 @@ use Rattle.util_ic.specs.declared.ic.IcAsk.TheVariants.{Beat as AskBeat, Down as
 use Rattle.script_text.specs.declared.fault.Why6.{Why6}
 use Rattle.script_text.specs.declared.fault.Why6.TheVariants.{Limit, Order}
 use Rattle.script_lines.specs.declared.line.Line.{Line}
-use Rattle.script_lines.specs.declared.line.What.TheVariants.{Contact as IsContact, Offer as IsOffer, Bad as IsBad, RingSize as IsRingSize, Window as IsWindow, Ask as IsAsk, Shut as IsShut, Phase as IsPhase}
+use Rattle.script_lines.specs.declared.line.What.{What}
+use Rattle.script_lines.specs.declared.line.What.TheVariants.{Contact as IsContact, Offer as IsOffer, Bad as IsBad, RingSize as IsRingSize, Window as IsWindow, Ask as IsAsk, Rescind as IsRescind, Shut as IsShut, Phase as IsPhase}
 use Rattle.script_lines.specs.declared.line.Ask.{Ask}
 use Rattle.script_lines.specs.declared.line.Ask.TheVariants.{Ic, Disk as AskDisk}
 use Rattle.script_lines.specs.declared.line.DeviceSpec.{DeviceSpec}
@@ -21,15 +22,15 @@ use Rattle.script_lines.specs.declared.offering.Offering.{Offering}
 use Rattle.script_lines.specs.declared.offering.Offering.TheVariants.{Beat as OfBeat, Down as OfDown, Disk as OfDisk}
 use Rattle.contact.specs.declared.kind.Kind.TheVariants.{Disk as KindDisk}
 use Rattle.script_lines.specs.declared.said.Said.{Said}
-use Rattle.script_lines.specs.declared.said.Said.TheVariants.{Contact, Offer, Bad, Ring, Window, Beat, Down, Command, Close, Phase}
-use Rattle.script_lines.specs.Parts.{is_settings, offered, kind_of, kind_asked, phases_over, closed_in, channels, channels_of, device_of, blocks_at, has_bad}
-use Rattle.script_lines.specs.Faults.{unless, device_said, says_settings, line_limit, ask_limit, has_room, count_limit, is_first, is_closed_before, own_order, order_fault, is_beat, is_down, is_disk, is_offered, name_fault, is_closed_here, is_bad, repeat_fault, offers_in_range, is_block, range_fault, row_fault}
+use Rattle.script_lines.specs.declared.said.Said.TheVariants.{Contact, Offer, Bad, Ring, Window, Beat, Down, Command, Rescind, Close, Phase}
+use Rattle.script_lines.specs.Parts.{is_settings, offered, kind_of, kind_asked, phases_over, phase_from, rescinds, shuts, channels, channels_of, device_of, blocks_at, has_bad}
+use Rattle.script_lines.specs.Faults.{unless, device_said, says_settings, line_limit, ask_limit, has_room, count_limit, is_first, is_over, is_now, is_ended_before, own_order, order_fault, is_beat, is_down, is_disk, is_offered, name_fault, is_bad, repeat_fault, offers_in_range, is_block, range_fault, row_fault}
 use Rattle.script_lines.specs.Grammar.{or_zero, spec_of}
 use Rattle.script_lines.specs.WellFormed.{IsDevice, CanGo, OfferInRange, InRange, Fits}
 use Rattle.script_text.specs.Forms.{within}
 use Rattle.script_lines.specs.Requests.{request_of}
 use Rattle.script_lines.proofs.Carrying.{asks_carried}
-use Rattle.script_lines.proofs.Phases.{by_test, closed_by}
+use Rattle.script_lines.proofs.Phases.{by_test, phase_by}
 
 or_none : (a b : Option Why6) → option_or a b ≡ None → (a ≡ None) × (b ≡ None)
 or_none None b is = (refl, is)
@@ -152,24 +153,39 @@ offered_is kind before (Some d) is = at (slice_get (offered before) d) refl is
     at None same holds = absurd (cc)
     at (Some spec) same holds = (spec, same, holds)
 
-right_ask : (before : List Line) (device : Option ℕ) (spec : DeviceSpec) (ask : Ask) → slice_get (offered before) (unwrap_or device 0) ≡ Some spec → kind_of spec ≡ kind_asked ask
-    → slice_get (map kind_of (offered before ++ [])) (unwrap_or device 0) ≡ Some (kind_asked ask)
-right_ask before device spec ask is kind =
-    ap (λ specs. slice_get (map kind_of specs) (unwrap_or device 0)) (append-nil (offered before)) ∙ kind_at (offered before) (unwrap_or device 0) spec is ∙ ap Some kind
+-- and its kind
+right_kind : (before : List Line) (device : Option ℕ) (spec : DeviceSpec) → slice_get (offered before) (unwrap_or device 0) ≡ Some spec
+    → slice_get (map kind_of (offered before ++ [])) (unwrap_or device 0) ≡ Some (kind_of spec)
+right_kind before device spec is =
+    ap (λ specs. slice_get (map kind_of specs) (unwrap_or device 0)) (append-nil (offered before)) ∙ kind_at (offered before) (unwrap_or device 0) spec is
 
 within_offered : (before : List Line) (device : Option ℕ) → is_some device ≡ true → IfSome device (λ d. d < length (offered before)) → unwrap_or device 0 < length (offered before ++ [])
 within_offered before None there within = absurd (cc)
 within_offered before (Some d) there within = subst (λ (specs : List DeviceSpec). d < length specs) (sym (append-nil (offered before))) within
 
-open_is : (before : List Line) (d : ℕ) → is_closed_before before d ≡ false → is_closed_here before d ≡ false → closed_in d before ≡ None
-open_is before d earlier here = at (closed_in d before) refl earlier here
+-- a line of this kind is the first: none stands in a phase before, and none in this one
+first_of : (kind : What → Bool) (before : List Line) → is_over (phases_over before) (phase_from kind 0 before) ≡ false → is_now (phases_over before) (phase_from kind 0 before) ≡ false
+    → phase_from kind 0 before ≡ None
+first_of kind before earlier here = at (phase_from kind 0 before) refl earlier here
   where
-    at : (o : Option ℕ) → closed_in d before ≡ o → option_map_or (λ p. nat_lt p (phases_over before)) o false ≡ false → option_map_or (λ p. p == phases_over before) o false ≡ false → closed_in d before ≡ None
+    at : (o : Option ℕ) → phase_from kind 0 before ≡ o → is_over (phases_over before) o ≡ false → is_now (phases_over before) o ≡ false → phase_from kind 0 before ≡ None
     at None same less is = same
-    at (Some p) same less is = let most = closed_by 0 d before p same in absurd (grind (arith, nat_tests, less, is, most))
+    at (Some p) same less is = let most = phase_by kind 0 before p same in absurd (grind (arith, nat_tests, less, is, most))
+
+neither : (a b : Bool) → (a || b) ≡ false → (a ≡ false) × (b ≡ false)
+neither true b is = absurd (cc)
+neither false b is = (refl, is)
 
 eq_is : (a b : ℕ) → (a == b) ≡ true → a ≡ b
 eq_is a b is = grind (arith, nat_tests, is)
+
+-- the line of this kind that ends a device is the first
+first_end : (kind : ℕ → What → Bool) (before : List Line) (device : Option ℕ) → is_some device ≡ true
+    → ((d : ℕ) → is_ended_before before d ≡ false → is_over (phases_over before) (phase_from (kind d) 0 before) ≡ false)
+    → option_map_or (is_ended_before before) device false ≡ false → option_map_or (λ d. is_now (phases_over before) (phase_from (kind d) 0 before)) device false ≡ false
+    → (d : ℕ) → (unwrap_or device 0 == d) ≡ true → phase_from (kind d) 0 before ≡ None
+first_end kind before None there over earlier here d is = absurd (cc)
+first_end kind before (Some e) there over earlier here d is = subst (λ x. phase_from (kind x) 0 before ≡ None) (eq_is e d is) (first_of (kind e) before (over e earlier) here)
 
 module _ (number : ℕ) (before : List Line) (behind : length before < number) where
   pub fits_contact : (guest host : Option Version) (device : Option ℕ) → row_fault number before device (Contact guest host) ≡ None → InRange (Contact guest host)
@@ -186,6 +202,7 @@ module _ (number : ℕ) (before : List Line) (behind : length before < number) w
         few = λ one is. absurd (cc);
         new = λ name is. absurd (cc);
         asks = λ is. absurd (cc);
+        rescinded = λ d is. absurd (cc);
         closed = λ d is. absurd (cc);
         short = omega (arith, s.line, behind);
       }
@@ -208,6 +225,7 @@ module _ (number : ℕ) (before : List Line) (behind : length before < number) w
         few = λ one is. let same : spec_of offering ≡ one = cc (is) in subst (λ d. channels before + channels_of d ≤ 16) same room;
         new = λ other is. let same : name ≡ other = cc (is) in ap (λ n. device_of n before) (sym same) ∙ sym said ∙ none_is device (not_true _ (unless_none _ _ s.repeat));
         asks = λ is. absurd (cc);
+        rescinded = λ d is. absurd (cc);
         closed = λ d is. absurd (cc);
         short = omega (arith, s.line, behind);
       }
@@ -229,6 +247,7 @@ module _ (number : ℕ) (before : List Line) (behind : length before < number) w
         few = λ one is. absurd (cc);
         new = λ other is. absurd (cc);
         asks = λ is. absurd (cc);
+        rescinded = λ d is. absurd (cc);
         closed = λ d is. absurd (cc);
         short = omega (arith, s.line, behind);
       }
@@ -246,6 +265,7 @@ module _ (number : ℕ) (before : List Line) (behind : length before < number) w
         few = λ one is. absurd (cc);
         new = λ other is. absurd (cc);
         asks = λ is. absurd (cc);
+        rescinded = λ d is. absurd (cc);
         closed = λ d is. absurd (cc);
         short = omega (arith, s.line, behind);
       }
@@ -267,6 +287,7 @@ module _ (number : ℕ) (before : List Line) (behind : length before < number) w
         few = λ one is. absurd (cc);
         new = λ other is. absurd (cc);
         asks = λ is. absurd (cc);
+        rescinded = λ d is. absurd (cc);
         closed = λ d is. absurd (cc);
         short = omega (arith, s.line, behind);
       }
@@ -280,7 +301,7 @@ module _ (number : ℕ) (before : List Line) (behind : length before < number) w
   fits_ask ask device spec at kind goes room line =
       let less = unless_none _ _ room in
       record {
-        right = right_ask before device spec ask at kind;
+        right = right_kind before device spec at ∙ ap Some kind;
         goes = goes;
         fresh = refl;
         contact = λ is. absurd (cc);
@@ -288,6 +309,7 @@ module _ (number : ℕ) (before : List Line) (behind : length before < number) w
         few = λ one is. absurd (cc);
         new = λ other is. absurd (cc);
         asks = λ is. grind (arith, nat_tests, less);
+        rescinded = λ d is. absurd (cc);
         closed = λ d is. absurd (cc);
         short = omega (arith, line, behind);
       }
@@ -311,12 +333,39 @@ module _ (number : ℕ) (before : List Line) (behind : length before < number) w
       let found = offered_is is_disk before device (unless_none _ _ s.name) in
       fits_ask (AskDisk (request_of ask)) device found.0 found.1 (disk_kind found.0 found.2) (asks_carried ask (unless_none _ _ s.range) range) s.count s.line
 
+  pub fits_rescind : (name : List ℕ) (after : Option ℕ) (held : Bool) (device : Option ℕ) → row_fault number before device (Rescind name after held) ≡ None → InRange (Rescind name after held)
+      → Fits before (IsRescind (unwrap_or device 0) (unwrap_or after 0) held)
+  fits_rescind name after held device free range =
+      let s = stands number before device (Rescind name after held) free in
+      let found = offered_is is_disk before device (unless_none _ _ s.name) in
+      let served = in_range after (unless_none _ _ s.range) range in
+      record {
+        right = (right_kind before device found.0 found.1 ∙ ap Some (disk_kind found.0 found.2), served.0, served.1);
+        goes = tt;
+        fresh = refl;
+        contact = λ is. absurd (cc);
+        settings = λ is. absurd (cc);
+        few = λ one is. absurd (cc);
+        new = λ other is. absurd (cc);
+        asks = λ is. absurd (cc);
+        rescinded = first_end rescinds before device (some_offered is_disk before device (unless_none _ _ s.name)) (λ d not. (neither _ _ not).0)
+            (not_true _ (unless_none _ _ (own_free before device (Rescind name after held) s.order))) (not_true _ (unless_none _ _ s.repeat));
+        closed = λ d is. absurd (cc);
+        short = omega (arith, s.line, behind);
+      }
+    where
+      in_range : (o : Option ℕ) → is_some o ≡ true → IfSome o (λ n. (n ≤ 4096) × (held ≡ true → 1 ≤ n)) → (unwrap_or o 0 ≤ 4096) × (held ≡ true → 1 ≤ unwrap_or o 0)
+      in_range None there is = absurd (cc)
+      in_range (Some n) there is = is
+
+      some_offered : (kind : DeviceSpec → Bool) (ls : List Line) (o : Option ℕ) → is_offered kind ls o ≡ true → is_some o ≡ true
+      some_offered kind ls None is = absurd (cc)
+      some_offered kind ls (Some d) is = refl
+
   pub fits_close : (name : List ℕ) (device : Option ℕ) → row_fault number before device (Close name) ≡ None → IfSome device (λ d. d < length (offered before)) → Fits before (IsShut (unwrap_or device 0))
   fits_close name device free within =
       let s = stands number before device (Close name) free in
       let named = unless_none _ _ s.name in
-      let earlier = not_true _ (unless_none _ _ (own_free before device (Close name) s.order)) in
-      let here = not_true _ (unless_none _ _ s.repeat) in
       record {
         right = within_offered before device named within;
         goes = tt;
@@ -326,13 +375,11 @@ module _ (number : ℕ) (before : List Line) (behind : length before < number) w
         few = λ one is. absurd (cc);
         new = λ other is. absurd (cc);
         asks = λ is. absurd (cc);
-        closed = λ d is. subst (λ e. closed_in e before ≡ None) (eq_is (unwrap_or device 0) d is) (open_at device named earlier here);
+        rescinded = λ d is. absurd (cc);
+        closed = first_end shuts before device named (λ d not. (neither _ _ not).1)
+            (not_true _ (unless_none _ _ (own_free before device (Close name) s.order))) (not_true _ (unless_none _ _ s.repeat));
         short = omega (arith, s.line, behind);
       }
-    where
-      open_at : (o : Option ℕ) → is_some o ≡ true → option_map_or (is_closed_before before) o false ≡ false → option_map_or (is_closed_here before) o false ≡ false → closed_in (unwrap_or o 0) before ≡ None
-      open_at None there earlier here = absurd (cc)
-      open_at (Some d) there earlier here = open_is before d earlier here
 
   pub fits_phase : (device : Option ℕ) → row_fault number before device Phase ≡ None → Fits before IsPhase
   fits_phase device free =
@@ -346,6 +393,7 @@ module _ (number : ℕ) (before : List Line) (behind : length before < number) w
         few = λ one is. absurd (cc);
         new = λ other is. absurd (cc);
         asks = λ is. absurd (cc);
+        rescinded = λ d is. absurd (cc);
         closed = λ d is. absurd (cc);
         short = omega (arith, s.line, behind);
       }

@@ -7,7 +7,8 @@ use Rattle.std.proofs.lemmas.List.Splits.{slice_split-cons_yes, slice_split-cons
 use Rattle.std.proofs.lemmas.List.Sums.{sum_by-append, sum_by-cons}
 use Rattle.std.proofs.lemmas.List.Elements.{recursion_from_All, All-from_recursion}
 use Rattle.script_lines.specs.declared.line.Line.{Line}
-use Rattle.script_lines.specs.Parts.{ends_part, parts, asks_in, shuts, last_of, this_part, phases_over, phase_behind, closed_from, closed_in}
+use Rattle.script_lines.specs.declared.line.What.{What}
+use Rattle.script_lines.specs.Parts.{ends_part, parts, asks_in, last_of, this_part, phases_over, phase_behind, phase_from}
 
 pub by_test : {P : Type 0} (b : Bool) → (b ≡ true → P) → (b ≡ false → P) → P
 by_test true f g = f refl
@@ -106,11 +107,11 @@ all_this (p ∷ q ∷ ps) less few = all_this (q ∷ ps) (omega arith) few.1
 pub asks_this : (ls : List Line) → All FewAsks (parts ls) → asks_in (this_part ls) ≤ 4096
 asks_this ls few = all_this (parts ls) (some_part ls) (recursion_from_All FewAsks (parts ls) few)
 
-pub closed_here : (phase device : ℕ) (l : Line) (ls : List Line) → shuts device l.what ≡ true → closed_from phase device (l ∷ ls) ≡ Some phase
-closed_here phase device l ls e = ap (λ b. if b then Some phase else closed_from (phase_behind phase l) device ls) e
+pub phase_here : (kind : What → Bool) (phase : ℕ) (l : Line) (ls : List Line) → kind l.what ≡ true → phase_from kind phase (l ∷ ls) ≡ Some phase
+phase_here kind phase l ls e = ap (λ b. if b then Some phase else phase_from kind (phase_behind phase l) ls) e
 
-pub closed_on : (phase device : ℕ) (l : Line) (ls : List Line) → shuts device l.what ≡ false → closed_from phase device (l ∷ ls) ≡ closed_from (phase_behind phase l) device ls
-closed_on phase device l ls e = ap (λ b. if b then Some phase else closed_from (phase_behind phase l) device ls) e
+pub phase_on : (kind : What → Bool) (phase : ℕ) (l : Line) (ls : List Line) → kind l.what ≡ false → phase_from kind phase (l ∷ ls) ≡ phase_from kind (phase_behind phase l) ls
+phase_on kind phase l ls e = ap (λ b. if b then Some phase else phase_from kind (phase_behind phase l) ls) e
 
 pub behind_count : (phase : ℕ) (l : Line) (ls : List Line) → phase_behind phase l + phases_over ls ≡ phase + phases_over (l ∷ ls)
 behind_count phase l ls =
@@ -121,38 +122,38 @@ behind_count phase l ls =
     (λ e. let next : phase_behind phase l ≡ phase = ap (λ b. if b then phase + 1 else phase) e in
     let one : cond {A = ℕ} (ends_part l) 1 0 ≡ 0 = ap (λ b. cond {A = ℕ} b 1 0) e in omega (arith, more, next, one))
 
--- what a line at the end adds to a device's close
-abbrev pub close_at : ℕ → Bool → Option ℕ
-close_at phase closes = if closes then Some phase else None
+-- what a line at the end adds: its phase, where it is of the kind
+abbrev pub phase_at : ℕ → Bool → Option ℕ
+phase_at phase is = if is then Some phase else None
 
-closed_more_from : (phase device : ℕ) (ls : List Line) (l : Line) → closed_from phase device (ls ++ l ∷ []) ≡ option_or (closed_from phase device ls) (close_at (phase + phases_over ls) (shuts device l.what))
-closed_more_from phase device [] l = by_test (shuts device l.what)
-    (λ e. let same : phase ≡ phase + 0 = omega arith in closed_here phase device l [] e ∙ ap Some same ∙ sym (ap (close_at (phase + 0)) e))
-    (λ e. closed_on phase device l [] e ∙ sym (ap (close_at (phase + 0)) e))
-closed_more_from phase device (k ∷ ks) l = by_test (shuts device k.what)
-    (λ e. closed_here phase device k (ks ++ l ∷ []) e ∙ sym (ap (λ o. option_or o (close_at (phase + phases_over (k ∷ ks)) (shuts device l.what))) (closed_here phase device k ks e)))
-    (λ e. closed_on phase device k (ks ++ l ∷ []) e ∙ closed_more_from (phase_behind phase k) device ks l
-    ∙ ap (λ n. option_or (closed_from (phase_behind phase k) device ks) (close_at n (shuts device l.what))) (behind_count phase k ks)
-    ∙ sym (ap (λ o. option_or o (close_at (phase + phases_over (k ∷ ks)) (shuts device l.what))) (closed_on phase device k ks e)))
+phase_more_from : (kind : What → Bool) (phase : ℕ) (ls : List Line) (l : Line) → phase_from kind phase (ls ++ l ∷ []) ≡ option_or (phase_from kind phase ls) (phase_at (phase + phases_over ls) (kind l.what))
+phase_more_from kind phase [] l = by_test (kind l.what)
+    (λ e. let same : phase ≡ phase + 0 = omega arith in phase_here kind phase l [] e ∙ ap Some same ∙ sym (ap (phase_at (phase + 0)) e))
+    (λ e. phase_on kind phase l [] e ∙ sym (ap (phase_at (phase + 0)) e))
+phase_more_from kind phase (k ∷ ks) l = by_test (kind k.what)
+    (λ e. phase_here kind phase k (ks ++ l ∷ []) e ∙ sym (ap (λ o. option_or o (phase_at (phase + phases_over (k ∷ ks)) (kind l.what))) (phase_here kind phase k ks e)))
+    (λ e. phase_on kind phase k (ks ++ l ∷ []) e ∙ phase_more_from kind (phase_behind phase k) ks l
+    ∙ ap (λ n. option_or (phase_from kind (phase_behind phase k) ks) (phase_at n (kind l.what))) (behind_count phase k ks)
+    ∙ sym (ap (λ o. option_or o (phase_at (phase + phases_over (k ∷ ks)) (kind l.what))) (phase_on kind phase k ks e)))
 
-pub closed_more : (device : ℕ) (ls : List Line) (l : Line) → closed_in device (ls ++ l ∷ []) ≡ option_or (closed_in device ls) (close_at (phases_over ls) (shuts device l.what))
-closed_more device ls l =
+pub phase_more : (kind : What → Bool) (ls : List Line) (l : Line) → phase_from kind 0 (ls ++ l ∷ []) ≡ option_or (phase_from kind 0 ls) (phase_at (phases_over ls) (kind l.what))
+phase_more kind ls l =
     let same : 0 + phases_over ls ≡ phases_over ls = omega arith in
-    closed_more_from 0 device ls l ∙ ap (λ n. option_or (closed_in device ls) (close_at n (shuts device l.what))) same
+    phase_more_from kind 0 ls l ∙ ap (λ n. option_or (phase_from kind 0 ls) (phase_at n (kind l.what))) same
 
--- a device is closed in no phase behind the one that goes on
-pub closed_by : (phase device : ℕ) (ls : List Line) (p : ℕ) → closed_from phase device ls ≡ Some p → p ≤ phase + phases_over ls
-closed_by phase device [] p is = absurd (cc)
-closed_by phase device (l ∷ ls) p is = by_test (shuts device l.what)
-    (λ e. let same : Some phase ≡ Some p = sym (closed_here phase device l ls e) ∙ is in let at : phase ≡ p = cc (same) in omega (arith, at))
-    (λ e. omega (arith, closed_by (phase_behind phase l) device ls p (sym (closed_on phase device l ls e) ∙ is), behind_count phase l ls))
+-- no line stands in a phase behind the one that goes on
+pub phase_by : (kind : What → Bool) (phase : ℕ) (ls : List Line) (p : ℕ) → phase_from kind phase ls ≡ Some p → p ≤ phase + phases_over ls
+phase_by kind phase [] p is = absurd (cc)
+phase_by kind phase (l ∷ ls) p is = by_test (kind l.what)
+    (λ e. let same : Some phase ≡ Some p = sym (phase_here kind phase l ls e) ∙ is in let at : phase ≡ p = cc (same) in omega (arith, at))
+    (λ e. omega (arith, phase_by kind (phase_behind phase l) ls p (sym (phase_on kind phase l ls e) ∙ is), behind_count phase l ls))
 
--- one that isn't closed has no line that closes it
-pub none_shut : (phase device : ℕ) (ls : List Line) → closed_from phase device ls ≡ None → count_by (λ l. shuts device l.what) ls ≡ 0
-none_shut phase device [] is = refl
-none_shut phase device (l ∷ ls) is =
-    let more = sum_by-cons (λ (k : Line). cond (shuts device k.what) 1 0) l ls in
-    by_test (shuts device l.what)
-    (λ e. let same : Some phase ≡ None = sym (closed_here phase device l ls e) ∙ is in absurd (cc (same)))
-    (λ e. let zero : cond {A = ℕ} (shuts device l.what) 1 0 ≡ 0 = ap (λ b. cond {A = ℕ} b 1 0) e in
-    omega (arith, more, zero, none_shut (phase_behind phase l) device ls (sym (closed_on phase device l ls e) ∙ is)))
+-- where there is no such phase, there is no such line
+pub none_such : (kind : What → Bool) (phase : ℕ) (ls : List Line) → phase_from kind phase ls ≡ None → count_by (λ l. kind l.what) ls ≡ 0
+none_such kind phase [] is = refl
+none_such kind phase (l ∷ ls) is =
+    let more = sum_by-cons (λ (k : Line). cond (kind k.what) 1 0) l ls in
+    by_test (kind l.what)
+    (λ e. let same : Some phase ≡ None = sym (phase_here kind phase l ls e) ∙ is in absurd (cc (same)))
+    (λ e. let zero : cond {A = ℕ} (kind l.what) 1 0 ≡ 0 = ap (λ b. cond {A = ℕ} b 1 0) e in
+    omega (arith, more, zero, none_such kind (phase_behind phase l) ls (sym (phase_on kind phase l ls e) ∙ is)))

@@ -8,13 +8,13 @@ use Rattle.script_text.specs.declared.fault.Why6.{Why6}
 use Rattle.script_text.specs.declared.fault.ScriptFault.{ScriptFault}
 use Rattle.script_lines.specs.declared.line.Line.{Line}
 use Rattle.script_lines.specs.declared.line.What.{What}
-use Rattle.script_lines.specs.declared.line.What.TheVariants.{Contact as IsContact, Offer as IsOffer, Bad as IsBad, RingSize as IsRingSize, Window as IsWindow, Ask as IsAsk, Shut as IsShut, Phase as IsPhase}
+use Rattle.script_lines.specs.declared.line.What.TheVariants.{Contact as IsContact, Offer as IsOffer, Bad as IsBad, RingSize as IsRingSize, Window as IsWindow, Ask as IsAsk, Rescind as IsRescind, Shut as IsShut, Phase as IsPhase}
 use Rattle.script_lines.specs.declared.line.Ask.{Ask}
 use Rattle.script_lines.specs.declared.line.Ask.TheVariants.{Ic, Disk as AskDisk}
 use Rattle.script_lines.specs.declared.disk_ask.DiskAsk.{DiskAsk}
 use Rattle.script_lines.specs.declared.disk_ask.DiskAsk.TheVariants.{Ready, Inquiry, Capacity, Flush, Read, Write}
 use Rattle.script_lines.specs.declared.said.Said.{Said}
-use Rattle.script_lines.specs.declared.said.Said.TheVariants.{Nothing, Contact, Offer, Bad, Ring, Window, Beat, Down, Command, Close, Phase}
+use Rattle.script_lines.specs.declared.said.Said.TheVariants.{Nothing, Contact, Offer, Bad, Ring, Window, Beat, Down, Command, Rescind, Close, Phase}
 use Rattle.script_lines.specs.Requests.{request_of}
 use Rattle.script_lines.specs.Rows.{said_in}
 use Rattle.script_lines.specs.Faults.{device_said, fault_at}
@@ -32,6 +32,7 @@ PlainWhat (IsBad device lba) = Unit {0}
 PlainWhat (IsRingSize device pages) = Unit {0}
 PlainWhat (IsWindow device size) = Unit {0}
 PlainWhat (IsAsk device ask) = PlainAsk ask
+PlainWhat (IsRescind device after held) = Unit {0}
 PlainWhat (IsShut device) = Unit {0}
 PlainWhat IsPhase = Unit {0}
 
@@ -63,6 +64,7 @@ what_plain device (Window name size) = tt
 what_plain device (Beat name seq) = tt
 what_plain device (Down name flags) = tt
 what_plain device (Command name ask) = request_plain ask
+what_plain device (Rescind name after held) = tt
 what_plain device (Close name) = tt
 what_plain device Phase = tt
 

@@ -8,14 +8,15 @@ use Rattle.std.proofs.lemmas.Grind.{flat_map-append}
 use Rattle.std.proofs.lemmas.List.Folds.{list_all-append}
 use Rattle.std.proofs.lemmas.List.Sums.{sum_by-append, sum_by-cons}
 use Rattle.contact.specs.declared.kind.Kind.{Kind}
+use Rattle.contact.specs.declared.kind.Kind.TheVariants.{Disk as KindDisk}
 use Rattle.script_lines.specs.declared.line.Line.{Line}
 use Rattle.script_lines.specs.declared.line.What.{What}
-use Rattle.script_lines.specs.declared.line.What.TheVariants.{Contact as IsContact, Offer as IsOffer, Bad as IsBad, RingSize as IsRingSize, Window as IsWindow, Ask as IsAsk, Shut as IsShut, Phase as IsPhase}
+use Rattle.script_lines.specs.declared.line.What.TheVariants.{Contact as IsContact, Offer as IsOffer, Bad as IsBad, RingSize as IsRingSize, Window as IsWindow, Ask as IsAsk, Rescind as IsRescind, Shut as IsShut, Phase as IsPhase}
 use Rattle.script_lines.specs.declared.line.DeviceSpec.{DeviceSpec}
 use Rattle.script_lines.specs.declared.line.DeviceSpec.TheVariants.{Beat, Down, Disk}
-use Rattle.script_lines.specs.Parts.{ends_part, parts, is_settings, is_ask, asks_in, offered_by, offered, named_by, names, kind_of, kind_asked, shuts, this_part, closed_in, channels_of, channels, blocks_of, blocks_at}
+use Rattle.script_lines.specs.Parts.{ends_part, parts, is_settings, is_ask, asks_in, offered_by, offered, named_by, names, kind_of, kind_asked, rescinds, shuts, this_part, phase_from, channels_of, channels, blocks_of, blocks_at}
 use Rattle.script_lines.specs.WellFormed.{IsRight, AllRight, AskGoes, AllGo, is_contact, contact_first, settings_first, IsScript, Fits}
-use Rattle.script_lines.proofs.Phases.{by_test, FewAsks, asks_phase, asks_other, asks_this, count_yes, count_no, none_shut}
+use Rattle.script_lines.proofs.Phases.{by_test, FewAsks, asks_phase, asks_other, asks_this, count_yes, count_no, none_such}
 
 pub offered_more : (ls : List Line) (l : Line) → offered (ls ++ l ∷ []) ≡ offered ls ++ offered_by l.what
 offered_more ls l = flat_map-append (λ (k : Line). offered_by k.what) ls (l ∷ []) ∙ ap (λ ds. offered ls ++ ds) (append-nil (offered_by l.what))
@@ -36,14 +37,18 @@ block_more kinds more device lba less = at (slice_get kinds device) refl less
     at None same below = absurd (omega (arith, below))
     at (Some spec) same below = subst (λ (o : Option DeviceSpec). lba < option_map_or blocks_of o 0) (sym (slice_get_front kinds more device spec same)) below
 
+-- a device keeps its kind
+kind_more : (kinds more : List DeviceSpec) (device : ℕ) (kind : Kind) → slice_get (map kind_of kinds) device ≡ Some kind → slice_get (map kind_of (kinds ++ more)) device ≡ Some kind
+kind_more kinds more device kind is = ap (λ (ks : List Kind). slice_get ks device) (map-append kind_of kinds more) ∙ slice_get_front (map kind_of kinds) (map kind_of more) device kind is
+
 right_more : (kinds more : List DeviceSpec) (what : What) → IsRight kinds what → IsRight (kinds ++ more) what
 right_more kinds more (IsContact guest host) right = right
 right_more kinds more (IsOffer name device) right = right
 right_more kinds more (IsBad device lba) right = block_more kinds more device lba right
 right_more kinds more (IsRingSize device pages) right = (omega (arith, right.0, length-append kinds more), right.1, right.2)
 right_more kinds more (IsWindow device size) right = (omega (arith, right.0, length-append kinds more), right.1, right.2)
-right_more kinds more (IsAsk device ask) right =
-    ap (λ (ks : List Kind). slice_get ks device) (map-append kind_of kinds more) ∙ slice_get_front (map kind_of kinds) (map kind_of more) device (kind_asked ask) right
+right_more kinds more (IsAsk device ask) right = kind_more kinds more device (kind_asked ask) right
+right_more kinds more (IsRescind device after held) right = (kind_more kinds more device KindDisk right.0, right.1, right.2)
 right_more kinds more (IsShut device) right = omega (arith, right, length-append kinds more)
 right_more kinds more IsPhase right = tt
 
@@ -101,10 +106,10 @@ length_channels (d ∷ ds) = omega (arith, length_channels ds, one_channel d, su
 pub channels_more : (ls : List Line) (l : Line) → channels (ls ++ l ∷ []) ≡ channels ls + sum_by channels_of (offered_by l.what)
 channels_more ls l = ap (sum_by channels_of) (offered_more ls l) ∙ sum_by-append channels_of (offered ls) (offered_by l.what)
 
-closed_push : (device : ℕ) (ls : List Line) (l : Line) → count_by (λ k. shuts device k.what) ls ≤ 1 → (shuts device l.what ≡ true → closed_in device ls ≡ None) → count_by (λ k. shuts device k.what) (ls ++ l ∷ []) ≤ 1
-closed_push device ls l most empty = by_test (shuts device l.what)
-    (λ e. omega (arith, count_yes (λ k. shuts device k.what) ls l e, none_shut 0 device ls (empty e)))
-    (λ e. omega (arith, count_no (λ k. shuts device k.what) ls l e, most))
+once_push : (kind : What → Bool) (ls : List Line) (l : Line) → count_by (λ k. kind k.what) ls ≤ 1 → (kind l.what ≡ true → phase_from kind 0 ls ≡ None) → count_by (λ k. kind k.what) (ls ++ l ∷ []) ≤ 1
+once_push kind ls l most empty = by_test (kind l.what)
+    (λ e. omega (arith, count_yes (λ k. kind k.what) ls l e, none_such kind 0 ls (empty e)))
+    (λ e. omega (arith, count_no (λ k. kind k.what) ls l e, most))
 
 asks_push : (ls : List Line) (l : Line) → All FewAsks (parts ls) → (is_ask l.what ≡ true → asks_in (this_part ls) < 4096) → All FewAsks (parts (ls ++ l ∷ []))
 asks_push ls l few less = by_test (ends_part l)
@@ -121,6 +126,7 @@ few_push before (IsBad device lba) most few = omega (arith, most)
 few_push before (IsRingSize device pages) most few = omega (arith, most)
 few_push before (IsWindow device size) most few = omega (arith, most)
 few_push before (IsAsk device ask) most few = omega (arith, most)
+few_push before (IsRescind device after held) most few = omega (arith, most)
 few_push before (IsShut device) most few = omega (arith, most)
 few_push before IsPhase most few = omega (arith, most)
 
@@ -136,5 +142,6 @@ script_push before l script fits = record {
   channels = omega (arith, channels_more before l, few_push before l.what script.channels fits.few);
   short = omega (arith, length-append before (l ∷ []), fits.short);
   asks = asks_push before l script.asks fits.asks;
-  closed = λ device. closed_push device before l (script.closed device) (fits.closed device);
+  rescinded = λ device. once_push (rescinds device) before l (script.rescinded device) (fits.rescinded device);
+  closed = λ device. once_push (shuts device) before l (script.closed device) (fits.closed device);
 }

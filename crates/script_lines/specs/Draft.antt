@@ -3,10 +3,10 @@ use Rattle.std.specs.Prelude.{ℕ, ◌≡◌, Bool, List, [], ◌∷◌, length,
 use Rattle.std.specs.List.{list_all, flat_map}
 use Rattle.script_lines.specs.declared.line.Line.{Line}
 use Rattle.script_lines.specs.declared.line.What.{What}
-use Rattle.script_lines.specs.declared.line.What.TheVariants.{Contact as IsContact, Offer as IsOffer, Bad as IsBad, RingSize as IsRingSize, Window as IsWindow, Ask as IsAsk, Shut as IsShut, Phase as IsPhase}
+use Rattle.script_lines.specs.declared.line.What.TheVariants.{Contact as IsContact, Offer as IsOffer, Bad as IsBad, RingSize as IsRingSize, Window as IsWindow, Ask as IsAsk, Rescind as IsRescind, Shut as IsShut, Phase as IsPhase}
 use Rattle.script_lines.specs.declared.bad_place.BadPlace.{BadPlace}
 use Rattle.script_lines.specs.declared.draft.Seen.{Seen}
-use Rattle.script_lines.specs.Parts.{is_settings, asks_in, this_part, phases_over, offered, names, channels, has_ring, has_window, closed_in}
+use Rattle.script_lines.specs.Parts.{is_settings, asks_in, this_part, phases_over, offered, names, channels, has_ring, has_window, rescinded_in, closed_in}
 use Rattle.script_lines.specs.WellFormed.{IsScript}
 
 -- what the lines say of a device
@@ -14,6 +14,7 @@ pub record IsSeen (lines : List Line) (device : ℕ) (seen : Seen) : Type 0 wher
   pub spec : slice_get (offered lines) device ≡ Some seen.spec
   pub ring : seen.ring ≡ has_ring device lines
   pub window : seen.window ≡ has_window device lines
+  pub rescinded : seen.rescinded ≡ rescinded_in device lines
   pub closed : seen.closed ≡ closed_in device lines
 
 -- the bad blocks that lines say, in order
@@ -24,6 +25,7 @@ places_by (IsBad device lba) = record { device = device; lba = lba } ∷ []
 places_by (IsRingSize device pages) = []
 places_by (IsWindow device size) = []
 places_by (IsAsk device ask) = []
+places_by (IsRescind device after held) = []
 places_by (IsShut device) = []
 places_by IsPhase = []
 

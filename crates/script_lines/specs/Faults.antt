@@ -12,8 +12,8 @@ use Rattle.script_lines.specs.declared.disk_ask.DiskAsk.TheVariants.{Ready, Inqu
 use Rattle.script_lines.specs.declared.offering.Offering.{Offering}
 use Rattle.script_lines.specs.declared.offering.Offering.TheVariants.{Beat as OfBeat, Down as OfDown, Disk as OfDisk}
 use Rattle.script_lines.specs.declared.said.Said.{Said}
-use Rattle.script_lines.specs.declared.said.Said.TheVariants.{Nothing, Contact, Offer, Bad, Ring, Window, Beat, Down, Command, Close, Phase}
-use Rattle.script_lines.specs.Parts.{is_settings, asks_in, this_part, phases_over, offered, channels, has_bad, has_ring, has_window, closed_in, device_of, blocks_at}
+use Rattle.script_lines.specs.declared.said.Said.TheVariants.{Nothing, Contact, Offer, Bad, Ring, Window, Beat, Down, Command, Rescind, Close, Phase}
+use Rattle.script_lines.specs.Parts.{is_settings, asks_in, this_part, phases_over, offered, channels, has_bad, has_ring, has_window, rescinded_in, closed_in, device_of, blocks_at}
 use Rattle.script_text.specs.Forms.{within}
 use Rattle.script_lines.specs.Rows.{said_in}
 
@@ -32,6 +32,7 @@ name_said (Window name size) = Some name
 name_said (Beat name seq) = Some name
 name_said (Down name flags) = Some name
 name_said (Command name ask) = Some name
+name_said (Rescind name after held) = Some name
 name_said (Close name) = Some name
 name_said Phase = None
 
@@ -50,6 +51,7 @@ says_settings (Window name size) = true
 says_settings (Beat name seq) = false
 says_settings (Down name flags) = false
 says_settings (Command name ask) = false
+says_settings (Rescind name after held) = false
 says_settings (Close name) = false
 says_settings Phase = false
 
@@ -83,6 +85,7 @@ count_limit before (Window name size) = None
 count_limit before (Beat name seq) = ask_limit before
 count_limit before (Down name flags) = ask_limit before
 count_limit before (Command name ask) = ask_limit before
+count_limit before (Rescind name after held) = None
 count_limit before (Close name) = None
 count_limit before Phase = None
 
@@ -91,11 +94,19 @@ abbrev pub is_first : List Line → Bool
 is_first [] = true
 is_first (l ∷ ls) = false
 
--- a device that an earlier phase closed
-abbrev pub is_closed_before : List Line → ℕ → Bool
-is_closed_before before device = option_map_or (λ phase. nat_lt phase (phases_over before)) (closed_in device before) false
+-- a phase that is over, where this one goes on
+abbrev pub is_over : ℕ → Option ℕ → Bool
+is_over now phase = option_map_or (λ p. nat_lt p now) phase false
 
--- Order: the versions stand before all other lines, and what an earlier phase closed isn't closed again
+-- the phase that goes on
+abbrev pub is_now : ℕ → Option ℕ → Bool
+is_now now phase = option_map_or (λ p. p == now) phase false
+
+-- a device that an earlier phase rescinded or closed
+abbrev pub is_ended_before : List Line → ℕ → Bool
+is_ended_before before device = is_over (phases_over before) (rescinded_in device before) || is_over (phases_over before) (closed_in device before)
+
+-- Order: the versions stand before all other lines, and what an earlier phase rescinded or closed is neither rescinded nor closed again
 abbrev pub own_order : List Line → Option ℕ → Said → Option Why6
 own_order before device Nothing = None
 own_order before device (Contact guest host) = unless (is_first before) Order
@@ -106,7 +117,8 @@ own_order before device (Window name size) = None
 own_order before device (Beat name seq) = None
 own_order before device (Down name flags) = None
 own_order before device (Command name ask) = None
-own_order before device (Close name) = unless (not (option_map_or (is_closed_before before) device false)) Order
+own_order before device (Rescind name after held) = unless (not (option_map_or (is_ended_before before) device false)) Order
+own_order before device (Close name) = unless (not (option_map_or (is_ended_before before) device false)) Order
 own_order before device Phase = None
 
 -- Order: settings stand before all lines of other kinds
@@ -143,18 +155,23 @@ name_fault before device (Window name size) = unless (is_some device) UnknownNam
 name_fault before device (Beat name seq) = unless (is_offered is_beat before device) UnknownName
 name_fault before device (Down name flags) = unless (is_offered is_down before device) UnknownName
 name_fault before device (Command name ask) = unless (is_offered is_disk before device) UnknownName
+name_fault before device (Rescind name after held) = unless (is_offered is_disk before device) UnknownName
 name_fault before device (Close name) = unless (is_some device) UnknownName
 name_fault before device Phase = None
 
+-- a device that this phase rescinds
+abbrev pub is_rescinded_here : List Line → ℕ → Bool
+is_rescinded_here before device = is_now (phases_over before) (rescinded_in device before)
+
 -- a device that this phase closes
 abbrev pub is_closed_here : List Line → ℕ → Bool
-is_closed_here before device = option_map_or (λ phase. phase == phases_over before) (closed_in device before) false
+is_closed_here before device = is_now (phases_over before) (closed_in device before)
 
 -- the block is bad already
 abbrev pub is_bad : List Line → Option ℕ → Option ℕ → Bool
 is_bad before device lba = option_map_or (λ d. option_map_or (λ l. has_bad d l before) lba false) device false
 
--- Repeat: a name is offered once, a device has one line of each setting and for each bad block, and a phase closes it once
+-- Repeat: a name is offered once, a device has one line of each setting and for each bad block, and a phase rescinds it once and closes it once
 abbrev pub repeat_fault : List Line → Option ℕ → Said → Option Why6
 repeat_fault before device Nothing = None
 repeat_fault before device (Contact guest host) = None
@@ -165,6 +182,7 @@ repeat_fault before device (Window name size) = unless (not (option_map_or (λ d
 repeat_fault before device (Beat name seq) = None
 repeat_fault before device (Down name flags) = None
 repeat_fault before device (Command name ask) = None
+repeat_fault before device (Rescind name after held) = unless (not (option_map_or (is_rescinded_here before) device false)) Repeat
 repeat_fault before device (Close name) = unless (not (option_map_or (is_closed_here before) device false)) Repeat
 repeat_fault before device Phase = None
 
@@ -197,6 +215,7 @@ range_fault before device (Window name size) = unless (is_some size) Range
 range_fault before device (Beat name seq) = unless (is_some seq) Range
 range_fault before device (Down name flags) = unless (is_some flags) Range
 range_fault before device (Command name ask) = unless (asks_in_range ask) Range
+range_fault before device (Rescind name after held) = unless (is_some after) Range
 range_fault before device (Close name) = None
 range_fault before device Phase = None
 

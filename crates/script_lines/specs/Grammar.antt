@@ -7,14 +7,14 @@ use Rattle.script_text.specs.declared.fault.Why6.{Why6}
 use Rattle.script_text.specs.declared.fault.ScriptFault.{ScriptFault}
 use Rattle.script_lines.specs.declared.line.Line.{Line}
 use Rattle.script_lines.specs.declared.line.What.{What}
-use Rattle.script_lines.specs.declared.line.What.TheVariants.{Contact as IsContact, Offer as IsOffer, Bad as IsBad, RingSize as IsRingSize, Window as IsWindow, Ask as IsAsk, Shut as IsShut, Phase as IsPhase}
+use Rattle.script_lines.specs.declared.line.What.TheVariants.{Contact as IsContact, Offer as IsOffer, Bad as IsBad, RingSize as IsRingSize, Window as IsWindow, Ask as IsAsk, Rescind as IsRescind, Shut as IsShut, Phase as IsPhase}
 use Rattle.script_lines.specs.declared.line.Ask.TheVariants.{Ic, Disk as AskDisk}
 use Rattle.script_lines.specs.declared.line.DeviceSpec.{DeviceSpec}
 use Rattle.script_lines.specs.declared.line.DeviceSpec.TheVariants.{Beat as IsBeat, Down as IsDown, Disk as IsDisk}
 use Rattle.script_lines.specs.declared.offering.Offering.{Offering}
 use Rattle.script_lines.specs.declared.offering.Offering.TheVariants.{Beat as OfBeat, Down as OfDown, Disk as OfDisk}
 use Rattle.script_lines.specs.declared.said.Said.{Said}
-use Rattle.script_lines.specs.declared.said.Said.TheVariants.{Nothing, Contact, Offer, Bad, Ring, Window, Beat, Down, Command, Close, Phase}
+use Rattle.script_lines.specs.declared.said.Said.TheVariants.{Nothing, Contact, Offer, Bad, Ring, Window, Beat, Down, Command, Rescind, Close, Phase}
 use Rattle.script_text.specs.Forms.{within}
 use Rattle.script_lines.specs.Requests.{request_of}
 use Rattle.script_lines.specs.Rows.{said_in}
@@ -41,6 +41,7 @@ what_of device (Window name size) = Some (IsWindow (unwrap_or device 0) (unwrap_
 what_of device (Beat name seq) = Some (IsAsk (unwrap_or device 0) (Ic (AskBeat (unwrap_or seq 0))))
 what_of device (Down name flags) = Some (IsAsk (unwrap_or device 0) (Ic (AskDown 0 0 (unwrap_or flags 0))))
 what_of device (Command name ask) = Some (IsAsk (unwrap_or device 0) (AskDisk (request_of ask)))
+what_of device (Rescind name after held) = Some (IsRescind (unwrap_or device 0) (unwrap_or after 0) held)
 what_of device (Close name) = Some (IsShut (unwrap_or device 0))
 what_of device Phase = Some IsPhase
 

@@ -8,7 +8,7 @@ use Rattle.contact.specs.declared.kind.Kind.TheVariants.{Beat as KindBeat, Down 
 use Rattle.util_ic.specs.declared.ic.IcAsk.TheVariants.{Beat as AskBeat, Down as AskDown}
 use Rattle.script_lines.specs.declared.line.Line.{Line}
 use Rattle.script_lines.specs.declared.line.What.{What}
-use Rattle.script_lines.specs.declared.line.What.TheVariants.{Contact as IsContact, Offer as IsOffer, Bad as IsBad, RingSize as IsRingSize, Window as IsWindow, Ask as IsAsk, Shut as IsShut, Phase as IsPhase}
+use Rattle.script_lines.specs.declared.line.What.TheVariants.{Contact as IsContact, Offer as IsOffer, Bad as IsBad, RingSize as IsRingSize, Window as IsWindow, Ask as IsAsk, Rescind as IsRescind, Shut as IsShut, Phase as IsPhase}
 use Rattle.script_lines.specs.declared.line.Ask.{Ask}
 use Rattle.script_lines.specs.declared.line.Ask.TheVariants.{Ic, Disk as AskDisk}
 use Rattle.script_lines.specs.declared.line.DeviceSpec.{DeviceSpec}
@@ -22,6 +22,7 @@ is_phase (IsBad device lba) = false
 is_phase (IsRingSize device pages) = false
 is_phase (IsWindow device size) = false
 is_phase (IsAsk device ask) = false
+is_phase (IsRescind device after held) = false
 is_phase (IsShut device) = false
 is_phase IsPhase = true
 
@@ -40,6 +41,7 @@ is_settings (IsBad device lba) = true
 is_settings (IsRingSize device pages) = true
 is_settings (IsWindow device size) = true
 is_settings (IsAsk device ask) = false
+is_settings (IsRescind device after held) = false
 is_settings (IsShut device) = false
 is_settings IsPhase = false
 
@@ -51,6 +53,7 @@ is_ask (IsBad device lba) = false
 is_ask (IsRingSize device pages) = false
 is_ask (IsWindow device size) = false
 is_ask (IsAsk device ask) = true
+is_ask (IsRescind device after held) = false
 is_ask (IsShut device) = false
 is_ask IsPhase = false
 
@@ -66,6 +69,7 @@ offered_by (IsBad device lba) = []
 offered_by (IsRingSize device pages) = []
 offered_by (IsWindow device size) = []
 offered_by (IsAsk device ask) = []
+offered_by (IsRescind device after held) = []
 offered_by (IsShut device) = []
 offered_by IsPhase = []
 
@@ -80,6 +84,7 @@ named_by (IsBad device lba) = []
 named_by (IsRingSize device pages) = []
 named_by (IsWindow device size) = []
 named_by (IsAsk device ask) = []
+named_by (IsRescind device after held) = []
 named_by (IsShut device) = []
 named_by IsPhase = []
 
@@ -116,6 +121,7 @@ pages_by device (IsBad d lba) = []
 pages_by device (IsRingSize d pages) = if d == device then pages ∷ [] else []
 pages_by device (IsWindow d size) = []
 pages_by device (IsAsk d ask) = []
+pages_by device (IsRescind d after held) = []
 pages_by device (IsShut d) = []
 pages_by device IsPhase = []
 
@@ -131,6 +137,7 @@ bads_by device (IsBad d lba) = if d == device then lba ∷ [] else []
 bads_by device (IsRingSize d pages) = []
 bads_by device (IsWindow d size) = []
 bads_by device (IsAsk d ask) = []
+bads_by device (IsRescind d after held) = []
 bads_by device (IsShut d) = []
 bads_by device IsPhase = []
 
@@ -146,12 +153,25 @@ window_by device (IsBad d lba) = []
 window_by device (IsRingSize d pages) = []
 window_by device (IsWindow d size) = if d == device then size ∷ [] else []
 window_by device (IsAsk d ask) = []
+window_by device (IsRescind d after held) = []
 window_by device (IsShut d) = []
 window_by device IsPhase = []
 
 -- how many requests a channel of a device has open at most: the number that its line says, or 4
 abbrev pub window_of : ℕ → List Line → ℕ
 window_of device lines = slice_index_or (flat_map (λ l. window_by device l.what) lines) 0 4
+
+-- a line that rescinds this device
+abbrev pub rescinds : ℕ → What → Bool
+rescinds device (IsContact guest host) = false
+rescinds device (IsOffer name spec) = false
+rescinds device (IsBad d lba) = false
+rescinds device (IsRingSize d pages) = false
+rescinds device (IsWindow d size) = false
+rescinds device (IsAsk d ask) = false
+rescinds device (IsRescind d after held) = d == device
+rescinds device (IsShut d) = false
+rescinds device IsPhase = false
 
 -- a line that closes this device
 abbrev pub shuts : ℕ → What → Bool
@@ -161,6 +181,7 @@ shuts device (IsBad d lba) = false
 shuts device (IsRingSize d pages) = false
 shuts device (IsWindow d size) = false
 shuts device (IsAsk d ask) = false
+shuts device (IsRescind d after held) = false
 shuts device (IsShut d) = d == device
 shuts device IsPhase = false
 
@@ -172,6 +193,7 @@ sets_bad device lba (IsBad d l) = (device == d) && (lba == l)
 sets_bad device lba (IsRingSize d pages) = false
 sets_bad device lba (IsWindow d size) = false
 sets_bad device lba (IsAsk d ask) = false
+sets_bad device lba (IsRescind d after held) = false
 sets_bad device lba (IsShut d) = false
 sets_bad device lba IsPhase = false
 
@@ -183,6 +205,7 @@ sets_ring device (IsBad d lba) = false
 sets_ring device (IsRingSize d pages) = d == device
 sets_ring device (IsWindow d size) = false
 sets_ring device (IsAsk d ask) = false
+sets_ring device (IsRescind d after held) = false
 sets_ring device (IsShut d) = false
 sets_ring device IsPhase = false
 
@@ -194,6 +217,7 @@ sets_window device (IsBad d lba) = false
 sets_window device (IsRingSize d pages) = false
 sets_window device (IsWindow d size) = d == device
 sets_window device (IsAsk d ask) = false
+sets_window device (IsRescind d after held) = false
 sets_window device (IsShut d) = false
 sets_window device IsPhase = false
 
@@ -224,14 +248,18 @@ phases_over lines = count_by ends_part lines
 abbrev pub phase_behind : ℕ → Line → ℕ
 phase_behind phase line = if ends_part line then phase + 1 else phase
 
--- the phase in which a device is closed, where it is; the first line stands in this phase
-abbrev pub closed_from : ℕ → ℕ → List Line → Option ℕ
-closed_from phase device [] = None
-closed_from phase device (l ∷ ls) = if shuts device l.what then Some phase else closed_from (phase_behind phase l) device ls
+-- the phase of the first line of such a kind, where there is one; the lines begin in this phase
+abbrev pub phase_from : (What → Bool) → ℕ → List Line → Option ℕ
+phase_from kind phase [] = None
+phase_from kind phase (l ∷ ls) = if kind l.what then Some phase else phase_from kind (phase_behind phase l) ls
 
--- the phase in which a device is closed; phases count from 0
+-- the phase in which a device is rescinded, where it is; phases count from 0
+abbrev pub rescinded_in : ℕ → List Line → Option ℕ
+rescinded_in device lines = phase_from (rescinds device) 0 lines
+
+-- the phase in which a device is closed, where it is
 abbrev pub closed_in : ℕ → List Line → Option ℕ
-closed_in device lines = closed_from 0 device lines
+closed_in device lines = phase_from (shuts device) 0 lines
 
 -- the place of the device with this name, where one was offered
 abbrev pub device_of : List ℕ → List Line → Option ℕ

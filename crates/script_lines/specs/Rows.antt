@@ -1,5 +1,5 @@
 -- The rows of the table of lines.
-use Rattle.std.specs.Prelude.{ℕ, ◌^◌, ◌-◌, ◌==◌, Bool, false, ◌&&◌, nat_le, List, [], ◌∷◌, codes, Option, Some, None, if◌then◌else◌}
+use Rattle.std.specs.Prelude.{ℕ, ◌^◌, ◌-◌, ◌==◌, Bool, true, false, ◌&&◌, nat_le, List, [], ◌∷◌, codes, Option, Some, None, if◌then◌else◌}
 use Rattle.std.specs.List.{list_all}
 use Rattle.std.specs.Option.{option_map}
 use Rattle.std.specs.Str.{bytes_eq}
@@ -7,7 +7,7 @@ use Rattle.script_lines.specs.declared.disk_ask.DiskAsk.{DiskAsk}
 use Rattle.script_lines.specs.declared.disk_ask.DiskAsk.TheVariants.{Ready, Inquiry, Capacity, Flush, Read, Write}
 use Rattle.script_lines.specs.declared.offering.Offering.TheVariants.{Beat as OfBeat, Down as OfDown, Disk as OfDisk}
 use Rattle.script_lines.specs.declared.said.Said.{Said}
-use Rattle.script_lines.specs.declared.said.Said.TheVariants.{Nothing, Contact, Offer, Bad, Ring, Window, Beat, Down, Command, Close, Phase}
+use Rattle.script_lines.specs.declared.said.Said.TheVariants.{Nothing, Contact, Offer, Bad, Ring, Window, Beat, Down, Command, Rescind, Close, Phase}
 use Rattle.script_text.specs.Words.{words}
 use Rattle.script_text.specs.Forms.{is_name, is_decimal, number_of, in_u64, within, is_byte, byte_of, is_version, version_of}
 
@@ -98,6 +98,24 @@ disk_row key others =
     if bytes_eq key (codes "read") then read_row others else
     if bytes_eq key (codes "write") then write_row others else None
 
+-- nothing, or held
+abbrev pub held_row : List (List ℕ) → Option Bool
+held_row [] = Some false
+held_row (word ∷ []) = if bytes_eq word (codes "held") then Some true else None
+held_row others = None
+
+-- how many requests a channel serves: none at all may be, but not where the last one's answer is held
+abbrev pub after_in : Bool → Option ℕ → Option ℕ
+after_in held number = if held then within 1 4096 number else within 0 4096 number
+
+-- NAME after K, or NAME after K held, behind rescind
+abbrev pub rescind_row : List (List ℕ) → Option Said
+rescind_row (name ∷ word ∷ number ∷ others) =
+    if is_name name && bytes_eq word (codes "after") && is_decimal number
+    then option_map (λ held. Rescind name (after_in held (in_u64 (number_of number))) held) (held_row others)
+    else None
+rescind_row others = None
+
 -- NAME, behind close
 abbrev pub close_row : List (List ℕ) → Option Said
 close_row others = option_map Close (name_alone others)
@@ -116,6 +134,7 @@ row_of key others =
     if bytes_eq key (codes "window") then window_row others else
     if bytes_eq key (codes "beat") then beat_row others else
     if bytes_eq key (codes "down") then down_row others else
+    if bytes_eq key (codes "rescind") then rescind_row others else
     if bytes_eq key (codes "close") then close_row others else
     if bytes_eq key (codes "phase") then phase_row others else disk_row key others
 

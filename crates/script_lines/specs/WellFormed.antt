@@ -2,9 +2,10 @@
 use Rattle.std.specs.Prelude.{ℕ, ◌≡◌, ◌+◌, ◌<◌, ◌≤◌, Bool, true, false, not, Some, None, IfSome, List, [], ◌∷◌, ◌++◌, length, map, All, count_by, slice_get, if◌then◌else◌}
 use Rattle.std.specs.List.{list_all}
 use Rattle.contact.specs.Versions.{IsVersion}
+use Rattle.contact.specs.declared.kind.Kind.TheVariants.{Disk as KindDisk}
 use Rattle.script_lines.specs.declared.line.Line.{Line}
 use Rattle.script_lines.specs.declared.line.What.{What}
-use Rattle.script_lines.specs.declared.line.What.TheVariants.{Contact as IsContact, Offer as IsOffer, Bad as IsBad, RingSize as IsRingSize, Window as IsWindow, Ask as IsAsk, Shut as IsShut, Phase as IsPhase}
+use Rattle.script_lines.specs.declared.line.What.TheVariants.{Contact as IsContact, Offer as IsOffer, Bad as IsBad, RingSize as IsRingSize, Window as IsWindow, Ask as IsAsk, Rescind as IsRescind, Shut as IsShut, Phase as IsPhase}
 use Rattle.script_lines.specs.declared.line.DeviceSpec.{DeviceSpec}
 use Rattle.script_lines.specs.declared.line.DeviceSpec.TheVariants.{Beat as IsBeat, Down as IsDown, Disk as IsDisk}
 use Rattle.script_lines.specs.declared.line.Ask.{Ask}
@@ -12,9 +13,9 @@ use Rattle.script_lines.specs.declared.line.Ask.TheVariants.{Ic, Disk as AskDisk
 use Rattle.script_lines.specs.declared.offering.Offering.{Offering}
 use Rattle.script_lines.specs.declared.offering.Offering.TheVariants.{Beat as OfBeat, Down as OfDown, Disk as OfDisk}
 use Rattle.script_lines.specs.declared.said.Said.{Said}
-use Rattle.script_lines.specs.declared.said.Said.TheVariants.{Nothing, Contact, Offer, Bad, Ring, Window, Beat, Down, Command, Close, Phase}
+use Rattle.script_lines.specs.declared.said.Said.TheVariants.{Nothing, Contact, Offer, Bad, Ring, Window, Beat, Down, Command, Rescind, Close, Phase}
 use Rattle.script_lines.specs.Requests.{AskInRange, IsCarried}
-use Rattle.script_lines.specs.Parts.{parts, this_part, offered, offered_by, named_by, asks_in, is_ask, is_settings, shuts, closed_in, channels, channels_of, device_of, kind_of, kind_asked, blocks_at, has_bad}
+use Rattle.script_lines.specs.Parts.{parts, this_part, offered, offered_by, named_by, asks_in, is_ask, is_settings, rescinds, shuts, rescinded_in, closed_in, channels, channels_of, device_of, kind_of, kind_asked, blocks_at, has_bad}
 
 -- a disk has 1 to 65,536 blocks, and no channel but the first
 abbrev pub IsDevice : DeviceSpec → Type 0
@@ -30,6 +31,7 @@ IsRight kinds (IsBad device lba) = lba < blocks_at device kinds
 IsRight kinds (IsRingSize device pages) = (device < length kinds) × (1 ≤ pages) × (pages ≤ 16)
 IsRight kinds (IsWindow device size) = (device < length kinds) × (1 ≤ size) × (size ≤ 64)
 IsRight kinds (IsAsk device ask) = slice_get (map kind_of kinds) device ≡ Some (kind_asked ask)
+IsRight kinds (IsRescind device after held) = (slice_get (map kind_of kinds) device ≡ Some KindDisk) × (after ≤ 4096) × (held ≡ true → 1 ≤ after)
 IsRight kinds (IsShut device) = device < length kinds
 IsRight kinds IsPhase = Unit {0}
 
@@ -45,6 +47,7 @@ AskGoes (IsBad device lba) = Unit {0}
 AskGoes (IsRingSize device pages) = Unit {0}
 AskGoes (IsWindow device size) = Unit {0}
 AskGoes (IsAsk device ask) = CanGo ask
+AskGoes (IsRescind device after held) = Unit {0}
 AskGoes (IsShut device) = Unit {0}
 AskGoes IsPhase = Unit {0}
 
@@ -66,6 +69,7 @@ is_contact (IsBad device lba) = false
 is_contact (IsRingSize device pages) = false
 is_contact (IsWindow device size) = false
 is_contact (IsAsk device ask) = false
+is_contact (IsRescind device after held) = false
 is_contact (IsShut device) = false
 is_contact IsPhase = false
 
@@ -79,7 +83,7 @@ abbrev pub settings_first : List Line → Bool
 settings_first [] = true
 settings_first (l ∷ ls) = if is_settings l.what then settings_first ls else list_all (λ m. not (is_settings m.what)) ls
 
--- What every script has: each line is right among the devices that the script offers, at most 16 of them with 16 channels, and each request goes through its channel; settings stand first, and the versions before them all; a phase has at most 4,096 requests; a device is closed once at most
+-- What every script has: each line is right among the devices that the script offers, at most 16 of them with 16 channels, and each request goes through its channel; settings stand first, and the versions before them all; a phase has at most 4,096 requests; a device is rescinded once at most, and closed once at most
 pub record IsScript (lines : List Line) : Type 0 where
   pub right : AllRight (offered lines) lines
   pub go : AllGo lines
@@ -89,6 +93,7 @@ pub record IsScript (lines : List Line) : Type 0 where
   pub channels : channels lines ≤ 16
   pub short : length lines ≤ 20000
   pub asks : All (λ part. asks_in part ≤ 4096) (parts lines)
+  pub rescinded : (device : ℕ) → count_by (λ l. rescinds device l.what) lines ≤ 1
   pub closed : (device : ℕ) → count_by (λ l. shuts device l.what) lines ≤ 1
 
 -- a disk's blocks are in their range, where there are any
@@ -108,6 +113,7 @@ InRange (Window name size) = IfSome size (λ n. (1 ≤ n) × (n ≤ 64))
 InRange (Beat name seq) = Unit {0}
 InRange (Down name flags) = Unit {0}
 InRange (Command name ask) = AskInRange ask
+InRange (Rescind name after held) = IfSome after (λ n. (n ≤ 4096) × (held ≡ true → 1 ≤ n))
 InRange (Close name) = Unit {0}
 InRange Phase = Unit {0}
 
@@ -119,6 +125,7 @@ is_again before (IsBad device lba) = has_bad device lba before
 is_again before (IsRingSize device pages) = false
 is_again before (IsWindow device size) = false
 is_again before (IsAsk device ask) = false
+is_again before (IsRescind device after held) = false
 is_again before (IsShut device) = false
 is_again before IsPhase = false
 
@@ -132,5 +139,6 @@ pub record Fits (before : List Line) (what : What) : Type 0 where
   pub few : (spec : DeviceSpec) → offered_by what ≡ spec ∷ [] → channels before + channels_of spec ≤ 16
   pub new : (name : List ℕ) → named_by what ≡ name ∷ [] → device_of name before ≡ None
   pub asks : is_ask what ≡ true → asks_in (this_part before) < 4096
+  pub rescinded : (device : ℕ) → rescinds device what ≡ true → rescinded_in device before ≡ None
   pub closed : (device : ℕ) → shuts device what ≡ true → closed_in device before ≡ None
   pub short : length before < 20000

@@ -3,7 +3,7 @@ ghost use Rattle.std.specs.Prelude.{◌≡◌, ◌<◌, ◌≤◌, ◌++◌, ◌
 ghost use Rattle.std.specs.List.{list_all};
 ghost use Rattle.script_text.specs.declared.fault.ParseFault.TheVariants.{Memory};
 ghost use Rattle.script_lines.specs.Parts.{is_settings, asks_in, this_part, offered, channels, channels_of, has_bad, has_ring, has_window, device_of};
-ghost use Rattle.script_lines.specs.Faults.{is_first, is_closed_before, is_closed_here};
+ghost use Rattle.script_lines.specs.Faults.{is_first, is_over, is_now, is_ended_before, is_rescinded_here, is_closed_here};
 ghost use Rattle.script_lines.specs.WellFormed.{IsScript, Fits};
 
 use crate::bad_place::BadPlace;
@@ -22,6 +22,8 @@ pub struct Seen {
     pub ring: bool,
     /// It has a line on its window.
     pub window: bool,
+    /// The phase that rescinds it.
+    pub rescinded: Option<u32>,
     /// The phase that closes it.
     pub closed: Option<u32>,
 }
@@ -119,15 +121,21 @@ impl Draft {
         self.seen[device as usize].window
     }
 
-    /// Whether an earlier phase closed a device.
-    pub fn is_closed_before(&self, device: u32) -> bool
+    /// Whether an earlier phase rescinded or closed a device.
+    pub fn is_ended_before(&self, device: u32) -> bool
         requires { device < length (offered self.now) }
-        ensures { result ≡ is_closed_before self.now device }
+        ensures { result ≡ is_ended_before self.now device }
     {
-        match self.seen[device as usize].closed {
-            Some(phase) => phase < self.phase,
-            None => false,
-        }
+        let seen = self.seen[device as usize];
+        is_over(self.phase, seen.rescinded) || is_over(self.phase, seen.closed)
+    }
+
+    /// Whether the phase that goes on rescinds a device.
+    pub fn is_rescinded_here(&self, device: u32) -> bool
+        requires { device < length (offered self.now) }
+        ensures { result ≡ is_rescinded_here self.now device }
+    {
+        is_now(self.phase, self.seen[device as usize].rescinded)
     }
 
     /// Whether the phase that goes on closes a device.
@@ -135,10 +143,7 @@ impl Draft {
         requires { device < length (offered self.now) }
         ensures { result ≡ is_closed_here self.now device }
     {
-        match self.seen[device as usize].closed {
-            Some(phase) => phase == self.phase,
-            None => false,
-        }
+        is_now(self.phase, self.seen[device as usize].closed)
     }
 
     /// Whether no line with words was read.
@@ -206,6 +211,7 @@ impl Draft {
             spec,
             ring: false,
             window: false,
+            rescinded: None,
             closed: None,
         });
         self.channels += channels_of(spec);
@@ -274,6 +280,31 @@ impl Draft {
         Ok(())
     }
 
+    /// The rescind of a device.
+    pub fn push_rescind(
+        &mut self,
+        number: u32,
+        device: u32,
+        after: u32,
+        held: bool,
+    ) -> Result<(), ParseFault>
+        requires { Fits self.old (What.Rescind device after held) }
+        ensures ok { OnOk result (self.new ≡ self.old ++ record { number = number; what = What.Rescind device after held } ∷ []) }
+        ensures err { IfErr result (λ e. e ≡ Memory) }
+    {
+        self.lines.push(Line {
+            number,
+            what: What::Rescind {
+                device,
+                after,
+                held,
+            },
+        })?;
+        self.seen[device as usize].rescinded = Some(self.phase);
+        self.settings = false;
+        Ok(())
+    }
+
     /// The close of a device.
     pub fn push_shut(&mut self, number: u32, device: u32) -> Result<(), ParseFault>
         requires { Fits self.old (What.Shut device) }
@@ -303,6 +334,26 @@ impl Draft {
         self.asks = 0;
         self.settings = false;
         Ok(())
+    }
+}
+
+/// Whether a phase is over, where the phase `now` goes on.
+fn is_over(now: u32, phase: Option<u32>) -> bool
+    ensures { result ≡ is_over now phase }
+{
+    match phase {
+        Some(phase) => phase < now,
+        None => false,
+    }
+}
+
+/// Whether a phase is the one that goes on.
+fn is_now(now: u32, phase: Option<u32>) -> bool
+    ensures { result ≡ is_now now phase }
+{
+    match phase {
+        Some(phase) => phase == now,
+        None => false,
     }
 }
 

@@ -61,6 +61,10 @@ pub enum What {
     Window { device: u32, size: u32 },
     /// A device is asked.
     Ask { device: u32, ask: Ask },
+    /// A device is taken back at the end of this phase, for good. Each of its channels is served
+    /// `after` requests of the phase, or all where there are fewer; where it is `held`, the answer
+    /// to the last of so many does not go back.
+    Rescind { device: u32, after: u32, held: bool },
     /// A device is closed at the end of this phase, for good.
     Shut { device: u32 },
     /// The next phase begins.

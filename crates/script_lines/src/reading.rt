@@ -22,10 +22,11 @@ use util_ic::IcAsk;
 /// Reads a script, or finds its first wrong line and the first reason against it. `Form`: its
 /// words are no row of the table of lines, or a word has not its form. `Limit`: it is line 20,001,
 /// the 4,097th request of its phase, or the offer of a 17th channel. `Order`: it is a line of
-/// settings behind one of another kind, a `contact` behind another line, or closes what an earlier
-/// phase closed. `UnknownName`: its name was not offered before, or not as the kind of device that
-/// it takes. `Repeat`: it says what stands before already. `Range`: a value of it is out of range.
-/// The reasons come in this order. It answers `Memory` for want of memory alone.
+/// settings behind one of another kind, a `contact` behind another line, or rescinds or closes what
+/// an earlier phase rescinded or closed. `UnknownName`: its name was not offered before, or not as
+/// the kind of device that it takes. `Repeat`: it says what stands before already. `Range`: a value
+/// of it is out of range. The reasons come in this order. It answers `Memory` for want of memory
+/// alone.
 pub fn parse(alloc: Global, bytes: &[u8]) -> Result<Script, ParseFault>
     ensures { Parses (script_of bytes.now) result }
 {
@@ -89,6 +90,9 @@ fn push(draft: &mut Draft, number: u32, device: Option<u32>, said: Said) -> Resu
         Said::Beat(_, seq) => draft.push_ask(number, device, beat(seq)),
         Said::Down(_, flags) => draft.push_ask(number, device, down(flags)),
         Said::Command(_, ask) => draft.push_ask(number, device, Ask::Disk(request_of(ask))),
+        Said::Rescind(_, after, held) => {
+            draft.push_rescind(number, device, after.unwrap_or(0), held)
+        }
         Said::Close(_) => draft.push_shut(number, device),
         Said::Phase => draft.push_phase(number),
     }

@@ -2,7 +2,7 @@
 ghost use Rattle.std.specs.Prelude.{◌≡◌, ◌<◌, ◌≤◌, List, length, Option, Some, None, IfSome, slice_get, option_and_then, false};
 ghost use Rattle.std.specs.Option.{option_map_or};
 ghost use Rattle.script_lines.specs.Parts.{offered, blocks_at, has_ring, has_window};
-ghost use Rattle.script_lines.specs.Faults.{unless, device_said, says_settings, line_limit, ask_limit, has_room, count_limit, is_closed_before, own_order, order_fault, name_fault, is_closed_here, is_bad, repeat_fault, offers_in_range, is_block, asks_in_range, range_fault, row_fault};
+ghost use Rattle.script_lines.specs.Faults.{unless, device_said, says_settings, line_limit, ask_limit, has_room, count_limit, is_ended_before, own_order, order_fault, name_fault, is_rescinded_here, is_closed_here, is_bad, repeat_fault, offers_in_range, is_block, asks_in_range, range_fault, row_fault};
 
 use crate::DeviceSpec;
 use crate::disk_ask::DiskAsk;
@@ -30,6 +30,7 @@ pub fn device_said(before: &Draft, said: &Said) -> Option<u32>
         | Said::Beat(name, _)
         | Said::Down(name, _)
         | Said::Command(name, _)
+        | Said::Rescind(name, ..)
         | Said::Close(name) => before.device_of(name),
         Said::Nothing | Said::Contact(..) | Said::Phase => None,
     }
@@ -85,12 +86,12 @@ fn count_limit(before: &Draft, said: &Said) -> Option<Why6>
     }
 }
 
-fn is_closed_before(before: &Draft, device: Option<u32>) -> bool
+fn is_ended_before(before: &Draft, device: Option<u32>) -> bool
     requires { IfSome device (λ d. d < length (offered before.now)) }
-    ensures { result ≡ option_map_or (is_closed_before before.now) device false }
+    ensures { result ≡ option_map_or (is_ended_before before.now) device false }
 {
     match device {
-        Some(device) => before.is_closed_before(device),
+        Some(device) => before.is_ended_before(device),
         None => false,
     }
 }
@@ -101,7 +102,9 @@ fn own_order(before: &Draft, device: Option<u32>, said: &Said) -> Option<Why6>
 {
     match said {
         Said::Contact(..) => unless(before.is_first(), Why6::Order),
-        Said::Close(..) => unless(!is_closed_before(before, device), Why6::Order),
+        Said::Rescind(..) | Said::Close(..) => {
+            unless(!is_ended_before(before, device), Why6::Order)
+        }
         _ => None,
     }
 }
@@ -135,7 +138,7 @@ fn name_fault(before: &Draft, device: Option<u32>, said: &Said) -> Option<Why6>
         Said::Ring(..) | Said::Window(..) | Said::Close(..) => {
             unless(device.is_some(), Why6::UnknownName)
         }
-        Said::Bad(..) | Said::Command(..) => {
+        Said::Bad(..) | Said::Command(..) | Said::Rescind(..) => {
             let spec = spec_of(before, device);
             unless(
                 matches!(spec, Some(DeviceSpec::Disk { .. })),
@@ -184,6 +187,16 @@ fn has_window(before: &Draft, device: Option<u32>) -> bool
     }
 }
 
+fn is_rescinded_here(before: &Draft, device: Option<u32>) -> bool
+    requires { IfSome device (λ d. d < length (offered before.now)) }
+    ensures { result ≡ option_map_or (is_rescinded_here before.now) device false }
+{
+    match device {
+        Some(device) => before.is_rescinded_here(device),
+        None => false,
+    }
+}
+
 fn is_closed_here(before: &Draft, device: Option<u32>) -> bool
     requires { IfSome device (λ d. d < length (offered before.now)) }
     ensures { result ≡ option_map_or (is_closed_here before.now) device false }
@@ -203,6 +216,7 @@ fn repeat_fault(before: &Draft, device: Option<u32>, said: &Said) -> Option<Why6
         Said::Bad(_, lba) => unless(!is_bad(before, device, *lba), Why6::Repeat),
         Said::Ring(..) => unless(!has_ring(before, device), Why6::Repeat),
         Said::Window(..) => unless(!has_window(before, device), Why6::Repeat),
+        Said::Rescind(..) => unless(!is_rescinded_here(before, device), Why6::Repeat),
         Said::Close(..) => unless(!is_closed_here(before, device), Why6::Repeat),
         _ => None,
     }
@@ -260,9 +274,10 @@ fn range_fault(before: &Draft, device: Option<u32>, said: &Said) -> Option<Why6>
         Said::Contact(guest, host) => unless(guest.is_some() && host.is_some(), Why6::Range),
         Said::Offer(_, offering) => unless(offers_in_range(*offering), Why6::Range),
         Said::Bad(_, lba) => unless(is_block(before, device, *lba), Why6::Range),
-        Said::Ring(_, number) | Said::Window(_, number) | Said::Down(_, number) => {
-            unless(number.is_some(), Why6::Range)
-        }
+        Said::Ring(_, number)
+        | Said::Window(_, number)
+        | Said::Down(_, number)
+        | Said::Rescind(_, number, _) => unless(number.is_some(), Why6::Range),
         Said::Beat(_, seq) => unless(seq.is_some(), Why6::Range),
         Said::Command(_, ask) => unless(asks_in_range(*ask), Why6::Range),
         _ => None,

@@ -1,11 +1,11 @@
 //! The rows of the table of lines.
-ghost use Rattle.std.specs.Prelude.{◌≡◌, ◌<◌, ◌≤◌, [], List, length, Option, Some, None, IfSome};
+ghost use Rattle.std.specs.Prelude.{◌≡◌, ◌<◌, ◌≤◌, true, [], List, length, Option, Some, None, IfSome};
 ghost use Rattle.std.specs.List.{list_all};
 ghost use Rattle.std.specs.Option.{option_map};
 ghost use Rattle.script_text.specs.Words.{words};
 ghost use Rattle.script_lines.specs.WellFormed.{InRange};
 ghost use Rattle.script_lines.specs.Requests.{AskInRange};
-ghost use Rattle.script_lines.specs.Rows.{is_printable, said_in, said_by, begins_comment, row_of, disk_row, name_alone, name_and_number, name_and_two, contact_row, offer_row, disk_offer, bad_row, plain_command, read_row, write_row, ring_row, window_row, beat_row, down_row, close_row, phase_row};
+ghost use Rattle.script_lines.specs.Rows.{is_printable, said_in, said_by, begins_comment, row_of, disk_row, name_alone, name_and_number, name_and_two, contact_row, offer_row, disk_offer, bad_row, plain_command, read_row, write_row, ring_row, window_row, beat_row, down_row, held_row, after_in, rescind_row, close_row, phase_row};
 
 use crate::disk_ask::DiskAsk;
 use crate::offering::Offering;
@@ -75,6 +75,8 @@ fn row_of(key: &[u8], rest: &[u8]) -> Option<Said>
         beat_row(rest)
     } else if key == b"down".as_slice() {
         down_row(rest)
+    } else if key == b"rescind".as_slice() {
+        rescind_row(rest)
     } else if key == b"close".as_slice() {
         close_row(rest)
     } else if key == b"phase".as_slice() {
@@ -279,6 +281,48 @@ fn write_row(rest: &[u8]) -> Option<Said>
         }
         None => None,
         Some(_) => None,
+    }
+}
+
+/// Whether the last answer is held: nothing, or the word `held`, stands behind the number.
+fn held_row(rest: &[u8]) -> Option<bool>
+    ensures { result ≡ held_row (words rest.now) }
+{
+    match first_word(rest) {
+        None => Some(false),
+        Some((word, rest)) => match first_word(rest) {
+            None if word == b"held".as_slice() => Some(true),
+            None => None,
+            Some(_) => None,
+        },
+    }
+}
+
+/// How many requests a channel serves: 0 to 4,096, and 1 at least where the last answer is held.
+fn after_in(held: bool, number: Option<u64>) -> Option<u32>
+    ensures after { result ≡ after_in held number }
+    ensures range { IfSome result (λ n. (n ≤ 4096) × (held ≡ true → 1 ≤ n)) }
+{
+    if held {
+        within(1, 4096, number)
+    } else {
+        within(0, 4096, number)
+    }
+}
+
+fn rescind_row(rest: &[u8]) -> Option<Said>
+    ensures said { result ≡ rescind_row (words rest.now) }
+    ensures range { IfSome result InRange }
+{
+    let (name, rest) = first_word(rest)?;
+    let (word, rest) = first_word(rest)?;
+    let (number, rest) = first_word(rest)?;
+    if is_name(name) && word == b"after".as_slice() && is_decimal(number) {
+        let held = held_row(rest)?;
+        let after = after_in(held, number_of(number));
+        Some(Said::Rescind(Name::of(name), after, held))
+    } else {
+        None
     }
 }
 

@@ -26,6 +26,8 @@ pub enum Said {
     Down(Name, Option<u32>),
     /// It gives a disk a command.
     Command(Name, DiskAsk),
+    /// It rescinds a device after so many requests, and the last one's answer is held or not.
+    Rescind(Name, Option<u32>, bool),
     /// It closes a device.
     Close(Name),
     /// It begins the next phase.

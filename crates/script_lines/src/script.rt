@@ -26,7 +26,7 @@ impl Model for Script {
 impl Script {
     /// The lines with words, in order. Each is right among the devices that the script offers, at
     /// most 16 of them; settings stand first, a phase has at most 4,096 requests, and a device is
-    /// closed at most once.
+    /// rescinded at most once, and closed at most once.
     pub fn lines(&self) -> &[Line]
         ensures lines { result.now ≡ self.now }
         ensures script { IsScript self.now }

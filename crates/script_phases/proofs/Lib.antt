@@ -1,3 +1,5 @@
 pub mod Dealing
 pub mod Seating
 pub mod Following
+pub mod Saying
+pub mod NoSubs

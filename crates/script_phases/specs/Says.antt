@@ -4,10 +4,9 @@ use Rattle.std.specs.List.{flat_map, list_any}
 use Rattle.script_lines.specs.declared.line.Ask.{Ask}
 use Rattle.script_lines.specs.declared.line.Line.{Line}
 use Rattle.script_lines.specs.declared.line.What.{What}
-use Rattle.script_lines.specs.declared.line.What.TheVariants.{Contact as IsContact, Offer as IsOffer, Bad as IsBad, RingSize as IsRingSize, Window as IsWindow, Ask as IsAsk, Shut as IsShut, Phase as IsPhase}
+use Rattle.script_lines.specs.declared.line.What.TheVariants.{Contact as IsContact, Offer as IsOffer, Bad as IsBad, RingSize as IsRingSize, Window as IsWindow, Ask as IsAsk, Rescind as IsRescind, Shut as IsShut, Phase as IsPhase}
 
--- what is said to a device: a request; that its service stops after so many, the answer to the last one held or not, for its channel is rescinded (no
--- line says that yet); that it is closed
+-- what is said to a device: a request; that its service stops after so many, the answer to the last one held or not, for it is rescinded; that it is closed
 pub data Says : Type 0 where
   Asks : Ask → Says
   Rescinds : ℕ → Bool → Says
@@ -21,6 +20,7 @@ said (IsBad device lba) = None
 said (IsRingSize device pages) = None
 said (IsWindow device size) = None
 said (IsAsk device ask) = Some (device, Asks ask)
+said (IsRescind device after held) = Some (device, Rescinds after held)
 said (IsShut device) = Some (device, Shuts)
 said IsPhase = None
 

@@ -163,6 +163,18 @@ fn same(a: &What, b: &What) -> bool {
         (What::Ask { device, ask }, What::Ask { device: d, ask: a }) => {
             device == d && same_ask(ask, a)
         }
+        (
+            What::Rescind {
+                device,
+                after,
+                held,
+            },
+            What::Rescind {
+                device: d,
+                after: a,
+                held: h,
+            },
+        ) => { device == d && after == a && held == h }
         (What::Shut { device }, What::Shut { device: d }) => device == d,
         (What::Phase, What::Phase) => true,
         _ => false,
@@ -196,7 +208,7 @@ fn accepts(rt: HostRuntime) {
 }
 
 // Scripts with a line that has no form, and that line.
-const NO_FORM: [(&[u8], u32); 21] = [
+const NO_FORM: [(&[u8], u32); 20] = [
     (b"beat hb 007\n", 1),
     (b"offer hb hb\nbeat hb 007\n", 2),
     (b"offer hb h\nbeat h 100000000000000000000\n", 2),
@@ -217,7 +229,6 @@ const NO_FORM: [(&[u8], u32); 21] = [
     (b"contact 5.2 5.2 5.2\n", 1),
     (b"phase 1\n", 1),
     (b"close\n", 1),
-    (b"offer hb h\nrescind h after 1\n", 2),
 ];
 
 #[test]
@@ -272,7 +283,7 @@ fn refuses_others(rt: HostRuntime) {
 }
 
 // The head, a piece so many times, and the end.
-fn repeated(
+pub fn repeated(
     rt: &(impl Abort + AllocGlobal),
     head: &[u8],
     piece: &[u8],

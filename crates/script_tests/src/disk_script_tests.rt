@@ -87,11 +87,10 @@ fn accepts_disks(rt: HostRuntime) {
     check_accepted(&rt, &ACCEPTED);
 }
 
-const NO_FORM: [(&[u8], u32); 15] = [
+const NO_FORM: [(&[u8], u32); 14] = [
     (b"offer disk d 64\n", 1),
     (b"offer disk d 64 0 0\n", 1),
     (b"offer disk d 064 0\n", 1),
-    (b"offer disk d 64 0\nrescind d after 0 held\n", 2),
     (b"read d 0\n", 1),
     (b"read d 0 1 5a\n", 1),
     (b"write d 0 1\n", 1),

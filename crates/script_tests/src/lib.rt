@@ -7,3 +7,5 @@ mod bus_script_tests;
 mod check;
 #[cfg(test)]
 mod disk_script_tests;
+#[cfg(test)]
+mod rescind_script_tests;

@@ -1,7 +1,7 @@
 use Rattle.std.proofs.Common.{◌≡◌, None, subst}
 use Rattle.script_lines.specs.Faults.{device_said, row_fault}
 use Rattle.script_lines.specs.WellFormed.{InRange}
-use Rattle.script_lines.proofs.Fitting.{fits_offer, fits_bad, fits_ring, fits_window, fits_beat, fits_down, fits_command, fits_close, fits_phase}
+use Rattle.script_lines.proofs.Fitting.{fits_offer, fits_bad, fits_ring, fits_window, fits_beat, fits_down, fits_command, fits_rescind, fits_close, fits_phase}
 use Rattle.script_lines.proofs.reading.push.Goals as goal
 
 pub push_ring-requires : goal.push_ring-requires
@@ -23,6 +23,11 @@ pub push_ask-requires-in-Down : goal.push_ask-requires-in-Down
 push_ask-requires-in-Down c =
     rw (c.unwrap_or-device.ensures, c.down.ensures) (fits_down c.args.number c.args.draft.now c.requires.behind c.in-Down.field-0 c.in-Down.flags c.args.device
     (subst (λ s. row_fault c.args.number c.args.draft.now c.args.device s ≡ None) c.in-Down.is c.requires.right))
+
+pub push_rescind-requires : goal.push_rescind-requires
+push_rescind-requires c =
+    rw (c.unwrap_or-device.ensures, c.unwrap_or-in-Rescind.ensures) (fits_rescind c.args.number c.args.draft.now c.requires.behind c.in-Rescind.field-0 c.in-Rescind.after c.in-Rescind.held c.args.device
+    (subst (λ s. row_fault c.args.number c.args.draft.now c.args.device s ≡ None) c.in-Rescind.is c.requires.right) (subst InRange c.in-Rescind.is c.requires.range))
 
 pub push_shut-requires : goal.push_shut-requires
 push_shut-requires c =
