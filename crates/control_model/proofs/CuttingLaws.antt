@@ -6,9 +6,9 @@ use Rattle.std.proofs.lemmas.Bool.Decides.{nat_tests}
 use Rattle.std.specs.List.{onto_first, list_any}
 use Rattle.script_lines.specs.declared.line.Line.{Line}
 use Rattle.script_lines.specs.declared.line.What.{What}
-use Rattle.script_lines.specs.declared.line.What.TheVariants.{Contact as IsContact, Offer as IsOffer, Bad as IsBad, RingSize as IsRingSize, Window as IsWindow, Ask as IsAsk, Shut as IsShut, Phase as IsPhase}
-use Rattle.script_lines.specs.Parts.{parts, ends_part, is_phase, shuts}
-use Rattle.control_model.specs.Dealing.{rest_of}
+use Rattle.script_lines.specs.declared.line.What.TheVariants.{Contact as IsContact, Offer as IsOffer, Bad as IsBad, RingSize as IsRingSize, Window as IsWindow, Ask as IsAsk, Rescind as IsRescind, Shut as IsShut, Phase as IsPhase}
+use Rattle.script_lines.specs.Parts.{parts, ends_part, is_phase}
+use Rattle.control_model.specs.Dealing.{ends, rest_of}
 
 -- lines before the first phase
 abbrev pub ahead : List Line → List (List Line) → List (List Line)
@@ -79,26 +79,27 @@ cut_last lines start i from last so_far =
     within_is lines start (omega (arith, from, last)) ∙ so_far ∙ ap (λ l. ahead (slice_range lines start i) (parts l)) over
     ∙ ap (λ r. r ∷ []) (append-nil (slice_range lines start i)) ∙ ap (λ s. slice_range lines start i ∷ s) (sym none)
 
--- a line that begins a phase closes nothing
-phase_shuts : (device : ℕ) (what : What) → is_phase what ≡ true → shuts device what ≡ false
-phase_shuts device (IsContact guest host) e = refl
-phase_shuts device (IsOffer name spec) e = refl
-phase_shuts device (IsBad d lba) e = refl
-phase_shuts device (IsRingSize d pages) e = refl
-phase_shuts device (IsWindow d size) e = refl
-phase_shuts device (IsAsk d ask) e = refl
-phase_shuts device (IsShut d) e = absurd (let wrong : false ≡ true = e in cc)
-phase_shuts device IsPhase e = refl
+-- a line that begins a phase ends nothing
+phase_ends : (device : ℕ) (what : What) → is_phase what ≡ true → ends device what ≡ false
+phase_ends device (IsContact guest host) e = refl
+phase_ends device (IsOffer name spec) e = refl
+phase_ends device (IsBad d lba) e = refl
+phase_ends device (IsRingSize d pages) e = refl
+phase_ends device (IsWindow d size) e = refl
+phase_ends device (IsAsk d ask) e = refl
+phase_ends device (IsRescind d after held) e = absurd (let wrong : false ≡ true = e in cc)
+phase_ends device (IsShut d) e = absurd (let wrong : false ≡ true = e in cc)
+phase_ends device IsPhase e = refl
 
 or_none : (a b : Bool) → b ≡ false → (a || b) ≡ a
 or_none true b e = refl
 or_none false b e = e
 
-pub shut_here : (lines : List Line) (i : ℕ) (d : Line) (device : ℕ) → i < length lines → is_phase (get_or lines i d).what ≡ true
-    → list_any (λ l. shuts device l.what) (take (i + 1) lines) ≡ list_any (λ l. shuts device l.what) (take i lines)
-shut_here lines i d device in_lines phase =
-    list_any_more (λ l. shuts device l.what) lines i d in_lines
-    ∙ or_none (list_any (λ l. shuts device l.what) (take i lines)) (shuts device (get_or lines i d).what) (phase_shuts device (get_or lines i d).what phase)
+pub end_here : (lines : List Line) (i : ℕ) (d : Line) (device : ℕ) → i < length lines → is_phase (get_or lines i d).what ≡ true
+    → list_any (λ l. ends device l.what) (take (i + 1) lines) ≡ list_any (λ l. ends device l.what) (take i lines)
+end_here lines i d device in_lines phase =
+    list_any_more (λ l. ends device l.what) lines i d in_lines
+    ∙ or_none (list_any (λ l. ends device l.what) (take i lines)) (ends device (get_or lines i d).what) (phase_ends device (get_or lines i d).what phase)
 
 -- at the start of a phase
 pub at_start : (lines : List Line) (start : ℕ) → parts (drop start lines) ≡ ahead (slice_range lines start start) (parts (drop start lines))

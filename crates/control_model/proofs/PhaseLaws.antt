@@ -1,18 +1,22 @@
 -- The openings of all phases, one phase after the other.
-use Rattle.std.proofs.Common.{◌≡◌, ◌∙◌, ℕ, zero, suc, ◌+◌, ◌-◌, ◌<◌, ◌≤◌, Bool, true, false, cond, not, ◌&&◌, ◌||◌, nat_lt, List, [], ◌∷◌, ◌++◌, length, map, filter, take, drop, get_or, slice_range, Some, None, refl, sym, ap, arith, append_assoc}
+use Rattle.std.proofs.Common.{◌≡◌, ◌∙◌, ℕ, zero, suc, ◌+◌, ◌-◌, ◌<◌, ◌≤◌, Bool, true, false, cond, not, ◌&&◌, ◌||◌, nat_lt, nat_le, List, [], ◌∷◌, ◌++◌, length, map, filter, take, drop, get_or, slice_range, Some, None, refl, sym, ap, arith, append_assoc}
 use Rattle.std.proofs.lemmas.List.{take-take, drop-take, take-append-drop}
 use Rattle.std.proofs.lemmas.List.FromFn.{get_or-map-range_with_len}
 use Rattle.std.proofs.lemmas.List.Folds.{list_any-append}
 use Rattle.std.proofs.lemmas.Bool.Decides.{nat_tests}
-use Rattle.std.specs.List.{list_any, position, position_or_len, range_with_len}
+use Rattle.std.specs.List.{AllByRecursion, list_any, position, position_or_len, range_with_len}
 use Rattle.script_lines.specs.declared.line.Line.{Line}
-use Rattle.script_lines.specs.Parts.{parts, shuts}
+use Rattle.script_lines.specs.Parts.{parts, offered}
+use Rattle.script_phases.specs.Says.{is_rescinded}
+use Rattle.script_phases.specs.Openings.{Opening as PhaseOpening, Phase, is_opened, subs_of, opened_from, others, phases, phases_from}
+use Rattle.script_phases.proofs.Saying.{rescind_same, opened_by_lines}
 use Rattle.control_model.specs.declared.opening.Opening.{Opening}
 use Rattle.control_model.specs.declared.planning.Next.{Next}
 use Rattle.control_model.specs.declared.planning.Served.{Served}
 use Rattle.control_model.specs.Plan.{first_gpadl}
-use Rattle.control_model.specs.Openings.{is_opened, devices_by_phase, openings_from, pages_in, numbered, wants_open}
-use Rattle.control_model.specs.Dealing.{served_of, is_closed, opens, opens_one, size_in, no_device, rest_of}
+use Rattle.control_model.specs.Openings.{openings_from, pages_in, numbered}
+use Rattle.control_model.specs.Dealing.{served_of, speaks_to, first_channel, ends, ended_before, rescinded_in, opens, opens_one, size_in, no_device, rest_of}
+use Rattle.control_model.proofs.FirstLaws.{OpenAs, open_firsts}
 
 -- a test that passes among the first n, by the place of the first one that passes
 and_none : (a b : Bool) → b ≡ false → (a && b) ≡ false
@@ -38,13 +42,13 @@ any_take p (x ∷ xs) zero =
     sym (and_none (nat_lt (position_or_len p (x ∷ xs)) (length (x ∷ xs))) (nat_lt (position_or_len p (x ∷ xs)) 0) (let none : nat_lt (position_or_len p (x ∷ xs)) 0 ≡ false = grind (arith, nat_tests) in none))
 any_take p (x ∷ xs) (suc n) = any_on (p x) (list_any p (take n xs)) (position_or_len p xs) (length xs) n (any_take p xs n)
 
-closed_by : (k len n : ℕ) (b : Bool) → nat_lt k len ≡ b → is_closed (cond b (Some k) None) n ≡ (b && nat_lt k n)
-closed_by k len n true e = refl
-closed_by k len n false e = refl
+ended_by : (k len n : ℕ) (b : Bool) → nat_lt k len ≡ b → ended_before (cond b (Some k) None) n ≡ (b && nat_lt k n)
+ended_by k len n true e = refl
+ended_by k len n false e = refl
 
--- a device was closed by an earlier line
-closed_is : (p : Line → Bool) (lines : List Line) (n : ℕ) → is_closed (position p lines) n ≡ list_any p (take n lines)
-closed_is p lines n = closed_by (position_or_len p lines) (length lines) n (nat_lt (position_or_len p lines) (length lines)) refl ∙ sym (any_take p lines n)
+-- a device was ended by an earlier line
+ended_is : (p : Line → Bool) (lines : List Line) (n : ℕ) → ended_before (position p lines) n ≡ list_any p (take n lines)
+ended_is p lines n = ended_by (position_or_len p lines) (length lines) n (nat_lt (position_or_len p lines) (length lines)) refl ∙ sym (any_take p lines n)
 
 -- two tests that answer alike below a number
 same_chosen : (p q : ℕ → Bool) (a n : ℕ) → ((k : ℕ) → k < a + n → p k ≡ q k) → filter p (range_with_len a n) ≡ filter q (range_with_len a n)
@@ -54,21 +58,40 @@ same_chosen p q a (suc n) same =
     let here = same a (omega arith) in
     ap (λ b. cond b (a ∷ filter p (range_with_len (a + 1) n)) (filter p (range_with_len (a + 1) n))) here ∙ ap (λ l. cond (q a) (a ∷ l) l) rest
 
+-- the phases that are left
+abbrev pub left : List Line → ℕ → ℕ → ℕ → List Line → List Phase
+left lines start number next earlier = phases_from (offered lines) number next earlier (rest_of lines start)
+
 -- what was made so far, and what is left
 pub record SoFar (lines : List Line) (devices : List Served) (start : ℕ) (made : List (List Opening)) (next : Next) : Type 0 where
+  pub number : ℕ
+  pub relid : ℕ
   pub earlier : List Line
-  pub all : numbered (size_in devices) first_gpadl 0 (devices_by_phase (length devices) [] (parts lines)) ≡ made ++ numbered (size_in devices) next.gpadl next.page (devices_by_phase (length devices) earlier (rest_of lines start))
-  pub closed : (device : ℕ) → list_any (λ l. shuts device l.what) earlier ≡ list_any (λ l. shuts device l.what) (take start lines)
+  pub all : numbered (size_in devices) first_gpadl 0 (phases lines) ≡ made ++ numbered (size_in devices) next.gpadl next.page (left lines start number relid earlier)
+  pub ended : (device : ℕ) → list_any (λ l. ends device l.what) earlier ≡ list_any (λ l. ends device l.what) (take start lines)
+
+pub none_so_far : (lines : List Line) (devices : List Served) (made : List (List Opening)) → made ≡ [] → SoFar lines devices 0 made (record { gpadl = first_gpadl; page = 0 })
+none_so_far lines devices made none =
+    let yes : nat_le 0 (length lines) ≡ true = grind (arith, nat_tests) in
+    let whole : rest_of lines 0 ≡ parts lines = rw yes refl in
+    record {
+      number = 0;
+      relid = length (offered lines) + 1;
+      earlier = [];
+      all = ap (λ r. numbered (size_in devices) first_gpadl 0 (phases_from (offered lines) 0 (length (offered lines) + 1) [] r)) (sym whole)
+          ∙ ap (λ l. l ++ numbered (size_in devices) first_gpadl 0 (left lines 0 0 (length (offered lines) + 1) [])) (sym none);
+      ended = λ device. refl;
+    }
 
 -- the devices that are opened are those that the definition says
-opened_same : (lines part earlier : List Line) (devices : List Served) (start : ℕ) → devices ≡ map (served_of lines) (range_with_len 0 (length devices)) → ((device : ℕ) → list_any (λ l. shuts device l.what) earlier ≡ list_any (λ l. shuts device l.what) (take start lines))
+opened_same : (lines part earlier : List Line) (devices : List Served) (start : ℕ) → devices ≡ map (served_of lines) (range_with_len 0 (length devices)) → ((device : ℕ) → list_any (λ l. ends device l.what) earlier ≡ list_any (λ l. ends device l.what) (take start lines))
     → filter (opens devices part start) (range_with_len 0 (length devices)) ≡ filter (is_opened earlier part) (range_with_len 0 (length devices))
-opened_same lines part earlier devices start table closed =
+opened_same lines part earlier devices start table ended =
     same_chosen (opens devices part start) (is_opened earlier part) 0 (length devices) (λ k few.
     let n = length devices in
     let item : get_or devices k no_device ≡ served_of lines k = ap (λ (ds : List Served). get_or ds k no_device) table ∙ get_or-map-range_with_len (served_of lines) 0 n k k no_device (omega (arith, few)) (omega arith) in
     ap (λ (d : Served). opens_one part start d k) item
-    ∙ ap (λ b. not b && list_any (λ l. wants_open k l.what) part) (closed_is (λ l. shuts k l.what) lines start ∙ sym (closed k)))
+    ∙ (ap (λ b. not b && list_any (λ l. speaks_to k l.what) part) (ended_is (λ l. ends k l.what) lines start ∙ sym (ended k)) ∙ sym (opened_by_lines k earlier part)))
 
 range_join : (lines : List Line) (start end : ℕ) → start ≤ end → take end lines ≡ take start lines ++ slice_range lines start end
 range_join lines start end from =
@@ -79,33 +102,42 @@ range_join lines start end from =
 
 -- one phase more
 pub phase_on : (lines : List Line) (devices : List Served) (start end : ℕ) (made : List (List Opening)) (next next' : Next) (os : List Opening)
+    → length devices ≡ length (offered lines) → AllByRecursion (λ spec. subs_of spec ≡ 0) (offered lines)
     → devices ≡ map (served_of lines) (range_with_len 0 (length devices)) → SoFar lines devices start made next → start ≤ end
     → rest_of lines start ≡ slice_range lines start end ∷ rest_of lines (end + 1)
-    → ((device : ℕ) → list_any (λ l. shuts device l.what) (take (end + 1) lines) ≡ list_any (λ l. shuts device l.what) (take end lines))
-    → os ≡ openings_from (size_in devices) next.gpadl next.page (filter (opens devices (slice_range lines start end) start) (range_with_len 0 (length devices)))
+    → ((device : ℕ) → list_any (λ l. ends device l.what) (take (end + 1) lines) ≡ list_any (λ l. ends device l.what) (take end lines))
+    → os ≡ openings_from (size_in devices) (rescinded_in (slice_range lines start end)) next.gpadl next.page (map first_channel (filter (opens devices (slice_range lines start end) start) (range_with_len 0 (length devices))))
     → next'.gpadl ≡ next.gpadl + length (filter (opens devices (slice_range lines start end) start) (range_with_len 0 (length devices)))
-    → next'.page ≡ next.page + pages_in (size_in devices) (filter (opens devices (slice_range lines start end) start) (range_with_len 0 (length devices)))
+    → next'.page ≡ next.page + pages_in (size_in devices) (map first_channel (filter (opens devices (slice_range lines start end) start) (range_with_len 0 (length devices))))
     → SoFar lines devices (end + 1) (made ++ os ∷ []) next'
-phase_on lines devices start end made next next' os table so_far from cut shut is gpadl page =
+phase_on lines devices start end made next next' os count none table so_far from cut end_is is gpadl page =
     let S = size_in devices in
-    let n = length devices in
+    let specs = offered lines in
     let part = slice_range lines start end in
-    let coded = filter (opens devices part start) (range_with_len 0 n) in
-    let meant = filter (is_opened so_far.earlier part) (range_with_len 0 n) in
-    let same : coded ≡ meant = opened_same lines part so_far.earlier devices start table so_far.closed in
-    let rest : List (List ℕ) = devices_by_phase n (so_far.earlier ++ part) (rest_of lines (end + 1)) in
-    let one : openings_from S next.gpadl next.page meant ≡ os = ap (openings_from S next.gpadl next.page) (sym same) ∙ sym is in
-    let g : next.gpadl + length meant ≡ next'.gpadl = ap (λ (l : List ℕ). next.gpadl + length l) (sym same) ∙ sym gpadl in
-    let p : next.page + pages_in S meant ≡ next'.page = ap (λ (l : List ℕ). next.page + pages_in S l) (sym same) ∙ sym page in
-    let left : numbered S next.gpadl next.page (devices_by_phase n so_far.earlier (rest_of lines start)) ≡ os ∷ numbered S next'.gpadl next'.page rest =
-    ap (λ r. numbered S next.gpadl next.page (devices_by_phase n so_far.earlier r)) cut
-    ∙ ap (λ o. o ∷ numbered S (next.gpadl + length meant) (next.page + pages_in S meant) rest) one
-    ∙ ap (λ k. os ∷ numbered S k (next.page + pages_in S meant) rest) g ∙ ap (λ k. os ∷ numbered S next'.gpadl k rest) p in
+    let coded = filter (opens devices part start) (range_with_len 0 (length devices)) in
+    let meant = filter (is_opened so_far.earlier part) (range_with_len 0 (length specs)) in
+    let same : meant ≡ coded = ap (λ n. filter (is_opened so_far.earlier part) (range_with_len 0 n)) (sym count) ∙ sym (opened_same lines part so_far.earlier devices start table so_far.ended) in
+    let channels : List PhaseOpening = opened_from (is_opened so_far.earlier part) 0 so_far.relid specs in
+    let firsts : OpenAs channels meant = open_firsts (is_opened so_far.earlier part) so_far.relid specs none in
+    let relid : ℕ = so_far.relid + length (others channels) in
+    let rest : List Phase = left lines (end + 1) (so_far.number + 1) relid (so_far.earlier ++ part) in
+    let coded_gone : ℕ → Bool = rescinded_in part in
+    let meant_gone : ℕ → Bool = λ device. is_rescinded device part in
+    let gone : openings_from S meant_gone next.gpadl next.page channels ≡ openings_from S coded_gone next.gpadl next.page channels = (λ i. openings_from S (λ device. rescind_same device part i) next.gpadl next.page channels) in
+    let one : openings_from S meant_gone next.gpadl next.page channels ≡ os = gone ∙ (firsts.openings S coded_gone next.gpadl next.page ∙ (ap (λ (l : List ℕ). openings_from S coded_gone next.gpadl next.page (map first_channel l)) same ∙ sym is)) in
+    let g : next.gpadl + length channels ≡ next'.gpadl = ap (λ k. next.gpadl + k) (firsts.count ∙ ap length same) ∙ sym gpadl in
+    let p : next.page + pages_in S channels ≡ next'.page = ap (λ k. next.page + k) (firsts.pages S ∙ ap (λ (l : List ℕ). pages_in S (map first_channel l)) same) ∙ sym page in
+    let here : numbered S next.gpadl next.page (left lines start so_far.number so_far.relid so_far.earlier) ≡ os ∷ numbered S next'.gpadl next'.page rest =
+    ap (λ r. numbered S next.gpadl next.page (phases_from specs so_far.number so_far.relid so_far.earlier r)) cut
+    ∙ (ap (λ o. o ∷ numbered S (next.gpadl + length channels) (next.page + pages_in S channels) rest) one
+    ∙ (ap (λ k. os ∷ numbered S k (next.page + pages_in S channels) rest) g ∙ ap (λ k. os ∷ numbered S next'.gpadl k rest) p)) in
     record {
+      number = so_far.number + 1;
+      relid = relid;
       earlier = so_far.earlier ++ part;
-      all = so_far.all ∙ ap (λ l. made ++ l) left ∙ sym (append_assoc made (os ∷ []) (numbered S next'.gpadl next'.page rest));
-      closed = λ device.
-          let P : Line → Bool = λ l. shuts device l.what in
-          list_any-append P so_far.earlier part ∙ ap (λ b. b || list_any P part) (so_far.closed device) ∙ sym (list_any-append P (take start lines) part)
-          ∙ ap (list_any P) (sym (range_join lines start end from)) ∙ sym (shut device);
+      all = so_far.all ∙ (ap (λ l. made ++ l) here ∙ sym (append_assoc made (os ∷ []) (numbered S next'.gpadl next'.page rest)));
+      ended = λ device.
+          let P : Line → Bool = λ l. ends device l.what in
+          list_any-append P so_far.earlier part ∙ ap (λ b. b || list_any P part) (so_far.ended device) ∙ sym (list_any-append P (take start lines) part)
+          ∙ ap (list_any P) (sym (range_join lines start end from)) ∙ sym (end_is device);
     }

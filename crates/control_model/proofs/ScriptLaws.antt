@@ -1,23 +1,29 @@
 -- The plan of a script is one.
-use Rattle.std.proofs.Common.{◌≡◌, ◌∙◌, ℕ, zero, suc, ◌+◌, ◌*◌, ◌^◌, ◌<◌, ◌≤◌, ◌==◌, Bool, true, false, cond, All, List, [], ◌∷◌, ◌++◌, length, map, filter, get_or, slice_index_or, refl, sym, ap, subst, arith}
+use Rattle.std.proofs.Common.{◌≡◌, ◌∙◌, ℕ, zero, suc, ◌+◌, ◌*◌, ◌^◌, ◌<◌, ◌≤◌, ◌==◌, Bool, true, false, cond, not, ◌&&◌, ◌||◌, is_some, slice_get, All, List, [], ◌∷◌, ◌++◌, length, map, filter, get_or, slice_index_or, refl, sym, ap, subst, arith}
 use Rattle.std.proofs.lemmas.List.{length-map}
 use Rattle.std.proofs.lemmas.List.Elements.{All-nil, All-cons}
-use Rattle.std.specs.List.{flat_map, onto_first, range_with_len, AllByRecursion}
+use Rattle.std.proofs.lemmas.Grind.{flat_map-append}
+use Rattle.std.proofs.lemmas.List.Folds.{list_any-append}
+use Rattle.std.specs.List.{flat_map, list_any, onto_first, range_with_len, AllByRecursion}
 use Rattle.contact.specs.declared.kind.Kind.{Kind}
 use Rattle.contact.specs.declared.version.Version.{Version}
 use Rattle.contact.specs.Versions.{IsVersion}
 use Rattle.script_lines.specs.declared.line.Line.{Line}
 use Rattle.script_lines.specs.declared.line.What.{What}
-use Rattle.script_lines.specs.declared.line.What.TheVariants.{Contact as IsContact, Offer as IsOffer, Bad as IsBad, RingSize as IsRingSize, Window as IsWindow, Ask as IsAsk, Shut as IsShut, Phase as IsPhase}
+use Rattle.script_lines.specs.declared.line.What.TheVariants.{Contact as IsContact, Offer as IsOffer, Bad as IsBad, RingSize as IsRingSize, Window as IsWindow, Ask as IsAsk, Rescind as IsRescind, Shut as IsShut, Phase as IsPhase}
 use Rattle.script_lines.specs.declared.line.DeviceSpec.{DeviceSpec}
 use Rattle.script_lines.specs.Parts.{parts, ends_part, offered, kind_of, ring_pages_of, pages_by}
 use Rattle.script_lines.specs.WellFormed.{IsRight, AllRight, IsScript}
+use Rattle.script_phases.specs.Says.{rescinds, heard_by, said, said_to, is_rescinded, is_shut}
+use Rattle.script_phases.specs.Openings.{Opening as PhaseOpening, Phase, is_ended, is_opened, subs_of, opened_from, others, phases as phases_of, phases_from}
+use Rattle.script_phases.proofs.NoSubs.{is_script_no_subs}
 use Rattle.std.proofs.lemmas.List.FromFn.{get_or-map-range_with_len, length-map-range_with_len}
 use Rattle.control_model.specs.declared.planning.Served.{Served}
-use Rattle.control_model.specs.Dealing.{served_of, size_in, no_device, HasSizes}
+use Rattle.control_model.specs.Dealing.{served_of, first_channel, size_in, no_device, HasSizes}
 use Rattle.control_model.specs.declared.opening.Opening.{Opening}
-use Rattle.control_model.specs.Plan.{BusPlan, IsPlan, IsOpening, Rising, Follows, all_openings, list_pages, first_gpadl}
-use Rattle.control_model.specs.Openings.{plan_of, guest_in, host_in, guest_by, host_by, is_opened, devices_by_phase, openings_from, pages_in, numbered}
+use Rattle.control_model.specs.Plan.{BusPlan, IsPlan, IsOpening, Rising, Follows, OpensAgain, RescindsEnd, all_openings, list_pages, first_gpadl}
+use Rattle.control_model.specs.Openings.{plan_of, guest_in, host_in, guest_by, host_by, openings_from, pages_in, numbered}
+use Rattle.control_model.proofs.FirstLaws.{OpenAs, open_firsts}
 
 guest_right : (kinds : List DeviceSpec) (what : What) → IsRight kinds what → IsVersion (guest_by what).0
 guest_right kinds (IsContact guest host) right = right.0
@@ -26,6 +32,7 @@ guest_right kinds (IsBad d lba) right = refl
 guest_right kinds (IsRingSize d pages) right = refl
 guest_right kinds (IsWindow d size) right = refl
 guest_right kinds (IsAsk d ask) right = refl
+guest_right kinds (IsRescind d after held) right = refl
 guest_right kinds (IsShut d) right = refl
 guest_right kinds IsPhase right = refl
 
@@ -36,6 +43,7 @@ host_right kinds (IsBad d lba) right = refl
 host_right kinds (IsRingSize d pages) right = refl
 host_right kinds (IsWindow d size) right = refl
 host_right kinds (IsAsk d ask) right = refl
+host_right kinds (IsRescind d after held) right = refl
 host_right kinds (IsShut d) right = refl
 host_right kinds IsPhase right = refl
 
@@ -62,6 +70,7 @@ size_by kinds device (IsBad d lba) more right rest = rest
 size_by kinds device (IsRingSize d pages) more right rest = size_then pages more (d == device) (right.1, right.2) rest
 size_by kinds device (IsWindow d size) more right rest = rest
 size_by kinds device (IsAsk d ask) more right rest = rest
+size_by kinds device (IsRescind d after held) more right rest = rest
 size_by kinds device (IsShut d) more right rest = rest
 size_by kinds device IsPhase more right rest = rest
 
@@ -70,11 +79,11 @@ size_of kinds device [] right = let one : 1 ≤ 1 = omega arith in let few : 1 �
 size_of kinds device (l ∷ ls) right = size_by kinds device l.what (flat_map (λ l. pages_by device l.what) ls) right.0 (size_of kinds device ls right.1)
 
 -- the openings of one phase
-fits_from : (sizes : ℕ → ℕ) (count gpadl page : ℕ) (ds : List ℕ) → ((d : ℕ) → IsSize (sizes d)) → count ≤ 16 → AllByRecursion (λ d. d < count) ds → page + 34 * length ds < 2 ^ 64 → All (λ o. IsOpening o) (openings_from sizes gpadl page ds)
-fits_from sizes count gpadl page [] sized few below room = All-nil (λ o. IsOpening o)
-fits_from sizes count gpadl page (d ∷ ds) sized few below room =
+fits_from : (sizes : ℕ → ℕ) (rescinded : ℕ → Bool) (count gpadl page : ℕ) (ds : List ℕ) → ((d : ℕ) → IsSize (sizes d)) → count ≤ 16 → AllByRecursion (λ d. d < count) ds → page + 34 * length ds < 2 ^ 64 → All (λ o. IsOpening o) (openings_from sizes rescinded gpadl page (map first_channel ds))
+fits_from sizes rescinded count gpadl page [] sized few below room = All-nil (λ o. IsOpening o)
+fits_from sizes rescinded count gpadl page (d ∷ ds) sized few below room =
     let size = sized d in
-    let o : Opening = record { relid = d + 1; ring_pages = sizes d; gpadl = gpadl; first_page = page } in
+    let o : Opening = record { relid = d + 1; ring_pages = sizes d; gpadl = gpadl; first_page = page; rescinded = rescinded d } in
     let one : IsOpening o = record {
       named = let n : 1 ≤ d + 1 = omega arith in n;
       few = omega (arith, below.0, few);
@@ -82,18 +91,18 @@ fits_from sizes count gpadl page (d ∷ ds) sized few below room =
       few_pages = size.1;
       numbered = omega (arith, size.1, room);
     } in
-    All-cons (λ o. IsOpening o) o (openings_from sizes (gpadl + 1) (page + list_pages (sizes d)) ds) one
-    (fits_from sizes count (gpadl + 1) (page + list_pages (sizes d)) ds sized few below.1 (omega (arith, size.1, room)))
+    All-cons (λ o. IsOpening o) o (openings_from sizes rescinded (gpadl + 1) (page + list_pages (sizes d)) (map first_channel ds)) one
+    (fits_from sizes rescinded count (gpadl + 1) (page + list_pages (sizes d)) ds sized few below.1 (omega (arith, size.1, room)))
 
-offered_from : (sizes : ℕ → ℕ) (count gpadl page : ℕ) (ds : List ℕ) → AllByRecursion (λ d. d < count) ds → All (λ o. o.relid ≤ count) (openings_from sizes gpadl page ds)
-offered_from sizes count gpadl page [] below = All-nil (λ o. o.relid ≤ count)
-offered_from sizes count gpadl page (d ∷ ds) below =
-    All-cons (λ o. o.relid ≤ count) (record { relid = d + 1; ring_pages = sizes d; gpadl = gpadl; first_page = page }) (openings_from sizes (gpadl + 1) (page + list_pages (sizes d)) ds) (omega (arith, below.0))
-    (offered_from sizes count (gpadl + 1) (page + list_pages (sizes d)) ds below.1)
+offered_from : (sizes : ℕ → ℕ) (rescinded : ℕ → Bool) (count gpadl page : ℕ) (ds : List ℕ) → AllByRecursion (λ d. d < count) ds → All (λ o. o.relid ≤ count) (openings_from sizes rescinded gpadl page (map first_channel ds))
+offered_from sizes rescinded count gpadl page [] below = All-nil (λ o. o.relid ≤ count)
+offered_from sizes rescinded count gpadl page (d ∷ ds) below =
+    All-cons (λ o. o.relid ≤ count) (record { relid = d + 1; ring_pages = sizes d; gpadl = gpadl; first_page = page; rescinded = rescinded d }) (openings_from sizes rescinded (gpadl + 1) (page + list_pages (sizes d)) (map first_channel ds)) (omega (arith, below.0))
+    (offered_from sizes rescinded count (gpadl + 1) (page + list_pages (sizes d)) ds below.1)
 
-pages_few : (sizes : ℕ → ℕ) (ds : List ℕ) → ((d : ℕ) → IsSize (sizes d)) → pages_in sizes ds ≤ 34 * length ds
+pages_few : (sizes : ℕ → ℕ) (os : List PhaseOpening) → ((d : ℕ) → IsSize (sizes d)) → pages_in sizes os ≤ 34 * length os
 pages_few sizes [] sized = omega arith
-pages_few sizes (d ∷ ds) sized = let rest = pages_few sizes ds sized in let size = sized d in omega (arith, rest, size.1)
+pages_few sizes (o ∷ os) sized = let rest = pages_few sizes os sized in let size = sized o.device in omega (arith, rest, size.1)
 
 -- the devices that are chosen from a range
 below_one : (count a : ℕ) (ds : List ℕ) (b : Bool) → a < count → AllByRecursion (λ d. d < count) ds → AllByRecursion (λ d. d < count) (cond b (a ∷ ds) ds)
@@ -116,28 +125,97 @@ rising_less : (least more : ℕ) (os : List Opening) → least ≤ more → Risi
 rising_less least more [] less rise = tt
 rising_less least more (o ∷ os) less rise = (omega (arith, less, rise.0), rise.1)
 
-rising_one : (sizes : ℕ → ℕ) (gpadl page a : ℕ) (ds : List ℕ) (b : Bool) → ((g q : ℕ) → Rising (a + 2) (openings_from sizes g q ds)) → Rising (a + 1) (openings_from sizes gpadl page (cond b (a ∷ ds) ds))
-rising_one sizes gpadl page a ds true rest =
+rising_one : (sizes : ℕ → ℕ) (rescinded : ℕ → Bool) (gpadl page a : ℕ) (ds : List ℕ) (b : Bool) → ((g q : ℕ) → Rising (a + 2) (openings_from sizes rescinded g q (map first_channel ds))) → Rising (a + 1) (openings_from sizes rescinded gpadl page (map first_channel (cond b (a ∷ ds) ds)))
+rising_one sizes rescinded gpadl page a ds true rest =
     let here : a + 1 ≤ a + 1 = omega arith in
     let next : a + 2 ≡ (a + 1) + 1 = omega arith in
-    (here, subst (λ k. Rising k (openings_from sizes (gpadl + 1) (page + list_pages (sizes a)) ds)) next (rest (gpadl + 1) (page + list_pages (sizes a))))
-rising_one sizes gpadl page a ds false rest = rising_less (a + 1) (a + 2) (openings_from sizes gpadl page ds) (omega arith) (rest gpadl page)
+    (here, subst (λ k. Rising k (openings_from sizes rescinded (gpadl + 1) (page + list_pages (sizes a)) (map first_channel ds))) next (rest (gpadl + 1) (page + list_pages (sizes a))))
+rising_one sizes rescinded gpadl page a ds false rest = rising_less (a + 1) (a + 2) (openings_from sizes rescinded gpadl page (map first_channel ds)) (omega arith) (rest gpadl page)
 
-rising_from : (sizes : ℕ → ℕ) (p : ℕ → Bool) (gpadl page a n : ℕ) → Rising (a + 1) (openings_from sizes gpadl page (filter p (range_with_len a n)))
-rising_from sizes p gpadl page a zero = tt
-rising_from sizes p gpadl page a (suc n) =
+rising_from : (sizes : ℕ → ℕ) (rescinded p : ℕ → Bool) (gpadl page a n : ℕ) → Rising (a + 1) (openings_from sizes rescinded gpadl page (map first_channel (filter p (range_with_len a n))))
+rising_from sizes rescinded p gpadl page a zero = tt
+rising_from sizes rescinded p gpadl page a (suc n) =
     let next : (a + 1) + 1 ≡ a + 2 = omega arith in
-    rising_one sizes gpadl page a (filter p (range_with_len (a + 1) n)) (p a) (λ g q. subst (λ k. Rising k (openings_from sizes g q (filter p (range_with_len (a + 1) n)))) next (rising_from sizes p g q (a + 1) n))
+    rising_one sizes rescinded gpadl page a (filter p (range_with_len (a + 1) n)) (p a) (λ g q. subst (λ k. Rising k (openings_from sizes rescinded g q (map first_channel (filter p (range_with_len (a + 1) n))))) next (rising_from sizes rescinded p g q (a + 1) n))
 
-follow_from : (sizes : ℕ → ℕ) (gpadl page : ℕ) (ds : List ℕ) (os : List Opening) → Follows (gpadl + length ds) (page + pages_in sizes ds) os → Follows gpadl page (openings_from sizes gpadl page ds ++ os)
-follow_from sizes gpadl page [] os rest =
+follow_from : (sizes : ℕ → ℕ) (rescinded : ℕ → Bool) (gpadl page : ℕ) (cs : List PhaseOpening) (os : List Opening) → Follows (gpadl + length cs) (page + pages_in sizes cs) os → Follows gpadl page (openings_from sizes rescinded gpadl page cs ++ os)
+follow_from sizes rescinded gpadl page [] os rest =
     let g : gpadl + 0 ≡ gpadl = omega arith in
     let p : page + 0 ≡ page = omega arith in
     subst (λ k. Follows k page os) g (subst (λ k. Follows (gpadl + 0) k os) p rest)
-follow_from sizes gpadl page (d ∷ ds) os rest =
-    let g : gpadl + suc (length ds) ≡ (gpadl + 1) + length ds = omega arith in
-    let p : page + (list_pages (sizes d) + pages_in sizes ds) ≡ (page + list_pages (sizes d)) + pages_in sizes ds = omega arith in
-    (refl, refl, follow_from sizes (gpadl + 1) (page + list_pages (sizes d)) ds os (subst (λ k. Follows k ((page + list_pages (sizes d)) + pages_in sizes ds) os) g (subst (λ k. Follows (gpadl + suc (length ds)) k os) p rest)))
+follow_from sizes rescinded gpadl page (c ∷ cs) os rest =
+    let d = c.device in
+    let g : gpadl + suc (length cs) ≡ (gpadl + 1) + length cs = omega arith in
+    let p : page + (list_pages (sizes d) + pages_in sizes cs) ≡ (page + list_pages (sizes d)) + pages_in sizes cs = omega arith in
+    (refl, refl, follow_from sizes rescinded (gpadl + 1) (page + list_pages (sizes d)) cs os (subst (λ k. Follows k ((page + list_pages (sizes d)) + pages_in sizes cs) os) g (subst (λ k. Follows (gpadl + suc (length cs)) k os) p rest)))
+
+-- a device that these lines rescind was rescinded before what follows them
+said_more : (d : ℕ) (xs ys : List Line) → is_rescinded d (xs ++ ys) ≡ (is_rescinded d xs || is_rescinded d ys)
+said_more d xs ys = ap (list_any rescinds) (flat_map-append (λ l. heard_by d (said l.what)) xs ys) ∙ list_any-append rescinds (said_to d xs) (said_to d ys)
+
+or_right : (a b : Bool) → (a || b) ≡ false → b ≡ false
+or_right true b e = absurd (cc)
+or_right false b e = e
+
+or_left : (a b : Bool) → (a || b) ≡ false → a ≡ false
+or_left true b e = e
+or_left false b e = refl
+
+later_rescinds : (earlier part : List Line) (d : ℕ) → is_rescinded d (earlier ++ part) ≡ false → is_rescinded d part ≡ false
+later_rescinds earlier part d none = or_right (is_rescinded d earlier) (is_rescinded d part) (sym (said_more d earlier part) ∙ none)
+
+-- what is opened wasn't rescinded before
+not_opened : (a b : Bool) → (not a && b) ≡ true → a ≡ false
+not_opened true b e = absurd (let wrong : false ≡ true = e in cc)
+not_opened false b e = refl
+
+opened_not : (earlier part : List Line) (d : ℕ) → is_opened earlier part d ≡ true → is_rescinded d earlier ≡ false
+opened_not earlier part d e = or_left (is_rescinded d earlier) (is_shut d earlier) (not_opened (is_ended d earlier) (is_some (slice_get (said_to d part) 0)) e)
+
+chosen_one : (p : ℕ → Bool) (a : ℕ) (ds : List ℕ) (b : Bool) → p a ≡ b → AllByRecursion (λ d. p d ≡ true) ds → AllByRecursion (λ d. p d ≡ true) (cond b (a ∷ ds) ds)
+chosen_one p a ds true here rest = (here, rest)
+chosen_one p a ds false here rest = rest
+
+chosen_pass : (p : ℕ → Bool) (a n : ℕ) → AllByRecursion (λ d. p d ≡ true) (filter p (range_with_len a n))
+chosen_pass p a zero = tt
+chosen_pass p a (suc n) = chosen_one p a (filter p (range_with_len (a + 1) n)) (p a) refl (chosen_pass p (a + 1) n)
+
+-- the channels of a phase: those of devices that these lines don't rescind
+abbrev Unharmed : List Line → Opening → Type 0
+Unharmed lines o = (d : ℕ) → o.relid ≡ d + 1 → is_rescinded d lines ≡ false
+
+unharmed_from : (sizes : ℕ → ℕ) (rescinded : ℕ → Bool) (lines : List Line) (gpadl page : ℕ) (ds : List ℕ) → AllByRecursion (λ d. is_rescinded d lines ≡ false) ds → All (Unharmed lines) (openings_from sizes rescinded gpadl page (map first_channel ds))
+unharmed_from sizes rescinded lines gpadl page [] none = All-nil (Unharmed lines)
+unharmed_from sizes rescinded lines gpadl page (d ∷ ds) none =
+    All-cons (Unharmed lines) (record { relid = d + 1; ring_pages = sizes d; gpadl = gpadl; first_page = page; rescinded = rescinded d }) (openings_from sizes rescinded (gpadl + 1) (page + list_pages (sizes d)) (map first_channel ds))
+    (λ e is. let same : d ≡ e = omega (arith, is) in subst (λ k. is_rescinded k lines ≡ false) same none.0) (unharmed_from sizes rescinded lines (gpadl + 1) (page + list_pages (sizes d)) ds none.1)
+
+all_so : (P Q : ℕ → Type 0) → ((d : ℕ) → P d → Q d) → (ds : List ℕ) → AllByRecursion P ds → AllByRecursion Q ds
+all_so P Q f [] all = tt
+all_so P Q f (d ∷ ds) all = (f d all.0, all_so P Q f ds all.1)
+
+-- no later phase opens what these lines rescind
+no_more : (sizes : ℕ → ℕ) (specs : List DeviceSpec) (number next gpadl page : ℕ) (earlier lines : List Line) (ps : List (List Line)) → AllByRecursion (λ k. subs_of k ≡ 0) specs → ((d : ℕ) → is_rescinded d earlier ≡ false → is_rescinded d lines ≡ false)
+    → All (λ os. All (Unharmed lines) os) (numbered sizes gpadl page (phases_from specs number next earlier ps))
+no_more sizes specs number next gpadl page earlier lines [] none within = All-nil (λ os. All (Unharmed lines) os)
+no_more sizes specs number next gpadl page earlier lines (part ∷ ps) none within =
+    let cs = opened_from (is_opened earlier part) 0 next specs in
+    let ds = filter (is_opened earlier part) (range_with_len 0 (length specs)) in
+    let rescinded : ℕ → Bool = λ device. is_rescinded device part in
+    let firsts : OpenAs cs ds = open_firsts (is_opened earlier part) next specs none in
+    let relid = next + length (others cs) in
+    let fine = all_so (λ d. is_opened earlier part d ≡ true) (λ d. is_rescinded d lines ≡ false) (λ d e. within d (opened_not earlier part d e)) ds (chosen_pass (is_opened earlier part) 0 (length specs)) in
+    All-cons (λ os. All (Unharmed lines) os) (openings_from sizes rescinded gpadl page cs) (numbered sizes (gpadl + length cs) (page + pages_in sizes cs) (phases_from specs (number + 1) relid (earlier ++ part) ps))
+    (subst (λ os. All (Unharmed lines) os) (sym (firsts.openings sizes rescinded gpadl page)) (unharmed_from sizes rescinded lines gpadl page ds fine))
+    (no_more sizes specs (number + 1) relid (gpadl + length cs) (page + pages_in sizes cs) (earlier ++ part) lines ps none (λ d e. within d (or_left (is_rescinded d earlier) (is_rescinded d part) (sym (said_more d earlier part) ∙ e))))
+
+none_opened_again : (sizes : ℕ → ℕ) (part : List Line) (gpadl page : ℕ) (ds : List ℕ) (later : List (List Opening)) → All (λ os. All (Unharmed part) os) later
+    → All (OpensAgain later) (openings_from sizes (λ device. is_rescinded device part) gpadl page (map first_channel ds))
+none_opened_again sizes part gpadl page [] later fine = All-nil (OpensAgain later)
+none_opened_again sizes part gpadl page (d ∷ ds) later fine =
+    let rescinded : ℕ → Bool = λ device. is_rescinded device part in
+    All-cons (OpensAgain later) (record { relid = d + 1; ring_pages = sizes d; gpadl = gpadl; first_page = page; rescinded = rescinded d }) (openings_from sizes rescinded (gpadl + 1) (page + list_pages (sizes d)) (map first_channel ds))
+    (λ i os in_phases j p in_os is. fine i os in_phases j p in_os d is) (none_opened_again sizes part (gpadl + 1) (page + list_pages (sizes d)) ds later fine)
 
 -- the openings of all phases
 pub record Phases (count gpadl page : ℕ) (phases : List (List Opening)) : Type 0 where
@@ -145,22 +223,35 @@ pub record Phases (count gpadl page : ℕ) (phases : List (List Opening)) : Type
   pub offered : All (λ os. All (λ o. o.relid ≤ count) os) phases
   pub rising : All (λ os. Rising 1 os) phases
   pub follow : Follows gpadl page (all_openings phases)
+  pub ends : RescindsEnd phases
 
-phases_from : (sizes : ℕ → ℕ) (count gpadl page : ℕ) (earlier : List Line) (ps : List (List Line)) → ((d : ℕ) → IsSize (sizes d)) → count ≤ 16 → page + 544 * length ps < 2 ^ 64 → Phases count gpadl page (numbered sizes gpadl page (devices_by_phase count earlier ps))
-phases_from sizes count gpadl page earlier [] sized few room = record { fits = All-nil (λ os. All (λ o. IsOpening o) os); offered = All-nil (λ os. All (λ o. o.relid ≤ count) os); rising = All-nil (λ os. Rising 1 os); follow = tt }
-phases_from sizes count gpadl page earlier (part ∷ ps) sized few room =
+all_phases : (sizes : ℕ → ℕ) (specs : List DeviceSpec) (number next gpadl page : ℕ) (earlier : List Line) (ps : List (List Line)) → AllByRecursion (λ k. subs_of k ≡ 0) specs → ((d : ℕ) → IsSize (sizes d)) → length specs ≤ 16 → page + 544 * length ps < 2 ^ 64
+    → Phases (length specs) gpadl page (numbered sizes gpadl page (phases_from specs number next earlier ps))
+all_phases sizes specs number next gpadl page earlier [] none sized few room = record { fits = All-nil (λ os. All (λ o. IsOpening o) os); offered = All-nil (λ os. All (λ o. o.relid ≤ length specs) os); rising = All-nil (λ os. Rising 1 os); follow = tt; ends = tt }
+all_phases sizes specs number next gpadl page earlier (part ∷ ps) none sized few room =
+    let count = length specs in
+    let cs = opened_from (is_opened earlier part) 0 next specs in
     let ds = filter (is_opened earlier part) (range_with_len 0 count) in
-    let some : length ds ≤ count = chosen_few (is_opened earlier part) 0 count in
-    let pages : pages_in sizes ds ≤ 34 * length ds = pages_few sizes ds sized in
+    let firsts : OpenAs cs ds = open_firsts (is_opened earlier part) next specs none in
+    let chosen : length ds ≤ count = chosen_few (is_opened earlier part) 0 count in
+    let some : length cs ≤ count = omega (arith, chosen, firsts.count) in
+    let pages : pages_in sizes cs ≤ 34 * length cs = pages_few sizes cs sized in
     let below = chosen_below (is_opened earlier part) count 0 count (let h : 0 + count ≤ count = omega arith in h) in
-    let rest = phases_from sizes count (gpadl + length ds) (page + pages_in sizes ds) (earlier ++ part) ps sized few (omega (arith, room, pages, some, few)) in
-    let here = openings_from sizes gpadl page ds in
-    let later = numbered sizes (gpadl + length ds) (page + pages_in sizes ds) (devices_by_phase count (earlier ++ part) ps) in
+    let relid = next + length (others cs) in
+    let rest = all_phases sizes specs (number + 1) relid (gpadl + length cs) (page + pages_in sizes cs) (earlier ++ part) ps none sized few (omega (arith, room, pages, some, few)) in
+    let rescinded : ℕ → Bool = λ device. is_rescinded device part in
+    let here = openings_from sizes rescinded gpadl page cs in
+    let same : openings_from sizes rescinded gpadl page (map first_channel ds) ≡ here = sym (firsts.openings sizes rescinded gpadl page) in
+    let later = numbered sizes (gpadl + length cs) (page + pages_in sizes cs) (phases_from specs (number + 1) relid (earlier ++ part) ps) in
     record {
-      fits = All-cons (λ os. All (λ o. IsOpening o) os) here later (fits_from sizes count gpadl page ds sized few below (omega (arith, room, some, few))) rest.fits;
-      offered = All-cons (λ os. All (λ o. o.relid ≤ count) os) here later (offered_from sizes count gpadl page ds below) rest.offered;
-      rising = All-cons (λ os. Rising 1 os) here later (rising_from sizes (is_opened earlier part) gpadl page 0 count) rest.rising;
-      follow = follow_from sizes gpadl page ds (all_openings later) rest.follow;
+      fits = All-cons (λ os. All (λ o. IsOpening o) os) here later (subst (λ os. All (λ o. IsOpening o) os) same (fits_from sizes rescinded count gpadl page ds sized few below (omega (arith, room, chosen, few)))) rest.fits;
+      offered = All-cons (λ os. All (λ o. o.relid ≤ count) os) here later (subst (λ os. All (λ o. o.relid ≤ count) os) same (offered_from sizes rescinded count gpadl page ds below)) rest.offered;
+      rising = All-cons (λ os. Rising 1 os) here later (subst (Rising 1) same (rising_from sizes rescinded (is_opened earlier part) gpadl page 0 count)) rest.rising;
+      follow = follow_from sizes rescinded gpadl page cs (all_openings later) rest.follow;
+      ends = (
+        subst (All (OpensAgain later)) same (none_opened_again sizes part gpadl page ds later (no_more sizes specs (number + 1) relid (gpadl + length cs) (page + pages_in sizes cs) (earlier ++ part) part ps none (λ d. later_rescinds earlier part d))),
+        rest.ends,
+      );
     }
 
 -- there is one phase at least, and one more for each line at most
@@ -175,11 +266,19 @@ parts_count (x ∷ lines) =
     let both = cut_count x (parts lines) (ends_part x) (length lines) (parts_count lines).1 in
     (both.0, omega (arith, both.1))
 
-numbered_length : (sizes : ℕ → ℕ) (count gpadl page : ℕ) (earlier : List Line) (ps : List (List Line)) → length (numbered sizes gpadl page (devices_by_phase count earlier ps)) ≡ length ps
-numbered_length sizes count gpadl page earlier [] = refl
-numbered_length sizes count gpadl page earlier (part ∷ ps) =
-    let ds = filter (is_opened earlier part) (range_with_len 0 count) in
-    ap (λ n. suc n) (numbered_length sizes count (gpadl + length ds) (page + pages_in sizes ds) (earlier ++ part) ps)
+numbered_length : (sizes : ℕ → ℕ) (gpadl page : ℕ) (phases : List Phase) → length (numbered sizes gpadl page phases) ≡ length phases
+numbered_length sizes gpadl page [] = refl
+numbered_length sizes gpadl page (p ∷ phases) = ap (λ n. suc n) (numbered_length sizes (gpadl + length p.opened) (page + pages_in sizes p.opened) phases)
+
+opened_length : (specs : List DeviceSpec) (number next : ℕ) (earlier : List Line) (ps : List (List Line)) → length (phases_from specs number next earlier ps) ≡ length ps
+opened_length specs number next earlier [] = refl
+opened_length specs number next earlier (part ∷ ps) =
+    ap (λ n. suc n) (opened_length specs (number + 1) (next + length (others (opened_from (is_opened earlier part) 0 next specs))) (earlier ++ part) ps)
+
+-- a script's plan has its phases
+pub phases_are : (lines : List Line) → length (plan_of lines).phases ≡ length (parts lines)
+phases_are lines =
+    numbered_length (λ d. ring_pages_of d lines) first_gpadl 0 (phases_of lines) ∙ opened_length (offered lines) 0 (length (offered lines) + 1) [] (parts lines)
 
 pub plan_is : (lines : List Line) → IsScript lines → IsPlan (plan_of lines)
 plan_is lines script =
@@ -188,8 +287,8 @@ plan_is lines script =
     let sizes : ℕ → ℕ = λ d. ring_pages_of d lines in
     let each = length-map kinds kind_of in
     let many = parts_count lines in
-    let long = numbered_length sizes count first_gpadl 0 [] (parts lines) in
-    let phases = phases_from sizes count first_gpadl 0 [] (parts lines) (λ d. size_of kinds d lines script.right) script.few (omega (arith, many.1, script.short)) in
+    let long = phases_are lines in
+    let phases = all_phases sizes kinds 0 (count + 1) first_gpadl 0 [] (parts lines) (is_script_no_subs lines script) (λ d. size_of kinds d lines script.right) script.few (omega (arith, many.1, script.short)) in
     record {
       guest = guest_version kinds lines script.right;
       host = host_version kinds lines script.right;
@@ -200,33 +299,41 @@ plan_is lines script =
       offered = subst (λ n. All (λ os. All (λ o. o.relid ≤ n) os) (plan_of lines).phases) (sym each) phases.offered;
       rising = phases.rising;
       follow = phases.follow;
+      ends = phases.ends;
     }
 
 -- sizes that are the same below a number give the same openings
-openings_same : (s t : ℕ → ℕ) (gpadl page : ℕ) (ds : List ℕ) → AllByRecursion (λ d. s d ≡ t d) ds → openings_from s gpadl page ds ≡ openings_from t gpadl page ds
-openings_same s t gpadl page [] same = refl
-openings_same s t gpadl page (d ∷ ds) same =
-    let O : ℕ → List Opening = λ n. record { relid = d + 1; ring_pages = n; gpadl = gpadl; first_page = page } ∷ openings_from s (gpadl + 1) (page + list_pages n) ds in
-    ap O same.0 ∙ ap (λ os. record { relid = d + 1; ring_pages = t d; gpadl = gpadl; first_page = page } ∷ os) (openings_same s t (gpadl + 1) (page + list_pages (t d)) ds same.1)
+openings_same : (s t : ℕ → ℕ) (rescinded : ℕ → Bool) (gpadl page : ℕ) (ds : List ℕ) → AllByRecursion (λ d. s d ≡ t d) ds → openings_from s rescinded gpadl page (map first_channel ds) ≡ openings_from t rescinded gpadl page (map first_channel ds)
+openings_same s t rescinded gpadl page [] same = refl
+openings_same s t rescinded gpadl page (d ∷ ds) same =
+    let O : ℕ → List Opening = λ n. record { relid = d + 1; ring_pages = n; gpadl = gpadl; first_page = page; rescinded = rescinded d } ∷ openings_from s rescinded (gpadl + 1) (page + list_pages n) (map first_channel ds) in
+    ap O same.0 ∙ ap (λ os. record { relid = d + 1; ring_pages = t d; gpadl = gpadl; first_page = page; rescinded = rescinded d } ∷ os) (openings_same s t rescinded (gpadl + 1) (page + list_pages (t d)) ds same.1)
 
-pages_same : (s t : ℕ → ℕ) (ds : List ℕ) → AllByRecursion (λ d. s d ≡ t d) ds → pages_in s ds ≡ pages_in t ds
+pages_same : (s t : ℕ → ℕ) (ds : List ℕ) → AllByRecursion (λ d. s d ≡ t d) ds → pages_in s (map first_channel ds) ≡ pages_in t (map first_channel ds)
 pages_same s t [] same = refl
-pages_same s t (d ∷ ds) same = ap (λ n. list_pages n + pages_in s ds) same.0 ∙ ap (λ n. list_pages (t d) + n) (pages_same s t ds same.1)
+pages_same s t (d ∷ ds) same = ap (λ n. list_pages n + pages_in s (map first_channel ds)) same.0 ∙ ap (λ n. list_pages (t d) + n) (pages_same s t ds same.1)
 
 alike : (s t : ℕ → ℕ) (count : ℕ) (ds : List ℕ) → ((d : ℕ) → d < count → s d ≡ t d) → AllByRecursion (λ d. d < count) ds → AllByRecursion (λ d. s d ≡ t d) ds
 alike s t count [] same below = tt
 alike s t count (d ∷ ds) same below = (same d below.0, alike s t count ds same below.1)
 
-pub numbered_same : (s t : ℕ → ℕ) (count gpadl page : ℕ) (earlier : List Line) (ps : List (List Line)) → ((d : ℕ) → d < count → s d ≡ t d)
-    → numbered s gpadl page (devices_by_phase count earlier ps) ≡ numbered t gpadl page (devices_by_phase count earlier ps)
-numbered_same s t count gpadl page earlier [] same = refl
-numbered_same s t count gpadl page earlier (part ∷ ps) same =
+numbered_same : (s t : ℕ → ℕ) (specs : List DeviceSpec) (number next gpadl page : ℕ) (earlier : List Line) (ps : List (List Line)) → AllByRecursion (λ k. subs_of k ≡ 0) specs → ((d : ℕ) → d < length specs → s d ≡ t d)
+    → numbered s gpadl page (phases_from specs number next earlier ps) ≡ numbered t gpadl page (phases_from specs number next earlier ps)
+numbered_same s t specs number next gpadl page earlier [] none same = refl
+numbered_same s t specs number next gpadl page earlier (part ∷ ps) none same =
+    let count = length specs in
+    let cs = opened_from (is_opened earlier part) 0 next specs in
     let ds = filter (is_opened earlier part) (range_with_len 0 count) in
+    let firsts : OpenAs cs ds = open_firsts (is_opened earlier part) next specs none in
     let each = alike s t count ds same (chosen_below (is_opened earlier part) count 0 count (let h : 0 + count ≤ count = omega arith in h)) in
-    let rest = devices_by_phase count (earlier ++ part) ps in
-    ap (λ os. os ∷ numbered s (gpadl + length ds) (page + pages_in s ds) rest) (openings_same s t gpadl page ds each)
-    ∙ ap (λ k. openings_from t gpadl page ds ∷ numbered s (gpadl + length ds) (page + k) rest) (pages_same s t ds each)
-    ∙ ap (λ l. openings_from t gpadl page ds ∷ l) (numbered_same s t count (gpadl + length ds) (page + pages_in t ds) (earlier ++ part) ps same)
+    let rescinded : ℕ → Bool = λ device. is_rescinded device part in
+    let here : openings_from s rescinded gpadl page cs ≡ openings_from t rescinded gpadl page cs = firsts.openings s rescinded gpadl page ∙ (openings_same s t rescinded gpadl page ds each ∙ sym (firsts.openings t rescinded gpadl page)) in
+    let pages : pages_in s cs ≡ pages_in t cs = firsts.pages s ∙ (pages_same s t ds each ∙ sym (firsts.pages t)) in
+    let relid = next + length (others cs) in
+    let rest = phases_from specs (number + 1) relid (earlier ++ part) ps in
+    ap (λ os. os ∷ numbered s (gpadl + length cs) (page + pages_in s cs) rest) here
+    ∙ (ap (λ k. openings_from t rescinded gpadl page cs ∷ numbered s (gpadl + length cs) (page + k) rest) pages
+    ∙ ap (λ l. openings_from t rescinded gpadl page cs ∷ l) (numbered_same s t specs (number + 1) relid (gpadl + length cs) (page + pages_in t cs) (earlier ++ part) ps none same))
 
 -- the table of devices
 pub table_item : (lines : List Line) (devices : List Served) (count d : ℕ) (e : Served) → devices ≡ map (served_of lines) (range_with_len 0 count) → d < count → get_or devices d e ≡ served_of lines d
@@ -241,18 +348,16 @@ table_sizes lines devices count script table k e below =
     let P : Served → Type 0 = λ d. (1 ≤ d.ring_pages) × (d.ring_pages ≤ 16) in
     subst P (sym item) (size_of (offered lines) k lines script.right)
 
-pub phases_same : (lines : List Line) (devices : List Served) (count : ℕ) → devices ≡ map (served_of lines) (range_with_len 0 count) → count ≡ length (offered lines)
-    → numbered (size_in devices) first_gpadl 0 (devices_by_phase (length devices) [] (parts lines)) ≡ (plan_of lines).phases
-phases_same lines devices count table is =
-    let n : length devices ≡ length (offered lines) = table_length lines devices count table ∙ is in
-    ap (λ k. numbered (size_in devices) first_gpadl 0 (devices_by_phase k [] (parts lines))) n
-    ∙ numbered_same (size_in devices) (λ d. ring_pages_of d lines) (length (offered lines)) first_gpadl 0 [] (parts lines)
+phases_same : (lines : List Line) (devices : List Served) (count : ℕ) → IsScript lines → devices ≡ map (served_of lines) (range_with_len 0 count) → count ≡ length (offered lines)
+    → numbered (size_in devices) first_gpadl 0 (phases_of lines) ≡ (plan_of lines).phases
+phases_same lines devices count script table is =
+    numbered_same (size_in devices) (λ d. ring_pages_of d lines) (offered lines) 0 (length (offered lines) + 1) first_gpadl 0 [] (parts lines) (is_script_no_subs lines script)
     (λ d below. ap (λ (s : Served). s.ring_pages) (table_item lines devices count d no_device table (omega (arith, is, below))))
 
 -- the parts of a plan make it
 pub plan_made : (lines : List Line) (guest host : Version) (kinds : List Kind) (phases : List (List Opening)) (devices : List Served) (count : ℕ)
-    → guest ≡ guest_in lines → host ≡ host_in lines → kinds ≡ map kind_of (offered lines) → phases ≡ numbered (size_in devices) first_gpadl 0 (devices_by_phase (length devices) [] (parts lines))
+    → IsScript lines → guest ≡ guest_in lines → host ≡ host_in lines → kinds ≡ map kind_of (offered lines) → phases ≡ numbered (size_in devices) first_gpadl 0 (phases_of lines)
     → devices ≡ map (served_of lines) (range_with_len 0 count) → count ≡ length kinds → (let plan : BusPlan = record { guest = guest; host = host; kinds = kinds; phases = phases } in plan) ≡ plan_of lines
-plan_made lines guest host kinds phases devices count g h k p table is =
-    let all : phases ≡ (plan_of lines).phases = p ∙ phases_same lines devices count table (is ∙ ap length k ∙ length-map (offered lines) kind_of) in
+plan_made lines guest host kinds phases devices count script g h k p table is =
+    let all : phases ≡ (plan_of lines).phases = p ∙ phases_same lines devices count script table (is ∙ ap length k ∙ length-map (offered lines) kind_of) in
     (λ i. record { guest = g i; host = h i; kinds = k i; phases = all i })

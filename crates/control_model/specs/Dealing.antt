@@ -1,30 +1,45 @@
 -- The tables by which a script's plan is made in one pass over its lines.
-use Rattle.std.specs.Prelude.{◌≡◌, ℕ, ◌+◌, ◌≤◌, Bool, true, false, ◌++◌, not, ◌&&◌, List, [], ◌∷◌, length, All, slice_index_or, drop, nat_lt, nat_le, if◌then◌else◌, Option, Some, None}
+use Rattle.std.specs.Prelude.{◌≡◌, ℕ, ◌+◌, ◌≤◌, Bool, true, false, ◌++◌, not, ◌&&◌, ◌||◌, List, [], ◌∷◌, length, All, slice_index_or, drop, nat_lt, nat_le, if◌then◌else◌, Option, Some, None, is_some, slice_get}
 use Rattle.std.specs.List.{list_any, position}
 use Rattle.script_lines.specs.declared.line.Line.{Line}
-use Rattle.script_lines.specs.Parts.{parts, ring_pages_of, shuts}
+use Rattle.script_lines.specs.declared.line.What.{What}
+use Rattle.script_lines.specs.declared.line.DeviceSpec.TheVariants.{Beat}
+use Rattle.script_lines.specs.Parts.{parts, ring_pages_of, rescinds, shuts}
+use Rattle.script_phases.specs.Says.{heard_by, said}
+use Rattle.script_phases.specs.Openings.{Opening as PhaseOpening}
 use Rattle.control_model.specs.declared.planning.Served.{Served}
 use Rattle.control_model.specs.declared.planning.Next.{Next}
 use Rattle.control_model.specs.declared.opening.Opening.{Opening}
-use Rattle.control_model.specs.Openings.{wants_open}
 use Rattle.control_model.specs.Plan.{list_pages}
+
+-- a line ends a device for all later phases: it rescinds it, or closes it
+abbrev pub ends : ℕ → What → Bool
+ends device what = rescinds device what || shuts device what
 
 -- what the lines say of a device for all phases
 abbrev pub served_of : List Line → ℕ → Served
-served_of lines device = record { ring_pages = ring_pages_of device lines; shut = position (λ l. shuts device l.what) lines }
+served_of lines device = record { ring_pages = ring_pages_of device lines; end = position (λ l. ends device l.what) lines }
 
--- a device was closed by a line before a place
-abbrev pub is_closed : Option ℕ → ℕ → Bool
-is_closed None start = false
-is_closed (Some place) start = nat_lt place start
+-- a device was ended by a line before a place
+abbrev pub ended_before : Option ℕ → ℕ → Bool
+ended_before None start = false
+ended_before (Some place) start = nat_lt place start
+
+-- one of these lines rescinds a device
+abbrev pub rescinded_in : List Line → ℕ → Bool
+rescinded_in part device = list_any (λ l. rescinds device l.what) part
+
+-- a line speaks to a device
+abbrev pub speaks_to : ℕ → What → Bool
+speaks_to device what = is_some (slice_get (heard_by device (said what)) 0)
 
 -- a device is opened in a phase whose lines begin at a place
 abbrev pub opens_one : List Line → ℕ → Served → ℕ → Bool
-opens_one part start device number = not (is_closed device.shut start) && list_any (λ l. wants_open number l.what) part
+opens_one part start device number = not (ended_before device.end start) && list_any (λ l. speaks_to number l.what) part
 
 -- the same by its number, in the table of devices
 abbrev pub no_device : Served
-no_device = record { ring_pages = 1; shut = None }
+no_device = record { ring_pages = 1; end = None }
 
 abbrev pub opens : List Served → List Line → ℕ → ℕ → Bool
 opens devices part start number = opens_one part start (slice_index_or devices number no_device) number
@@ -32,15 +47,19 @@ opens devices part start number = opens_one part start (slice_index_or devices n
 abbrev pub size_in : List Served → ℕ → ℕ
 size_in devices number = (slice_index_or devices number no_device).ring_pages
 
+-- the first channel of a device; for its rings and its page list it is all one what the device is
+abbrev pub first_channel : ℕ → PhaseOpening
+first_channel device = record { relid = device + 1; device = device; spec = Beat; sub = 0 }
+
 -- rings have 1 to 16 data pages
 abbrev pub HasSizes : List Served → Type 0
 HasSizes devices = All (λ d. (1 ≤ d.ring_pages) × (d.ring_pages ≤ 16)) devices
 
 -- a device that is opened takes the next handle and the next pages
-abbrev pub Dealt : Bool → ℕ → ℕ → List Opening → Next → List Opening → Next → Type 0
-Dealt false number ring_pages before next after later = (after ≡ before) × (later ≡ next)
-Dealt true number ring_pages before next after later =
-    (after ≡ before ++ record { relid = number + 1; ring_pages = ring_pages; gpadl = next.gpadl; first_page = next.page } ∷ []) ×
+abbrev pub Dealt : Bool → ℕ → ℕ → Bool → List Opening → Next → List Opening → Next → Type 0
+Dealt false number ring_pages rescinded before next after later = (after ≡ before) × (later ≡ next)
+Dealt true number ring_pages rescinded before next after later =
+    (after ≡ before ++ record { relid = number + 1; ring_pages = ring_pages; gpadl = next.gpadl; first_page = next.page; rescinded = rescinded } ∷ []) ×
     (later ≡ record { gpadl = next.gpadl + 1; page = next.page + list_pages ring_pages })
 
 -- the phases from a place on: none past the end

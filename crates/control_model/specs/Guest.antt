@@ -18,11 +18,12 @@ use Rattle.control_model.specs.declared.opening.Opening.{Opening}
 use Rattle.control_model.specs.declared.channel.Channel.{Channel}
 use Rattle.control_model.specs.declared.change.Change.{Change}
 use Rattle.control_model.specs.declared.change.Change.TheVariants.{Same, Offered, Now}
-use Rattle.control_model.specs.declared.burst.Burst.TheVariants.{Empty, One, Two, PageList}
+use Rattle.control_model.specs.declared.burst.Burst.{Burst}
+use Rattle.control_model.specs.declared.burst.Burst.TheVariants.{Empty, One, Two, Three, PageList}
 use Rattle.control_model.specs.declared.fault.ControlFault.{ControlFault}
 use Rattle.control_model.specs.declared.fault.ControlFault.TheVariants.{Gpadl, Relid, Offer, Unasked, Memory}
 use Rattle.control_model.specs.declared.guest_wait.GuestWait.{GuestWait}
-use Rattle.control_model.specs.declared.guest_wait.GuestWait.TheVariants.{Nothing, Response, Offers, Created, Opened, Torn, Unloaded}
+use Rattle.control_model.specs.declared.guest_wait.GuestWait.TheVariants.{Nothing, Response, Offers, Created, Opened, Torn, Rescinded, Unloaded}
 use Rattle.control_model.specs.declared.guest_turn.GuestTurn.{GuestTurn}
 use Rattle.control_model.specs.Plan.{BusPlan, opening_in}
 use Rattle.control_model.specs.Messages.{propose, request, open_on, close, teardown, release, farewell, Sends, Fits}
@@ -75,19 +76,28 @@ abbrev pub lists_next : GuestTurn → ℕ → Option Opening → GuestTurn
 lists_next turn place None = record turn { awaits = Nothing }
 lists_next turn place (Some o) = record turn { awaits = Created place; burst = PageList o }
 
+-- CLOSECHANNEL and GPADL_TEARDOWN, behind the one message, if any, that is sent before them
+abbrev pub and_close : Burst → Opening → Burst
+and_close (One m) o = Three m (close o.relid) (teardown o)
+and_close _ o = Two (close o.relid) (teardown o)
+
 -- the guest wants a channel closed: where the table has a row for it, CLOSECHANNEL and GPADL_TEARDOWN are sent
 abbrev pub closes_by : GuestTurn → Opening → Result Channel ControlFault → GuestTurn
 closes_by turn o (Err fault) = turn
-closes_by turn o (Ok now) = record turn { wished = Now o.relid now; burst = Two (close o.relid) (teardown o) }
+closes_by turn o (Ok now) = record turn { wished = Now o.relid now; burst = and_close turn.burst o }
 
 abbrev pub closes : GuestTurn → Opening → Option Channel → GuestTurn
 closes turn o None = turn
 closes turn o (Some c) = closes_by turn o (lived c WantClose)
 
--- goes on with the opening at a place, if there is one: its channel is closed
+-- goes on with the opening at a place, if there is one: its channel is closed, or waits for the host to rescind it
+abbrev pub ends_one : GuestTurn → List Channel → ℕ → Opening → Bool → GuestTurn
+ends_one turn channels place o true = record turn { awaits = Rescinded place }
+ends_one turn channels place o false = closes (record turn { awaits = Torn place }) o (by_relid channels o.relid)
+
 abbrev pub closes_next : GuestTurn → List Channel → ℕ → Option Opening → GuestTurn
 closes_next turn channels place None = record turn { awaits = Nothing }
-closes_next turn channels place (Some o) = closes (record turn { awaits = Torn place }) o (by_relid channels o.relid)
+closes_next turn channels place (Some o) = ends_one turn channels place o o.rescinded
 
 -- the guest unloads from 3.0 on
 abbrev pub can_unload : Option Version → Bool
@@ -181,13 +191,14 @@ abbrev pub hears_result : GuestSeen → ℕ → ℕ → Option Channel → Resul
 hears_result g relid status None = Err (Relid relid)
 hears_result g relid status (Some c) = result_by g relid status (lived c (ResultSeen status))
 
--- GPADL_TORNDOWN: the channel is closed, and the guest goes on with the next opening
-abbrev pub torn_for : GuestSeen → GuestTurn → ℕ → ℕ → Option Opening → GuestTurn
-torn_for g turn place relid None = turn
-torn_for g turn place relid (Some o) = if o.relid == relid then closes_next turn g.channels (place + 1) (opening_of g (place + 1)) else turn
+-- the channel of the opening at a place is done with, where it is this one, and the guest goes on with the next opening
+abbrev pub ended_for : GuestSeen → GuestTurn → ℕ → ℕ → Option Opening → GuestTurn
+ended_for g turn place relid None = turn
+ended_for g turn place relid (Some o) = if o.relid == relid then closes_next turn g.channels (place + 1) (opening_of g (place + 1)) else turn
 
+-- GPADL_TORNDOWN: the channel is closed, and the guest goes on with the next opening
 abbrev pub torn_while : GuestSeen → GuestTurn → GuestWait → ℕ → GuestTurn
-torn_while g turn (Torn place) relid = torn_for g turn place relid (opening_of g place)
+torn_while g turn (Torn place) relid = ended_for g turn place relid (opening_of g place)
 torn_while g turn _ relid = turn
 
 abbrev pub torn_by : GuestSeen → ℕ → Result Channel ControlFault → Result GuestTurn ControlFault
@@ -202,14 +213,18 @@ abbrev pub hears_torndown : GuestSeen → ℕ → Option ℕ → Result GuestTur
 hears_torndown g gpadl None = Err (Gpadl (Handle gpadl))
 hears_torndown g gpadl (Some place) = torn_at g gpadl place (slice_get g.channels place)
 
--- RESCIND_CHANNELOFFER: the guest settles, and gives the channel back
+-- RESCIND_CHANNELOFFER: the guest settles, gives the channel back, and goes on with the next opening
 abbrev pub releases : GuestSeen → ℕ → Channel → Result Channel ControlFault → GuestTurn
 releases g relid seen (Err fault) = record (idle g) { heard = Now relid seen }
-releases g relid seen (Ok now) = record (idle g) { heard = Now relid seen; wished = Now relid now; burst = One (release relid) }
+releases g relid seen (Ok now) = record (idle g) { heard = Now relid now; burst = One (release relid) }
+
+abbrev pub rescinded_while : GuestSeen → GuestTurn → GuestWait → ℕ → GuestTurn
+rescinded_while g turn (Rescinded place) relid = ended_for g turn place relid (opening_of g place)
+rescinded_while g turn _ relid = turn
 
 abbrev pub rescind_by : GuestSeen → ℕ → Result Channel ControlFault → Result GuestTurn ControlFault
 rescind_by g relid (Err fault) = Err fault
-rescind_by g relid (Ok seen) = Ok (releases g relid seen (lived seen WantRelease))
+rescind_by g relid (Ok seen) = Ok (rescinded_while g (releases g relid seen (lived seen WantRelease)) g.awaits relid)
 
 abbrev pub hears_rescind : GuestSeen → ℕ → Option Channel → Result GuestTurn ControlFault
 hears_rescind g relid None = Err (Relid relid)

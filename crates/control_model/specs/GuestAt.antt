@@ -8,7 +8,7 @@ use Rattle.contact.specs.Classes.{offers_from}
 use Rattle.vmbus_msg.specs.declared.msg.Msg.{Msg}
 use Rattle.control_model.specs.declared.opening.Opening.{Opening}
 use Rattle.control_model.specs.declared.guest_wait.GuestWait.{GuestWait}
-use Rattle.control_model.specs.declared.guest_wait.GuestWait.TheVariants.{Response, Offers, Created, Opened, Torn, Unloaded}
+use Rattle.control_model.specs.declared.guest_wait.GuestWait.TheVariants.{Response, Offers, Created, Opened, Torn, Rescinded, Unloaded}
 use Rattle.control_model.specs.Plan.{BusPlan, phase_of}
 use Rattle.control_model.specs.Messages.{propose, request, delivered, open_on, opened, farewell, farewell_taken}
 use Rattle.control_model.specs.Said.{answer_to, guest_opens, host_opens, guest_closes, host_closes, guest_in_phase, host_in_phase, from_3_0, said_by_guest, said_by_host}
@@ -53,10 +53,12 @@ start_to_hear os awaits = []
 -- of a phase's end
 abbrev pub end_to_say : List Opening → GuestWait → List Msg
 end_to_say os (Torn place) = flat_map guest_closes (drop (suc place) os)
+end_to_say os (Rescinded place) = flat_map guest_closes (drop place os)
 end_to_say os awaits = []
 
 abbrev pub end_to_hear : List Opening → GuestWait → List Msg
 end_to_hear os (Torn place) = flat_map host_closes (drop place os)
+end_to_hear os (Rescinded place) = flat_map host_closes (drop place os)
 end_to_hear os awaits = []
 
 -- of the farewell

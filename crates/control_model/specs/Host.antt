@@ -6,7 +6,7 @@ use Rattle.contact.specs.declared.part.Part.TheVariants.{Contact, PhaseStart, Ph
 use Rattle.io_edge.specs.declared.side.Side.TheVariants.{Host as HostSide}
 use Rattle.chan_state.specs.declared.state.State.{State}
 use Rattle.chan_state.specs.declared.state.State.TheVariants.{Offered as IsOffered, Rescinded as IsRescinded}
-use Rattle.chan_state.specs.declared.event.Event.TheVariants.{OpenSeen, CloseSeen, TeardownSeen, ReleaseSeen}
+use Rattle.chan_state.specs.declared.event.Event.TheVariants.{OpenSeen, CloseSeen, TeardownSeen, ReleaseSeen, WantRescind}
 use Rattle.chan_state.specs.declared.action.Action.{Action}
 use Rattle.chan_state.specs.declared.action.Action.TheVariants.{SendResult, SendTorndown}
 use Rattle.chan_state.specs.declared.chan_state.ChanState.{ChanState}
@@ -19,13 +19,15 @@ use Rattle.vmbus_msg.specs.declared.msg.Msg.{Msg}
 use Rattle.vmbus_msg.specs.declared.msg.Msg.TheVariants.{RequestOffers, OpenChannel, CloseChannel, GpadlHeader, GpadlBody, GpadlTeardown, RelidReleased, InitiateContact, Unload as UnloadSeen}
 use Rattle.control_model.specs.declared.opening.Opening.{Opening}
 use Rattle.control_model.specs.declared.burst.Burst.{Burst}
-use Rattle.control_model.specs.declared.burst.Burst.TheVariants.{Empty, One, Offers}
+use Rattle.control_model.specs.declared.burst.Burst.TheVariants.{Empty, One, Two, Offers}
 use Rattle.control_model.specs.declared.fault.ControlFault.{ControlFault}
 use Rattle.control_model.specs.declared.fault.ControlFault.TheVariants.{State as StateFault, Gpadl, Relid, Unasked}
 use Rattle.control_model.specs.declared.host_wait.HostWait.{HostWait}
-use Rattle.control_model.specs.declared.host_wait.HostWait.TheVariants.{Nothing, Contact as AwaitsContact, Request, List as AwaitsList, Open, Close, Teardown, Unload as AwaitsUnload}
+use Rattle.control_model.specs.declared.host_wait.HostWait.TheVariants.{Nothing, Contact as AwaitsContact, Request, List as AwaitsList, Open, Close, Teardown, Release, Unload as AwaitsUnload}
+use Rattle.control_model.specs.declared.host_next.HostNext.{HostNext}
+use Rattle.control_model.specs.declared.host_next.Rescind.{Rescind}
 use Rattle.control_model.specs.Plan.{BusPlan, opening_in}
-use Rattle.control_model.specs.Messages.{respond, created, opened, torndown, farewell_taken, Sends}
+use Rattle.control_model.specs.Messages.{respond, created, opened, torndown, rescind, farewell_taken, Sends}
 use Rattle.control_model.specs.Channels.{accepts, by_relid, row_of, stands}
 use Rattle.control_model.specs.Guest.{can_unload}
 
@@ -85,16 +87,66 @@ abbrev pub waits_list : ℕ → Option Opening → HostWait
 waits_list place None = Nothing
 waits_list place (Some o) = AwaitsList place
 
-abbrev pub waits_close : ℕ → Option Opening → HostWait
-waits_close place None = Nothing
-waits_close place (Some o) = Close place
+-- it waits, and rescinds no channel
+abbrev pub waits : HostWait → HostNext
+waits awaits = record { awaits = awaits; rescinds = None }
 
--- what the host waits for at the start of a part: it sends nothing unasked
+-- the host wants the channel of an opening rescinded, where the table has a row for that
+abbrev pub rescind_of : Opening → ChanState → Option (State × Action) → Option Rescind
+rescind_of o life None = None
+rescind_of o life (Some row) = Some (record { relid = o.relid; life = stands life row.0; gpadl = o.gpadl })
+
+abbrev pub wants_rescind : Opening → Option ChanState → Option Rescind
+wants_rescind o None = None
+wants_rescind o (Some life) = rescind_of o life (row_of life WantRescind)
+
+-- goes on with the opening at a place, if there is one: its channel is rescinded, and waits to be given back, or waits for the guest to close it
+abbrev pub one_next : List ChanState → ℕ → Opening → Bool → HostNext
+one_next channels place o true = record { awaits = Release place; rescinds = wants_rescind o (by_relid channels o.relid) }
+one_next channels place o false = waits (Close place)
+
+abbrev pub next_end : List ChanState → ℕ → Option Opening → HostNext
+next_end channels place None = waits Nothing
+next_end channels place (Some o) = one_next channels place o o.rescinded
+
+-- the live lists without one that was let go
+abbrev pub without : Assembly → ℕ → Assembly
+without lists gpadl = record { building = lists.building; live = filter (λ handle. not (handle == gpadl)) lists.live }
+
+-- the channel that is rescinded stands so then, its page list ends, and RESCIND_CHANNELOFFER is sent behind the answer, if there is one
+abbrev pub rescinded_among : List ChanState → Option Rescind → List ChanState
+rescinded_among channels None = channels
+rescinded_among channels (Some r) = slice_set channels (r.relid - 1) r.life
+
+abbrev pub without_its : Assembly → Option Rescind → Assembly
+without_its lists None = lists
+without_its lists (Some r) = without lists r.gpadl
+
+abbrev pub and_rescind : Option Msg → Option Rescind → Burst
+and_rescind None None = Empty
+and_rescind None (Some r) = One (rescind r.relid)
+and_rescind (Some m) None = One m
+and_rescind (Some m) (Some r) = Two m (rescind r.relid)
+
+abbrev pub goes_next : HostTurn → Option Msg → HostNext → HostTurn
+goes_next turn answer next = record {
+  awaits = next.awaits;
+  version = turn.version;
+  channels = rescinded_among turn.channels next.rescinds;
+  lists = without_its turn.lists next.rescinds;
+  burst = and_rescind answer next.rescinds;
+}
+
+-- what the host goes on with at the start of a part: it sends nothing unasked, but for RESCIND_CHANNELOFFER where the first channel of a phase that ends is to
+-- be rescinded
+abbrev pub first_next : HostSeen → Part → HostNext
+first_next h Contact = waits AwaitsContact
+first_next h (PhaseStart phase) = waits (waits_list 0 (opening_in h.plan (Some (PhaseStart phase)) 0))
+first_next h (PhaseEnd phase) = next_end h.channels 0 (opening_in h.plan (Some (PhaseEnd phase)) 0)
+first_next h Unload = waits (if can_unload h.version then AwaitsUnload else Nothing)
+
 abbrev pub host_begins : HostSeen → Part → HostTurn
-host_begins h Contact = record (at_rest h) { awaits = AwaitsContact }
-host_begins h (PhaseStart phase) = record (at_rest h) { awaits = waits_list 0 (opening_in h.plan (Some (PhaseStart phase)) 0) }
-host_begins h (PhaseEnd phase) = record (at_rest h) { awaits = waits_close 0 (opening_in h.plan (Some (PhaseEnd phase)) 0) }
-host_begins h Unload = record (at_rest h) { awaits = if can_unload h.version then AwaitsUnload else Nothing }
+host_begins h part = goes_next (at_rest h) None (first_next h part)
 
 -- the opening is of this channel
 abbrev pub is_of : ℕ → Option Opening → Bool
@@ -169,22 +221,31 @@ abbrev pub hears_close : HostSeen → ℕ → Option ChanState → Result HostTu
 hears_close h relid None = Err (Relid relid)
 hears_close h relid (Some life) = close_by h relid life (row_of life CloseSeen)
 
+-- it waits for what it waited for
+abbrev pub stays : HostSeen → HostNext
+stays h = waits h.awaits
+
+-- the channel of the opening at a place is done with, where it is this one, and the host goes on with the next opening
+abbrev pub ended_at : HostSeen → ℕ → ℕ → HostNext
+ended_at h place relid = if is_of relid (opening_for h place) then next_end h.channels (place + 1) (opening_for h (place + 1)) else stays h
+
 -- GPADL_TEARDOWN: the page list isn't live any more
-abbrev pub torn_then : HostSeen → HostWait → ℕ → HostWait
-torn_then h (Teardown place) relid = if is_of relid (opening_for h place) then waits_close (place + 1) (opening_for h (place + 1)) else Teardown place
-torn_then h awaits relid = awaits
+abbrev pub torn_then : HostSeen → HostWait → ℕ → HostNext
+torn_then h (Teardown place) relid = ended_at h place relid
+torn_then h awaits relid = stays h
 
-abbrev pub without : Assembly → ℕ → Assembly
-without lists gpadl = record { building = lists.building; live = filter (λ handle. not (handle == gpadl)) lists.live }
+abbrev pub lists_torn : Assembly → ℕ → Action → Assembly
+lists_torn lists gpadl SendTorndown = without lists gpadl
+lists_torn lists gpadl _ = lists
 
-abbrev pub tears : HostSeen → ℕ → HostTurn → Action → HostTurn
-tears h gpadl turn SendTorndown = record turn { lists = without h.lists gpadl; burst = One (torndown gpadl) }
-tears h gpadl turn _ = turn
+abbrev pub torn_answer : ℕ → Action → Option Msg
+torn_answer gpadl SendTorndown = Some (torndown gpadl)
+torn_answer gpadl _ = None
 
 abbrev pub teardown_by : HostSeen → ℕ → ℕ → ChanState → Option (State × Action) → Result HostTurn ControlFault
 teardown_by h relid gpadl life None = Err (StateFault (record { state = life.state; event = TeardownSeen }))
 teardown_by h relid gpadl life (Some row) =
-    Ok (tears h gpadl (record (at_rest h) { awaits = torn_then h h.awaits relid; channels = goes_on h relid life row.0 }) row.1)
+    Ok (goes_next (record (at_rest h) { channels = goes_on h relid life row.0; lists = lists_torn h.lists gpadl row.1 }) (torn_answer gpadl row.1) (torn_then h h.awaits relid))
 
 -- the rescind of a channel ends its page list, so no handle is asked of it then
 abbrev pub is_rescinded : State → Bool
@@ -197,9 +258,13 @@ hears_teardown h relid gpadl (Some life) =
     if is_rescinded life.state || is_live h.lists.live gpadl then teardown_by h relid gpadl life (row_of life TeardownSeen) else Err (Gpadl (Handle gpadl))
 
 -- RELID_RELEASED
+abbrev pub released_then : HostSeen → HostWait → ℕ → HostNext
+released_then h (Release place) relid = ended_at h place relid
+released_then h awaits relid = stays h
+
 abbrev pub release_by : HostSeen → ℕ → ChanState → Option (State × Action) → Result HostTurn ControlFault
 release_by h relid life None = Err (StateFault (record { state = life.state; event = ReleaseSeen }))
-release_by h relid life (Some row) = Ok (record (at_rest h) { channels = goes_on h relid life row.0 })
+release_by h relid life (Some row) = Ok (goes_next (record (at_rest h) { channels = goes_on h relid life row.0 }) None (released_then h h.awaits relid))
 
 abbrev pub hears_release : HostSeen → ℕ → Option ChanState → Result HostTurn ControlFault
 hears_release h relid None = Err (Relid relid)
@@ -236,9 +301,10 @@ host_after h part turn sent fed = record {
   fed = h.fed ++ fed;
 }
 
--- a part begins: the host sends nothing
-abbrev pub HostBegins : HostSeen → Part → HostSeen → Type 0
-HostBegins old part new = new ≡ host_after old (Some part) (host_begins old part) [] []
+-- a part begins: it sends what the part begins with
+pub record HostBegins (old : HostSeen) (part : Part) (sent : List Msg) (new : HostSeen) : Type 0 where
+  pub sends : Sends old.plan (host_begins old part).burst sent
+  pub now : new ≡ host_after old (Some part) (host_begins old part) sent []
 
 -- a message is taken: what comes of it is sent
 pub record HostTakes (old : HostSeen) (m : Msg) (sent : List Msg) (new : HostSeen) : Type 0 where

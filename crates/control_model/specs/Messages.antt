@@ -2,12 +2,12 @@
 use Rattle.std.specs.Prelude.{◌≡◌, ℕ, ◌+◌, List, [], ◌∷◌, ◌++◌, replicate}
 use Rattle.std.specs.List.{range_with_len}
 use Rattle.vmbus_msg.specs.declared.msg.Msg.{Msg}
-use Rattle.vmbus_msg.specs.declared.msg.Msg.TheVariants.{RequestOffers, AllOffersDelivered, OpenChannel, OpenChannelResult, CloseChannel, GpadlCreated, GpadlTeardown, GpadlTorndown, RelidReleased, InitiateContact, VersionResponse, Unload, UnloadResponse}
+use Rattle.vmbus_msg.specs.declared.msg.Msg.TheVariants.{RequestOffers, AllOffersDelivered, OpenChannel, OpenChannelResult, CloseChannel, RescindChannelOffer, GpadlCreated, GpadlTeardown, GpadlTorndown, RelidReleased, InitiateContact, VersionResponse, Unload, UnloadResponse}
 use Rattle.contact.specs.Classes.{offers_from}
 use Rattle.gpadl.specs.Cut.{AreMessagesOf}
 use Rattle.control_model.specs.declared.opening.Opening.{Opening}
 use Rattle.control_model.specs.declared.burst.Burst.{Burst}
-use Rattle.control_model.specs.declared.burst.Burst.TheVariants.{Empty, One, Two, PageList, Offers}
+use Rattle.control_model.specs.declared.burst.Burst.TheVariants.{Empty, One, Two, Three, PageList, Offers}
 use Rattle.control_model.specs.Plan.{BusPlan, list_pages, IsOpening}
 
 -- the guest proposes a version
@@ -52,6 +52,10 @@ teardown o = GpadlTeardown 0 o.relid o.gpadl
 abbrev pub torndown : ℕ → Msg
 torndown gpadl = GpadlTorndown 0 gpadl
 
+-- the host takes a channel back: its page list ends with that
+abbrev pub rescind : ℕ → Msg
+rescind relid = RescindChannelOffer 0 relid
+
 -- the guest gives a channel back
 abbrev pub release : ℕ → Msg
 release relid = RelidReleased 0 relid
@@ -68,6 +72,7 @@ abbrev pub Sends : BusPlan → Burst → List Msg → Type 0
 Sends plan Empty sent = sent ≡ []
 Sends plan (One m) sent = sent ≡ m ∷ []
 Sends plan (Two m n) sent = sent ≡ m ∷ n ∷ []
+Sends plan (Three m n o) sent = sent ≡ m ∷ n ∷ o ∷ []
 Sends plan (PageList o) sent = AreMessagesOf o.relid o.gpadl (pages_from o) sent
 Sends plan Offers sent = sent ≡ offers_from 1 plan.kinds ++ delivered ∷ []
 

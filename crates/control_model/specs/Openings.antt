@@ -1,12 +1,13 @@
 -- The plan of a script.
-use Rattle.std.specs.Prelude.{ℕ, ◌+◌, ◌==◌, Bool, false, not, ◌&&◌, List, [], ◌∷◌, ◌++◌, length, map, filter}
-use Rattle.std.specs.List.{list_any, range_with_len}
+use Rattle.std.specs.Prelude.{ℕ, ◌+◌, Bool, List, [], ◌∷◌, length, map}
 use Rattle.contact.specs.declared.version.Version.{Version}
 use Rattle.contact.specs.Versions.{version}
 use Rattle.script_lines.specs.declared.line.Line.{Line}
 use Rattle.script_lines.specs.declared.line.What.{What}
-use Rattle.script_lines.specs.declared.line.What.TheVariants.{Contact as IsContact, Ask as IsAsk, Shut as IsShut}
-use Rattle.script_lines.specs.Parts.{parts, offered, kind_of, ring_pages_of, shuts}
+use Rattle.script_lines.specs.declared.line.What.TheVariants.{Contact as IsContact}
+use Rattle.script_lines.specs.Parts.{offered, kind_of, ring_pages_of}
+use Rattle.script_phases.specs.Says.{is_rescinded}
+use Rattle.script_phases.specs.Openings.{Opening as PhaseOpening, Phase, phases}
 use Rattle.control_model.specs.declared.opening.Opening.{Opening}
 use Rattle.control_model.specs.Plan.{BusPlan, list_pages, first_gpadl}
 
@@ -30,34 +31,22 @@ abbrev pub host_in : List Line → Version
 host_in [] = no_less
 host_in (l ∷ ls) = host_by l.what
 
--- a line for which its device is opened
-abbrev pub wants_open : ℕ → What → Bool
-wants_open device (IsAsk d ask) = d == device
-wants_open device (IsShut d) = d == device
-wants_open device _ = false
+-- the openings of a phase's channels, in order: handles and page numbers are given out one after the other, so none is used twice
+abbrev pub openings_from : (ℕ → ℕ) → (ℕ → Bool) → ℕ → ℕ → List PhaseOpening → List Opening
+openings_from sizes rescinded gpadl page [] = []
+openings_from sizes rescinded gpadl page (o ∷ os) =
+    record { relid = o.relid; ring_pages = sizes o.device; gpadl = gpadl; first_page = page; rescinded = rescinded o.device }
+    ∷ openings_from sizes rescinded (gpadl + 1) (page + list_pages (sizes o.device)) os
 
--- a device is opened in a phase that has a request or a close for it, unless an earlier phase closed it
-abbrev pub is_opened : List Line → List Line → ℕ → Bool
-is_opened earlier part device = not (list_any (λ l. shuts device l.what) earlier) && list_any (λ l. wants_open device l.what) part
-
--- the devices that are opened in each phase, in order of offer
-abbrev pub devices_by_phase : ℕ → List Line → List (List Line) → List (List ℕ)
-devices_by_phase count earlier [] = []
-devices_by_phase count earlier (part ∷ rest) = filter (is_opened earlier part) (range_with_len 0 count) ∷ devices_by_phase count (earlier ++ part) rest
-
--- their openings: handles and page numbers are given out in order, so none is used twice
-abbrev pub openings_from : (ℕ → ℕ) → ℕ → ℕ → List ℕ → List Opening
-openings_from sizes gpadl page [] = []
-openings_from sizes gpadl page (d ∷ ds) =
-    record { relid = d + 1; ring_pages = sizes d; gpadl = gpadl; first_page = page } ∷ openings_from sizes (gpadl + 1) (page + list_pages (sizes d)) ds
-
-abbrev pub pages_in : (ℕ → ℕ) → List ℕ → ℕ
+abbrev pub pages_in : (ℕ → ℕ) → List PhaseOpening → ℕ
 pages_in sizes [] = 0
-pages_in sizes (d ∷ ds) = list_pages (sizes d) + pages_in sizes ds
+pages_in sizes (o ∷ os) = list_pages (sizes o.device) + pages_in sizes os
 
-abbrev pub numbered : (ℕ → ℕ) → ℕ → ℕ → List (List ℕ) → List (List Opening)
+-- those of all phases; a channel is rescinded at the end of a phase that rescinds its device
+abbrev pub numbered : (ℕ → ℕ) → ℕ → ℕ → List Phase → List (List Opening)
 numbered sizes gpadl page [] = []
-numbered sizes gpadl page (ds ∷ phases) = openings_from sizes gpadl page ds ∷ numbered sizes (gpadl + length ds) (page + pages_in sizes ds) phases
+numbered sizes gpadl page (p ∷ phases) =
+    openings_from sizes (λ device. is_rescinded device p.part) gpadl page p.opened ∷ numbered sizes (gpadl + length p.opened) (page + pages_in sizes p.opened) phases
 
 -- the plan of a script's lines
 abbrev pub plan_of : List Line → BusPlan
@@ -65,5 +54,5 @@ plan_of lines = record {
   guest = guest_in lines;
   host = host_in lines;
   kinds = map kind_of (offered lines);
-  phases = numbered (λ d. ring_pages_of d lines) first_gpadl 0 (devices_by_phase (length (offered lines)) [] (parts lines));
+  phases = numbered (λ d. ring_pages_of d lines) first_gpadl 0 (phases lines);
 }

@@ -1,5 +1,5 @@
 -- What both controls know of a script from the start.
-use Rattle.std.specs.Prelude.{◌≡◌, ◌<◌, ◌≤◌, ◌^◌, All, ℕ, ◌+◌, ◌*◌, List, [], ◌∷◌, ◌++◌, length, slice_get, slice_index_or, nat_lt, Option, Some, None, if◌then◌else◌}
+use Rattle.std.specs.Prelude.{◌≡◌, ◌<◌, ◌≤◌, ◌^◌, All, ℕ, false, ◌+◌, ◌*◌, List, [], ◌∷◌, ◌++◌, length, slice_get, slice_index_or, nat_lt, Option, Some, None, if◌then◌else◌}
 use Rattle.contact.specs.Versions.{IsVersion}
 use Rattle.contact.specs.declared.version.Version.{Version}
 use Rattle.contact.specs.declared.kind.Kind.{Kind}
@@ -58,6 +58,14 @@ abbrev pub Follows : ℕ → ℕ → List Opening → Type 0
 Follows gpadl page [] = Unit {0}
 Follows gpadl page (o ∷ os) = (o.gpadl ≡ gpadl) × (o.first_page ≡ page) × Follows (gpadl + 1) (page + list_pages o.ring_pages) os
 
+-- a channel that a later phase opens again isn't rescinded
+abbrev pub OpensAgain : List (List Opening) → Opening → Type 0
+OpensAgain later o = All (λ os. All (λ p. p.relid ≡ o.relid → o.rescinded ≡ false) os) later
+
+abbrev pub RescindsEnd : List (List Opening) → Type 0
+RescindsEnd [] = Unit {0}
+RescindsEnd (os ∷ later) = All (OpensAgain later) os × RescindsEnd later
+
 -- all openings, phase by phase
 abbrev pub all_openings : List (List Opening) → List Opening
 all_openings [] = []
@@ -67,7 +75,7 @@ all_openings (os ∷ phases) = os ++ all_openings phases
 abbrev pub first_gpadl : ℕ
 first_gpadl = 0xE1E10
 
--- What every plan keeps: versions of the list, at most 16 devices, whose channels are opened in order of offer in each phase; handles and page numbers are never used twice
+-- What every plan keeps: versions of the list, at most 16 devices, whose channels are opened in order of offer in each phase; handles and page numbers are never used twice; and a channel that was rescinded isn't opened again
 pub record IsPlan (p : BusPlan) : Type 0 where
   pub guest : IsVersion p.guest.0
   pub host : IsVersion p.host.0
@@ -78,3 +86,4 @@ pub record IsPlan (p : BusPlan) : Type 0 where
   pub offered : All (λ os. All (λ o. o.relid ≤ length p.kinds) os) p.phases
   pub rising : All (λ os. Rising 1 os) p.phases
   pub follow : Follows first_gpadl 0 (all_openings p.phases)
+  pub ends : RescindsEnd p.phases

@@ -1,15 +1,15 @@
 -- All that a guest and its host say to each other over a plan, in order, and where its channels stand then.
-use Rattle.std.specs.Prelude.{ℕ, ◌==◌, min, nat_le, List, [], ◌∷◌, ◌++◌, length, map, if◌then◌else◌}
+use Rattle.std.specs.Prelude.{ℕ, ◌==◌, ◌&&◌, Bool, min, nat_le, List, [], ◌∷◌, ◌++◌, length, map, if◌then◌else◌}
 use Rattle.std.specs.List.{flat_map, list_any, range_with_len}
 use Rattle.contact.specs.Versions.{version, versions_tried}
 use Rattle.contact.specs.Classes.{offers_from}
 use Rattle.chan_state.specs.declared.state.State.{State}
-use Rattle.chan_state.specs.declared.state.State.TheVariants.{Offered, Closed}
+use Rattle.chan_state.specs.declared.state.State.TheVariants.{Offered, Closed, Released}
 use Rattle.gpadl.specs.Cut.{cut}
 use Rattle.vmbus_msg.specs.declared.msg.Msg.{Msg}
 use Rattle.control_model.specs.declared.opening.Opening.{Opening}
 use Rattle.control_model.specs.Plan.{BusPlan, all_openings}
-use Rattle.control_model.specs.Messages.{propose, respond, request, delivered, pages_from, created, open_on, opened, close, teardown, torndown, farewell, farewell_taken}
+use Rattle.control_model.specs.Messages.{propose, respond, request, delivered, pages_from, created, open_on, opened, close, teardown, torndown, rescind, release, farewell, farewell_taken}
 
 -- the version that both agree on
 abbrev pub agreed : BusPlan → ℕ
@@ -33,14 +33,15 @@ guest_opens o = cut o.relid o.gpadl (pages_from o) ++ open_on o ∷ []
 abbrev pub host_opens : Opening → List Msg
 host_opens o = created o.relid o.gpadl ∷ opened o.relid o.relid ∷ []
 
--- a channel is closed: the guest closes it and tears its page list down, which the host lets go
+-- a channel that is rescinded is taken back by the host, and the guest gives it back; each other one is closed: the guest closes it and tears its page list
+-- down, which the host lets go
 abbrev pub guest_closes : Opening → List Msg
-guest_closes o = close o.relid ∷ teardown o ∷ []
+guest_closes o = if o.rescinded then release o.relid ∷ [] else close o.relid ∷ teardown o ∷ []
 
 abbrev pub host_closes : Opening → List Msg
-host_closes o = torndown o.gpadl ∷ []
+host_closes o = if o.rescinded then rescind o.relid ∷ [] else torndown o.gpadl ∷ []
 
--- a phase opens its channels at its start, and closes them at its end, both in order of offer
+-- a phase opens its channels at its start, and closes them or gives them back at its end, both in order of offer
 abbrev pub guest_in_phase : List Opening → List Msg
 guest_in_phase os = flat_map guest_opens os ++ flat_map guest_closes os
 
@@ -58,9 +59,16 @@ said_by_guest plan = guest_contacts plan ++ (flat_map guest_in_phase plan.phases
 abbrev pub said_by_host : BusPlan → List Msg
 said_by_host plan = host_contacts plan ++ (flat_map host_in_phase plan.phases ++ from_3_0 plan (farewell_taken ∷ []))
 
--- at the end a channel that a phase opened is closed, and each other one is offered
+-- a phase opened a channel; a phase rescinded it
+abbrev pub is_opened : BusPlan → ℕ → Bool
+is_opened plan relid = list_any (λ o. o.relid == relid) (all_openings plan.phases)
+
+abbrev pub is_rescinded : BusPlan → ℕ → Bool
+is_rescinded plan relid = list_any (λ o. (o.relid == relid) && o.rescinded) (all_openings plan.phases)
+
+-- at the end a channel that a phase rescinded is given back, each other one that a phase opened is closed, and each that none opened is offered
 abbrev pub last_state : BusPlan → ℕ → State
-last_state plan relid = if list_any (λ o. o.relid == relid) (all_openings plan.phases) then Closed else Offered
+last_state plan relid = if is_rescinded plan relid then Released else if is_opened plan relid then Closed else Offered
 
 -- where all channels stand at the end, in order of relid
 abbrev pub at_end : BusPlan → List State

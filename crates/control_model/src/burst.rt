@@ -11,6 +11,8 @@ pub enum Burst {
     One(Msg),
     /// Two messages.
     Two(Msg, Msg),
+    /// Three messages.
+    Three(Msg, Msg, Msg),
     /// The page list of a channel that is being opened: GPADL_HEADER and its GPADL_BODY messages.
     PageList(Opening),
     /// An OFFERCHANNEL for each device, and ALLOFFERS_DELIVERED.

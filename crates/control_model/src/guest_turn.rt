@@ -9,9 +9,9 @@ pub struct GuestTurn {
     pub awaits: GuestWait,
     /// The version that is agreed on then, if one is.
     pub version: Option<Version>,
-    /// What the message does to a channel.
+    /// What the message does to its channel.
     pub heard: Change,
-    /// What the guest's own wish does to a channel, after that.
+    /// What the guest's own wish does to a channel, the same or another one, after that.
     pub wished: Change,
     /// What it sends.
     pub burst: Burst,

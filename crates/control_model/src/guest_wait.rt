@@ -17,6 +17,8 @@ pub enum GuestWait {
     Opened(usize),
     /// GPADL_TORNDOWN, for the page list of this opening.
     Torn(usize),
+    /// RESCIND_CHANNELOFFER, for the channel of this opening.
+    Rescinded(usize),
     /// UNLOAD_RESPONSE.
     Unloaded,
 }

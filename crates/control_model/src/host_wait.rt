@@ -18,6 +18,8 @@ pub enum HostWait {
     Close(usize),
     /// GPADL_TEARDOWN, for the page list of this opening.
     Teardown(usize),
+    /// RELID_RELEASED, for the channel of this opening.
+    Release(usize),
     /// UNLOAD.
     Unload,
 }

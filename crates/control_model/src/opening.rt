@@ -1,6 +1,6 @@
 //! One opening of a channel.
 
-/// A channel that is opened at the start of a phase, and closed at its end.
+/// A channel that is opened at the start of a phase, and closed or rescinded at its end.
 #[derive(Clone, Copy)]
 pub struct Opening {
     /// The channel's number.
@@ -11,4 +11,6 @@ pub struct Opening {
     pub gpadl: u32,
     /// The number of the list's first page. The others follow it.
     pub first_page: u64,
+    /// Whether the host rescinds the channel at the end of the phase. The guest closes it otherwise.
+    pub rescinded: bool,
 }

@@ -1,11 +1,12 @@
 //! The plan of a script.
 ghost use Rattle.std.specs.Prelude.{◌≡◌, ◌+◌, ◌*◌, ◌^◌, ◌<◌, ◌≤◌, Bool, Option, List, [], ◌∷◌, ◌++◌, ℕ, length, map, filter, take, slice_range, nat_lt, vec_len, vec_capacity, IfOk, IfSome, OnOk};
 ghost use Rattle.std.specs.Option.{option_to_list};
-ghost use Rattle.std.specs.List.{list_any, position, range_with_len};
-ghost use Rattle.script_lines.specs.Parts.{parts, is_phase, offered_by, offered, kind_of, ring_pages_of, shuts};
+ghost use Rattle.std.specs.List.{AllByRecursion, list_any, position, range_with_len};
+ghost use Rattle.script_lines.specs.Parts.{is_phase, offered_by, offered, kind_of, ring_pages_of, rescinds, shuts};
+ghost use Rattle.script_phases.specs.Openings.{phases, subs_of};
 ghost use Rattle.control_model.specs.Plan.{first_gpadl};
-ghost use Rattle.control_model.specs.Openings.{devices_by_phase, numbered, guest_in, host_in, wants_open, openings_from, pages_in};
-ghost use Rattle.control_model.specs.Dealing.{served_of, opens_one, is_closed, opens, size_in, HasSizes, Dealt, rest_of};
+ghost use Rattle.control_model.specs.Openings.{numbered, guest_in, host_in, openings_from, pages_in};
+ghost use Rattle.control_model.specs.Dealing.{served_of, speaks_to, first_channel, opens_one, ends, ended_before, rescinded_in, opens, size_in, HasSizes, Dealt, rest_of};
 
 use crate::Opening;
 use bus_script::{DeviceSpec, Line, What};
@@ -70,8 +71,8 @@ fn kind_of(device: DeviceSpec) -> Kind
 pub struct Served {
     // The data pages of each of its rings.
     pub ring_pages: u32,
-    // The place of the line that closes it, if one does.
-    pub shut: Option<usize>,
+    // The place of the first line that rescinds or closes it, if one does.
+    pub end: Option<usize>,
 }
 
 /// What the lines say of each device.
@@ -82,7 +83,7 @@ pub fn table_of(alloc: Global, lines: &[Line], count: u32) -> Result<Vec<Served>
     for device in 0..count {
         devices.push_reserved(Served {
             ring_pages: ring_pages(lines, device),
-            shut: first_shut(lines, device),
+            end: first_end(lines, device),
         });
     }
     Ok(devices)
@@ -102,39 +103,51 @@ fn ring_pages(lines: &[Line], device: u32) -> u32
     1
 }
 
-// The place of the first line that closes a device.
-fn first_shut(lines: &[Line], device: u32) -> Option<usize>
-    ensures { result ≡ position (λ l. shuts device l.what) lines.now }
+// The place of the first line that ends a device for all later phases.
+fn first_end(lines: &[Line], device: u32) -> Option<usize>
+    ensures { result ≡ position (λ l. ends device l.what) lines.now }
 {
-    lines.iter().position(|l| is_shut(&l.what, device))
+    lines.iter().position(|l| ends(&l.what, device))
 }
 
-// Whether a line closes a device.
-fn is_shut(what: &What, device: u32) -> bool
-    ensures { result ≡ shuts device what.now }
+// Whether a line ends a device for all later phases: rescinds it, or closes it.
+fn ends(what: &What, device: u32) -> bool
+    ensures { result ≡ ends device what.now }
 {
     match what {
+        What::Rescind { device: d, .. } => *d == device,
         What::Shut { device: d } => *d == device,
         _ => false,
     }
 }
 
-// Whether a device is opened for a line.
-fn wants_open(what: &What, device: u32) -> bool
-    ensures { result ≡ wants_open device what.now }
+// Whether a line rescinds a device.
+fn rescinds(what: &What, device: u32) -> bool
+    ensures { result ≡ rescinds device what.now }
+{
+    match what {
+        What::Rescind { device: d, .. } => *d == device,
+        _ => false,
+    }
+}
+
+// Whether a line speaks to a device: asks it, rescinds it, or closes it.
+fn speaks_to(what: &What, device: u32) -> bool
+    ensures { result ≡ speaks_to device what.now }
 {
     match what {
         What::Ask { device: d, .. } => *d == device,
+        What::Rescind { device: d, .. } => *d == device,
         What::Shut { device: d } => *d == device,
         _ => false,
     }
 }
 
-// Whether a device was closed by a line before this place.
-fn is_closed(shut: Option<usize>, start: usize) -> bool
-    ensures { result ≡ is_closed shut start }
+// Whether a device was ended by a line before this place.
+fn ended_before(end: Option<usize>, start: usize) -> bool
+    ensures { result ≡ ended_before end start }
 {
-    match shut {
+    match end {
         Some(place) => place < start,
         None => false,
     }
@@ -152,7 +165,7 @@ fn part_end(lines: &[Line], start: usize) -> usize
     requires { start ≤ length lines.now }
     ensures within { (start ≤ result) × (result ≤ length lines.now) }
     ensures cut { rest_of lines.now start ≡ slice_range lines.now start result ∷ rest_of lines.now (result + 1) }
-    ensures shut { (device : ℕ) → list_any (λ l. shuts device l.what) (take (result + 1) lines.now) ≡ list_any (λ l. shuts device l.what) (take result lines.now) }
+    ensures end { (device : ℕ) → list_any (λ l. ends device l.what) (take (result + 1) lines.now) ≡ list_any (λ l. ends device l.what) (take result lines.now) }
 {
     for i in start..lines.len() {
         if is_phase(&lines[i].what) {
@@ -169,10 +182,12 @@ pub fn phases(
     devices: &[Served],
 ) -> Result<Vec<Vec<Opening>>, AllocError>
     requires few { length devices.now ≤ 16 }
+    requires all { length devices.now ≡ length (offered lines.now) }
+    requires single { AllByRecursion (λ spec. subs_of spec ≡ 0) (offered lines.now) }
     requires sizes { HasSizes devices.now }
     requires table { devices.now ≡ map (served_of lines.now) (range_with_len 0 (length devices.now)) }
     requires short { length lines.now ≤ 20000 }
-    ensures { IfOk result (λ phases. map (λ phase. phase.items) phases.items ≡ numbered (size_in devices.now) first_gpadl 0 (devices_by_phase (length devices.now) [] (parts lines.now))) }
+    ensures { IfOk result (λ made. map (λ phase. phase.items) made.items ≡ numbered (size_in devices.now) first_gpadl 0 (phases lines.now)) }
 {
     let mut phases = Vec::new(alloc);
     let mut next = Next {
@@ -209,27 +224,35 @@ pub fn openings(
     requires sizes { HasSizes devices.now }
     requires gpadl { next.old.gpadl + 16 < 2 ^ 32 }
     requires page { next.old.page + 16 * 34 < 2 ^ 64 }
-    ensures openings { IfOk result (λ os. os.items ≡ openings_from (size_in devices.now) next.old.gpadl next.old.page (filter (opens devices.now part.now start) (range_with_len 0 (length devices.now)))) }
+    ensures openings { IfOk result (λ os. os.items ≡ openings_from (size_in devices.now) (rescinded_in part.now) next.old.gpadl next.old.page (map first_channel (filter (opens devices.now part.now start) (range_with_len 0 (length devices.now))))) }
     ensures gpadl { OnOk result (next.new.gpadl ≡ next.old.gpadl + length (filter (opens devices.now part.now start) (range_with_len 0 (length devices.now)))) }
-    ensures page { OnOk result (next.new.page ≡ next.old.page + pages_in (size_in devices.now) (filter (opens devices.now part.now start) (range_with_len 0 (length devices.now)))) }
+    ensures page { OnOk result (next.new.page ≡ next.old.page + pages_in (size_in devices.now) (map first_channel (filter (opens devices.now part.now start) (range_with_len 0 (length devices.now))))) }
     ensures few_more { OnOk result ((next.new.gpadl ≤ next.old.gpadl + 16) × (next.new.page ≤ next.old.page + 16 * 34)) }
 {
     let mut openings = Vec::with_capacity(alloc, devices.len())?;
     for (i, device) in devices.iter().enumerate() {
         let opened = opens(part, start, *device, i as u32);
-        deal(opened, i as u32, *device, &mut openings, next);
+        let rescinded = is_rescinded(part, i as u32);
+        deal(opened, i as u32, *device, rescinded, &mut openings, next);
     }
     Ok(openings)
 }
 
 // Opens a device, where that is so: the opening takes the next handle and the next pages.
-fn deal(opened: bool, number: u32, device: Served, openings: &mut Vec<Opening>, next: &mut Next)
+fn deal(
+    opened: bool,
+    number: u32,
+    device: Served,
+    rescinded: bool,
+    openings: &mut Vec<Opening>,
+    next: &mut Next,
+)
     requires room { vec_len openings.old < vec_capacity openings.old }
     requires size { device.ring_pages ≤ 16 }
     requires number { number < 16 }
     requires gpadl { next.old.gpadl + 1 < 2 ^ 32 }
     requires page { next.old.page + 34 < 2 ^ 64 }
-    ensures dealt { Dealt opened number device.ring_pages openings.old.items next.old openings.new.items next.new }
+    ensures dealt { Dealt opened number device.ring_pages rescinded openings.old.items next.old openings.new.items next.new }
     ensures few { vec_len openings.new ≤ vec_len openings.old + 1 }
     ensures capacity { vec_capacity openings.new ≡ vec_capacity openings.old }
     ensures gpadl { next.new.gpadl ≤ next.old.gpadl + 1 }
@@ -241,6 +264,7 @@ fn deal(opened: bool, number: u32, device: Served, openings: &mut Vec<Opening>, 
             ring_pages: device.ring_pages,
             gpadl: next.gpadl,
             first_page: next.page,
+            rescinded,
         });
         next.gpadl += 1;
         next.page += 2 * u64::from(device.ring_pages) + 2;
@@ -251,12 +275,19 @@ fn deal(opened: bool, number: u32, device: Served, openings: &mut Vec<Opening>, 
 fn opens(part: &[Line], start: usize, device: Served, number: u32) -> bool
     ensures { result ≡ opens_one part.now start device number }
 {
-    !is_closed(device.shut, start) && is_wanted(part, number)
+    !ended_before(device.end, start) && is_wanted(part, number)
 }
 
-// Whether a device is opened for one of these lines.
+// Whether one of these lines speaks to a device.
 fn is_wanted(part: &[Line], device: u32) -> bool
-    ensures { result ≡ list_any (λ l. wants_open device l.what) part.now }
+    ensures { result ≡ list_any (λ l. speaks_to device l.what) part.now }
 {
-    part.iter().any(|l| wants_open(&l.what, device))
+    part.iter().any(|l| speaks_to(&l.what, device))
+}
+
+// Whether one of these lines rescinds a device.
+fn is_rescinded(part: &[Line], device: u32) -> bool
+    ensures { result ≡ rescinded_in part.now device }
+{
+    part.iter().any(|l| rescinds(&l.what, device))
 }

@@ -82,6 +82,7 @@ pub fn messages(alloc: Global, plan: &Plan, burst: &Burst) -> Result<Vec<Msg>, A
         Burst::Empty => Ok(Vec::new(alloc)),
         Burst::One(m) => one(alloc, m),
         Burst::Two(m, n) => two(alloc, m, n),
+        Burst::Three(m, n, o) => three(alloc, m, n, o),
         Burst::PageList(o) => page_list(alloc, o),
         Burst::Offers => all_offers(alloc, plan),
     }
@@ -103,6 +104,17 @@ fn two(alloc: Global, m: &Msg, n: &Msg) -> Result<Vec<Msg>, AllocError>
     let mut sent = Vec::with_capacity(alloc, 2)?;
     sent.push_reserved(*m);
     sent.push_reserved(*n);
+    Ok(sent)
+}
+
+// Three messages.
+fn three(alloc: Global, m: &Msg, n: &Msg, o: &Msg) -> Result<Vec<Msg>, AllocError>
+    ensures { IfOk result (λ sent. sent.items ≡ m.now ∷ n.now ∷ o.now ∷ []) }
+{
+    let mut sent = Vec::with_capacity(alloc, 3)?;
+    sent.push_reserved(*m);
+    sent.push_reserved(*n);
+    sent.push_reserved(*o);
     Ok(sent)
 }
 

@@ -7,10 +7,10 @@ use Rattle.control_model.specs.Messages.{Sends}
 use Rattle.control_model.specs.Guest.{GuestSeen, guest_begins, guest_after}
 use Rattle.control_model.specs.Host.{HostSeen, host_begins, host_after}
 use Rattle.control_run.specs.Talk.{Logs, Talk}
-use Rattle.control_run.specs.Talk.Talk.{fresh, proposes, asks, lists, opens, closes, tears, leaves}
+use Rattle.control_run.specs.Talk.Talk.{fresh, proposes, asks, lists, opens, closes, tears, releases, leaves}
 use Rattle.control_run.specs.Laws.{logs_of, Agrees, measure, NewOnesAgree, BothBegin, HostGoesOn, GuestGoesOn, BothDone, FewOnTheirWay, EndsWell}
 use Rattle.control_run.proofs.GuestSteps.{guest_step}
-use Rattle.control_run.proofs.HostSteps.{HostStep, step_proposes, step_asks, step_opens, step_closes, step_tears, step_leaves}
+use Rattle.control_run.proofs.HostSteps.{HostStep, step_proposes, step_asks, step_opens, step_closes, step_tears, step_releases, step_leaves}
 use Rattle.control_run.proofs.HostLists.{step_lists}
 use Rattle.control_run.proofs.Saying.{at_after}
 use Rattle.control_run.proofs.Beginning.{begins}
@@ -22,8 +22,9 @@ host_step plan logs g h m to_host to_guest planned (proposes v tries) = step_pro
 host_step plan logs g h m to_host to_guest planned (asks v agreed) = step_asks plan logs v agreed
 host_step plan logs g h m to_host to_guest planned (lists v guests hosts phase place done o left s n ms at meet pieces) = step_lists plan logs v guests hosts phase place done o left s n ms planned at meet pieces
 host_step plan logs g h m to_host to_guest planned (opens v guests hosts phase place done o left at meet) = step_opens plan logs v guests hosts phase place done o left planned at meet
-host_step plan logs g h m to_host to_guest planned (closes v guests hosts phase place done o left at meet) = step_closes plan logs v guests hosts phase place done o left planned at meet
-host_step plan logs g h m to_host to_guest planned (tears v guests hosts phase place done o left at meet) = step_tears plan logs v guests hosts phase place done o left planned at meet
+host_step plan logs g h m to_host to_guest planned (closes v guests hosts phase place done o left at closed meet) = step_closes plan logs v guests hosts phase place done o left planned at closed meet
+host_step plan logs g h m to_host to_guest planned (tears v guests hosts phase place done o left at closed meet) = step_tears plan logs v guests hosts phase place done o left planned at closed meet
+host_step plan logs g h m to_host to_guest planned (releases v guests hosts phase place done o left at gone meet) = step_releases plan logs v guests hosts phase place done o left planned at gone meet
 host_step plan logs g h m to_host to_guest planned (leaves v guests hosts meet) = step_leaves plan logs v guests hosts meet
 
 pub new_ones_law : NewOnesAgree
@@ -70,18 +71,19 @@ guest_law plan g h m to_host to_guest agrees =
     )
 
 pub begin_law : BothBegin
-begin_law plan g g' h h' part sent agrees is guest host =
+begin_law plan g g' h h' part sent back agrees is guest host =
     let plans = same_part plan (logs_of g h) g h [] [] agrees.talk in
     let sends : Sends plan (guest_begins g part).burst sent = subst (λ p. Sends p (guest_begins g part).burst sent) plans.0 guest.sends in
-    let begun = begins plan (logs_of g h) g h part agrees.planned agrees.talk is sent sends in
-    let there : Agrees plan (guest_after g (Some part) (guest_begins g part) sent []) (host_after h (Some part) (host_begins h part) [] []) sent [] = record {
+    let sends_back : Sends plan (host_begins h part).burst back = subst (λ p. Sends p (host_begins h part).burst back) plans.1 host.sends in
+    let begun = begins plan (logs_of g h) g h part agrees.planned agrees.talk is sent back sends sends_back in
+    let there : Agrees plan (guest_after g (Some part) (guest_begins g part) sent []) (host_after h (Some part) (host_begins h part) back []) sent back = record {
       planned = agrees.planned;
       guest_at = at_after plan g (Some part) (guest_begins g part) sent [] agrees.guest_at begun.says begun.hears;
       talk = begun.talk;
       guest_sent = ap (λ xs. xs ++ sent) (agrees.guest_sent ∙ append-nil h.fed) ∙ ap (λ xs. xs ++ sent) (sym (append-nil h.fed));
-      host_sent = append-nil h.posted ∙ agrees.host_sent ∙ sym (append-nil (g.fed ++ []));
+      host_sent = ap (λ xs. xs ++ back) (agrees.host_sent ∙ append-nil g.fed) ∙ ap (λ xs. xs ++ back) (sym (append-nil g.fed));
     } in
-    subst (λ k. Agrees plan g' k sent []) (sym host) (subst (λ k. Agrees plan k (host_after h (Some part) (host_begins h part) [] []) sent []) (sym guest.now) there)
+    subst (λ k. Agrees plan g' k sent back) (sym host.now) (subst (λ k. Agrees plan k (host_after h (Some part) (host_begins h part) back []) sent back) (sym guest.now) there)
 
 pub done_law : BothDone
 done_law plan g h agrees some =
@@ -93,4 +95,4 @@ pub few_law : FewOnTheirWay
 few_law plan g h to_host to_guest agrees = few_on_way plan (logs_of g h) g h to_host to_guest agrees.planned agrees.talk
 
 pub ends_law : EndsWell
-ends_law plan g h agrees last = is_ended plan (logs_of g h) g h agrees.talk agrees.guest_at last (agrees.guest_sent ∙ append-nil h.fed) (agrees.host_sent ∙ append-nil g.fed)
+ends_law plan g h agrees last = is_ended plan (logs_of g h) g h agrees.planned agrees.talk agrees.guest_at last (agrees.guest_sent ∙ append-nil h.fed) (agrees.host_sent ∙ append-nil g.fed)

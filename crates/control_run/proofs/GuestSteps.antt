@@ -1,5 +1,6 @@
 -- The guest takes the first message on its way to it.
-use Rattle.std.proofs.Common.{◌≡◌, ◌≢◌, ◌∙◌, ℕ, suc, ◌+◌, ◌-◌, ◌<◌, ◌==◌, true, false, nat_le, if◌then◌else◌, List, [], ◌∷◌, ◌++◌, length, map, drop, replicate, slice_get, slice_set, Some, None, Ok, refl, sym, ap, subst, append_assoc, length-append, arith}
+use Rattle.std.proofs.Common.{◌≡◌, ◌∙◌, ℕ, suc, ◌+◌, ◌-◌, ◌*◌, ◌<◌, ◌≤◌, ◌==◌, true, false, nat_le, if◌then◌else◌, List, [], ◌∷◌, ◌++◌, length, map, drop, replicate, slice_get, slice_set, Option, Some, None, Ok, refl, sym, ap, subst, append_assoc, length-append, arith}
+use Rattle.std.specs.Option.{option_to_list}
 use Rattle.std.specs.List.{flat_map}
 use Rattle.std.proofs.lemmas.Bool.{eq-eqb}
 use Rattle.std.proofs.lemmas.Bool.Decides.{nat_tests}
@@ -10,7 +11,7 @@ use Rattle.contact.specs.declared.kind.Kind.{Kind}
 use Rattle.contact.specs.Versions.{versions_tried}
 use Rattle.contact.specs.declared.part.Part.TheVariants.{Contact, PhaseStart, PhaseEnd, Unload}
 use Rattle.contact.specs.Classes.{class_id, offer, offers_from}
-use Rattle.chan_state.specs.declared.state.State.TheVariants.{Opening as IsOpening, Opened, Closing, Closed}
+use Rattle.chan_state.specs.declared.state.State.TheVariants.{Opening as IsOpening, Opened, Closing, Closed, Rescinded as IsRescinded, Released}
 use Rattle.chan_state.specs.declared.event.Event.TheVariants.{WantOpen}
 use Rattle.chan_state.specs.declared.chan_state.ChanState.{ChanState}
 use Rattle.vmbus_msg.specs.declared.msg.Msg.{Msg}
@@ -18,29 +19,32 @@ use Rattle.control_model.specs.declared.opening.Opening.{Opening}
 use Rattle.control_model.specs.declared.channel.Channel.{Channel}
 use Rattle.control_model.specs.declared.change.Change.TheVariants.{Offered, Now}
 use Rattle.control_model.specs.declared.burst.Burst.TheVariants.{One}
-use Rattle.control_model.specs.declared.guest_wait.GuestWait.TheVariants.{Nothing, Response, Offers, Created, Opened as AwaitsOpened, Torn, Unloaded}
+use Rattle.control_model.specs.declared.guest_wait.GuestWait.{GuestWait}
+use Rattle.control_model.specs.declared.guest_wait.GuestWait.TheVariants.{Nothing, Response, Offers, Created, Opened as AwaitsOpened, Torn, Rescinded, Unloaded}
 use Rattle.control_model.specs.declared.guest_turn.GuestTurn.{GuestTurn}
-use Rattle.control_model.specs.declared.host_wait.HostWait.TheVariants.{Nothing as HostNothing, Contact as AwaitsContact, Request, Open as AwaitsOpen}
+use Rattle.control_model.specs.declared.host_wait.HostWait.TheVariants.{Nothing as HostNothing, Contact as AwaitsContact, Request, Open as AwaitsOpen, Release as AwaitsRelease}
 use Rattle.control_model.specs.Plan.{BusPlan, opening_at, IsPlan, phase_of}
 use Rattle.control_model.specs.Channels.{by_relid, lived, changed, is_handle, place_of_list}
-use Rattle.control_model.specs.Messages.{propose, respond, request, delivered, created, open_on, opened, torndown, farewell_taken, Sends}
-use Rattle.control_model.specs.Guest.{GuestSeen, idle, offered_channel, proposal, proposes, answered, takes_offer, hears_offer, opens, created_for, hears_created, opened_for, hears_result, torn_at, torn_for, hears_torndown, lists_next, closes_next, guest_hears, guest_after}
-use Rattle.control_model.specs.Host.{HostSeen, waits_list, waits_close}
+use Rattle.control_model.specs.Messages.{propose, respond, request, delivered, created, open_on, opened, close, teardown, torndown, rescind, release, farewell_taken, Sends}
+use Rattle.control_model.specs.Guest.{GuestSeen, idle, offered_channel, proposal, proposes, answered, takes_offer, hears_offer, opens, created_for, hears_created, opened_for, hears_result, torn_at, ended_for, hears_torndown, hears_rescind, lists_next, closes_next, guest_hears, guest_after}
+use Rattle.control_model.specs.Host.{HostSeen, waits_list}
 use Rattle.control_model.specs.Said.{answer_to, guest_opens, host_opens, guest_closes, host_closes}
-use Rattle.control_model.specs.GuestAt.{guest_from, host_from, opens_listed, answers_open, to_say, to_hear}
+use Rattle.control_model.specs.GuestAt.{guest_from, host_from, opens_listed, answers_open, end_to_say, end_to_hear, to_say, to_hear}
 use Rattle.control_model.proofs.KindLaws.{kind_of_class}
-use Rattle.control_run.specs.Stand.{At, marked, guest_is, host_is, guest_before, host_before, Stand, handles}
+use Rattle.control_run.specs.Stand.{At, marked, end_state, guest_is, host_is, guest_ends, host_ends, guest_before, host_before, Stand, handles}
+use Rattle.control_run.specs.NextEnd.{guest_next_awaits, guest_next_stands, guest_next_sends, host_next_awaits, host_next_stands, host_next_live, host_next_sends}
 use Rattle.control_run.specs.Talk.{Logs, Talk, Meet, Tries, Agreed, a_guest, a_host, live_ones}
-use Rattle.control_run.specs.Talk.Talk.{proposes as IsProposing, accepts, refuses, asks, offering, offered, contacted, listed, opens as IsOpened, is_open, torn, may_leave, is_over}
-use Rattle.control_run.specs.Laws.{measure}
+use Rattle.control_run.specs.Talk.Talk.{proposes as IsProposing, accepts, refuses, asks, offering, offered, contacted, listed, opens as IsOpened, is_open, torn, rescinds, releases as IsReleasing, may_leave, is_over}
+use Rattle.control_run.specs.Laws.{still_to_come, measure}
 use Rattle.control_run.proofs.Marks.{same, at_relid, marked_apart, marked_here, marked_there, stand_mark, stand_join, stand_at}
 use Rattle.control_run.proofs.Plans.{facts, get_from, opening_here, done_more, place_more}
 use Rattle.control_run.proofs.Lower.{lower_one}
 use Rattle.control_run.proofs.Offering.{kind_same, one_more, all_alike}
-use Rattle.control_run.proofs.Handles.{all_front, can_open, find_list, closing_handle}
-use Rattle.control_run.proofs.Next.{heard_so, NextIsOpen, next_list, next_close}
+use Rattle.control_run.proofs.Handles.{can_open, find_list, closing_handle}
+use Rattle.control_run.proofs.Next.{heard_so, next_list}
+use Rattle.control_run.proofs.NextEnd.{NextIs, next_is, heard_with, GuestEnds, guest_goes, guest_talks, awaits_most, says_most, both_next}
 use Rattle.control_run.proofs.Tried.{one_tried, next_tried, first_tried}
-use Rattle.control_run.proofs.Saying.{drop_done, drop_all, left_at, left_behind, lists_said, lists_heard, closes_said, closes_heard}
+use Rattle.control_run.proofs.Saying.{drop_done, drop_all, left_at, left_behind, lists_said, lists_heard, ends_said, ends_heard}
 
 -- what both sides sent and were fed, once the guest took a message
 abbrev pub guest_logs : Logs → List Msg → Msg → Logs
@@ -185,7 +189,7 @@ step_listed plan logs v guests hosts phase place done o left planned at meet =
     stand_mark guests plan (guest_is Opened) (guest_is IsOpening) done o (guest_before plan phase) (guest_before plan phase) meet.guest fact.fits.named fact.known fact.done_apart (λ q off. refl) in
     record {
       turn = turn;
-      hears = ap (hears_created g o.relid o.gpadl 0) known ∙ ap (λ x. Ok (created_for g place o.relid o.gpadl 0 c x)) (opening_here plan phase place done o left at) ∙ ap (λ t. Ok t) (asked ∙ ap (opens g place o) (can_open plan phase o.relid));
+      hears = ap (hears_created g o.relid o.gpadl 0) known ∙ ap (λ x. Ok (created_for g place o.relid o.gpadl 0 c x)) (opening_here plan phase place done o left at) ∙ ap (λ t. Ok t) (asked ∙ ap (opens g place o) (can_open plan phase o.relid fact.not_before));
       goes = λ sent e.
           let logs2 : Logs = guest_logs logs sent m in
           let h : HostSeen = a_host plan logs2 (Some (PhaseStart phase)) (AwaitsOpen place) (Some v) hosts (live_ones (handles (done ++ o ∷ []))) in
@@ -235,56 +239,140 @@ step_open plan logs v guests hosts phase place done o left planned at meet =
           ∙ ap (λ xs. m ∷ (xs ++ later)) (lists_heard plan v phase (place + 1) (done ++ o ∷ []) left (AwaitsOpened place) (Now o.relid now) (done_more plan phase place done o left at) (place_more plan phase place done o left at));
     }
 
--- GPADL_TORNDOWN
-next_opened : (plan : BusPlan) (v : Version) (guests : List Channel) (hosts : List ChanState) (phase place : ℕ) (done : List Opening) (o : Opening) (left : List Opening) (at_host : ℕ → ChanState) → IsPlan plan
-    → At plan phase place done o left → Meet plan v guests hosts (marked (guest_is Closed) done (marked (guest_is Closing) (o ∷ []) (marked (guest_is Opened) left (guest_before plan phase)))) at_host → NextIsOpen guests left
-next_opened plan v guests hosts phase place done o [] at_host planned at meet = tt
-next_opened plan v guests hosts phase place done o (p ∷ left) at_host planned at meet =
-    let there : At plan phase (place + 1) (done ++ o ∷ []) p left = record { in_plan = at.in_plan; phase_is = done_more plan phase place done o (p ∷ left) at; place_is = place_more plan phase place done o (p ∷ left) at } in
-    let fact = facts plan phase (place + 1) (done ++ o ∷ []) p left planned there in
-    let apart = all_front (λ q. q.relid ≢ p.relid) done (o ∷ []) fact.done_apart in
-    let base : ℕ → Channel = guest_before plan phase in
-    stand_at guests plan (guest_is Closed) done p (marked (guest_is Closing) (o ∷ []) (marked (guest_is Opened) (p ∷ left) base)) (guest_is Opened p) meet.guest fact.fits.named fact.known apart.0
-    (marked_there (guest_is Closing) o [] (marked (guest_is Opened) (p ∷ left) base) p.relid (λ e. apart.1.0 (sym e)) ∙ marked_here (guest_is Opened) p left base)
+-- GPADL_TORNDOWN and RESCIND_CHANNELOFFER: the channel of an opening is done with, and the guest goes on
+abbrev heard_end : GuestWait → Version → Opening → Option Msg → GuestTurn
+heard_end waits v o first = heard_with waits v (Now o.relid (guest_ends o)) first
 
+abbrev turn_end : BusPlan → List Channel → ℕ → ℕ → GuestTurn → GuestTurn
+turn_end plan guests phase place heard = closes_next heard guests (place + 1) (opening_at plan phase (place + 1))
+
+record GoesOn (plan : BusPlan) (v : Version) (guests : List Channel) (phase place : ℕ) (left : List Opening) (turn : GuestTurn) (first : Option Msg) (stands : ℕ → Channel) : Type 0 where
+  ends : GuestEnds plan v guests turn (guest_next_awaits (place + 1) left) stands (option_to_list first ++ guest_next_sends left)
+  says : (sent : List Msg) → Sends plan turn.burst sent → option_to_list first ++ (flat_map guest_closes left ++ guest_from plan (suc phase)) ≡ sent ++ (end_to_say (phase_of plan phase) turn.awaits ++ guest_from plan (suc phase))
+  heard : flat_map host_closes left ≡ end_to_hear (phase_of plan phase) turn.awaits
+  falls : (channels : List Channel) (posted fed : List Msg) (sent : List Msg) → Sends plan turn.burst sent
+      → still_to_come (record { plan = plan; part = Some (PhaseEnd phase); awaits = turn.awaits; version = turn.version; channels = channels; posted = posted; fed = fed }) turn.awaits + length sent < 4 * (length (phase_of plan phase) - place)
+
+goes_so : (plan : BusPlan) (v : Version) (guests : List Channel) (phase place : ℕ) (done : List Opening) (o : Opening) (left : List Opening) (waits : GuestWait) (first : Option Msg) → IsPlan plan → At plan phase place done o left
+    → Stand (changed guests (Now o.relid (guest_ends o))) plan (marked guest_ends (done ++ o ∷ []) (marked (guest_is Opened) left (guest_before plan phase))) → NextIs (guest_is Opened) guests left
+    → GoesOn plan v guests phase place left (turn_end plan guests phase place (heard_end waits v o first)) first (marked guest_ends (done ++ o ∷ []) (guest_next_stands left (guest_before plan phase)))
+goes_so plan v guests phase place done o left waits first planned at stand next =
+    let os : List Opening = phase_of plan phase in
+    let turn : GuestTurn = turn_end plan guests phase place (heard_end waits v o first) in
+    let later : List Msg = guest_from plan (suc phase) in
+    let more = done_more plan phase place done o left at in
+    let behind = place_more plan phase place done o left at in
+    let ends = guest_goes plan v guests phase (place + 1) (done ++ o ∷ []) left waits (Now o.relid (guest_ends o)) first planned at.in_plan more behind stand next in
+    let few : place < length os = omega (arith, at.place_is, ap length at.phase_is, length-append done (o ∷ left)) in
+    let said = ends_said plan phase (place + 1) (done ++ o ∷ []) left at.in_plan more behind in
+    record {
+      ends = ends;
+      says = λ sent sends.
+          let is = ends.said sent sends in
+          ap (λ xs. option_to_list first ++ (xs ++ later)) said
+          ∙ ap (λ xs. option_to_list first ++ xs) (append_assoc (guest_next_sends left) (end_to_say os (guest_next_awaits (place + 1) left)) later)
+          ∙ sym (append_assoc (option_to_list first) (guest_next_sends left) (end_to_say os (guest_next_awaits (place + 1) left) ++ later))
+          ∙ ap (λ xs. xs ++ (end_to_say os (guest_next_awaits (place + 1) left) ++ later)) (sym is)
+          ∙ ap (λ w. sent ++ (end_to_say os w ++ later)) (sym ends.awaits);
+      heard = ends_heard plan phase (place + 1) (done ++ o ∷ []) left more behind ∙ ap (end_to_hear os) (sym ends.awaits);
+      falls = λ channels posted fed sent sends.
+          let g : GuestSeen = record { plan = plan; part = Some (PhaseEnd phase); awaits = turn.awaits; version = turn.version; channels = channels; posted = posted; fed = fed } in
+          let is : length sent ≡ length (option_to_list first ++ guest_next_sends left) = ap length (ends.said sent sends) in
+          let both = length-append (option_to_list first) (guest_next_sends left) in
+          let one = one_most first in
+          let two = says_most left in
+          let four = awaits_most g (place + 1) left in
+          let same : still_to_come g turn.awaits ≡ still_to_come g (guest_next_awaits (place + 1) left) = ap (still_to_come g) ends.awaits in
+          omega (arith, is, both, one, two, four, same, few);
+    }
+  where
+    one_most : (first : Option Msg) → length (option_to_list first) ≤ 1
+    one_most None = omega arith
+    one_most (Some m) = omega arith
+
+-- GPADL_TORNDOWN
 pub step_torn : (plan : BusPlan) (logs : Logs) (v : Version) (guests : List Channel) (hosts : List ChanState) (phase place : ℕ) (done : List Opening) (o : Opening) (left : List Opening) → IsPlan plan
-    → At plan phase place done o left → Meet plan v guests hosts (marked (guest_is Closed) done (marked (guest_is Closing) (o ∷ []) (marked (guest_is Opened) left (guest_before plan phase)))) (marked (host_is Closed) (done ++ o ∷ []) (marked (host_is Opened) left (host_before plan phase)))
-    → GuestStep plan logs (a_guest plan logs (Some (PhaseEnd phase)) (Torn place) (Some v) guests) (λ after. a_host plan after (Some (PhaseEnd phase)) (waits_close (place + 1) (opening_at plan phase (place + 1))) (Some v) hosts (live_ones (handles left))) [] (torndown o.gpadl) []
-step_torn plan logs v guests hosts phase place done o left planned at meet =
+    → At plan phase place done o left → o.rescinded ≡ false
+    → Meet plan v guests hosts (marked guest_ends done (marked (guest_is Closing) (o ∷ []) (marked (guest_is Opened) left (guest_before plan phase)))) (marked host_ends (done ++ o ∷ []) (host_next_stands left (host_before plan phase)))
+    → GuestStep plan logs (a_guest plan logs (Some (PhaseEnd phase)) (Torn place) (Some v) guests) (λ after. a_host plan after (Some (PhaseEnd phase)) (host_next_awaits (place + 1) left) (Some v) hosts (live_ones (host_next_live left))) [] (torndown o.gpadl) (host_next_sends left)
+step_torn plan logs v guests hosts phase place done o left planned at closed meet =
     let g : GuestSeen = a_guest plan logs (Some (PhaseEnd phase)) (Torn place) (Some v) guests in
     let m : Msg = torndown o.gpadl in
     let fact = facts plan phase place done o left planned at in
     let base : ℕ → Channel = marked (guest_is Opened) left (guest_before plan phase) in
-    let stands : ℕ → Channel = marked (guest_is Closed) done (marked (guest_is Closing) (o ∷ []) base) in
-    let now : Channel = guest_is Closed o in
-    let heard : ℕ → GuestTurn = λ relid. heard_so (Torn place) v (Now relid now) in
-    let turn : GuestTurn = closes_next (heard o.relid) guests (place + 1) (opening_at plan phase (place + 1)) in
-    let closing : stands o.relid ≡ guest_is Closing o = marked_apart (guest_is Closed) done (marked (guest_is Closing) (o ∷ []) base) o.relid fact.done_apart ∙ marked_here (guest_is Closing) o [] base in
+    let stands : ℕ → Channel = marked guest_ends done (marked (guest_is Closing) (o ∷ []) base) in
+    let so : guest_ends o ≡ guest_is Closed o = ap (λ b. guest_is (end_state b) o) closed in
+    let heard : ℕ → Channel → GuestTurn = λ relid now. heard_with (Torn place) v (Now relid now) None in
+    let turn : GuestTurn = turn_end plan guests phase place (heard_end (Torn place) v o None) in
+    let closing : stands o.relid ≡ guest_is Closing o = marked_apart guest_ends done (marked (guest_is Closing) (o ∷ []) base) o.relid fact.done_apart ∙ marked_here (guest_is Closing) o [] base in
     let known : slice_get guests (o.relid - 1) ≡ Some (guest_is Closing o) = sym (at_relid guests o.relid fact.fits.named) ∙ meet.guest.each o.relid fact.fits.named fact.known ∙ ap (λ c. Some c) closing in
     let mine : is_handle o.gpadl (stands o.relid).gpadl ≡ true = ap (λ c. is_handle o.gpadl c.gpadl) closing ∙ same o.gpadl in
     let found : place_of_list guests o.gpadl ≡ Some (o.relid - 1) = find_list guests plan stands o.relid o.gpadl meet.guest fact.fits.named fact.known mine (closing_handle plan phase done o left fact) in
     let named = fact.fits.named in
     let back : o.relid - 1 + 1 ≡ o.relid = omega (arith, named) in
-    let asked : torn_for g (heard o.relid) place o.relid (Some o) ≡ turn = rw (same o.relid) refl in
-    let after : Stand (slice_set guests (o.relid - 1) now) plan (marked (guest_is Closed) (done ++ o ∷ []) base) =
-    stand_join guests plan (guest_is Closed) done o (marked (guest_is Closing) (o ∷ []) base) base meet.guest fact.fits.named fact.known fact.done_apart (λ q off. sym (marked_there (guest_is Closing) o [] base q off)) in
-    let next = next_opened plan v guests hosts phase place done o left (marked (host_is Closed) (done ++ o ∷ []) (marked (host_is Opened) left (host_before plan phase))) planned at meet in
-    let goes_on = next_close plan v guests hosts phase (place + 1) (done ++ o ∷ []) left (Torn place) (Now o.relid now) planned at.in_plan (done_more plan phase place done o left at) (place_more plan phase place done o left at) (record { agreed = meet.agreed; guest = after; host = meet.host })
-    next in
-    let few : place < length (phase_of plan phase) = omega (arith, at.place_is, ap length at.phase_is, length-append done (o ∷ left)) in
+    let asked : ended_for g (heard o.relid (guest_ends o)) place o.relid (Some o) ≡ turn = rw (same o.relid) refl in
+    let after : Stand (slice_set guests (o.relid - 1) (guest_ends o)) plan (marked guest_ends (done ++ o ∷ []) base) =
+    stand_join guests plan guest_ends done o (marked (guest_is Closing) (o ∷ []) base) base meet.guest fact.fits.named fact.known fact.done_apart (λ q off. sym (marked_there (guest_is Closing) o [] base q off)) in
+    let next = next_is plan guests phase place guest_ends (guest_is Closing) (guest_is Opened) done o left (guest_before plan phase) planned at meet.guest in
+    let on = goes_so plan v guests phase place done o left (Torn place) None planned at after next in
     record {
       turn = turn;
-      hears = ap (hears_torndown g o.gpadl) found ∙ ap (torn_at g o.gpadl (o.relid - 1)) known ∙ ap (λ r. Ok (torn_for g (heard r) place r (opening_at plan phase place))) back ∙ ap (λ x. Ok (torn_for g (heard o.relid) place o.relid x)) (opening_here plan phase place done o left at) ∙ ap (λ t. Ok t) asked;
-      goes = λ sent sends. (goes_on (guest_logs logs sent m) sent sends).talk;
-      falls = λ sent sends. let most = (goes_on (guest_logs logs sent m) sent sends).few in omega (arith, most, few);
-      says = λ sent sends.
-          let later : List Msg = guest_from plan (suc phase) in
-          ap (λ os. flat_map guest_closes os ++ later) (left_behind plan phase place done o left at)
-          ∙ closes_said plan v guests phase (place + 1) (done ++ o ∷ []) left (Torn place) (Now o.relid now) sent at.in_plan (done_more plan phase place done o left at) (place_more plan phase place done o left at) next sends later;
+      hears = ap (hears_torndown g o.gpadl) found ∙ ap (torn_at g o.gpadl (o.relid - 1)) known ∙ ap (λ r. Ok (ended_for g (heard r (guest_is Closed o)) place r (opening_at plan phase place))) back
+          ∙ ap (λ c. Ok (ended_for g (heard o.relid c) place o.relid (opening_at plan phase place))) (sym so)
+          ∙ ap (λ x. Ok (ended_for g (heard o.relid (guest_ends o)) place o.relid x)) (opening_here plan phase place done o left at) ∙ ap (λ t. Ok t) asked;
+      goes = λ sent sends.
+          let logs2 : Logs = guest_logs logs sent m in
+          let h : HostSeen = a_host plan logs2 (Some (PhaseEnd phase)) (host_next_awaits (place + 1) left) (Some v) hosts (live_ones (host_next_live left)) in
+          guest_talks plan logs2 v (Some (PhaseEnd phase)) guests turn (guest_next_awaits (place + 1) left) (marked guest_ends (done ++ o ∷ []) (guest_next_stands left (guest_before plan phase))) (guest_next_sends left) h sent (host_next_sends left) on.ends sends
+          (both_next plan logs2 v (changed (changed guests turn.heard) turn.wished) hosts phase (place + 1) (done ++ o ∷ []) left at.in_plan (done_more plan phase place done o left at) (place_more plan phase place done o left at)
+          (record { agreed = meet.agreed; guest = on.ends.guest; host = meet.host }));
+      falls = λ sent sends. let less = on.falls (changed (changed guests turn.heard) turn.wished) (logs.guest_posted ++ sent) (logs.guest_fed ++ m ∷ []) sent sends in omega (arith, less);
+      says = λ sent sends. ap (λ os. flat_map guest_closes os ++ guest_from plan (suc phase)) (left_behind plan phase place done o left at) ∙ on.says sent sends;
       heard =
           let later : List Msg = host_from plan (suc phase) in
           ap (λ os. flat_map host_closes os ++ later) (left_at plan phase place done (o ∷ left) at.phase_is at.place_is) ∙ ap (λ xs. xs ++ later) (flat_map-cons host_closes o left)
-          ∙ ap (λ xs. m ∷ (xs ++ later)) (closes_heard plan v guests phase (place + 1) (done ++ o ∷ []) left (Torn place) (Now o.relid now) (done_more plan phase place done o left at) (place_more plan phase place done o left at) next);
+          ∙ ap (λ b. ((if b then rescind o.relid ∷ [] else m ∷ []) ++ flat_map host_closes left) ++ later) closed ∙ ap (λ xs. m ∷ (xs ++ later)) on.heard;
+    }
+
+-- RESCIND_CHANNELOFFER
+pub step_rescinds : (plan : BusPlan) (logs : Logs) (v : Version) (guests : List Channel) (hosts : List ChanState) (phase place : ℕ) (done : List Opening) (o : Opening) (left : List Opening) → IsPlan plan
+    → At plan phase place done o left → o.rescinded ≡ true
+    → Meet plan v guests hosts (marked guest_ends done (marked (guest_is Opened) (o ∷ left) (guest_before plan phase))) (marked host_ends done (marked (host_is IsRescinded) (o ∷ []) (marked (host_is Opened) left (host_before plan phase))))
+    → GuestStep plan logs (a_guest plan logs (Some (PhaseEnd phase)) (Rescinded place) (Some v) guests) (λ after. a_host plan after (Some (PhaseEnd phase)) (AwaitsRelease place) (Some v) hosts (live_ones (handles left))) [] (rescind o.relid) []
+step_rescinds plan logs v guests hosts phase place done o left planned at gone meet =
+    let g : GuestSeen = a_guest plan logs (Some (PhaseEnd phase)) (Rescinded place) (Some v) guests in
+    let m : Msg = rescind o.relid in
+    let first : Option Msg = Some (release o.relid) in
+    let fact = facts plan phase place done o left planned at in
+    let base : ℕ → Channel = marked (guest_is Opened) left (guest_before plan phase) in
+    let so : guest_ends o ≡ guest_is Released o = ap (λ b. guest_is (end_state b) o) gone in
+    let heard : Channel → GuestTurn = λ now. heard_with (Rescinded place) v (Now o.relid now) first in
+    let turn : GuestTurn = turn_end plan guests phase place (heard_end (Rescinded place) v o first) in
+    let known : by_relid guests o.relid ≡ Some (guest_is Opened o) = stand_at guests plan guest_ends done o (marked (guest_is Opened) (o ∷ left) (guest_before plan phase)) (guest_is Opened o) meet.guest fact.fits.named fact.known fact.done_apart (marked_here (guest_is Opened) o left (guest_before plan phase)) in
+    let asked : ended_for g (heard (guest_ends o)) place o.relid (Some o) ≡ turn = rw (same o.relid) refl in
+    let after : Stand (slice_set guests (o.relid - 1) (guest_ends o)) plan (marked guest_ends (done ++ o ∷ []) base) =
+    stand_join guests plan guest_ends done o (marked (guest_is Opened) (o ∷ left) (guest_before plan phase)) base meet.guest fact.fits.named fact.known fact.done_apart (λ q off. sym (marked_there (guest_is Opened) o left (guest_before plan phase) q off)) in
+    let next = next_is plan guests phase place guest_ends (guest_is Opened) (guest_is Opened) done o left (guest_before plan phase) planned at meet.guest in
+    let on = goes_so plan v guests phase place done o left (Rescinded place) first planned at after next in
+    record {
+      turn = turn;
+      hears = ap (hears_rescind g o.relid) known
+          ∙ ap (λ c. Ok (ended_for g (heard c) place o.relid (opening_at plan phase place))) (sym so)
+          ∙ ap (λ x. Ok (ended_for g (heard (guest_ends o)) place o.relid x)) (opening_here plan phase place done o left at) ∙ ap (λ t. Ok t) asked;
+      goes = λ sent sends.
+          let logs2 : Logs = guest_logs logs sent m in
+          let h : HostSeen = a_host plan logs2 (Some (PhaseEnd phase)) (AwaitsRelease place) (Some v) hosts (live_ones (handles left)) in
+          guest_talks plan logs2 v (Some (PhaseEnd phase)) guests turn (guest_next_awaits (place + 1) left) (marked guest_ends (done ++ o ∷ []) (guest_next_stands left (guest_before plan phase))) (release o.relid ∷ guest_next_sends left) h sent [] on.ends sends
+          (IsReleasing v (changed (changed guests turn.heard) turn.wished) hosts phase place done o left at gone (record { agreed = meet.agreed; guest = on.ends.guest; host = meet.host }));
+      falls = λ sent sends. let less = on.falls (changed (changed guests turn.heard) turn.wished) (logs.guest_posted ++ sent) (logs.guest_fed ++ m ∷ []) sent sends in omega (arith, less);
+      says = λ sent sends.
+          let later : List Msg = guest_from plan (suc phase) in
+          ap (λ os. flat_map guest_closes os ++ later) (left_at plan phase place done (o ∷ left) at.phase_is at.place_is) ∙ ap (λ xs. xs ++ later) (flat_map-cons guest_closes o left)
+          ∙ ap (λ b. ((if b then release o.relid ∷ [] else close o.relid ∷ teardown o ∷ []) ++ flat_map guest_closes left) ++ later) gone ∙ on.says sent sends;
+      heard =
+          let later : List Msg = host_from plan (suc phase) in
+          ap (λ os. flat_map host_closes os ++ later) (left_at plan phase place done (o ∷ left) at.phase_is at.place_is) ∙ ap (λ xs. xs ++ later) (flat_map-cons host_closes o left)
+          ∙ ap (λ b. ((if b then m ∷ [] else torndown o.gpadl ∷ []) ++ flat_map host_closes left) ++ later) gone ∙ ap (λ xs. m ∷ (xs ++ later)) on.heard;
     }
 
 -- UNLOAD_RESPONSE
@@ -312,5 +400,6 @@ guest_step plan logs g h m to_host to_guest planned (offering v hosts n seen kin
 guest_step plan logs g h m to_host to_guest planned (offered v hosts n agreed stand all) = step_offered plan logs v hosts n agreed stand all
 guest_step plan logs g h m to_host to_guest planned (listed v guests hosts phase place done o left at meet) = step_listed plan logs v guests hosts phase place done o left planned at meet
 guest_step plan logs g h m to_host to_guest planned (is_open v guests hosts phase place done o left at meet) = step_open plan logs v guests hosts phase place done o left planned at meet
-guest_step plan logs g h m to_host to_guest planned (torn v guests hosts phase place done o left at meet) = step_torn plan logs v guests hosts phase place done o left planned at meet
+guest_step plan logs g h m to_host to_guest planned (torn v guests hosts phase place done o left at closed meet) = step_torn plan logs v guests hosts phase place done o left planned at closed meet
+guest_step plan logs g h m to_host to_guest planned (rescinds v guests hosts phase place done o left at gone meet) = step_rescinds plan logs v guests hosts phase place done o left planned at gone meet
 guest_step plan logs g h m to_host to_guest planned (may_leave v guests hosts meet) = step_left plan logs v guests hosts meet

@@ -81,11 +81,11 @@ pub rests_plan : (g : GuestSeen) (h : HostSeen) (to_host to_guest : List Msg) �
 rests_plan g h to_host to_guest agrees = (same_part g.plan (logs_of g h) g h to_host to_guest agrees.talk).1
 
 -- both began a part
-pub both_began : (g g' : GuestSeen) (h h' : HostSeen) (to_host to_guest sent : List Msg) (part : Part) → Agrees g.plan g h to_host to_guest → to_host ≡ [] → to_guest ≡ [] → part_after g.plan g.part ≡ Some part → GuestBegins g part sent g' → HostBegins h part h' → Agrees g'.plan g' h' sent []
-both_began g g' h h' to_host to_guest sent part agrees at_host at_guest is guest host =
+pub both_began : (g g' : GuestSeen) (h h' : HostSeen) (to_host to_guest sent back : List Msg) (part : Part) → Agrees g.plan g h to_host to_guest → to_host ≡ [] → to_guest ≡ [] → part_after g.plan g.part ≡ Some part → GuestBegins g part sent g' → HostBegins h part back h' → Agrees g'.plan g' h' sent back
+both_began g g' h h' to_host to_guest sent back part agrees at_host at_guest is guest host =
     let rests : Agrees g.plan g h [] [] = subst (λ xs. Agrees g.plan g h xs []) at_host (subst (λ xs. Agrees g.plan g h to_host xs) at_guest agrees) in
     let plan : g'.plan ≡ g.plan = ap (λ (k : GuestSeen). k.plan) guest.now in
-    subst (λ p. Agrees p g' h' sent []) (sym plan) (begin_law g.plan g g' h h' part sent rests is guest host)
+    subst (λ p. Agrees p g' h' sent back) (sym plan) (begin_law g.plan g g' h h' part sent back rests is guest host)
 
 -- what holds where a call came to its end, and what follows from it
 pub on_ok : {T E : Type 0} (r : Result T E) (P Q : Type 0) → (P → Q) → OnOk r P → OnOk r Q

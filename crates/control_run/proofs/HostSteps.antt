@@ -1,32 +1,34 @@
 -- The host takes the first message on its way to it.
-use Rattle.std.proofs.Common.{◌≡◌, ◌≢◌, ◌∙◌, ℕ, ◌+◌, ◌-◌, ◌<◌, ◌≤◌, ◌==◌, not, nat_le, true, List, [], ◌∷◌, ◌++◌, length, map, slice_set, Some, None, Ok, if◌then◌else◌, refl, sym, ap, subst, arith}
-use Rattle.std.specs.List.{AllByRecursion, filter}
+use Rattle.std.proofs.Common.{◌≡◌, ◌∙◌, ℕ, ◌+◌, ◌-◌, ◌<◌, ◌≤◌, nat_le, true, false, List, [], ◌∷◌, ◌++◌, length, map, slice_set, Some, None, Ok, if◌then◌else◌, refl, sym, ap, subst, arith}
 use Rattle.std.proofs.lemmas.Bool.Decides.{nat_tests}
 use Rattle.contact.specs.declared.version.Version.{Version}
 use Rattle.contact.specs.declared.kind.Kind.{Kind}
 use Rattle.contact.specs.declared.part.Part.TheVariants.{Contact, PhaseStart, PhaseEnd, Unload}
 use Rattle.contact.specs.Classes.{offers_from}
 use Rattle.io_edge.specs.declared.side.Side.TheVariants.{Host as HostSide}
-use Rattle.chan_state.specs.declared.state.State.TheVariants.{Offered as IsOffered, Opening as IsOpening, Opened, Closing, Closed}
+use Rattle.chan_state.specs.declared.state.State.TheVariants.{Offered as IsOffered, Opening as IsOpening, Opened, Closing, Closed, Rescinded as IsRescinded, Released}
 use Rattle.chan_state.specs.declared.chan_state.ChanState.{ChanState}
-use Rattle.gpadl.specs.Assembly.{is_live}
+use Rattle.gpadl.specs.Assembly.{Assembly, is_live}
 use Rattle.vmbus_msg.specs.declared.msg.Msg.{Msg}
 use Rattle.control_model.specs.declared.opening.Opening.{Opening}
 use Rattle.control_model.specs.declared.channel.Channel.{Channel}
 use Rattle.control_model.specs.declared.burst.Burst.TheVariants.{One}
 use Rattle.control_model.specs.declared.guest_wait.GuestWait.TheVariants.{Response, Offers, Opened as AwaitsOpened, Torn, Unloaded}
 use Rattle.control_model.specs.declared.host_wait.HostWait.{HostWait}
-use Rattle.control_model.specs.declared.host_wait.HostWait.TheVariants.{Nothing as HostNothing, Contact as AwaitsContact, Request, Open as AwaitsOpen, Close as AwaitsClose, Teardown as AwaitsTeardown, Unload as AwaitsUnload}
+use Rattle.control_model.specs.declared.host_wait.HostWait.TheVariants.{Nothing as HostNothing, Contact as AwaitsContact, Request, Open as AwaitsOpen, Close as AwaitsClose, Teardown as AwaitsTeardown, Release as AwaitsRelease, Unload as AwaitsUnload}
+use Rattle.control_model.specs.declared.host_next.HostNext.{HostNext}
 use Rattle.control_model.specs.Plan.{BusPlan, opening_at, IsPlan}
 use Rattle.control_model.specs.Channels.{by_relid, stands}
-use Rattle.control_model.specs.Messages.{propose, respond, request, delivered, open_on, opened, close, teardown, torndown, farewell, Sends}
+use Rattle.control_model.specs.Messages.{propose, respond, request, delivered, open_on, opened, close, teardown, torndown, release, farewell, Sends}
 use Rattle.control_model.specs.Guest.{GuestSeen}
-use Rattle.control_model.specs.Host.{HostSeen, HostTurn, at_rest, hears_request, opened_then, open_by, hears_open, hears_close, hears_teardown, without, is_of, waits_list, waits_close, hears_unload, host_hears, host_after}
-use Rattle.control_run.specs.Stand.{At, marked, guest_is, host_is, guest_before, host_before, Stand, handles}
+use Rattle.control_model.specs.Host.{HostSeen, HostTurn, at_rest, hears_request, opened_then, open_by, hears_open, hears_close, hears_teardown, hears_release, is_of, waits_list, stays, next_end, rescinded_among, goes_next, hears_unload, host_hears, host_after}
+use Rattle.control_run.specs.Stand.{At, marked, end_state, guest_is, host_is, guest_ends, host_ends, guest_before, host_before, Stand, handles}
+use Rattle.control_run.specs.NextEnd.{guest_next_awaits, guest_next_stands, guest_next_sends, host_next_awaits, host_next_stands, host_next_live, host_next_sends}
 use Rattle.control_run.specs.Talk.{Logs, Talk, Meet, Tries, Agreed, a_guest, a_host, live_ones}
 use Rattle.control_run.specs.Talk.Talk.{accepts as IsAccepting, refuses, offering, offered, is_open, tears, torn, may_leave}
-use Rattle.control_run.proofs.Marks.{by_test, same, differ, marked_here, marked_there, stand_mark, stand_join, stand_at}
-use Rattle.control_run.proofs.Plans.{facts, opening_here}
+use Rattle.control_run.proofs.Marks.{by_test, same, marked_here, marked_there, stand_mark, stand_join, stand_at}
+use Rattle.control_run.proofs.Plans.{facts, opening_here, done_more, place_more}
+use Rattle.control_run.proofs.NextEnd.{next_is, let_go, host_goes, host_talks, both_next}
 use Rattle.control_run.proofs.Lower.{accepts_it, refuses_it}
 use Rattle.control_run.proofs.Offering.{all_mapped}
 use Rattle.control_run.proofs.Handles.{can_open_host}
@@ -101,7 +103,7 @@ step_opens plan logs v guests hosts phase place done o left planned at meet =
     let m : Msg = open_on o in
     let fact = facts plan phase place done o left planned at in
     let life : ChanState = host_before plan phase o.relid in
-    let can = can_open_host plan phase o.relid in
+    let can = can_open_host plan phase o.relid fact.not_before in
     let now : ChanState = host_is Opened o in
     let later : HostWait = waits_list (place + 1) (opening_at plan phase (place + 1)) in
     let turn : HostTurn = record (at_rest h) { awaits = later; channels = slice_set hosts (o.relid - 1) now; burst = One (opened o.relid o.relid) } in
@@ -123,64 +125,96 @@ step_opens plan logs v guests hosts phase place done o left planned at meet =
 
 -- CLOSECHANNEL
 pub step_closes : (plan : BusPlan) (logs : Logs) (v : Version) (guests : List Channel) (hosts : List ChanState) (phase place : ℕ) (done : List Opening) (o : Opening) (left : List Opening) → IsPlan plan
-    → At plan phase place done o left → Meet plan v guests hosts (marked (guest_is Closed) done (marked (guest_is Closing) (o ∷ []) (marked (guest_is Opened) left (guest_before plan phase)))) (marked (host_is Closed) done (marked (host_is Opened) (o ∷ left) (host_before plan phase)))
+    → At plan phase place done o left → o.rescinded ≡ false
+    → Meet plan v guests hosts (marked guest_ends done (marked (guest_is Closing) (o ∷ []) (marked (guest_is Opened) left (guest_before plan phase)))) (marked host_ends done (marked (host_is Opened) (o ∷ left) (host_before plan phase)))
     → HostStep plan logs (λ after. a_guest plan after (Some (PhaseEnd phase)) (Torn place) (Some v) guests) (a_host plan logs (Some (PhaseEnd phase)) (AwaitsClose place) (Some v) hosts (live_ones (handles (o ∷ left)))) (close o.relid) (teardown o ∷ []) []
-step_closes plan logs v guests hosts phase place done o left planned at meet =
+step_closes plan logs v guests hosts phase place done o left planned at closed meet =
     let h : HostSeen = a_host plan logs (Some (PhaseEnd phase)) (AwaitsClose place) (Some v) hosts (live_ones (handles (o ∷ left))) in
     let m : Msg = close o.relid in
     let fact = facts plan phase place done o left planned at in
     let base : ℕ → ChanState = marked (host_is Opened) left (host_before plan phase) in
     let now : ChanState = host_is Closing o in
     let turn : HostTurn = record (at_rest h) { awaits = AwaitsTeardown place; channels = slice_set hosts (o.relid - 1) now } in
-    let known : by_relid hosts o.relid ≡ Some (host_is Opened o) = stand_at hosts plan (host_is Closed) done o (marked (host_is Opened) (o ∷ left) (host_before plan phase)) (host_is Opened o) meet.host fact.fits.named fact.known fact.done_apart (marked_here (host_is Opened) o left (host_before plan phase)) in
+    let known : by_relid hosts o.relid ≡ Some (host_is Opened o) = stand_at hosts plan host_ends done o (marked (host_is Opened) (o ∷ left) (host_before plan phase)) (host_is Opened o) meet.host fact.fits.named fact.known fact.done_apart (marked_here (host_is Opened) o left (host_before plan phase)) in
     let mine : is_of o.relid (opening_at plan phase place) ≡ true = ap (is_of o.relid) (opening_here plan phase place done o left at) ∙ same o.relid in
-    let next : Stand (slice_set hosts (o.relid - 1) now) plan (marked (host_is Closed) done (marked (host_is Closing) (o ∷ []) base)) =
-    stand_mark hosts plan (host_is Closed) (host_is Closing) done o (marked (host_is Opened) (o ∷ left) (host_before plan phase)) base meet.host fact.fits.named fact.known fact.done_apart (λ q off. sym (marked_there (host_is Opened) o left (host_before plan phase) q off)) in
+    let next : Stand (slice_set hosts (o.relid - 1) now) plan (marked host_ends done (marked (host_is Closing) (o ∷ []) base)) =
+    stand_mark hosts plan host_ends (host_is Closing) done o (marked (host_is Opened) (o ∷ left) (host_before plan phase)) base meet.host fact.fits.named fact.known fact.done_apart (λ q off. sym (marked_there (host_is Opened) o left (host_before plan phase) q off)) in
     record {
       turn = turn;
       hears = ap (hears_close h o.relid) known ∙ ap (λ b. Ok (record (at_rest h) { awaits = if b then AwaitsTeardown place else AwaitsClose place; channels = slice_set hosts (o.relid - 1) now })) mine;
       goes = λ sent e.
           let logs2 : Logs = host_logs logs sent m in
           subst (λ s. Talk plan logs2 (a_guest plan logs2 (Some (PhaseEnd phase)) (Torn place) (Some v) guests) (host_after h h.part turn sent (m ∷ [])) (teardown o ∷ []) s) (sym e)
-          (tears v guests (slice_set hosts (o.relid - 1) now) phase place done o left at (record { agreed = meet.agreed; guest = meet.guest; host = next }));
+          (tears v guests (slice_set hosts (o.relid - 1) now) phase place done o left at closed (record { agreed = meet.agreed; guest = meet.guest; host = next }));
     }
 
 -- GPADL_TEARDOWN
-kept : (os : List Opening) (gpadl : ℕ) → AllByRecursion (λ p. p.gpadl ≢ gpadl) os → filter (λ handle. not (handle == gpadl)) (handles os) ≡ handles os
-kept [] gpadl apart = refl
-kept (o ∷ os) gpadl apart = rw (differ o.gpadl gpadl apart.0) (ap (λ hs. o.gpadl ∷ hs) (kept os gpadl apart.1))
-
-let_go : (o : Opening) (left : List Opening) → AllByRecursion (λ p. p.gpadl ≢ o.gpadl) left → without (live_ones (handles (o ∷ left))) o.gpadl ≡ live_ones (handles left)
-let_go o left apart =
-    let gone : filter (λ handle. not (handle == o.gpadl)) (handles (o ∷ left)) ≡ handles left = rw (same o.gpadl) (kept left o.gpadl apart) in
-    ap live_ones gone
-
 pub step_tears : (plan : BusPlan) (logs : Logs) (v : Version) (guests : List Channel) (hosts : List ChanState) (phase place : ℕ) (done : List Opening) (o : Opening) (left : List Opening) → IsPlan plan
-    → At plan phase place done o left → Meet plan v guests hosts (marked (guest_is Closed) done (marked (guest_is Closing) (o ∷ []) (marked (guest_is Opened) left (guest_before plan phase)))) (marked (host_is Closed) done (marked (host_is Closing) (o ∷ []) (marked (host_is Opened) left (host_before plan phase))))
+    → At plan phase place done o left → o.rescinded ≡ false
+    → Meet plan v guests hosts (marked guest_ends done (marked (guest_is Closing) (o ∷ []) (marked (guest_is Opened) left (guest_before plan phase)))) (marked host_ends done (marked (host_is Closing) (o ∷ []) (marked (host_is Opened) left (host_before plan phase))))
     → HostStep plan logs (λ after. a_guest plan after (Some (PhaseEnd phase)) (Torn place) (Some v) guests) (a_host plan logs (Some (PhaseEnd phase)) (AwaitsTeardown place) (Some v) hosts (live_ones (handles (o ∷ left)))) (teardown o) [] []
-step_tears plan logs v guests hosts phase place done o left planned at meet =
+step_tears plan logs v guests hosts phase place done o left planned at closed meet =
     let h : HostSeen = a_host plan logs (Some (PhaseEnd phase)) (AwaitsTeardown place) (Some v) hosts (live_ones (handles (o ∷ left))) in
     let m : Msg = teardown o in
     let fact = facts plan phase place done o left planned at in
     let base : ℕ → ChanState = marked (host_is Opened) left (host_before plan phase) in
-    let now : ChanState = host_is Closed o in
-    let later : HostWait = waits_close (place + 1) (opening_at plan phase (place + 1)) in
-    let turn : HostTurn = record (at_rest h) { awaits = later; channels = slice_set hosts (o.relid - 1) now; lists = live_ones (handles left); burst = One (torndown o.gpadl) } in
-    let known : by_relid hosts o.relid ≡ Some (host_is Closing o) = stand_at hosts plan (host_is Closed) done o (marked (host_is Closing) (o ∷ []) base) (host_is Closing o) meet.host fact.fits.named fact.known fact.done_apart (marked_here (host_is Closing) o [] base) in
+    let so : host_ends o ≡ host_is Closed o = ap (λ b. host_is (end_state b) o) closed in
+    let back = sym so in
+    let later : HostNext = next_end hosts (place + 1) (opening_at plan phase (place + 1)) in
+    let after : List ChanState = slice_set hosts (o.relid - 1) (host_ends o) in
+    let turn_with : ChanState → Assembly → HostNext → HostTurn = λ now lists next. goes_next (record (at_rest h) { channels = slice_set hosts (o.relid - 1) now; lists = lists }) (Some (torndown o.gpadl)) next in
+    let turn : HostTurn = turn_with (host_ends o) (live_ones (handles left)) later in
+    let known : by_relid hosts o.relid ≡ Some (host_is Closing o) = stand_at hosts plan host_ends done o (marked (host_is Closing) (o ∷ []) base) (host_is Closing o) meet.host fact.fits.named fact.known fact.done_apart (marked_here (host_is Closing) o [] base) in
     let mine : is_of o.relid (opening_at plan phase place) ≡ true = ap (is_of o.relid) (opening_here plan phase place done o left at) ∙ same o.relid in
     let live : is_live (handles (o ∷ left)) o.gpadl ≡ true = rw (same o.gpadl) refl in
     let gone = let_go o left fact.left_handles in
-    let next : Stand (slice_set hosts (o.relid - 1) now) plan (marked (host_is Closed) (done ++ o ∷ []) base) =
-    stand_join hosts plan (host_is Closed) done o (marked (host_is Closing) (o ∷ []) base) base meet.host fact.fits.named fact.known fact.done_apart (λ q off. sym (marked_there (host_is Closing) o [] base q off)) in
+    let stood : Stand after plan (marked host_ends (done ++ o ∷ []) base) =
+    stand_join hosts plan host_ends done o (marked (host_is Closing) (o ∷ []) base) base meet.host fact.fits.named fact.known fact.done_apart (λ q off. sym (marked_there (host_is Closing) o [] base q off)) in
+    let next = next_is plan hosts phase place host_ends (host_is Closing) (host_is Opened) done o left (host_before plan phase) planned at meet.host in
+    let ends = host_goes plan after hosts phase (place + 1) (done ++ o ∷ []) left planned at.in_plan (done_more plan phase place done o left at) (place_more plan phase place done o left at) stood next in
     record {
       turn = turn;
       hears = ap (hears_teardown h o.relid o.gpadl) known
           ∙ (rw live refl)
-          ∙ (λ i. Ok (record (at_rest h) { awaits = if mine i then later else AwaitsTeardown place; channels = slice_set hosts (o.relid - 1) now; lists = gone i; burst = One (torndown o.gpadl) }));
+          ∙ (λ i. Ok (turn_with (back i) (gone i) (if mine i then later else stays h)));
       goes = λ sent e.
           let logs2 : Logs = host_logs logs sent m in
-          subst (λ s. Talk plan logs2 (a_guest plan logs2 (Some (PhaseEnd phase)) (Torn place) (Some v) guests) (host_after h h.part turn sent (m ∷ [])) [] s) (sym e)
-          (torn v guests (slice_set hosts (o.relid - 1) now) phase place done o left at (record { agreed = meet.agreed; guest = meet.guest; host = next }));
+          let g : GuestSeen = a_guest plan logs2 (Some (PhaseEnd phase)) (Torn place) (Some v) guests in
+          host_talks plan logs2 v (Some (PhaseEnd phase)) g after (handles left) later (host_next_awaits (place + 1) left) (marked host_ends (done ++ o ∷ []) (host_next_stands left (host_before plan phase))) (host_next_live left) (host_next_sends left) (Some (torndown o.gpadl)) [] sent ends e
+          (torn v guests (rescinded_among after later.rescinds) phase place done o left at closed (record { agreed = meet.agreed; guest = meet.guest; host = ends.host }));
+    }
+
+-- RELID_RELEASED
+pub step_releases : (plan : BusPlan) (logs : Logs) (v : Version) (guests : List Channel) (hosts : List ChanState) (phase place : ℕ) (done : List Opening) (o : Opening) (left : List Opening) → IsPlan plan
+    → At plan phase place done o left → o.rescinded ≡ true
+    → Meet plan v guests hosts (marked guest_ends (done ++ o ∷ []) (guest_next_stands left (guest_before plan phase))) (marked host_ends done (marked (host_is IsRescinded) (o ∷ []) (marked (host_is Opened) left (host_before plan phase))))
+    → HostStep plan logs (λ after. a_guest plan after (Some (PhaseEnd phase)) (guest_next_awaits (place + 1) left) (Some v) guests) (a_host plan logs (Some (PhaseEnd phase)) (AwaitsRelease place) (Some v) hosts (live_ones (handles left))) (release o.relid) (guest_next_sends left) []
+step_releases plan logs v guests hosts phase place done o left planned at gone meet =
+    let h : HostSeen = a_host plan logs (Some (PhaseEnd phase)) (AwaitsRelease place) (Some v) hosts (live_ones (handles left)) in
+    let m : Msg = release o.relid in
+    let fact = facts plan phase place done o left planned at in
+    let base : ℕ → ChanState = marked (host_is Opened) left (host_before plan phase) in
+    let so : host_ends o ≡ host_is Released o = ap (λ b. host_is (end_state b) o) gone in
+    let back = sym so in
+    let later : HostNext = next_end hosts (place + 1) (opening_at plan phase (place + 1)) in
+    let after : List ChanState = slice_set hosts (o.relid - 1) (host_ends o) in
+    let turn_with : ChanState → HostNext → HostTurn = λ now next. goes_next (record (at_rest h) { channels = slice_set hosts (o.relid - 1) now }) None next in
+    let turn : HostTurn = turn_with (host_ends o) later in
+    let known : by_relid hosts o.relid ≡ Some (host_is IsRescinded o) = stand_at hosts plan host_ends done o (marked (host_is IsRescinded) (o ∷ []) base) (host_is IsRescinded o) meet.host fact.fits.named fact.known fact.done_apart (marked_here (host_is IsRescinded) o [] base) in
+    let mine : is_of o.relid (opening_at plan phase place) ≡ true = ap (is_of o.relid) (opening_here plan phase place done o left at) ∙ same o.relid in
+    let stood : Stand after plan (marked host_ends (done ++ o ∷ []) base) =
+    stand_join hosts plan host_ends done o (marked (host_is IsRescinded) (o ∷ []) base) base meet.host fact.fits.named fact.known fact.done_apart (λ q off. sym (marked_there (host_is IsRescinded) o [] base q off)) in
+    let next = next_is plan hosts phase place host_ends (host_is IsRescinded) (host_is Opened) done o left (host_before plan phase) planned at meet.host in
+    let ends = host_goes plan after hosts phase (place + 1) (done ++ o ∷ []) left planned at.in_plan (done_more plan phase place done o left at) (place_more plan phase place done o left at) stood next in
+    record {
+      turn = turn;
+      hears = ap (hears_release h o.relid) known ∙ (λ i. Ok (turn_with (back i) (if mine i then later else stays h)));
+      goes = λ sent e.
+          let logs2 : Logs = host_logs logs sent m in
+          let g : GuestSeen = a_guest plan logs2 (Some (PhaseEnd phase)) (guest_next_awaits (place + 1) left) (Some v) guests in
+          host_talks plan logs2 v (Some (PhaseEnd phase)) g after (handles left) later (host_next_awaits (place + 1) left) (marked host_ends (done ++ o ∷ []) (host_next_stands left (host_before plan phase))) (host_next_live left) (host_next_sends left) None (guest_next_sends left) sent ends e
+          (both_next plan logs2 v guests (rescinded_among after later.rescinds) phase (place + 1) (done ++ o ∷ []) left at.in_plan (done_more plan phase place done o left at) (place_more plan phase place done o left at)
+          (record { agreed = meet.agreed; guest = meet.guest; host = ends.host }));
     }
 
 -- UNLOAD

@@ -3,6 +3,7 @@ pub mod Plans
 pub mod Lower
 pub mod Pieces
 pub mod Next
+pub mod NextEnd
 pub mod Tried
 pub mod Saying
 pub mod States
@@ -13,5 +14,7 @@ pub mod HostSteps
 pub mod HostLists
 pub mod Beginning
 pub mod Ending
+pub mod Rescinded
+pub mod Once
 pub mod Going
 pub mod Handing

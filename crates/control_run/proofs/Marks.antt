@@ -1,7 +1,7 @@
 -- Channels that are marked, and lists of channels that stand so.
 use Rattle.std.proofs.Common.{◌≡◌, ◌≢◌, ◌∙◌, ℕ, zero, suc, ◌-◌, ◌<◌, ◌≤◌, ◌==◌, Bool, true, false, List, [], ◌∷◌, ◌++◌, length, slice_get, slice_set, Some, if◌then◌else◌, refl, sym, ap, subst, ⊎_elim, arith}
 use Rattle.std.specs.List.{AllByRecursion}
-use Rattle.std.proofs.lemmas.Bool.{eq-eqb, cases_eq}
+use Rattle.std.proofs.lemmas.Bool.{eq-eqb, eqb-true, cases_eq}
 use Rattle.std.proofs.lemmas.Bool.Decides.{nat_tests}
 use Rattle.std.proofs.lemmas.List.{length-set}
 use Rattle.control_model.specs.declared.opening.Opening.{Opening}
@@ -38,6 +38,12 @@ module _ {X : Type 0} (so : Opening → X) where
   pub marked_has : (P : X → Type 0) (os : List Opening) (before : ℕ → X) (relid : ℕ) → AllByRecursion (λ o. P (so o)) os → P (before relid) → P (marked so os before relid)
   marked_has P [] before relid all rest = rest
   marked_has P (o ∷ os) before relid all rest = by_test {P = P (if o.relid == relid then so o else marked so os before relid)} (o.relid == relid) (λ e. rw e all.0) (λ e. rw e (marked_has P os before relid all.1 rest))
+
+  pub marked_at : (P : X → Type 0) (os : List Opening) (before : ℕ → X) (relid : ℕ) → AllByRecursion (λ o. o.relid ≡ relid → P (so o)) os → P (before relid) → P (marked so os before relid)
+  marked_at P [] before relid all rest = rest
+  marked_at P (o ∷ os) before relid all rest = by_test {P = P (if o.relid == relid then so o else marked so os before relid)} (o.relid == relid)
+      (λ e. rw e (all.0 (eqb-true o.relid relid e)))
+      (λ e. rw e (marked_at P os before relid all.1 rest))
 
   pub marked_here : (o : Opening) (os : List Opening) (before : ℕ → X) → marked so (o ∷ os) before o.relid ≡ so o
   marked_here o os before = rw (same o.relid) refl

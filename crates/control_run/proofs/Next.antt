@@ -1,10 +1,10 @@
 -- A side goes on with the opening at a place of a phase, if there is one.
-use Rattle.std.proofs.Common.{◌≡◌, ◌∙◌, ℕ, suc, ◌+◌, ◌-◌, ◌*◌, ◌<◌, ◌≤◌, List, [], ◌∷◌, ◌++◌, length, slice_get, slice_set, Option, Some, None, sym, ap, subst, arith}
+use Rattle.std.proofs.Common.{◌≡◌, ◌∙◌, ℕ, ◌+◌, ◌-◌, ◌*◌, ◌<◌, ◌≤◌, List, [], ◌∷◌, ◌++◌, length, slice_get, Option, Some, None, sym, ap, subst, arith}
 use Rattle.std.proofs.lemmas.List.{append-nil}
 use Rattle.contact.specs.declared.version.Version.{Version}
 use Rattle.contact.specs.declared.part.Part.{Part}
-use Rattle.contact.specs.declared.part.Part.TheVariants.{PhaseStart, PhaseEnd}
-use Rattle.chan_state.specs.declared.state.State.TheVariants.{Opened, Closing, Closed}
+use Rattle.contact.specs.declared.part.Part.TheVariants.{PhaseStart}
+use Rattle.chan_state.specs.declared.state.State.TheVariants.{Opened}
 use Rattle.chan_state.specs.declared.chan_state.ChanState.{ChanState}
 use Rattle.vmbus_msg.specs.declared.msg.Msg.{Msg}
 use Rattle.control_model.specs.declared.opening.Opening.{Opening}
@@ -13,18 +13,16 @@ use Rattle.control_model.specs.declared.change.Change.{Change}
 use Rattle.control_model.specs.declared.change.Change.TheVariants.{Same}
 use Rattle.control_model.specs.declared.burst.Burst.TheVariants.{Empty}
 use Rattle.control_model.specs.declared.guest_wait.GuestWait.{GuestWait}
-use Rattle.control_model.specs.declared.guest_wait.GuestWait.TheVariants.{Torn}
 use Rattle.control_model.specs.declared.guest_turn.GuestTurn.{GuestTurn}
 use Rattle.control_model.specs.Plan.{BusPlan, opening_at, IsPlan, phase_of}
-use Rattle.control_model.specs.Channels.{by_relid, changed}
+use Rattle.control_model.specs.Channels.{changed}
 use Rattle.control_model.specs.Messages.{Sends}
-use Rattle.control_model.specs.Guest.{GuestSeen, lists_next, closes, closes_next}
-use Rattle.control_model.specs.Host.{HostSeen, waits_list, waits_close}
-use Rattle.control_run.specs.Stand.{At, marked, guest_is, host_is, guest_before, host_before, Stand, handles}
+use Rattle.control_model.specs.Guest.{GuestSeen, lists_next}
+use Rattle.control_model.specs.Host.{HostSeen, waits_list}
+use Rattle.control_run.specs.Stand.{At, marked, guest_is, host_is, guest_before, host_before, handles}
 use Rattle.control_run.specs.Talk.{Logs, Talk, Meet, a_host, live_ones}
-use Rattle.control_run.specs.Talk.Talk.{lists, started, closes as IsClosing, ended}
+use Rattle.control_run.specs.Talk.Talk.{lists, started}
 use Rattle.control_run.specs.Laws.{measure}
-use Rattle.control_run.proofs.Marks.{stand_mark, marked_there}
 use Rattle.control_run.proofs.Plans.{facts, opening_from}
 use Rattle.control_run.proofs.Pieces.{piecewise}
 
@@ -91,56 +89,3 @@ pub next_list : (plan : BusPlan) (v : Version) (guests : List Channel) (hosts : 
     → Open plan v (changed guests heard) hosts phase done → ListsAt plan v guests hosts phase place done awaits heard (opening_at plan phase place)
 next_list plan v guests hosts phase place done left awaits heard planned in_plan is at meet =
     subst (ListsAt plan v guests hosts phase place done awaits heard) (sym (opening_from plan phase place done left is at)) (lists_from plan v guests hosts phase place done left awaits heard planned in_plan is at meet)
-
--- the guest closes the channel of an opening, if there is one
-abbrev pub ClosesAt : BusPlan → Version → List Channel → List ChanState → ℕ → ℕ → List Opening → GuestWait → Change → Option Opening → Type 0
-ClosesAt plan v guests hosts phase place left awaits heard x = (logs : Logs) (sent : List Msg) → Sends plan (closes_next (heard_so awaits v heard) guests place x).burst sent
-    → Goes plan logs (turned plan logs (Some (PhaseEnd phase)) (closes_next (heard_so awaits v heard) guests place x) guests) (a_host plan logs (Some (PhaseEnd phase)) (waits_close place x) (Some v) hosts (live_ones (handles left))) sent (4 * (length (phase_of plan phase) - place) + 2)
-
--- the channels of the first openings are closed, and those of the others open
-abbrev pub HalfClosed : BusPlan → Version → List Channel → List ChanState → ℕ → List Opening → List Opening → Type 0
-HalfClosed plan v guests hosts phase done left = Meet plan v guests hosts (marked (guest_is Closed) done (marked (guest_is Opened) left (guest_before plan phase))) (marked (host_is Closed) done (marked (host_is Opened) left (host_before plan phase)))
-
--- the next channel to be closed was open when the turn began
-abbrev pub NextIsOpen : List Channel → List Opening → Type 0
-NextIsOpen guests [] = Unit {0}
-NextIsOpen guests (o ∷ left) = by_relid guests o.relid ≡ Some (guest_is Opened o)
-
-closes_from : (plan : BusPlan) (v : Version) (guests : List Channel) (hosts : List ChanState) (phase place : ℕ) (done left : List Opening) (awaits : GuestWait) (heard : Change) → IsPlan plan → phase < length plan.phases → phase_of plan phase ≡ done ++ left → place ≡ length done
-    → HalfClosed plan v (changed guests heard) hosts phase done left → NextIsOpen guests left → ClosesAt plan v guests hosts phase place left awaits heard (slice_get left 0)
-closes_from plan v guests hosts phase place done [] awaits heard planned in_plan is at meet next = λ logs sent e.
-    let full : phase_of plan phase ≡ done = is ∙ append-nil done in
-    let all : Meet plan v (changed guests heard) hosts (guest_before plan (suc phase)) (host_before plan (suc phase)) =
-    subst (λ os. Meet plan v (changed guests heard) hosts (marked (guest_is Closed) os (guest_before plan phase)) (marked (host_is Closed) os (host_before plan phase))) (sym full) meet in
-    let g : GuestSeen = turned plan logs (Some (PhaseEnd phase)) (closes_next (heard_so awaits v heard) guests place None) guests in
-    let h : HostSeen = a_host plan logs (Some (PhaseEnd phase)) (waits_close place None) (Some v) hosts (live_ones []) in
-    let count = ap length e in
-    record {
-      talk = subst (λ s. Talk plan logs g h s []) (sym e) (ended v (changed guests heard) hosts phase in_plan all);
-      few = omega (arith, count);
-    }
-closes_from plan v guests hosts phase place done (o ∷ left) awaits heard planned in_plan is at meet next =
-    let here : At plan phase place done o left = record { in_plan = in_plan; phase_is = is; place_is = at } in
-    let fact = facts plan phase place done o left planned here in
-    let turn : Option Channel → GuestTurn = λ c. closes (record (heard_so awaits v heard) { awaits = Torn place }) o c in
-    let P : Option Channel → Type 0 = λ c. (logs : Logs) (sent : List Msg) → Sends plan (turn c).burst sent
-    → Goes plan logs (turned plan logs (Some (PhaseEnd phase)) (turn c) guests) (a_host plan logs (Some (PhaseEnd phase)) (waits_close place (Some o)) (Some v) hosts (live_ones (handles (o ∷ left)))) sent (4 * (length (phase_of plan phase) - place) + 2) in
-    let closed : List Channel = slice_set (changed guests heard) (o.relid - 1) (guest_is Closing o) in
-    let guest : Stand closed plan (marked (guest_is Closed) done (marked (guest_is Closing) (o ∷ []) (marked (guest_is Opened) left (guest_before plan phase)))) =
-    stand_mark (changed guests heard) plan (guest_is Closed) (guest_is Closing) done o (marked (guest_is Opened) (o ∷ left) (guest_before plan phase)) (marked (guest_is Opened) left (guest_before plan phase)) meet.guest fact.fits.named fact.known fact.done_apart
-    (λ q off. sym (marked_there (guest_is Opened) o left (guest_before plan phase) q off)) in
-    let now : Meet plan v closed hosts (marked (guest_is Closed) done (marked (guest_is Closing) (o ∷ []) (marked (guest_is Opened) left (guest_before plan phase)))) (marked (host_is Closed) done (marked (host_is Opened) (o ∷ left) (host_before plan phase))) =
-    record { agreed = meet.agreed; guest = guest; host = meet.host } in
-    subst P (sym next) (λ logs sent e.
-    let g : GuestSeen = turned plan logs (Some (PhaseEnd phase)) (turn (Some (guest_is Opened o))) guests in
-    let h : HostSeen = a_host plan logs (Some (PhaseEnd phase)) (waits_close place (Some o)) (Some v) hosts (live_ones (handles (o ∷ left))) in
-    let count = ap length e in
-    record {
-      talk = subst (λ s. Talk plan logs g h s []) (sym e) (IsClosing v closed hosts phase place done o left here now);
-      few = omega (arith, count);
-    })
-
-pub next_close : (plan : BusPlan) (v : Version) (guests : List Channel) (hosts : List ChanState) (phase place : ℕ) (done left : List Opening) (awaits : GuestWait) (heard : Change) → IsPlan plan → phase < length plan.phases → phase_of plan phase ≡ done ++ left → place ≡ length done
-    → HalfClosed plan v (changed guests heard) hosts phase done left → NextIsOpen guests left → ClosesAt plan v guests hosts phase place left awaits heard (opening_at plan phase place)
-next_close plan v guests hosts phase place done left awaits heard planned in_plan is at meet next =
-    subst (ClosesAt plan v guests hosts phase place left awaits heard) (sym (opening_from plan phase place done left is at)) (closes_from plan v guests hosts phase place done left awaits heard planned in_plan is at meet next)

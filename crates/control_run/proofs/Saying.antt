@@ -1,5 +1,5 @@
 -- What a guest has still to say and to hear, as it goes on.
-use Rattle.std.proofs.Common.{◌≡◌, ◌∙◌, ℕ, zero, suc, ◌<◌, List, [], ◌∷◌, ◌++◌, length, drop, slice_get, slice_index_or, Option, refl, sym, ap, subst, append_assoc, length-append, arith}
+use Rattle.std.proofs.Common.{◌≡◌, ◌∙◌, ℕ, zero, suc, ◌<◌, Bool, true, false, if◌then◌else◌, List, [], ◌∷◌, ◌++◌, length, drop, slice_get, slice_index_or, Option, refl, sym, ap, subst, append_assoc, length-append, arith}
 use Rattle.std.specs.List.{flat_map}
 use Rattle.std.proofs.lemmas.List.Concat.{flat_map-cons}
 use Rattle.contact.specs.declared.version.Version.{Version}
@@ -8,20 +8,19 @@ use Rattle.vmbus_msg.specs.declared.msg.Msg.{Msg}
 use Rattle.gpadl.specs.Cut.{cut}
 use Rattle.gpadl.proofs.Cutting.{cuts_so}
 use Rattle.control_model.specs.declared.opening.Opening.{Opening}
-use Rattle.control_model.specs.declared.channel.Channel.{Channel}
 use Rattle.control_model.specs.declared.change.Change.{Change}
 use Rattle.control_model.specs.declared.guest_wait.GuestWait.{GuestWait}
-use Rattle.control_model.specs.declared.guest_wait.GuestWait.TheVariants.{Torn}
 use Rattle.control_model.specs.declared.guest_turn.GuestTurn.{GuestTurn}
 use Rattle.control_model.specs.Plan.{BusPlan, opening_at, phase_of}
 use Rattle.control_model.specs.Channels.{changed}
-use Rattle.control_model.specs.Messages.{pages_from, open_on, farewell, farewell_taken, Sends}
+use Rattle.control_model.specs.Messages.{pages_from, open_on, close, teardown, release, farewell, farewell_taken, Sends}
 use Rattle.control_model.specs.Said.{guest_opens, host_opens, guest_closes, host_closes, guest_in_phase, host_in_phase, from_3_0}
 use Rattle.control_model.specs.GuestAt.{guest_from, host_from, opens_listed, start_to_say, start_to_hear, end_to_say, end_to_hear, to_say, to_hear, GuestAt}
-use Rattle.control_model.specs.Guest.{GuestSeen, lists_next, closes, closes_next, guest_after}
+use Rattle.control_model.specs.Guest.{GuestSeen, lists_next, guest_after}
 use Rattle.control_run.specs.Stand.{At}
+use Rattle.control_run.specs.NextEnd.{guest_waits, guest_next_awaits, guest_sends, guest_next_sends}
 use Rattle.control_run.proofs.Plans.{opening_from, done_more}
-use Rattle.control_run.proofs.Next.{heard_so, NextIsOpen}
+use Rattle.control_run.proofs.Next.{heard_so}
 
 -- behind those that are done, the others are left
 pub drop_done : {X : Type 0} (xs ys : List X) → drop (length xs) (xs ++ ys) ≡ ys
@@ -79,38 +78,24 @@ pub lists_heard : (plan : BusPlan) (v : Version) (phase place : ℕ) (done left 
 lists_heard plan v phase place done left awaits heard is at =
     subst (λ x. ListsHeard plan phase left (lists_next (heard_so awaits v heard) place x)) (sym (opening_from plan phase place done left is at)) (lists_heard_from plan v phase place done left awaits heard is at)
 
--- a guest closes the next channel, if there is one
-abbrev ClosesSaid : BusPlan → ℕ → List Opening → List Msg → GuestTurn → Type 0
-ClosesSaid plan phase left sent turn = Sends plan turn.burst sent → (later : List Msg) → flat_map guest_closes left ++ later ≡ sent ++ (end_to_say (phase_of plan phase) turn.awaits ++ later)
+-- a guest goes on with the end of a phase
+said_one : (plan : BusPlan) (phase place : ℕ) (done : List Opening) (o : Opening) (left : List Opening) (b : Bool) → o.rescinded ≡ b → At plan phase place done o left → flat_map guest_closes (o ∷ left) ≡ guest_sends o b ++ end_to_say (phase_of plan phase) (guest_waits place b)
+said_one plan phase place done o left true is at = ap (flat_map guest_closes) (sym (left_at plan phase place done (o ∷ left) at.phase_is at.place_is))
+said_one plan phase place done o left false is at =
+    flat_map-cons guest_closes o left ∙ ap (λ b. (if b then release o.relid ∷ [] else close o.relid ∷ teardown o ∷ []) ++ flat_map guest_closes left) is
+    ∙ ap (λ os. close o.relid ∷ teardown o ∷ flat_map guest_closes os) (sym (left_behind plan phase place done o left at))
 
-closes_said_from : (plan : BusPlan) (v : Version) (guests : List Channel) (phase place : ℕ) (done left : List Opening) (awaits : GuestWait) (heard : Change) (sent : List Msg) → phase < length plan.phases → phase_of plan phase ≡ done ++ left → place ≡ length done → NextIsOpen guests left
-    → ClosesSaid plan phase left sent (closes_next (heard_so awaits v heard) guests place (slice_get left 0))
-closes_said_from plan v guests phase place done [] awaits heard sent in_plan is at next = λ e later. ap (λ s. s ++ later) (sym e)
-closes_said_from plan v guests phase place done (o ∷ left) awaits heard sent in_plan is at next =
-    subst (λ c. ClosesSaid plan phase (o ∷ left) sent (closes (record (heard_so awaits v heard) { awaits = Torn place }) o c)) (sym next)
-    (λ e later.
-    let behind = sym (left_behind plan phase place done o left (record { in_plan = in_plan; phase_is = is; place_is = at })) in
-    let two = sym e in
-    ap (λ xs. xs ++ later) (flat_map-cons guest_closes o left) ∙ (λ i. two i ++ (flat_map guest_closes (behind i) ++ later)))
+pub ends_said : (plan : BusPlan) (phase place : ℕ) (done left : List Opening) → phase < length plan.phases → phase_of plan phase ≡ done ++ left → place ≡ length done → flat_map guest_closes left ≡ guest_next_sends left ++ end_to_say (phase_of plan phase) (guest_next_awaits place left)
+ends_said plan phase place done [] in_plan is at = refl
+ends_said plan phase place done (o ∷ left) in_plan is at = said_one plan phase place done o left o.rescinded refl (record { in_plan = in_plan; phase_is = is; place_is = at })
 
-pub closes_said : (plan : BusPlan) (v : Version) (guests : List Channel) (phase place : ℕ) (done left : List Opening) (awaits : GuestWait) (heard : Change) (sent : List Msg) → phase < length plan.phases → phase_of plan phase ≡ done ++ left → place ≡ length done → NextIsOpen guests left
-    → ClosesSaid plan phase left sent (closes_next (heard_so awaits v heard) guests place (opening_at plan phase place))
-closes_said plan v guests phase place done left awaits heard sent in_plan is at next =
-    subst (λ x. ClosesSaid plan phase left sent (closes_next (heard_so awaits v heard) guests place x)) (sym (opening_from plan phase place done left is at)) (closes_said_from plan v guests phase place done left awaits heard sent in_plan is at next)
+heard_one : (plan : BusPlan) (phase place : ℕ) (done : List Opening) (o : Opening) (left : List Opening) (b : Bool) → phase_of plan phase ≡ done ++ o ∷ left → place ≡ length done → flat_map host_closes (o ∷ left) ≡ end_to_hear (phase_of plan phase) (guest_waits place b)
+heard_one plan phase place done o left true is at = ap (flat_map host_closes) (sym (left_at plan phase place done (o ∷ left) is at))
+heard_one plan phase place done o left false is at = ap (flat_map host_closes) (sym (left_at plan phase place done (o ∷ left) is at))
 
-abbrev ClosesHeard : BusPlan → ℕ → List Opening → GuestTurn → Type 0
-ClosesHeard plan phase left turn = flat_map host_closes left ≡ end_to_hear (phase_of plan phase) turn.awaits
-
-closes_heard_from : (plan : BusPlan) (v : Version) (guests : List Channel) (phase place : ℕ) (done left : List Opening) (awaits : GuestWait) (heard : Change) → phase_of plan phase ≡ done ++ left → place ≡ length done → NextIsOpen guests left
-    → ClosesHeard plan phase left (closes_next (heard_so awaits v heard) guests place (slice_get left 0))
-closes_heard_from plan v guests phase place done [] awaits heard is at next = refl
-closes_heard_from plan v guests phase place done (o ∷ left) awaits heard is at next =
-    subst (λ c. ClosesHeard plan phase (o ∷ left) (closes (record (heard_so awaits v heard) { awaits = Torn place }) o c)) (sym next) (ap (flat_map host_closes) (sym (left_at plan phase place done (o ∷ left) is at)))
-
-pub closes_heard : (plan : BusPlan) (v : Version) (guests : List Channel) (phase place : ℕ) (done left : List Opening) (awaits : GuestWait) (heard : Change) → phase_of plan phase ≡ done ++ left → place ≡ length done → NextIsOpen guests left
-    → ClosesHeard plan phase left (closes_next (heard_so awaits v heard) guests place (opening_at plan phase place))
-closes_heard plan v guests phase place done left awaits heard is at next =
-    subst (λ x. ClosesHeard plan phase left (closes_next (heard_so awaits v heard) guests place x)) (sym (opening_from plan phase place done left is at)) (closes_heard_from plan v guests phase place done left awaits heard is at next)
+pub ends_heard : (plan : BusPlan) (phase place : ℕ) (done left : List Opening) → phase_of plan phase ≡ done ++ left → place ≡ length done → flat_map host_closes left ≡ end_to_hear (phase_of plan phase) (guest_next_awaits place left)
+ends_heard plan phase place done [] is at = refl
+ends_heard plan phase place done (o ∷ left) is at = heard_one plan phase place done o left o.rescinded is at
 
 -- what is said and heard from a phase on
 pub guest_from_phase : (plan : BusPlan) (phase : ℕ) → phase < length plan.phases → guest_from plan phase ≡ flat_map guest_opens (phase_of plan phase) ++ (flat_map guest_closes (phase_of plan phase) ++ guest_from plan (suc phase))

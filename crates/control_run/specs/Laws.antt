@@ -1,16 +1,20 @@
 -- What holds of a guest and its host at each moment of their talk.
-use Rattle.std.specs.Prelude.{◌≡◌, ℕ, ◌+◌, ◌*◌, ◌-◌, ◌<◌, ◌≤◌, true, List, [], ◌∷◌, ◌++◌, length, Option, Some, is_some, Ok}
+use Rattle.std.specs.Prelude.{◌≡◌, ℕ, ◌+◌, ◌*◌, ◌-◌, ◌<◌, ◌≤◌, ◌==◌, Bool, true, false, filter, List, [], ◌∷◌, ◌++◌, length, Option, Some, is_some, Ok}
 use Rattle.contact.specs.declared.part.Part.{Part}
 use Rattle.contact.specs.declared.part.Part.TheVariants.{PhaseStart, PhaseEnd, Unload}
+use Rattle.chan_state.specs.declared.state.State.TheVariants.{Released}
 use Rattle.vmbus_msg.specs.declared.msg.Msg.{Msg}
+use Rattle.vmbus_msg.specs.declared.msg.Msg.TheVariants.{RescindChannelOffer, RelidReleased}
+use Rattle.control_model.specs.declared.opening.Opening.{Opening}
 use Rattle.control_model.specs.declared.guest_turn.GuestTurn.{GuestTurn}
 use Rattle.control_model.specs.declared.guest_wait.GuestWait.{GuestWait}
-use Rattle.control_model.specs.declared.guest_wait.GuestWait.TheVariants.{Nothing, Response, Offers, Created, Opened, Torn, Unloaded}
-use Rattle.control_model.specs.Plan.{BusPlan, part_after, IsPlan, phase_of}
+use Rattle.control_model.specs.declared.guest_wait.GuestWait.TheVariants.{Nothing, Response, Offers, Created, Opened, Torn, Rescinded, Unloaded}
+use Rattle.control_model.specs.Plan.{BusPlan, part_after, opening_at, IsPlan, phase_of}
+use Rattle.control_model.specs.Messages.{rescind, release}
 use Rattle.control_model.specs.Said.{agreed}
 use Rattle.control_model.specs.GuestAt.{GuestAt}
-use Rattle.control_model.specs.Guest.{new_guest, GuestSeen, guest_done, guest_hears, GuestBegins, GuestTakes}
-use Rattle.control_model.specs.Host.{new_host, HostSeen, HostTurn, host_done, host_hears, HostBegins, HostTakes}
+use Rattle.control_model.specs.Guest.{new_guest, GuestSeen, state_of, guest_done, guest_hears, GuestBegins, GuestTakes}
+use Rattle.control_model.specs.Host.{new_host, HostSeen, HostTurn, host_state_of, host_done, host_hears, HostBegins, HostTakes}
 use Rattle.control_run.specs.Talk.{Logs, Talk}
 use Rattle.control_run.specs.Over.{IsOver, StandsSo}
 
@@ -39,6 +43,7 @@ still_to_come g Offers = length g.plan.kinds + 1 - length g.channels
 still_to_come g (Created place) = 64 * (openings_of g.plan g.part - place) + 2
 still_to_come g (Opened place) = 64 * (openings_of g.plan g.part - place)
 still_to_come g (Torn place) = 4 * (openings_of g.plan g.part - place)
+still_to_come g (Rescinded place) = 4 * (openings_of g.plan g.part - place)
 still_to_come g Unloaded = 1
 
 -- the measure of a talk
@@ -49,10 +54,10 @@ measure g to_host = still_to_come g g.awaits + length to_host
 abbrev pub NewOnesAgree : Type 0
 NewOnesAgree = (plan : BusPlan) → IsPlan plan → Agrees plan (new_guest plan) (new_host plan) [] []
 
--- both begin the part that comes next, and agree: what the guest sent is on its way
+-- both begin the part that comes next, and agree: what they sent is on its way
 abbrev pub BothBegin : Type 0
-BothBegin = (plan : BusPlan) (g g' : GuestSeen) (h h' : HostSeen) (part : Part) (sent : List Msg)
-    → Agrees plan g h [] [] → part_after plan g.part ≡ Some part → GuestBegins g part sent g' → HostBegins h part h' → Agrees plan g' h' sent []
+BothBegin = (plan : BusPlan) (g g' : GuestSeen) (h h' : HostSeen) (part : Part) (sent back : List Msg)
+    → Agrees plan g h [] [] → part_after plan g.part ≡ Some part → GuestBegins g part sent g' → HostBegins h part back h' → Agrees plan g' h' sent back
 
 -- the first message on its way to the host is not refused, and both still agree when it was taken
 abbrev pub HostGoesOn : Type 0
@@ -80,6 +85,25 @@ EndsWell = (plan : BusPlan) (g : GuestSeen) (h : HostSeen) → Agrees plan g h [
 -- the state of each channel at the end, from the states of all
 abbrev pub EndTellsEach : Type 0
 EndTellsEach = (plan : BusPlan) (g : GuestSeen) (h : HostSeen) → IsOver plan g h → StandsSo plan g h
+
+-- a channel that a phase rescinds was opened, and is given back at both sides at the end
+abbrev pub RescindedAreReleased : Type 0
+RescindedAreReleased = (plan : BusPlan) (g : GuestSeen) (h : HostSeen) (phase place : ℕ) (o : Opening) → IsPlan plan → IsOver plan g h → opening_at plan phase place ≡ Some o → o.rescinded ≡ true
+    → (state_of g o.relid ≡ Some Released) × (host_state_of h o.relid ≡ Some Released)
+
+-- a message that takes a channel back; one that gives it back
+abbrev pub is_rescind_of : ℕ → Msg → Bool
+is_rescind_of relid (RescindChannelOffer padding r) = r == relid
+is_rescind_of relid m = false
+
+abbrev pub is_release_of : ℕ → Msg → Bool
+is_release_of relid (RelidReleased padding r) = r == relid
+is_release_of relid m = false
+
+-- the host takes it back once, and the guest gives it back once
+abbrev pub RescindedOnce : Type 0
+RescindedOnce = (plan : BusPlan) (g : GuestSeen) (h : HostSeen) (phase place : ℕ) (o : Opening) → IsPlan plan → IsOver plan g h → opening_at plan phase place ≡ Some o → o.rescinded ≡ true
+    → (filter (is_rescind_of o.relid) h.posted ≡ rescind o.relid ∷ []) × (filter (is_release_of o.relid) g.posted ≡ release o.relid ∷ [])
 
 -- the version at the end is the lower one of both ends' highest
 abbrev pub EndsAtLower : Type 0

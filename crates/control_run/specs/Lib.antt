@@ -1,4 +1,5 @@
 pub mod Stand
+pub mod NextEnd
 pub mod Talk
 pub mod Over
 pub mod Laws

@@ -1,17 +1,18 @@
--- What both sides say over two small plans.
-use Rattle.std.specs.Prelude.{◌≡◌, ℕ, [], ◌∷◌}
+-- What both sides say over small plans.
+use Rattle.std.specs.Prelude.{◌≡◌, ℕ, ◌+◌, Bool, true, false, not, [], ◌∷◌}
 use Rattle.contact.specs.Versions.{version}
 use Rattle.contact.specs.Classes.{offer}
 use Rattle.contact.specs.declared.kind.Kind.TheVariants.{Beat, Disk}
+use Rattle.chan_state.specs.declared.state.State.TheVariants.{Offered, Closed, Released}
 use Rattle.gpadl.specs.Cut.{header}
 use Rattle.control_model.specs.declared.opening.Opening.{Opening}
 use Rattle.control_model.specs.Plan.{BusPlan, first_gpadl}
-use Rattle.control_model.specs.Messages.{propose, respond, request, delivered, created, open_on, opened, close, teardown, torndown, farewell, farewell_taken}
-use Rattle.control_model.specs.Said.{said_by_guest, said_by_host}
+use Rattle.control_model.specs.Messages.{propose, respond, request, delivered, created, open_on, opened, close, teardown, torndown, rescind, release, farewell, farewell_taken}
+use Rattle.control_model.specs.Said.{said_by_guest, said_by_host, at_end}
 
 -- a disk and a heartbeat are offered; one phase opens the disk, with rings of one data page
 abbrev pub disk_of : Opening
-disk_of = record { relid = 1; ring_pages = 1; gpadl = first_gpadl; first_page = 0 }
+disk_of = record { relid = 1; ring_pages = 1; gpadl = first_gpadl; first_page = 0; rescinded = false }
 
 abbrev pub small_plan : ℕ → ℕ → BusPlan
 small_plan guest host = record { guest = record { 0 = guest }; host = record { 0 = host }; kinds = Disk ∷ Beat ∷ []; phases = (disk_of ∷ []) ∷ [] }
@@ -31,3 +32,35 @@ GuestSaysNone = said_by_guest (small_plan (version 2 4) (version 5 2)) ≡ propo
 
 abbrev pub HostSaysNone : Type 0
 HostSaysNone = said_by_host (small_plan (version 2 4) (version 5 2)) ≡ respond 1 ∷ offer Disk 1 0 ∷ offer Beat 2 0 ∷ delivered ∷ created 1 first_gpadl ∷ opened 1 1 ∷ torndown first_gpadl ∷ []
+
+-- two disks, of which the host rescinds the first one, or the second one, at the end of the phase; the other one is closed
+abbrev pub first_of : Bool → Opening
+first_of rescinded = record { relid = 1; ring_pages = 1; gpadl = first_gpadl; first_page = 0; rescinded = rescinded }
+
+abbrev pub second_of : Bool → Opening
+second_of rescinded = record { relid = 2; ring_pages = 1; gpadl = first_gpadl + 1; first_page = 4; rescinded = rescinded }
+
+abbrev pub mixed_plan : Bool → BusPlan
+mixed_plan first = record { guest = record { 0 = version 5 2 }; host = record { 0 = version 5 2 }; kinds = Disk ∷ Disk ∷ []; phases = (first_of first ∷ second_of (not first) ∷ []) ∷ [] }
+
+abbrev pub GuestGivesFirst : Type 0
+GuestGivesFirst = said_by_guest (mixed_plan true)
+    ≡ propose (version 5 2) ∷ request ∷ header 1 first_gpadl 0 (1 ∷ 2 ∷ 3 ∷ []) ∷ open_on (first_of true) ∷ header 2 (first_gpadl + 1) 4 (5 ∷ 6 ∷ 7 ∷ []) ∷ open_on (second_of false)
+    ∷ release 1 ∷ close 2 ∷ teardown (second_of false) ∷ farewell ∷ []
+
+abbrev pub HostTakesFirst : Type 0
+HostTakesFirst = said_by_host (mixed_plan true)
+    ≡ respond 1 ∷ offer Disk 1 0 ∷ offer Disk 2 0 ∷ delivered ∷ created 1 first_gpadl ∷ opened 1 1 ∷ created 2 (first_gpadl + 1) ∷ opened 2 2 ∷ rescind 1 ∷ torndown (first_gpadl + 1) ∷ farewell_taken ∷ []
+
+abbrev pub GuestGivesSecond : Type 0
+GuestGivesSecond = said_by_guest (mixed_plan false)
+    ≡ propose (version 5 2) ∷ request ∷ header 1 first_gpadl 0 (1 ∷ 2 ∷ 3 ∷ []) ∷ open_on (first_of false) ∷ header 2 (first_gpadl + 1) 4 (5 ∷ 6 ∷ 7 ∷ []) ∷ open_on (second_of true)
+    ∷ close 1 ∷ teardown (first_of false) ∷ release 2 ∷ farewell ∷ []
+
+abbrev pub HostTakesSecond : Type 0
+HostTakesSecond = said_by_host (mixed_plan false)
+    ≡ respond 1 ∷ offer Disk 1 0 ∷ offer Disk 2 0 ∷ delivered ∷ created 1 first_gpadl ∷ opened 1 1 ∷ created 2 (first_gpadl + 1) ∷ opened 2 2 ∷ torndown first_gpadl ∷ rescind 2 ∷ farewell_taken ∷ []
+
+-- a channel that is rescinded is given back at the end, one that is closed is closed, and one that no phase opens is offered
+abbrev pub EndStates : Type 0
+EndStates = (at_end (mixed_plan true) ≡ Released ∷ Closed ∷ []) × (at_end (mixed_plan false) ≡ Closed ∷ Released ∷ []) × (at_end (small_plan (version 5 0) (version 4 0)) ≡ Closed ∷ Offered ∷ [])

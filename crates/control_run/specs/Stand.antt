@@ -1,8 +1,8 @@
 -- Where the channels of both sides stand.
-use Rattle.std.specs.Prelude.{◌≡◌, ℕ, zero, suc, ◌<◌, ◌≤◌, ◌==◌, List, [], ◌∷◌, ◌++◌, length, map, Some, if◌then◌else◌}
+use Rattle.std.specs.Prelude.{◌≡◌, ℕ, zero, suc, ◌<◌, ◌≤◌, ◌==◌, Bool, true, false, List, [], ◌∷◌, ◌++◌, length, map, Some, if◌then◌else◌}
 use Rattle.io_edge.specs.declared.side.Side.TheVariants.{Guest as GuestSide, Host as HostSide}
 use Rattle.chan_state.specs.declared.state.State.{State}
-use Rattle.chan_state.specs.declared.state.State.TheVariants.{Offered, Closed}
+use Rattle.chan_state.specs.declared.state.State.TheVariants.{Offered, Closed, Released}
 use Rattle.chan_state.specs.declared.chan_state.ChanState.{ChanState}
 use Rattle.control_model.specs.declared.opening.Opening.{Opening}
 use Rattle.control_model.specs.declared.channel.Channel.{Channel}
@@ -28,16 +28,27 @@ guest_is state o = record { life = record { side = GuestSide; state = state }; g
 abbrev pub host_is : State → Opening → ChanState
 host_is state o = record { side = HostSide; state = state }
 
--- before a phase each channel that an earlier one opened is closed, and each other one is offered
+-- at the end of a phase a channel of it is given back where it is rescinded, and closed otherwise
+abbrev pub end_state : Bool → State
+end_state true = Released
+end_state false = Closed
+
+abbrev pub guest_ends : Opening → Channel
+guest_ends o = guest_is (end_state o.rescinded) o
+
+abbrev pub host_ends : Opening → ChanState
+host_ends o = host_is (end_state o.rescinded) o
+
+-- before a phase each channel that an earlier one opened stands as that one left it, and each other one is offered
 abbrev pub before_phase : {X : Type 0} → BusPlan → (Opening → X) → X → ℕ → ℕ → X
-before_phase plan closed offered zero relid = offered
-before_phase plan closed offered (suc phase) relid = marked closed (phase_of plan phase) (before_phase plan closed offered phase) relid
+before_phase plan ended offered zero relid = offered
+before_phase plan ended offered (suc phase) relid = marked ended (phase_of plan phase) (before_phase plan ended offered phase) relid
 
 abbrev pub guest_before : BusPlan → ℕ → ℕ → Channel
-guest_before plan phase = before_phase plan (guest_is Closed) offered_channel phase
+guest_before plan phase = before_phase plan guest_ends offered_channel phase
 
 abbrev pub host_before : BusPlan → ℕ → ℕ → ChanState
-host_before plan phase = before_phase plan (host_is Closed) (record { side = HostSide; state = Offered }) phase
+host_before plan phase = before_phase plan host_ends (record { side = HostSide; state = Offered }) phase
 
 -- there is a channel for each device, and each stands so
 pub record Stand {X : Type 0} (channels : List X) (plan : BusPlan) (stands : ℕ → X) : Type 0 where

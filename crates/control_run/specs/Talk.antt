@@ -1,5 +1,5 @@
 -- How far a guest and its host have come, and which messages are on their way between them.
-use Rattle.std.specs.Prelude.{◌≡◌, ℕ, suc, ◌+◌, ◌<◌, ◌≤◌, List, [], ◌∷◌, ◌++◌, length, replicate, Option, Some, None}
+use Rattle.std.specs.Prelude.{◌≡◌, ℕ, suc, ◌+◌, ◌<◌, ◌≤◌, true, false, List, [], ◌∷◌, ◌++◌, length, replicate, Option, Some, None}
 use Rattle.std.specs.List.{AllByRecursion}
 use Rattle.contact.specs.declared.version.Version.{Version}
 use Rattle.contact.specs.declared.kind.Kind.{Kind}
@@ -7,7 +7,7 @@ use Rattle.contact.specs.declared.part.Part.{Part}
 use Rattle.contact.specs.declared.part.Part.TheVariants.{Contact, PhaseStart, PhaseEnd, Unload}
 use Rattle.contact.specs.Versions.{IsVersion}
 use Rattle.contact.specs.Classes.{offer, offers_from}
-use Rattle.chan_state.specs.declared.state.State.TheVariants.{Opening as IsOpening, Opened, Closing, Closed}
+use Rattle.chan_state.specs.declared.state.State.TheVariants.{Opening as IsOpening, Opened, Closing, Rescinded as IsRescinded}
 use Rattle.chan_state.specs.declared.chan_state.ChanState.{ChanState}
 use Rattle.gpadl.specs.Assembly.{Partial, Assembly}
 use Rattle.gpadl.specs.Whole.{Assemble}
@@ -16,14 +16,15 @@ use Rattle.vmbus_msg.specs.declared.msg.Msg.TheVariants.{GpadlHeader, GpadlBody}
 use Rattle.control_model.specs.declared.opening.Opening.{Opening}
 use Rattle.control_model.specs.declared.channel.Channel.{Channel}
 use Rattle.control_model.specs.declared.guest_wait.GuestWait.{GuestWait}
-use Rattle.control_model.specs.declared.guest_wait.GuestWait.TheVariants.{Nothing, Response, Offers, Created, Opened as AwaitsOpened, Torn, Unloaded}
+use Rattle.control_model.specs.declared.guest_wait.GuestWait.TheVariants.{Nothing, Response, Offers, Created, Opened as AwaitsOpened, Torn, Rescinded, Unloaded}
 use Rattle.control_model.specs.declared.host_wait.HostWait.{HostWait}
-use Rattle.control_model.specs.declared.host_wait.HostWait.TheVariants.{Nothing as HostNothing, Contact as AwaitsContact, Request, List as AwaitsList, Open, Close, Teardown, Unload as AwaitsUnload}
+use Rattle.control_model.specs.declared.host_wait.HostWait.TheVariants.{Nothing as HostNothing, Contact as AwaitsContact, Request, List as AwaitsList, Open, Close, Teardown, Release, Unload as AwaitsUnload}
 use Rattle.control_model.specs.Plan.{BusPlan, opening_at, phase_of}
-use Rattle.control_model.specs.Messages.{propose, respond, request, delivered, pages_from, created, open_on, opened, close, teardown, torndown, farewell, farewell_taken}
+use Rattle.control_model.specs.Messages.{propose, respond, request, delivered, pages_from, created, open_on, opened, close, teardown, torndown, rescind, release, farewell, farewell_taken}
 use Rattle.control_model.specs.Guest.{GuestSeen, offered_channel}
-use Rattle.control_model.specs.Host.{HostSeen, waits_list, waits_close}
-use Rattle.control_run.specs.Stand.{At, marked, guest_is, host_is, guest_before, host_before, Stand, handles}
+use Rattle.control_model.specs.Host.{HostSeen, waits_list}
+use Rattle.control_run.specs.Stand.{At, marked, guest_is, host_is, guest_ends, host_ends, guest_before, host_before, Stand, handles}
+use Rattle.control_run.specs.NextEnd.{guest_next_awaits, guest_next_stands, guest_next_sends, host_next_awaits, host_next_stands, host_next_live, host_next_sends}
 
 -- what both sides have sent and were fed
 pub record Logs : Type 0 where
@@ -131,16 +132,29 @@ pub data Talk (plan : BusPlan) (logs : Logs) : GuestSeen → HostSeen → List M
   started : (v : Version) (guests : List Channel) (hosts : List ChanState) (phase : ℕ) → phase < length plan.phases
       → Meet plan v guests hosts (marked (guest_is Opened) (phase_of plan phase) (guest_before plan phase)) (marked (host_is Opened) (phase_of plan phase) (host_before plan phase))
       → Talk plan logs (a_guest plan logs (Some (PhaseStart phase)) Nothing (Some v) guests) (a_host plan logs (Some (PhaseStart phase)) HostNothing (Some v) hosts (live_ones (handles (phase_of plan phase)))) [] []
-  -- a channel is to be closed, and its page list to be let go; both are done; all channels of the phase are closed
+  -- a channel is to be closed, and its page list to be let go; both are done
   closes : (v : Version) (guests : List Channel) (hosts : List ChanState) (phase place : ℕ) (done : List Opening) (o : Opening) (left : List Opening)
-      → At plan phase place done o left → Meet plan v guests hosts (marked (guest_is Closed) done (marked (guest_is Closing) (o ∷ []) (marked (guest_is Opened) left (guest_before plan phase)))) (marked (host_is Closed) done (marked (host_is Opened) (o ∷ left) (host_before plan phase)))
+      → At plan phase place done o left → o.rescinded ≡ false
+      → Meet plan v guests hosts (marked guest_ends done (marked (guest_is Closing) (o ∷ []) (marked (guest_is Opened) left (guest_before plan phase)))) (marked host_ends done (marked (host_is Opened) (o ∷ left) (host_before plan phase)))
       → Talk plan logs (a_guest plan logs (Some (PhaseEnd phase)) (Torn place) (Some v) guests) (a_host plan logs (Some (PhaseEnd phase)) (Close place) (Some v) hosts (live_ones (handles (o ∷ left)))) (close o.relid ∷ teardown o ∷ []) []
   tears : (v : Version) (guests : List Channel) (hosts : List ChanState) (phase place : ℕ) (done : List Opening) (o : Opening) (left : List Opening)
-      → At plan phase place done o left → Meet plan v guests hosts (marked (guest_is Closed) done (marked (guest_is Closing) (o ∷ []) (marked (guest_is Opened) left (guest_before plan phase)))) (marked (host_is Closed) done (marked (host_is Closing) (o ∷ []) (marked (host_is Opened) left (host_before plan phase))))
+      → At plan phase place done o left → o.rescinded ≡ false
+      → Meet plan v guests hosts (marked guest_ends done (marked (guest_is Closing) (o ∷ []) (marked (guest_is Opened) left (guest_before plan phase)))) (marked host_ends done (marked (host_is Closing) (o ∷ []) (marked (host_is Opened) left (host_before plan phase))))
       → Talk plan logs (a_guest plan logs (Some (PhaseEnd phase)) (Torn place) (Some v) guests) (a_host plan logs (Some (PhaseEnd phase)) (Teardown place) (Some v) hosts (live_ones (handles (o ∷ left)))) (teardown o ∷ []) []
   torn : (v : Version) (guests : List Channel) (hosts : List ChanState) (phase place : ℕ) (done : List Opening) (o : Opening) (left : List Opening)
-      → At plan phase place done o left → Meet plan v guests hosts (marked (guest_is Closed) done (marked (guest_is Closing) (o ∷ []) (marked (guest_is Opened) left (guest_before plan phase)))) (marked (host_is Closed) (done ++ o ∷ []) (marked (host_is Opened) left (host_before plan phase)))
-      → Talk plan logs (a_guest plan logs (Some (PhaseEnd phase)) (Torn place) (Some v) guests) (a_host plan logs (Some (PhaseEnd phase)) (waits_close (place + 1) (opening_at plan phase (place + 1))) (Some v) hosts (live_ones (handles left))) [] (torndown o.gpadl ∷ [])
+      → At plan phase place done o left → o.rescinded ≡ false
+      → Meet plan v guests hosts (marked guest_ends done (marked (guest_is Closing) (o ∷ []) (marked (guest_is Opened) left (guest_before plan phase)))) (marked host_ends (done ++ o ∷ []) (host_next_stands left (host_before plan phase)))
+      → Talk plan logs (a_guest plan logs (Some (PhaseEnd phase)) (Torn place) (Some v) guests) (a_host plan logs (Some (PhaseEnd phase)) (host_next_awaits (place + 1) left) (Some v) hosts (live_ones (host_next_live left))) [] (torndown o.gpadl ∷ host_next_sends left)
+  -- a channel is rescinded, and given back; the guest goes on with the next one already
+  rescinds : (v : Version) (guests : List Channel) (hosts : List ChanState) (phase place : ℕ) (done : List Opening) (o : Opening) (left : List Opening)
+      → At plan phase place done o left → o.rescinded ≡ true
+      → Meet plan v guests hosts (marked guest_ends done (marked (guest_is Opened) (o ∷ left) (guest_before plan phase))) (marked host_ends done (marked (host_is IsRescinded) (o ∷ []) (marked (host_is Opened) left (host_before plan phase))))
+      → Talk plan logs (a_guest plan logs (Some (PhaseEnd phase)) (Rescinded place) (Some v) guests) (a_host plan logs (Some (PhaseEnd phase)) (Release place) (Some v) hosts (live_ones (handles left))) [] (rescind o.relid ∷ [])
+  releases : (v : Version) (guests : List Channel) (hosts : List ChanState) (phase place : ℕ) (done : List Opening) (o : Opening) (left : List Opening)
+      → At plan phase place done o left → o.rescinded ≡ true
+      → Meet plan v guests hosts (marked guest_ends (done ++ o ∷ []) (guest_next_stands left (guest_before plan phase))) (marked host_ends done (marked (host_is IsRescinded) (o ∷ []) (marked (host_is Opened) left (host_before plan phase))))
+      → Talk plan logs (a_guest plan logs (Some (PhaseEnd phase)) (guest_next_awaits (place + 1) left) (Some v) guests) (a_host plan logs (Some (PhaseEnd phase)) (Release place) (Some v) hosts (live_ones (handles left))) (release o.relid ∷ guest_next_sends left) []
+  -- all channels of the phase are done with
   ended : (v : Version) (guests : List Channel) (hosts : List ChanState) (phase : ℕ) → phase < length plan.phases → Meet plan v guests hosts (guest_before plan (suc phase)) (host_before plan (suc phase))
       → Talk plan logs (a_guest plan logs (Some (PhaseEnd phase)) Nothing (Some v) guests) (a_host plan logs (Some (PhaseEnd phase)) HostNothing (Some v) hosts (live_ones [])) [] []
   -- the farewell is said, and answered; the talk is over

@@ -1,7 +1,7 @@
 //! Laws of the talk between a guest's control and its host's. The functions do nothing: each one's
 //! contract is the law.
-ghost use Rattle.control_run.specs.Laws.{NewOnesAgree, BothBegin, HostGoesOn, GuestGoesOn, BothDone, FewOnTheirWay, EndsWell, EndTellsEach, EndsAtLower};
-ghost use Rattle.control_run.specs.Rows.{GuestSays, HostSays, GuestSaysNone, HostSaysNone};
+ghost use Rattle.control_run.specs.Laws.{NewOnesAgree, BothBegin, HostGoesOn, GuestGoesOn, BothDone, FewOnTheirWay, EndsWell, EndTellsEach, RescindedAreReleased, RescindedOnce, EndsAtLower};
+ghost use Rattle.control_run.specs.Rows.{GuestSays, HostSays, GuestSaysNone, HostSaysNone, GuestGivesFirst, HostTakesFirst, GuestGivesSecond, HostTakesSecond, EndStates};
 
 /// A guest and a host that were made from one plan agree.
 pub fn new_ones_agree()
@@ -38,10 +38,21 @@ pub fn ends_well()
     ensures { EndsWell }
 {}
 
-/// At the end there is a channel for each device, and each one that was ever opened is closed at
-/// both sides, and each other one is offered.
+/// At the end there is a channel for each device, and it stands alike at both sides: one that was
+/// rescinded is given back, each other one that was ever opened is closed, and each one that wasn't
+/// is offered.
 pub fn end_tells_each()
     ensures { EndTellsEach }
+{}
+
+/// A channel that a phase rescinds is given back at both sides at the end.
+pub fn rescinded_are_released()
+    ensures { RescindedAreReleased }
+{}
+
+/// The host takes a channel that a phase rescinds back once, and the guest gives it back once.
+pub fn rescinded_once()
+    ensures { RescindedOnce }
 {}
 
 /// The version at the end is the lower one of both ends' highest.
@@ -49,11 +60,17 @@ pub fn ends_at_lower()
     ensures { EndsAtLower }
 {}
 
-/// What both say over a small plan: versions, the offers, a channel that is opened and closed, and a
-/// farewell, which isn't said below 3.0.
+/// What both say over small plans: versions, the offers, a channel that is opened and closed, and a
+/// farewell, which isn't said below 3.0; and of two channels, one that is rescinded and one that is
+/// closed at the end of a phase, in both orders, and how they stand then.
 pub fn say_so()
     ensures guest { GuestSays }
     ensures host { HostSays }
     ensures guest_old { GuestSaysNone }
     ensures host_old { HostSaysNone }
+    ensures guest_first { GuestGivesFirst }
+    ensures host_first { HostTakesFirst }
+    ensures guest_second { GuestGivesSecond }
+    ensures host_second { HostTakesSecond }
+    ensures states { EndStates }
 {}

@@ -91,8 +91,9 @@ impl ControlPath {
     }
 
     /// Both controls, once they are done with the farewell: they have one version, the greatest that
-    /// both know; each said all that it has to say for its plan, and was fed what the other said; and
-    /// each channel that was ever opened is closed at both, and each other one is offered.
+    /// both know; each said all that it has to say for its plan, and was fed what the other said; and at
+    /// both each channel that was rescinded is given back, each other one that was ever opened is
+    /// closed, and each one that wasn't is offered.
     pub fn end(self) -> (GuestControl, HostControl)
         requires rests { Rests self }
         requires last { self.guest.part ≡ Some Unload }

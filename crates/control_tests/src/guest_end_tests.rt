@@ -17,6 +17,13 @@ use vmbus_msg::Msg;
 const SCRIPT: &[u8] =
     b"contact 5.1 4.0\noffer hb a\noffer shutdown b\nring b 16\nbeat a 1\nclose a\ndown b 0\nphase\ndown b 0\n";
 
+// Two disks, of which the first one, or the second one, is rescinded, and the other one closed.
+const FIRST_RESCINDED: &[u8] =
+    b"contact 5.2 5.2\noffer disk a 64 0\noffer disk b 64 0\nrescind a after 0\nready b\n";
+
+const SECOND_RESCINDED: &[u8] =
+    b"contact 5.2 5.2\noffer disk a 64 0\noffer disk b 64 0\nready a\nrescind b after 0\n";
+
 // What the tests tell messages by: the type, and then relid or version, handle, and the ring to the
 // guest or the number of frames.
 type Told = (u32, u32, u32, u32);
@@ -195,9 +202,9 @@ fn take(rt: &(impl Abort + AllocGlobal), guest: &mut GuestControl, step: Step, s
     }
 }
 
-// A guest of the script takes these steps in turn; each sends the messages beside it.
-fn take_all(rt: &(impl Abort + AllocGlobal), steps: &[(Step, &[Told])]) {
-    let mut guest = guest_of(rt, SCRIPT);
+// A guest of a script takes these steps in turn; each sends the messages beside it.
+fn take_all(rt: &(impl Abort + AllocGlobal), script: &[u8], steps: &[(Step, &[Told])]) {
+    let mut guest = guest_of(rt, script);
     check(
         rt,
         guest.part().is_none() && guest.version().is_none() && !guest.done(),
@@ -407,12 +414,152 @@ const REFUSALS: [(Step, &[Told]); 22] = [
     (Step::Taken(10), &[]),
 ];
 
+// The guest waits for the first channel to be rescinded, gives it back, and closes the second one.
+const RESCIND_FIRST: [(Step, &[Told]); 18] = [
+    (Step::Begin(Part::Contact), &[(14, 0x5_0002, 0, 0)]),
+    (Step::Feed(Said::Response { supported: 1 }), &[(3, 0, 0, 0)]),
+    (
+        Step::Feed(Said::Offer {
+            kind: Kind::Disk,
+            relid: 1,
+            sub: 0,
+        }),
+        &[],
+    ),
+    (
+        Step::Feed(Said::Offer {
+            kind: Kind::Disk,
+            relid: 2,
+            sub: 0,
+        }),
+        &[],
+    ),
+    (Step::Feed(Said::Delivered), &[]),
+    (Step::Begin(Part::PhaseStart(0)), &[(8, 1, GPADL, 4)]),
+    (
+        Step::Feed(Said::Created {
+            relid: 1,
+            gpadl: GPADL,
+        }),
+        &[(5, 1, GPADL, 2)],
+    ),
+    (
+        Step::Feed(Said::Opened {
+            relid: 1,
+            status: 0,
+        }),
+        &[(8, 2, GPADL + 1, 4)],
+    ),
+    (
+        Step::Feed(Said::Created {
+            relid: 2,
+            gpadl: GPADL + 1,
+        }),
+        &[(5, 2, GPADL + 1, 2)],
+    ),
+    (
+        Step::Feed(Said::Opened {
+            relid: 2,
+            status: 0,
+        }),
+        &[],
+    ),
+    (Step::Begin(Part::PhaseEnd(0)), &[]),
+    (Step::IsDone(false), &[]),
+    (
+        Step::Feed(Said::Rescind { relid: 1 }),
+        &[(13, 1, 0, 0), (7, 2, 0, 0), (11, 2, GPADL + 1, 0)],
+    ),
+    (Step::IsAt(1, Some(State::Released)), &[]),
+    (Step::Feed(Said::Torndown { gpadl: GPADL + 1 }), &[]),
+    (Step::IsAt(2, Some(State::Closed)), &[]),
+    (Step::IsDone(true), &[]),
+    (
+        Step::Refuse(
+            Said::Rescind { relid: 1 },
+            ControlFault::State(StateFault {
+                state: State::Released,
+                event: Event::RescindSeen,
+            }),
+        ),
+        &[],
+    ),
+];
+
+// The guest closes the first channel, waits for the second one to be rescinded, and gives it back.
+const RESCIND_SECOND: [(Step, &[Told]); 17] = [
+    (Step::Begin(Part::Contact), &[(14, 0x5_0002, 0, 0)]),
+    (Step::Feed(Said::Response { supported: 1 }), &[(3, 0, 0, 0)]),
+    (
+        Step::Feed(Said::Offer {
+            kind: Kind::Disk,
+            relid: 1,
+            sub: 0,
+        }),
+        &[],
+    ),
+    (
+        Step::Feed(Said::Offer {
+            kind: Kind::Disk,
+            relid: 2,
+            sub: 0,
+        }),
+        &[],
+    ),
+    (Step::Feed(Said::Delivered), &[]),
+    (Step::Begin(Part::PhaseStart(0)), &[(8, 1, GPADL, 4)]),
+    (
+        Step::Feed(Said::Created {
+            relid: 1,
+            gpadl: GPADL,
+        }),
+        &[(5, 1, GPADL, 2)],
+    ),
+    (
+        Step::Feed(Said::Opened {
+            relid: 1,
+            status: 0,
+        }),
+        &[(8, 2, GPADL + 1, 4)],
+    ),
+    (
+        Step::Feed(Said::Created {
+            relid: 2,
+            gpadl: GPADL + 1,
+        }),
+        &[(5, 2, GPADL + 1, 2)],
+    ),
+    (
+        Step::Feed(Said::Opened {
+            relid: 2,
+            status: 0,
+        }),
+        &[],
+    ),
+    (
+        Step::Begin(Part::PhaseEnd(0)),
+        &[(7, 1, 0, 0), (11, 1, GPADL, 0)],
+    ),
+    (Step::Feed(Said::Torndown { gpadl: GPADL }), &[]),
+    (Step::IsDone(false), &[]),
+    (Step::Feed(Said::Rescind { relid: 2 }), &[(13, 2, 0, 0)]),
+    (Step::IsAt(1, Some(State::Closed)), &[]),
+    (Step::IsAt(2, Some(State::Released)), &[]),
+    (Step::IsDone(true), &[]),
+];
+
 #[test]
 fn whole_stay(rt: HostRuntime) {
-    take_all(&rt, &STAY);
+    take_all(&rt, SCRIPT, &STAY);
 }
 
 #[test]
 fn refusals(rt: HostRuntime) {
-    take_all(&rt, &REFUSALS);
+    take_all(&rt, SCRIPT, &REFUSALS);
+}
+
+#[test]
+fn rescinded_and_closed(rt: HostRuntime) {
+    take_all(&rt, FIRST_RESCINDED, &RESCIND_FIRST);
+    take_all(&rt, SECOND_RESCINDED, &RESCIND_SECOND);
 }

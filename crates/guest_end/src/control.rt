@@ -21,8 +21,8 @@ use std::alloc::{AllocError, Global};
 use std::marker::Model;
 use vmbus_msg::Msg;
 
-/// The control of a guest: it agrees with its host on a version, takes the offers, opens and closes
-/// channels phase by phase, and says farewell.
+/// The control of a guest: it agrees with its host on a version, takes the offers, opens channels,
+/// and closes them or gives them back, phase by phase, and says farewell.
 ///
 /// Contracts see which part of that is under way, what it waits for, its channels, and all messages
 /// that it posted and was fed.
@@ -87,6 +87,8 @@ impl GuestControl {
     /// that no channel has as `Relid`; an offer of an unknown class as `Offer`; a GPADL_TORNDOWN
     /// with a handle of which no channel set up the list as `Gpadl`; one for which the channel's life
     /// has no place as `State`; `Memory` comes after these. A refusal changes nothing.
+    ///
+    /// A RESCIND_CHANNELOFFER is answered at once, by RELID_RELEASED, whenever it comes.
     ///
     /// A message that is not the next one, and does nothing to a channel, is kept in `fed` alone.
     pub fn feed(&mut self, m: &Msg, post: &mut MailBox) -> Result<(), ControlFault>

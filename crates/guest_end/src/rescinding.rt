@@ -1,15 +1,16 @@
 //! The host takes an offer back.
 ghost use Rattle.std.specs.Prelude.{◌≡◌, IfOk};
 ghost use Rattle.control_model.specs.Channels.{by_relid, lived};
-ghost use Rattle.control_model.specs.Guest.{IsFit, hears_rescind, releases};
+ghost use Rattle.control_model.specs.Guest.{IsFit, hears_rescind, releases, rescinded_while};
 
 use crate::GuestControl;
 use crate::turns::lived;
 use chan_state::Event;
-use control_model::{Burst, Change, Channel, ControlFault, GuestTurn, release};
+use control_model::{Burst, Change, Channel, ControlFault, GuestTurn, GuestWait, release};
 
 impl GuestControl {
-    // RESCIND_CHANNELOFFER: the guest gives the channel back.
+    // RESCIND_CHANNELOFFER: the guest gives the channel back. Where it waited for that, it goes on with
+    // the next opening.
     pub(crate) fn hears_rescind(&self, relid: u32) -> Result<GuestTurn, ControlFault>
         ensures turn { result ≡ hears_rescind self.now relid (by_relid self.now.channels relid) }
         ensures fits { IfOk result (λ turn. IsFit self.now turn) }
@@ -18,7 +19,11 @@ impl GuestControl {
             return Err(ControlFault::Relid { value: relid });
         };
         let seen = lived(channel, Event::RescindSeen)?;
-        Ok(self.released(relid, seen))
+        let turn = self.released(relid, seen);
+        match self.awaits {
+            GuestWait::Rescinded(place) => Ok(self.ended(turn, place, relid)),
+            _ => Ok(turn),
+        }
     }
 
     // The channel is given back, at once.
@@ -26,20 +31,19 @@ impl GuestControl {
         ensures turn { result ≡ releases self.now relid seen (lived seen Event.WantRelease) }
         ensures fits { IsFit self.now result }
     {
-        let turn = GuestTurn {
-            heard: Change::Now {
-                relid,
-                channel: seen,
-            },
-            ..self.idle()
-        };
         match lived(seen, Event::WantRelease) {
             Ok(channel) => GuestTurn {
-                wished: Change::Now { relid, channel },
+                heard: Change::Now { relid, channel },
                 burst: Burst::One(release(relid)),
-                ..turn
+                ..self.idle()
             },
-            Err(_) => turn,
+            Err(_) => GuestTurn {
+                heard: Change::Now {
+                    relid,
+                    channel: seen,
+                },
+                ..self.idle()
+            },
         }
     }
 }

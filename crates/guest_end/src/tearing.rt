@@ -1,8 +1,8 @@
-//! A channel is closed, and its page list let go.
+//! A channel is closed, and its page list let go; and what comes after a channel that is done with.
 ghost use Rattle.std.specs.Prelude.{◌≡◌, slice_get, IfOk};
 ghost use Rattle.control_model.specs.Plan.{opening_in};
 ghost use Rattle.control_model.specs.Channels.{by_relid, lived, place_of_list};
-ghost use Rattle.control_model.specs.Guest.{IsFit, closes, closes_next, hears_torndown, torn_at, torn_for, torn_while};
+ghost use Rattle.control_model.specs.Guest.{IsFit, and_close, closes, closes_next, hears_torndown, torn_at, ended_for, torn_while};
 
 use crate::GuestControl;
 use crate::turns::lived;
@@ -13,13 +13,18 @@ use gpadl::GpadlFault;
 use vmbus_msg::Msg;
 
 impl GuestControl {
-    // Goes on with the opening at a place, if there is one: its channel is closed.
+    // Goes on with the opening at a place, if there is one: its channel is closed, or waits for the
+    // host to rescind it.
     pub(crate) fn close_next(&self, turn: GuestTurn, part: Option<Part>, place: usize) -> GuestTurn
         requires { IsFit self.now turn }
         ensures turn { result ≡ closes_next turn self.now.channels place (opening_in self.now.plan part place) }
         ensures fits { IsFit self.now result }
     {
         match self.plan.opening(part, place) {
+            Some(o) if o.rescinded => GuestTurn {
+                awaits: GuestWait::Rescinded(place),
+                ..turn
+            },
             Some(o) => self.close(
                 GuestTurn {
                     awaits: GuestWait::Torn(place),
@@ -49,13 +54,7 @@ impl GuestControl {
                     relid: o.relid,
                     channel,
                 },
-                burst: Burst::Two(
-                    Msg::CloseChannel {
-                        padding: 0,
-                        relid: o.relid,
-                    },
-                    teardown(o),
-                ),
+                burst: and_close(&turn.burst, o),
                 ..turn
             },
             Err(_) => turn,
@@ -89,15 +88,16 @@ impl GuestControl {
             ..self.idle()
         };
         match self.awaits {
-            GuestWait::Torn(place) => Ok(self.torn(turn, place, relid)),
+            GuestWait::Torn(place) => Ok(self.ended(turn, place, relid)),
             _ => Ok(turn),
         }
     }
 
-    // The same, while an opening waits for it.
-    fn torn(&self, turn: GuestTurn, place: usize, relid: u32) -> GuestTurn
+    // The channel of the opening at a place is done with, where it is this one, and the guest goes on
+    // with the next opening.
+    pub(crate) fn ended(&self, turn: GuestTurn, place: usize, relid: u32) -> GuestTurn
         requires { IsFit self.now turn }
-        ensures turn { result ≡ torn_for self.now turn place relid (opening_in self.now.plan self.now.part place) }
+        ensures turn { result ≡ ended_for self.now turn place relid (opening_in self.now.plan self.now.part place) }
         ensures fits { IsFit self.now result }
     {
         match self.plan.opening(self.part, place) {
@@ -111,5 +111,19 @@ impl GuestControl {
         ensures { result ≡ place_of_list self.now.channels gpadl }
     {
         self.channels.iter().position(|c| c.gpadl == Some(gpadl))
+    }
+}
+
+// CLOSECHANNEL and GPADL_TEARDOWN, behind the one message, if any, that is sent before them.
+fn and_close(before: &Burst, o: &Opening) -> Burst
+    ensures { result ≡ and_close before.now o.now }
+{
+    let close = Msg::CloseChannel {
+        padding: 0,
+        relid: o.relid,
+    };
+    match before {
+        Burst::One(m) => Burst::Three(*m, close, teardown(o)),
+        _ => Burst::Two(close, teardown(o)),
     }
 }

@@ -1,17 +1,17 @@
 -- A page list that is whole once a piece of it came.
-use Rattle.std.proofs.Common.{◌≡◌, ◌∙◌, ◌==◌, ◌++◌, ◌<◌, ℕ, List, [], ◌∷◌, length, Option, Some, None, Result, Ok, true, Bool, refl, sym, ap, subst}
+use Rattle.std.proofs.Common.{◌≡◌, ◌∙◌, ◌==◌, ◌++◌, ℕ, [], ◌∷◌, length, Option, Some, None, Ok, true, refl, sym, ap}
 use Rattle.vmbus_msg.specs.declared.msg.Msg.{Msg}
 use Rattle.mail_box.specs.Mail.{Mail}
-use Rattle.gpadl.specs.Assembly.{Assembly, Partial, Took as Taken, Comes as ComesTo, built, fault_of}
+use Rattle.gpadl.specs.Assembly.{Assembly, Partial, Took as Taken, built, fault_of}
 use Rattle.gpadl.specs.Whole.{next}
 use Rattle.gpadl.specs.declared.progress.Progress.{Progress}
 use Rattle.gpadl.specs.declared.progress.Progress.TheVariants.{More, Done}
 use Rattle.control_model.specs.declared.host_wait.HostWait.{HostWait}
 use Rattle.control_model.specs.declared.burst.Burst.TheVariants.{One}
 use Rattle.control_model.specs.Messages.{created}
-use Rattle.control_model.specs.Host.{HostSeen, HostTurn, at_rest, listed, lists_by, hears_piece}
+use Rattle.control_model.specs.Host.{HostSeen, at_rest, listed, lists_by, hears_piece}
 use Rattle.std.proofs.lemmas.Bool.{eq-eqb}
-use Rattle.host_end.specs.Feeding.{Comes, Took, list_made, with_mail}
+use Rattle.host_end.specs.Feeding.{Comes, list_made, with_mail}
 
 -- what comes of the piece that makes a list whole
 pub record Makes (h : HostSeen) (lists : Assembly) (building : Option Partial) (relid handle : ℕ) : Type 0 where

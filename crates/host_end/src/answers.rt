@@ -1,12 +1,12 @@
 //! What a host answers.
 ghost use Rattle.std.specs.Prelude.{◌≡◌};
-ghost use Rattle.control_model.specs.Messages.{respond, created, opened, torndown};
-ghost use Rattle.control_model.specs.Host.{opened_burst, is_rescinded};
+ghost use Rattle.control_model.specs.Messages.{Fits, respond, created, opened, torndown, rescind};
+ghost use Rattle.control_model.specs.Host.{opened_burst, torn_answer, and_rescind, is_rescinded};
 ghost use Rattle.control_model.specs.Guest.{can_unload};
 
 use chan_state::{Action, ChanState, State};
 use contact::Version;
-use control_model::Burst;
+use control_model::{Burst, Rescind};
 use vmbus_msg::Msg;
 
 // The first version whose guests unload: 3.0.
@@ -48,10 +48,44 @@ pub(crate) fn created(relid: u32, gpadl: u32) -> Msg
 }
 
 // GPADL_TORNDOWN: the page list was let go.
-pub(crate) fn torndown(gpadl: u32) -> Msg
+fn torndown(gpadl: u32) -> Msg
     ensures { result ≡ torndown gpadl }
 {
     Msg::GpadlTorndown { padding: 0, gpadl }
+}
+
+// GPADL_TORNDOWN, where the table of a channel's life says so.
+pub(crate) fn torn_answer(gpadl: u32, action: Action) -> Option<Msg>
+    ensures { result ≡ torn_answer gpadl action }
+{
+    match action {
+        Action::SendTorndown => Some(torndown(gpadl)),
+        _ => None,
+    }
+}
+
+// RESCIND_CHANNELOFFER: a channel is taken back.
+fn rescind(relid: u32) -> Msg
+    ensures { result ≡ rescind relid }
+{
+    Msg::RescindChannelOffer { padding: 0, relid }
+}
+
+// The answer, if there is one, and RESCIND_CHANNELOFFER behind it where a channel is rescinded.
+pub(crate) fn and_rescind(answer: Option<Msg>, rescinds: Option<Rescind>) -> Burst
+    ensures burst { result ≡ and_rescind answer rescinds }
+    ensures fits { Fits result }
+{
+    match answer {
+        None => match rescinds {
+            None => Burst::Empty,
+            Some(r) => Burst::One(rescind(r.relid)),
+        },
+        Some(m) => match rescinds {
+            None => Burst::One(m),
+            Some(r) => Burst::Two(m, rescind(r.relid)),
+        },
+    }
 }
 
 // OPENCHANNEL_RESULT with status 0, where the table of a channel's life says so.

@@ -6,6 +6,8 @@ ghost use Rattle.host_end.specs.Feeding.{Comes};
 ghost use Rattle.control_model.specs.Channels.{by_relid};
 ghost use Rattle.control_model.specs.Plan.{part_after};
 
+use crate::answers::and_rescind;
+use crate::ending::{end_list, put_rescinded};
 use bus_script::Script;
 use chan_state::{ChanState, State};
 use contact::{Part, Version};
@@ -16,7 +18,8 @@ use std::alloc::{AllocError, Global};
 use std::marker::Model;
 use vmbus_msg::Msg;
 
-/// The host's end of the control path: it answers a guest's control messages.
+/// The host's end of the control path: it answers a guest's control messages, and takes channels
+/// back that are rescinded.
 ///
 /// Contracts see the plan that it goes by, the part under way and what it waits for in it, the
 /// agreed version, its channels and page lists, and all messages that it posted and was fed.
@@ -24,7 +27,7 @@ use vmbus_msg::Msg;
 pub struct HostControl {
     pub(crate) alloc: Global,
     pub(crate) plan: Plan,
-    part: Option<Part>,
+    pub(crate) part: Option<Part>,
     pub(crate) awaits: HostWait,
     pub(crate) version: Option<Version>,
     pub(crate) channels: Vec<ChanState>,
@@ -117,16 +120,21 @@ impl HostControl {
         self.channels.get(relid as usize - 1).copied()
     }
 
-    /// Begins a part, which is the next one. The host sends nothing unasked.
-    pub fn begin(&mut self, part: Part, _post: &mut MailBox) -> Result<(), AllocError>
+    /// Begins a part, which is the next one. The host sends nothing unasked, but for a
+    /// RESCIND_CHANNELOFFER where the first channel of a phase that ends is to be rescinded. `post` is
+    /// empty. Nothing is changed where memory is wanting.
+    pub fn begin(&mut self, part: Part, post: &mut MailBox) -> Result<(), AllocError>
         requires part { part_after self.old.plan self.old.part ≡ Some part }
         requires ready { IsTrue (host_can_begin self.old) }
-        requires post { _post.old ≡ record { size = 64; queue = [] } }
-        ensures begun { OnOk result (HostBegins self.old part self.new) }
-        ensures refused { OnErr result (self.new ≡ self.old) }
-        ensures post { _post.new ≡ _post.old }
+        requires post { post.old ≡ record { size = 64; queue = [] } }
+        ensures begun { OnOk result (HostBegins self.old part post.new.queue self.new × (post.new.size ≡ 64)) }
+        ensures refused { OnErr result ((self.new ≡ self.old) × (post.new ≡ post.old)) }
     {
-        self.awaits = self.first_wait(part);
+        let next = self.first_next(part);
+        self.post(None, &and_rescind(None, next.rescinds), post)?;
+        self.awaits = next.awaits;
+        put_rescinded(&mut self.channels, next.rescinds);
+        end_list(&mut self.lists, next.rescinds);
         self.part = Some(part);
         Ok(())
     }

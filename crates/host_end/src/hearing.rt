@@ -3,15 +3,16 @@ ghost use Rattle.std.specs.Prelude.{◌≡◌, ◌+◌, ◌≤◌, length, map, 
 ghost use Rattle.control_model.specs.Channels.{by_relid, row_of};
 ghost use Rattle.chan_state.specs.declared.event.Event.TheVariants.{TeardownSeen};
 ghost use Rattle.control_model.specs.Plan.{opening_in};
-ghost use Rattle.control_model.specs.Host.{host_begins, hears_contact, hears_request, hears_open, hears_close, hears_teardown, teardown_by, hears_release, hears_unload, waits_list, waits_close, is_of, opened_then, closed_then, torn_then};
+ghost use Rattle.control_model.specs.Host.{hears_contact, hears_request, hears_open, hears_close, hears_teardown, teardown_by, hears_release, hears_unload, waits_list, is_of, opened_then, closed_then};
 ghost use Rattle.host_end.specs.Feeding.{Comes};
 ghost use Rattle.chan_state.specs.declared.state.State.TheVariants.{Offered as IsOffered};
 ghost use Rattle.io_edge.specs.declared.side.Side.TheVariants.{Host as HostSide};
 
 use crate::HostControl;
-use crate::answers::{can_unload, is_rescinded, opened_burst, respond, torndown};
-use crate::lists::let_go;
-use chan_state::{Action, ChanState, Event};
+use crate::answers::{and_rescind, is_rescinded, opened_burst, respond, torn_answer};
+use crate::ending::{end_list, put_rescinded};
+use crate::lists::tear_list;
+use chan_state::{ChanState, Event};
 use contact::{Kind, Part, Version, host_accepts};
 use control_model::{Burst, ControlFault, HostWait};
 use gpadl::GpadlFault;
@@ -21,40 +22,12 @@ use std::alloc::{AllocError, Global};
 use vmbus_msg::Msg;
 
 impl HostControl {
-    // What it waits for at the start of a part.
-    pub(crate) fn first_wait(&self, part: Part) -> HostWait
-        ensures { result ≡ (host_begins self.now part).awaits }
-    {
-        match part {
-            Part::Contact => HostWait::Contact,
-            Part::PhaseStart(_) => self.waits_list(Some(part), 0),
-            Part::PhaseEnd(_) => self.waits_close(Some(part), 0),
-            Part::Unload => {
-                if can_unload(self.version) {
-                    HostWait::Unload
-                } else {
-                    HostWait::Nothing
-                }
-            }
-        }
-    }
-
     // It waits for the page list of the opening at a place, if there is one.
-    fn waits_list(&self, part: Option<Part>, place: usize) -> HostWait
+    pub(crate) fn waits_list(&self, part: Option<Part>, place: usize) -> HostWait
         ensures { result ≡ waits_list place (opening_in self.now.plan part place) }
     {
         match self.plan.opening(part, place) {
             Some(_) => HostWait::List(place),
-            None => HostWait::Nothing,
-        }
-    }
-
-    // It waits for the channel of the opening at a place to be closed, if there is one.
-    fn waits_close(&self, part: Option<Part>, place: usize) -> HostWait
-        ensures { result ≡ waits_close place (opening_in self.now.plan part place) }
-    {
-        match self.plan.opening(part, place) {
-            Some(_) => HostWait::Close(place),
             None => HostWait::Nothing,
         }
     }
@@ -234,38 +207,21 @@ impl HostControl {
             Ok(action) => action,
             Err(fault) => return Err(ControlFault::State(fault)),
         };
-        let awaits = self.torn_then(relid);
-        match action {
-            Action::SendTorndown => {
-                self.send(m, &Burst::One(torndown(gpadl)), post)?;
-                let_go(&mut self.lists, gpadl);
-                self.awaits = awaits;
-                self.channels[relid as usize - 1] = now;
-                Ok(())
-            }
-            _ => {
-                self.send(m, &Burst::Empty, post)?;
-                self.awaits = awaits;
-                self.channels[relid as usize - 1] = now;
-                Ok(())
-            }
-        }
+        let next = self.torn_then(relid);
+        self.send(
+            m,
+            &and_rescind(torn_answer(gpadl, action), next.rescinds),
+            post,
+        )?;
+        tear_list(&mut self.lists, gpadl, action);
+        self.channels[relid as usize - 1] = now;
+        self.awaits = next.awaits;
+        put_rescinded(&mut self.channels, next.rescinds);
+        end_list(&mut self.lists, next.rescinds);
+        Ok(())
     }
 
-    // What it waits for once a page list was torn down.
-    fn torn_then(&self, relid: u32) -> HostWait
-        ensures { result ≡ torn_then self.now self.now.awaits relid }
-    {
-        match self.awaits {
-            HostWait::Teardown(place) => match self.plan.opening(self.part(), place) {
-                Some(o) if o.relid == relid => self.waits_close(self.part(), place + 1),
-                _ => HostWait::Teardown(place),
-            },
-            other => other,
-        }
-    }
-
-    // RELID_RELEASED goes by the table, and isn't answered.
+    // RELID_RELEASED goes by the table. The next channel may be one that is rescinded.
     pub(crate) fn hear_release(
         &mut self,
         m: &Msg,
@@ -282,8 +238,12 @@ impl HostControl {
             Ok(_) => {}
             Err(fault) => return Err(ControlFault::State(fault)),
         }
-        self.send(m, &Burst::Empty, post)?;
+        let next = self.released_then(relid);
+        self.send(m, &and_rescind(None, next.rescinds), post)?;
         self.channels[relid as usize - 1] = life;
+        self.awaits = next.awaits;
+        put_rescinded(&mut self.channels, next.rescinds);
+        end_list(&mut self.lists, next.rescinds);
         Ok(())
     }
 

@@ -6,6 +6,7 @@
 
 mod answers;
 mod control;
+mod ending;
 mod hearing;
 mod lists;
 mod posting;

@@ -1,13 +1,14 @@
 //! The page lists of a host.
 ghost use Rattle.std.specs.Prelude.{◌≡◌, ◌+◌, ◌≤◌, length, Some, None};
 ghost use Rattle.control_model.specs.Channels.{by_relid};
-ghost use Rattle.control_model.specs.Host.{hears_header, hears_piece, listed, without};
+ghost use Rattle.control_model.specs.Host.{hears_header, hears_piece, listed, lists_torn, without};
 ghost use Rattle.gpadl.specs.Assembly.{fault_of, IsPiece, Partial};
 ghost use Rattle.host_end.specs.Feeding.{Comes, list_made};
 
 use crate::HostControl;
 use crate::answers::created;
 use crate::posting::put;
+use chan_state::Action;
 use control_model::{ControlFault, HostWait};
 use gpadl::{Assembler, Progress};
 use mail_box::MailBox;
@@ -88,6 +89,16 @@ fn list_made(progress: &Progress) -> Option<(u32, u32)>
     match progress {
         Progress::More { .. } => None,
         Progress::Done(list) => Some((list.relid, list.handle)),
+    }
+}
+
+// Lets a list go where the table of a channel's life says that it is torn down.
+pub(crate) fn tear_list(lists: &mut Assembler, gpadl: u32, action: Action)
+    ensures { lists.new ≡ lists_torn lists.old gpadl action }
+{
+    match action {
+        Action::SendTorndown => let_go(lists, gpadl),
+        _ => (),
     }
 }
 

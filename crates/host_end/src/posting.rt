@@ -1,5 +1,6 @@
 //! What a host sends.
-ghost use Rattle.std.specs.Prelude.{◌≡◌, ◌+◌, ◌<◌, ◌≤◌, ◌++◌, ◌∷◌, [], length, vec_len, vec_capacity, OnOk, IfErr};
+ghost use Rattle.std.specs.Prelude.{◌≡◌, ◌+◌, ◌<◌, ◌≤◌, ◌++◌, ◌∷◌, [], length, vec_len, vec_capacity, OnOk, OnErr, IfErr};
+ghost use Rattle.std.specs.Option.{option_to_list};
 ghost use Rattle.control_model.specs.Messages.{Fits};
 ghost use Rattle.control_model.specs.declared.fault.ControlFault.TheVariants.{Memory};
 ghost use Rattle.host_end.specs.Feeding.{Posts, with_mail};
@@ -7,6 +8,7 @@ ghost use Rattle.host_end.specs.Feeding.{Posts, with_mail};
 use crate::HostControl;
 use control_model::{Burst, ControlFault, messages};
 use mail_box::MailBox;
+use std::alloc::AllocError;
 use vmbus_msg::Msg;
 
 impl HostControl {
@@ -22,16 +24,30 @@ impl HostControl {
         ensures posted { OnOk result (Posts self.old self.new burst.now (m.now ∷ []) post.old post.new) }
         ensures refused { IfErr result (λ fault. (fault ≡ Memory) × (self.new ≡ self.old) × (post.new ≡ post.old)) }
     {
-        let Ok(sent) = messages(self.alloc, &self.plan, burst) else {
-            return Err(ControlFault::Memory);
-        };
-        let Ok(()) = self.posted.reserve(sent.len()) else {
-            return Err(ControlFault::Memory);
-        };
-        let Ok(()) = self.fed.reserve(1) else {
-            return Err(ControlFault::Memory);
-        };
-        self.fed.push_reserved(*m);
+        match self.post(Some(*m), burst, post) {
+            Ok(()) => Ok(()),
+            Err(_) => Err(ControlFault::Memory),
+        }
+    }
+
+    // Posts messages, and keeps the one that was taken before, if one was.
+    pub(crate) fn post(
+        &mut self,
+        fed: Option<Msg>,
+        burst: &Burst,
+        post: &mut MailBox,
+    ) -> Result<(), AllocError>
+        requires fits { Fits burst.now }
+        requires room { length post.old.queue + 32 ≤ post.old.size }
+        ensures posted { OnOk result (Posts self.old self.new burst.now (option_to_list fed) post.old post.new) }
+        ensures refused { OnErr result ((self.new ≡ self.old) × (post.new ≡ post.old)) }
+    {
+        let sent = messages(self.alloc, &self.plan, burst)?;
+        self.posted.reserve(sent.len())?;
+        self.fed.reserve(1)?;
+        if let Some(m) = fed {
+            self.fed.push_reserved(m);
+        }
         put_all(&mut self.posted, &sent, post);
         Ok(())
     }

@@ -1,14 +1,25 @@
 use Rattle.std.proofs.Common.{◌∙◌, ◌∷◌, [], ◌+◌, List, map, ap, sym, subst, arith}
 use Rattle.std.proofs.lemmas.List.{map-append}
 use Rattle.control_model.specs.declared.opening.Opening.{Opening}
-use Rattle.control_model.proofs.PhaseLaws.{SoFar, phase_on}
+use Rattle.control_model.proofs.PhaseLaws.{SoFar, none_so_far, phase_on}
 use Rattle.control_model.proofs.planning.phases.Goals as goal
+
+pub loop-start-init : goal.loop-start-init
+loop-start-init c =
+    let len = c.new-phases.ensures.len in
+    record {
+      so_far = none_so_far c.args.lines.now c.args.devices.now (map (λ phase. phase.items) c.new-phases.result.items) (ap (map (λ phase. phase.items)) c.new-phases.ensures.items);
+      within = omega arith;
+      few = omega (arith, len);
+      gpadl = omega (arith, len);
+      page = omega (arith, len);
+    }
 
 pub loop-start-preserved : goal.loop-start-preserved
 loop-start-preserved c =
     let end = c.part_end-end.result in
     let on = phase_on c.args.lines.now c.args.devices.now c.loop-start.start end (map (λ phase. phase.items) c.loop-start.phases.items) c.loop-start.next c.openings.new.next c.in_ok-openings.openings.items
-    c.requires.table c.loop-start.invariant.so_far c.part_end-end.ensures.within.0 c.part_end-end.ensures.cut c.part_end-end.ensures.shut c.in_ok-openings.ensures.openings c.in_ok-openings.ensures.gpadl c.in_ok-openings.ensures.page in
+    c.requires.all c.requires.single c.requires.table c.loop-start.invariant.so_far c.part_end-end.ensures.within.0 c.part_end-end.ensures.cut c.part_end-end.ensures.end c.in_ok-openings.ensures.openings c.in_ok-openings.ensures.gpadl c.in_ok-openings.ensures.page in
     let pushed = ap (map (λ phase. phase.items)) c.in_ok-push.ensures.items ∙ map-append (λ phase. phase.items) c.loop-start.phases.items (c.in_ok-openings.openings ∷ []) in
     record {
       so_far = subst (λ (made : List (List Opening)). SoFar c.args.lines.now c.args.devices.now (end + 1) made c.openings.new.next) (sym pushed) on;

@@ -8,10 +8,10 @@ use Rattle.control_model.proofs.planning.table_of.Goals as goal
 pub loop-device-preserved : goal.loop-device-preserved
 loop-device-preserved c =
     let n = c.loop-device.device in
-    let one : (let s : Served = record { ring_pages = c.ring_pages.result; shut = c.first_shut.result } in s) ≡ served_of c.args.lines.now n =
-    (λ i. record { ring_pages = c.ring_pages.ensures i; shut = c.first_shut.ensures i }) in
+    let one : (let s : Served = record { ring_pages = c.ring_pages.result; end = c.first_end.result } in s) ≡ served_of c.args.lines.now n =
+    (λ i. record { ring_pages = c.ring_pages.ensures i; end = c.first_end.ensures i }) in
     record {
-      devices = c.push_reserved.ensures.items ∙ ap (λ (ds : List Served). ds ++ record { ring_pages = c.ring_pages.result; shut = c.first_shut.result } ∷ []) c.loop-device.invariant.devices
+      devices = c.push_reserved.ensures.items ∙ ap (λ (ds : List Served). ds ++ record { ring_pages = c.ring_pages.result; end = c.first_end.result } ∷ []) c.loop-device.invariant.devices
           ∙ ap (λ (d : Served). map (served_of c.args.lines.now) (range_with_len 0 n) ++ d ∷ []) one ∙ sym (map-range_with_len_more (served_of c.args.lines.now) 0 n n (omega arith));
       len = omega (arith, c.push_reserved.ensures.len, c.loop-device.invariant.len);
       capacity = omega (arith, c.push_reserved.ensures.capacity, c.loop-device.invariant.capacity);

@@ -12,3 +12,18 @@ returns-clause-guest_old c = refl
 
 pub returns-clause-host_old : goal.returns-clause-host_old
 returns-clause-host_old c = refl
+
+pub returns-clause-guest_first : goal.returns-clause-guest_first
+returns-clause-guest_first c = refl
+
+pub returns-clause-host_first : goal.returns-clause-host_first
+returns-clause-host_first c = refl
+
+pub returns-clause-guest_second : goal.returns-clause-guest_second
+returns-clause-guest_second c = refl
+
+pub returns-clause-host_second : goal.returns-clause-host_second
+returns-clause-host_second c = refl
+
+pub returns-clause-states : goal.returns-clause-states
+returns-clause-states c = (refl, refl, refl)

@@ -7,6 +7,7 @@ use Rattle.script_lines.specs.WellFormed.{IsScript}
 use Rattle.control_model.specs.Plan.{IsPlan}
 use Rattle.control_model.specs.Openings.{plan_of}
 use Rattle.control_model.specs.Dealing.{served_of}
+use Rattle.script_phases.proofs.NoSubs.{is_script_no_subs}
 use Rattle.control_model.proofs.ScriptLaws.{plan_is, plan_made, table_length, table_sizes}
 use Rattle.control_model.proofs.plan.Plan.of.Goals as goal
 
@@ -17,6 +18,16 @@ phases-requires-clause-few c =
     let kinds = ap length c.in_ok-kinds.ensures ∙ length-map (offered lines) kind_of in
     let same = ap (λ (ls : List Line). length (offered ls)) c.lines-lines.ensures.lines in
     omega (arith, n, c.lines-lines.ensures.script.few, same, kinds, c.len.ensures, c.in_ok-kinds.kinds.ok)
+
+pub phases-requires-clause-all : goal.phases-requires-clause-all
+phases-requires-clause-all c =
+    let lines = c.lines-lines.result.now in
+    let n = table_length lines c.as_slice.result.now c.len.result (c.as_slice.ensures.value ∙ c.in_ok-devices.ensures) in
+    let kinds = ap length c.in_ok-kinds.ensures ∙ length-map (offered lines) kind_of in
+    omega (arith, n, kinds, c.len.ensures, c.in_ok-kinds.kinds.ok)
+
+pub phases-requires-clause-single : goal.phases-requires-clause-single
+phases-requires-clause-single c = is_script_no_subs c.lines-lines.result.now (subst IsScript (sym c.lines-lines.ensures.lines) c.lines-lines.ensures.script)
 
 pub phases-requires-clause-sizes : goal.phases-requires-clause-sizes
 phases-requires-clause-sizes c =
@@ -33,7 +44,7 @@ invariant_of-result c =
     let lines = c.lines-lines.result.now in
     let count : c.len.result ≡ length c.in_ok-kinds.kinds.items = omega (arith, c.len.ensures, c.in_ok-kinds.kinds.ok) in
     let made = plan_made lines c.versions.result.0 c.versions.result.1 c.in_ok-kinds.kinds.items (map (λ phase. phase.items) c.in_ok-phases.phases.items) c.as_slice.result.now c.len.result
-    c.versions.ensures.guest c.versions.ensures.host c.in_ok-kinds.ensures c.in_ok-phases.ensures (c.as_slice.ensures.value ∙ c.in_ok-devices.ensures) count in
+    (subst IsScript (sym c.lines-lines.ensures.lines) c.lines-lines.ensures.script) c.versions.ensures.guest c.versions.ensures.host c.in_ok-kinds.ensures c.in_ok-phases.ensures (c.as_slice.ensures.value ∙ c.in_ok-devices.ensures) count in
     subst IsPlan (sym made) (plan_is lines (subst IsScript (sym c.lines-lines.ensures.lines) c.lines-lines.ensures.script))
 
 pub returns : goal.returns
@@ -41,5 +52,5 @@ returns c =
     let lines = c.lines-lines.result.now in
     let count : c.len.result ≡ length c.in_ok-kinds.kinds.items = omega (arith, c.len.ensures, c.in_ok-kinds.kinds.ok) in
     plan_made lines c.versions.result.0 c.versions.result.1 c.in_ok-kinds.kinds.items (map (λ phase. phase.items) c.in_ok-phases.phases.items) c.as_slice.result.now c.len.result
-    c.versions.ensures.guest c.versions.ensures.host c.in_ok-kinds.ensures c.in_ok-phases.ensures (c.as_slice.ensures.value ∙ c.in_ok-devices.ensures) count
+    (subst IsScript (sym c.lines-lines.ensures.lines) c.lines-lines.ensures.script) c.versions.ensures.guest c.versions.ensures.host c.in_ok-kinds.ensures c.in_ok-phases.ensures (c.as_slice.ensures.value ∙ c.in_ok-devices.ensures) count
     ∙ ap plan_of c.lines-lines.ensures.lines

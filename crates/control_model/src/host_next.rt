@@ -1,0 +1,23 @@
+//! What a host goes on with at the end of a phase.
+use crate::HostWait;
+use chan_state::ChanState;
+
+/// How a host goes on with the next opening of a phase that ends.
+#[derive(Clone, Copy)]
+pub struct HostNext {
+    /// What it waits for then.
+    pub awaits: HostWait,
+    /// The channel that it rescinds, if the next one is to be rescinded.
+    pub rescinds: Option<Rescind>,
+}
+
+/// A channel that a host rescinds.
+#[derive(Clone, Copy)]
+pub struct Rescind {
+    /// Its number.
+    pub relid: u32,
+    /// How it stands then.
+    pub life: ChanState,
+    /// The handle of its page list, which ends.
+    pub gpadl: u32,
+}

@@ -1,0 +1,215 @@
+-- At the end of a phase each side goes on with the opening at a place, if there is one.
+use Rattle.std.proofs.Common.{◌≡◌, ◌≢◌, ◌∙◌, ℕ, suc, ◌+◌, ◌-◌, ◌*◌, ◌<◌, ◌≤◌, ◌==◌, not, Bool, true, false, List, [], ◌∷◌, ◌++◌, filter, length, slice_get, slice_set, Option, Some, None, refl, sym, ap, subst, arith}
+use Rattle.std.specs.Option.{option_to_list}
+use Rattle.std.specs.List.{AllByRecursion}
+use Rattle.std.proofs.lemmas.List.{append-nil}
+use Rattle.contact.specs.declared.version.Version.{Version}
+use Rattle.contact.specs.declared.part.Part.{Part}
+use Rattle.contact.specs.declared.part.Part.TheVariants.{PhaseEnd}
+use Rattle.chan_state.specs.declared.state.State.TheVariants.{Opened, Closing, Rescinded as IsRescinded}
+use Rattle.chan_state.specs.declared.chan_state.ChanState.{ChanState}
+use Rattle.vmbus_msg.specs.declared.msg.Msg.{Msg}
+use Rattle.control_model.specs.declared.opening.Opening.{Opening}
+use Rattle.control_model.specs.declared.channel.Channel.{Channel}
+use Rattle.control_model.specs.declared.change.Change.{Change}
+use Rattle.control_model.specs.declared.change.Change.TheVariants.{Same}
+use Rattle.control_model.specs.declared.burst.Burst.{Burst}
+use Rattle.control_model.specs.declared.burst.Burst.TheVariants.{Empty, One}
+use Rattle.control_model.specs.declared.guest_wait.GuestWait.{GuestWait}
+use Rattle.control_model.specs.declared.guest_wait.GuestWait.TheVariants.{Torn}
+use Rattle.control_model.specs.declared.guest_turn.GuestTurn.{GuestTurn}
+use Rattle.control_model.specs.declared.host_wait.HostWait.{HostWait}
+use Rattle.control_model.specs.declared.host_wait.HostWait.TheVariants.{Release}
+use Rattle.control_model.specs.declared.host_next.HostNext.{HostNext}
+use Rattle.control_model.specs.declared.host_next.Rescind.{Rescind}
+use Rattle.control_model.specs.Plan.{BusPlan, opening_at, IsPlan, phase_of}
+use Rattle.control_model.specs.Channels.{by_relid, changed}
+use Rattle.control_model.specs.Messages.{close, teardown, rescind, Sends}
+use Rattle.control_model.specs.Guest.{GuestSeen, and_close, closes, ends_one, closes_next}
+use Rattle.control_model.specs.Host.{HostSeen, without, wants_rescind, one_next, next_end, rescinded_among, without_its, and_rescind}
+use Rattle.control_run.specs.Stand.{At, marked, guest_is, host_is, guest_ends, host_ends, guest_before, host_before, Stand, handles}
+use Rattle.control_run.specs.NextEnd.{guest_waits, guest_next_awaits, guest_marks, guest_next_stands, guest_sends, guest_next_sends, host_waits, host_next_awaits, host_marks, host_next_stands, host_lists, host_next_live, host_sends, host_next_sends}
+use Rattle.control_run.specs.Talk.{Logs, Talk, Meet, a_guest, a_host, live_ones}
+use Rattle.control_run.specs.Talk.Talk.{closes as IsClosing, rescinds as IsTakingBack, ended}
+use Rattle.control_run.specs.Laws.{openings_of, still_to_come}
+use Rattle.control_run.proofs.Marks.{same, differ, stand_mark, stand_at, marked_here, marked_there}
+use Rattle.control_run.proofs.Plans.{facts, done_more, place_more, opening_from}
+use Rattle.control_run.proofs.Handles.{all_front}
+use Rattle.control_run.proofs.Next.{turned}
+
+-- the next channel that is done with was open when the turn began
+abbrev pub NextIs : {X : Type 0} → (Opening → X) → List X → List Opening → Type 0
+NextIs so channels [] = Unit {0}
+NextIs so channels (o ∷ left) = by_relid channels o.relid ≡ Some (so o)
+
+pub next_is : {X : Type 0} (plan : BusPlan) (channels : List X) (phase place : ℕ) (a b c : Opening → X) (done : List Opening) (o : Opening) (left : List Opening) (base : ℕ → X) → IsPlan plan
+    → At plan phase place done o left → Stand channels plan (marked a done (marked b (o ∷ []) (marked c left base))) → NextIs c channels left
+next_is plan channels phase place a b c done o [] base planned at stand = tt
+next_is plan channels phase place a b c done o (p ∷ left) base planned at stand =
+    let there : At plan phase (place + 1) (done ++ o ∷ []) p left = record { in_plan = at.in_plan; phase_is = done_more plan phase place done o (p ∷ left) at; place_is = place_more plan phase place done o (p ∷ left) at } in
+    let fact = facts plan phase (place + 1) (done ++ o ∷ []) p left planned there in
+    let apart = all_front (λ q. q.relid ≢ p.relid) done (o ∷ []) fact.done_apart in
+    stand_at channels plan a done p (marked b (o ∷ []) (marked c (p ∷ left) base)) (c p) stand fact.fits.named fact.known apart.0
+    (marked_there b o [] (marked c (p ∷ left) base) p.relid (λ e. apart.1.0 (sym e)) ∙ marked_here c p left base)
+
+-- a guest's turn before it goes on, in which it answers
+abbrev pub answer_of : Option Msg → Burst
+answer_of None = Empty
+answer_of (Some m) = One m
+
+abbrev pub heard_with : GuestWait → Version → Change → Option Msg → GuestTurn
+heard_with awaits v heard first = record { awaits = awaits; version = Some v; heard = heard; wished = Same; burst = answer_of first }
+
+-- how a guest stands after a turn
+pub record GuestEnds (plan : BusPlan) (v : Version) (guests : List Channel) (turn : GuestTurn) (waits : GuestWait) (stands : ℕ → Channel) (says : List Msg) : Type 0 where
+  pub awaits : turn.awaits ≡ waits
+  pub version : turn.version ≡ Some v
+  pub guest : Stand (changed (changed guests turn.heard) turn.wished) plan stands
+  pub said : (sent : List Msg) → Sends plan turn.burst sent → sent ≡ says
+
+answers : (plan : BusPlan) (first : Option Msg) (sent : List Msg) → Sends plan (answer_of first) sent → sent ≡ option_to_list first ++ []
+answers plan None sent e = e
+answers plan (Some m) sent e = e
+
+answers_close : (plan : BusPlan) (first : Option Msg) (o : Opening) (sent : List Msg) → Sends plan (and_close (answer_of first) o) sent → sent ≡ option_to_list first ++ (close o.relid ∷ teardown o ∷ [])
+answers_close plan None o sent e = e
+answers_close plan (Some m) o sent e = e
+
+guest_one : (plan : BusPlan) (v : Version) (guests : List Channel) (phase place : ℕ) (done : List Opening) (o : Opening) (left : List Opening) (awaits : GuestWait) (heard : Change) (first : Option Msg) (b : Bool) → IsPlan plan → At plan phase place done o left
+    → Stand (changed guests heard) plan (marked guest_ends done (marked (guest_is Opened) (o ∷ left) (guest_before plan phase))) → by_relid guests o.relid ≡ Some (guest_is Opened o)
+    → GuestEnds plan v guests (ends_one (heard_with awaits v heard first) guests place o b) (guest_waits place b) (marked guest_ends done (guest_marks o left (guest_before plan phase) b)) (option_to_list first ++ guest_sends o b)
+guest_one plan v guests phase place done o left awaits heard first true planned at stand next = record { awaits = refl; version = refl; guest = stand; said = answers plan first }
+guest_one plan v guests phase place done o left awaits heard first false planned at stand next =
+    let fact = facts plan phase place done o left planned at in
+    let before : ℕ → Channel = guest_before plan phase in
+    let turn : Option Channel → GuestTurn = λ c. closes (record (heard_with awaits v heard first) { awaits = Torn place }) o c in
+    let marks : ℕ → Channel = marked guest_ends done (marked (guest_is Closing) (o ∷ []) (marked (guest_is Opened) left before)) in
+    let there : Stand (slice_set (changed guests heard) (o.relid - 1) (guest_is Closing o)) plan marks =
+    stand_mark (changed guests heard) plan guest_ends (guest_is Closing) done o (marked (guest_is Opened) (o ∷ left) before) (marked (guest_is Opened) left before) stand fact.fits.named fact.known fact.done_apart
+    (λ q off. sym (marked_there (guest_is Opened) o left before q off)) in
+    subst (λ c. GuestEnds plan v guests (turn c) (Torn place) marks (option_to_list first ++ (close o.relid ∷ teardown o ∷ []))) (sym next)
+    (record { awaits = refl; version = refl; guest = there; said = answers_close plan first o })
+
+guest_from_left : (plan : BusPlan) (v : Version) (guests : List Channel) (phase place : ℕ) (done left : List Opening) (awaits : GuestWait) (heard : Change) (first : Option Msg) → IsPlan plan → phase < length plan.phases → phase_of plan phase ≡ done ++ left → place ≡ length done
+    → Stand (changed guests heard) plan (marked guest_ends done (marked (guest_is Opened) left (guest_before plan phase))) → NextIs (guest_is Opened) guests left
+    → GuestEnds plan v guests (closes_next (heard_with awaits v heard first) guests place (slice_get left 0)) (guest_next_awaits place left) (marked guest_ends done (guest_next_stands left (guest_before plan phase))) (option_to_list first ++ guest_next_sends left)
+guest_from_left plan v guests phase place done [] awaits heard first planned in_plan is at stand next = record { awaits = refl; version = refl; guest = stand; said = answers plan first }
+guest_from_left plan v guests phase place done (o ∷ left) awaits heard first planned in_plan is at stand next =
+    guest_one plan v guests phase place done o left awaits heard first o.rescinded planned (record { in_plan = in_plan; phase_is = is; place_is = at }) stand next
+
+-- a guest goes on
+pub guest_goes : (plan : BusPlan) (v : Version) (guests : List Channel) (phase place : ℕ) (done left : List Opening) (awaits : GuestWait) (heard : Change) (first : Option Msg) → IsPlan plan → phase < length plan.phases → phase_of plan phase ≡ done ++ left → place ≡ length done
+    → Stand (changed guests heard) plan (marked guest_ends done (marked (guest_is Opened) left (guest_before plan phase))) → NextIs (guest_is Opened) guests left
+    → GuestEnds plan v guests (closes_next (heard_with awaits v heard first) guests place (opening_at plan phase place)) (guest_next_awaits place left) (marked guest_ends done (guest_next_stands left (guest_before plan phase))) (option_to_list first ++ guest_next_sends left)
+guest_goes plan v guests phase place done left awaits heard first planned in_plan is at stand next =
+    subst (λ x. GuestEnds plan v guests (closes_next (heard_with awaits v heard first) guests place x) (guest_next_awaits place left) (marked guest_ends done (guest_next_stands left (guest_before plan phase))) (option_to_list first ++ guest_next_sends left))
+    (sym (opening_from plan phase place done left is at)) (guest_from_left plan v guests phase place done left awaits heard first planned in_plan is at stand next)
+
+-- a moment of the talk with a guest after such a turn
+pub guest_talks : (plan : BusPlan) (logs : Logs) (v : Version) (part : Option Part) (guests : List Channel) (turn : GuestTurn) (waits : GuestWait) (stands : ℕ → Channel) (says : List Msg) (h : HostSeen) (sent back : List Msg)
+    → GuestEnds plan v guests turn waits stands says → Sends plan turn.burst sent → Talk plan logs (a_guest plan logs part waits (Some v) (changed (changed guests turn.heard) turn.wished)) h says back → Talk plan logs (turned plan logs part turn guests) h sent back
+guest_talks plan logs v part guests turn waits stands says h sent back ends sends talk =
+    let cs : List Channel = changed (changed guests turn.heard) turn.wished in
+    subst (λ w. Talk plan logs (a_guest plan logs part w turn.version cs) h sent back) (sym ends.awaits)
+    (subst (λ u. Talk plan logs (a_guest plan logs part waits u cs) h sent back) (sym ends.version)
+    (subst (λ s. Talk plan logs (a_guest plan logs part waits (Some v) cs) h s back) (sym (ends.said sent sends)) talk))
+
+-- little is left to come then
+waits_most : (g : GuestSeen) (place : ℕ) (b : Bool) → still_to_come g (guest_waits place b) ≡ 4 * (openings_of g.plan g.part - place)
+waits_most g place true = refl
+waits_most g place false = refl
+
+pub awaits_most : (g : GuestSeen) (place : ℕ) (left : List Opening) → still_to_come g (guest_next_awaits place left) ≤ 4 * (openings_of g.plan g.part - place)
+awaits_most g place [] = omega arith
+awaits_most g place (o ∷ left) = let is = waits_most g place o.rescinded in omega (arith, is)
+
+sends_most : (o : Opening) (b : Bool) → length (guest_sends o b) ≤ 2
+sends_most o true = omega arith
+sends_most o false = omega arith
+
+pub says_most : (left : List Opening) → length (guest_next_sends left) ≤ 2
+says_most [] = omega arith
+says_most (o ∷ left) = sends_most o o.rescinded
+
+-- how a host stands that goes on so
+pub record HostEnds (plan : BusPlan) (hosts : List ChanState) (live : List ℕ) (next : HostNext) (waits : HostWait) (stands : ℕ → ChanState) (lists : List ℕ) (says : List Msg) : Type 0 where
+  pub awaits : next.awaits ≡ waits
+  pub host : Stand (rescinded_among hosts next.rescinds) plan stands
+  pub lists_are : without_its (live_ones live) next.rescinds ≡ live_ones lists
+  pub said : (answer : Option Msg) (sent : List Msg) → Sends plan (and_rescind answer next.rescinds) sent → sent ≡ option_to_list answer ++ says
+
+host_answers : (plan : BusPlan) (answer : Option Msg) (sent : List Msg) → Sends plan (and_rescind answer None) sent → sent ≡ option_to_list answer ++ []
+host_answers plan None sent e = e
+host_answers plan (Some m) sent e = e
+
+host_answers_too : (plan : BusPlan) (r : Rescind) (answer : Option Msg) (sent : List Msg) → Sends plan (and_rescind answer (Some r)) sent → sent ≡ option_to_list answer ++ (rescind r.relid ∷ [])
+host_answers_too plan r None sent e = e
+host_answers_too plan r (Some m) sent e = e
+
+kept : (os : List Opening) (gpadl : ℕ) → AllByRecursion (λ p. p.gpadl ≢ gpadl) os → filter (λ handle. not (handle == gpadl)) (handles os) ≡ handles os
+kept [] gpadl apart = refl
+kept (o ∷ os) gpadl apart = rw (differ o.gpadl gpadl apart.0) (ap (λ hs. o.gpadl ∷ hs) (kept os gpadl apart.1))
+
+pub let_go : (o : Opening) (left : List Opening) → AllByRecursion (λ p. p.gpadl ≢ o.gpadl) left → without (live_ones (handles (o ∷ left))) o.gpadl ≡ live_ones (handles left)
+let_go o left apart =
+    let gone : filter (λ handle. not (handle == o.gpadl)) (handles (o ∷ left)) ≡ handles left = rw (same o.gpadl) (kept left o.gpadl apart) in
+    ap live_ones gone
+
+host_one : (plan : BusPlan) (hosts channels : List ChanState) (phase place : ℕ) (done : List Opening) (o : Opening) (left : List Opening) (b : Bool) → IsPlan plan → At plan phase place done o left
+    → Stand hosts plan (marked host_ends done (marked (host_is Opened) (o ∷ left) (host_before plan phase))) → by_relid channels o.relid ≡ Some (host_is Opened o)
+    → HostEnds plan hosts (handles (o ∷ left)) (one_next channels place o b) (host_waits place b) (marked host_ends done (host_marks o left (host_before plan phase) b)) (host_lists o left b) (host_sends o b)
+host_one plan hosts channels phase place done o left false planned at stand next = record { awaits = refl; host = stand; lists_are = refl; said = host_answers plan }
+host_one plan hosts channels phase place done o left true planned at stand next =
+    let fact = facts plan phase place done o left planned at in
+    let before : ℕ → ChanState = host_before plan phase in
+    let r : Rescind = record { relid = o.relid; life = host_is IsRescinded o; gpadl = o.gpadl } in
+    let marks : ℕ → ChanState = marked host_ends done (marked (host_is IsRescinded) (o ∷ []) (marked (host_is Opened) left before)) in
+    let there : Stand (slice_set hosts (o.relid - 1) (host_is IsRescinded o)) plan marks =
+    stand_mark hosts plan host_ends (host_is IsRescinded) done o (marked (host_is Opened) (o ∷ left) before) (marked (host_is Opened) left before) stand fact.fits.named fact.known fact.done_apart
+    (λ q off. sym (marked_there (host_is Opened) o left before q off)) in
+    let way : Option ChanState → HostNext = λ c. record { awaits = Release place; rescinds = wants_rescind o c } in
+    subst (λ c. HostEnds plan hosts (handles (o ∷ left)) (way c) (Release place) marks (handles left) (rescind o.relid ∷ [])) (sym next)
+    (record { awaits = refl; host = there; lists_are = let_go o left fact.left_handles; said = host_answers_too plan r })
+
+host_from_left : (plan : BusPlan) (hosts channels : List ChanState) (phase place : ℕ) (done left : List Opening) → IsPlan plan → phase < length plan.phases → phase_of plan phase ≡ done ++ left → place ≡ length done
+    → Stand hosts plan (marked host_ends done (marked (host_is Opened) left (host_before plan phase))) → NextIs (host_is Opened) channels left
+    → HostEnds plan hosts (handles left) (next_end channels place (slice_get left 0)) (host_next_awaits place left) (marked host_ends done (host_next_stands left (host_before plan phase))) (host_next_live left) (host_next_sends left)
+host_from_left plan hosts channels phase place done [] planned in_plan is at stand next = record { awaits = refl; host = stand; lists_are = refl; said = host_answers plan }
+host_from_left plan hosts channels phase place done (o ∷ left) planned in_plan is at stand next =
+    host_one plan hosts channels phase place done o left o.rescinded planned (record { in_plan = in_plan; phase_is = is; place_is = at }) stand next
+
+-- a host goes on
+pub host_goes : (plan : BusPlan) (hosts channels : List ChanState) (phase place : ℕ) (done left : List Opening) → IsPlan plan → phase < length plan.phases → phase_of plan phase ≡ done ++ left → place ≡ length done
+    → Stand hosts plan (marked host_ends done (marked (host_is Opened) left (host_before plan phase))) → NextIs (host_is Opened) channels left
+    → HostEnds plan hosts (handles left) (next_end channels place (opening_at plan phase place)) (host_next_awaits place left) (marked host_ends done (host_next_stands left (host_before plan phase))) (host_next_live left) (host_next_sends left)
+host_goes plan hosts channels phase place done left planned in_plan is at stand next =
+    subst (λ x. HostEnds plan hosts (handles left) (next_end channels place x) (host_next_awaits place left) (marked host_ends done (host_next_stands left (host_before plan phase))) (host_next_live left) (host_next_sends left))
+    (sym (opening_from plan phase place done left is at)) (host_from_left plan hosts channels phase place done left planned in_plan is at stand next)
+
+-- a moment of the talk with a host that goes on so
+pub host_talks : (plan : BusPlan) (logs : Logs) (v : Version) (part : Option Part) (g : GuestSeen) (hosts : List ChanState) (live : List ℕ) (next : HostNext) (waits : HostWait) (stands : ℕ → ChanState) (lists : List ℕ) (says : List Msg) (answer : Option Msg) (to_host sent : List Msg)
+    → HostEnds plan hosts live next waits stands lists says → Sends plan (and_rescind answer next.rescinds) sent → Talk plan logs g (a_host plan logs part waits (Some v) (rescinded_among hosts next.rescinds) (live_ones lists)) to_host (option_to_list answer ++ says)
+    → Talk plan logs g (a_host plan logs part next.awaits (Some v) (rescinded_among hosts next.rescinds) (without_its (live_ones live) next.rescinds)) to_host sent
+host_talks plan logs v part g hosts live next waits stands lists says answer to_host sent ends sends talk =
+    let cs : List ChanState = rescinded_among hosts next.rescinds in
+    subst (λ w. Talk plan logs g (a_host plan logs part w (Some v) cs (without_its (live_ones live) next.rescinds)) to_host sent) (sym ends.awaits)
+    (subst (λ l. Talk plan logs g (a_host plan logs part waits (Some v) cs l) to_host sent) (sym ends.lists_are)
+    (subst (λ s. Talk plan logs g (a_host plan logs part waits (Some v) cs (live_ones lists)) to_host s) (sym (ends.said answer sent sends)) talk))
+
+-- both went on with the same opening
+both_one : (plan : BusPlan) (logs : Logs) (v : Version) (guests : List Channel) (hosts : List ChanState) (phase place : ℕ) (done : List Opening) (o : Opening) (left : List Opening) (b : Bool) → o.rescinded ≡ b → At plan phase place done o left
+    → Meet plan v guests hosts (marked guest_ends done (guest_marks o left (guest_before plan phase) b)) (marked host_ends done (host_marks o left (host_before plan phase) b))
+    → Talk plan logs (a_guest plan logs (Some (PhaseEnd phase)) (guest_waits place b) (Some v) guests) (a_host plan logs (Some (PhaseEnd phase)) (host_waits place b) (Some v) hosts (live_ones (host_lists o left b))) (guest_sends o b) (host_sends o b)
+both_one plan logs v guests hosts phase place done o left true is at meet = IsTakingBack v guests hosts phase place done o left at is meet
+both_one plan logs v guests hosts phase place done o left false is at meet = IsClosing v guests hosts phase place done o left at is meet
+
+pub both_next : (plan : BusPlan) (logs : Logs) (v : Version) (guests : List Channel) (hosts : List ChanState) (phase place : ℕ) (done left : List Opening) → phase < length plan.phases → phase_of plan phase ≡ done ++ left → place ≡ length done
+    → Meet plan v guests hosts (marked guest_ends done (guest_next_stands left (guest_before plan phase))) (marked host_ends done (host_next_stands left (host_before plan phase)))
+    → Talk plan logs (a_guest plan logs (Some (PhaseEnd phase)) (guest_next_awaits place left) (Some v) guests) (a_host plan logs (Some (PhaseEnd phase)) (host_next_awaits place left) (Some v) hosts (live_ones (host_next_live left))) (guest_next_sends left) (host_next_sends left)
+both_next plan logs v guests hosts phase place done [] in_plan is at meet =
+    let full : phase_of plan phase ≡ done = is ∙ append-nil done in
+    let all : Meet plan v guests hosts (guest_before plan (suc phase)) (host_before plan (suc phase)) =
+    subst (λ os. Meet plan v guests hosts (marked guest_ends os (guest_before plan phase)) (marked host_ends os (host_before plan phase))) (sym full) meet in
+    ended v guests hosts phase in_plan all
+both_next plan logs v guests hosts phase place done (o ∷ left) in_plan is at meet =
+    both_one plan logs v guests hosts phase place done o left o.rescinded refl (record { in_plan = in_plan; phase_is = is; place_is = at }) meet

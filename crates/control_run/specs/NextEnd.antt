@@ -1,0 +1,71 @@
+-- How both sides go on at the end of a phase with the openings that are left of it: the first of them is closed, or rescinded.
+use Rattle.std.specs.Prelude.{ℕ, Bool, true, false, List, [], ◌∷◌}
+use Rattle.chan_state.specs.declared.state.State.TheVariants.{Opened, Closing, Rescinded as IsRescinded}
+use Rattle.chan_state.specs.declared.chan_state.ChanState.{ChanState}
+use Rattle.vmbus_msg.specs.declared.msg.Msg.{Msg}
+use Rattle.control_model.specs.declared.opening.Opening.{Opening}
+use Rattle.control_model.specs.declared.channel.Channel.{Channel}
+use Rattle.control_model.specs.declared.guest_wait.GuestWait.{GuestWait}
+use Rattle.control_model.specs.declared.guest_wait.GuestWait.TheVariants.{Nothing, Torn, Rescinded}
+use Rattle.control_model.specs.declared.host_wait.HostWait.{HostWait}
+use Rattle.control_model.specs.declared.host_wait.HostWait.TheVariants.{Nothing as HostNothing, Close, Release}
+use Rattle.control_model.specs.Messages.{close, teardown, rescind}
+use Rattle.control_run.specs.Stand.{marked, guest_is, host_is, handles}
+
+-- the guest closes the first one, or waits for it to be rescinded
+abbrev pub guest_waits : ℕ → Bool → GuestWait
+guest_waits place true = Rescinded place
+guest_waits place false = Torn place
+
+abbrev pub guest_next_awaits : ℕ → List Opening → GuestWait
+guest_next_awaits place [] = Nothing
+guest_next_awaits place (o ∷ left) = guest_waits place o.rescinded
+
+abbrev pub guest_marks : Opening → List Opening → (ℕ → Channel) → Bool → ℕ → Channel
+guest_marks o left before true = marked (guest_is Opened) (o ∷ left) before
+guest_marks o left before false = marked (guest_is Closing) (o ∷ []) (marked (guest_is Opened) left before)
+
+abbrev pub guest_next_stands : List Opening → (ℕ → Channel) → ℕ → Channel
+guest_next_stands [] before = before
+guest_next_stands (o ∷ left) before = guest_marks o left before o.rescinded
+
+abbrev pub guest_sends : Opening → Bool → List Msg
+guest_sends o true = []
+guest_sends o false = close o.relid ∷ teardown o ∷ []
+
+abbrev pub guest_next_sends : List Opening → List Msg
+guest_next_sends [] = []
+guest_next_sends (o ∷ left) = guest_sends o o.rescinded
+
+-- the host waits for it to be closed, or rescinds it: its page list ends
+abbrev pub host_waits : ℕ → Bool → HostWait
+host_waits place true = Release place
+host_waits place false = Close place
+
+abbrev pub host_next_awaits : ℕ → List Opening → HostWait
+host_next_awaits place [] = HostNothing
+host_next_awaits place (o ∷ left) = host_waits place o.rescinded
+
+abbrev pub host_marks : Opening → List Opening → (ℕ → ChanState) → Bool → ℕ → ChanState
+host_marks o left before true = marked (host_is IsRescinded) (o ∷ []) (marked (host_is Opened) left before)
+host_marks o left before false = marked (host_is Opened) (o ∷ left) before
+
+abbrev pub host_next_stands : List Opening → (ℕ → ChanState) → ℕ → ChanState
+host_next_stands [] before = before
+host_next_stands (o ∷ left) before = host_marks o left before o.rescinded
+
+abbrev pub host_lists : Opening → List Opening → Bool → List ℕ
+host_lists o left true = handles left
+host_lists o left false = handles (o ∷ left)
+
+abbrev pub host_next_live : List Opening → List ℕ
+host_next_live [] = []
+host_next_live (o ∷ left) = host_lists o left o.rescinded
+
+abbrev pub host_sends : Opening → Bool → List Msg
+host_sends o true = rescind o.relid ∷ []
+host_sends o false = []
+
+abbrev pub host_next_sends : List Opening → List Msg
+host_next_sends [] = []
+host_next_sends (o ∷ left) = host_sends o o.rescinded

@@ -1,0 +1,134 @@
+//! The end of a phase: its channels are closed by the guest, or rescinded by the host.
+ghost use Rattle.std.specs.Prelude.{◌≡◌};
+ghost use Rattle.control_model.specs.Channels.{by_relid};
+ghost use Rattle.control_model.specs.Plan.{opening_in};
+ghost use Rattle.control_model.specs.Host.{first_next, waits, stays, next_end, ended_at, torn_then, released_then, wants_rescind, rescinded_among, without_its};
+
+use crate::HostControl;
+use crate::answers::can_unload;
+use crate::lists::let_go;
+use chan_state::{ChanState, Event};
+use contact::Part;
+use control_model::{HostNext, HostWait, Opening, Rescind};
+use gpadl::Assembler;
+
+impl HostControl {
+    // What it goes on with at the start of a part.
+    pub(crate) fn first_next(&self, part: Part) -> HostNext
+        ensures { result ≡ first_next self.now part }
+    {
+        match part {
+            Part::Contact => waits(HostWait::Contact),
+            Part::PhaseStart(_) => waits(self.waits_list(Some(part), 0)),
+            Part::PhaseEnd(_) => self.next_end(Some(part), 0),
+            Part::Unload => {
+                if can_unload(self.version) {
+                    waits(HostWait::Unload)
+                } else {
+                    waits(HostWait::Nothing)
+                }
+            }
+        }
+    }
+
+    // Goes on with the opening at a place, if there is one: its channel is rescinded, or waits for the
+    // guest to close it.
+    pub(crate) fn next_end(&self, part: Option<Part>, place: usize) -> HostNext
+        ensures { result ≡ next_end self.now.channels place (opening_in self.now.plan part place) }
+    {
+        match self.plan.opening(part, place) {
+            Some(o) if o.rescinded => HostNext {
+                awaits: HostWait::Release(place),
+                rescinds: self.wants_rescind(o),
+            },
+            Some(_) => waits(HostWait::Close(place)),
+            None => waits(HostWait::Nothing),
+        }
+    }
+
+    // The channel of an opening is rescinded, where the table of its life has a row for that.
+    fn wants_rescind(&self, o: Opening) -> Option<Rescind>
+        ensures { result ≡ wants_rescind o (by_relid self.now.channels o.relid) }
+    {
+        let Some(mut life) = self.life(o.relid) else {
+            return None;
+        };
+        match life.event(Event::WantRescind) {
+            Ok(_) => Some(Rescind {
+                relid: o.relid,
+                life,
+                gpadl: o.gpadl,
+            }),
+            Err(_) => None,
+        }
+    }
+
+    // The channel of the opening at a place is done with, where it is this one, and the host goes on
+    // with the next opening.
+    fn ended_at(&self, place: usize, relid: u32) -> HostNext
+        ensures { result ≡ ended_at self.now place relid }
+    {
+        match self.plan.opening(self.part(), place) {
+            Some(o) if o.relid == relid => self.next_end(self.part(), place + 1),
+            _ => self.stays(),
+        }
+    }
+
+    // It waits for what it waited for.
+    fn stays(&self) -> HostNext
+        ensures { result ≡ stays self.now }
+    {
+        waits(self.awaits)
+    }
+
+    // What it goes on with once a page list was torn down.
+    pub(crate) fn torn_then(&self, relid: u32) -> HostNext
+        ensures { result ≡ torn_then self.now self.now.awaits relid }
+    {
+        match self.awaits {
+            HostWait::Teardown(place) => self.ended_at(place, relid),
+            _ => self.stays(),
+        }
+    }
+
+    // What it goes on with once a channel was given back.
+    pub(crate) fn released_then(&self, relid: u32) -> HostNext
+        ensures { result ≡ released_then self.now self.now.awaits relid }
+    {
+        match self.awaits {
+            HostWait::Release(place) => self.ended_at(place, relid),
+            _ => self.stays(),
+        }
+    }
+}
+
+// It waits, and rescinds no channel.
+fn waits(awaits: HostWait) -> HostNext
+    ensures { result ≡ waits awaits }
+{
+    HostNext {
+        awaits,
+        rescinds: None,
+    }
+}
+
+// A channel that is rescinded stands so then.
+pub(crate) fn put_rescinded(channels: &mut Vec<ChanState>, rescinds: Option<Rescind>)
+    ensures { channels.new.items ≡ rescinded_among channels.old.items rescinds }
+{
+    if let Some(r) = rescinds {
+        let place = r.relid.saturating_sub(1) as usize;
+        if place < channels.len() {
+            channels[place] = r.life;
+        }
+    }
+}
+
+// The page list of a channel that is rescinded ends.
+pub(crate) fn end_list(lists: &mut Assembler, rescinds: Option<Rescind>)
+    ensures { lists.new ≡ without_its lists.old rescinds }
+{
+    if let Some(r) = rescinds {
+        let_go(lists, r.gpadl);
+    }
+}
