@@ -5,7 +5,7 @@ use Rattle.std.proofs.lemmas.List.{length-map}
 use Rattle.std.proofs.lemmas.List.Sums.{length-filter}
 use Rattle.script_lines.specs.declared.line.Line.{Line}
 use Rattle.script_lines.specs.declared.line.What.{What}
-use Rattle.script_lines.specs.declared.line.What.TheVariants.{Contact as IsContact, Offer as IsOffer, Bad as IsBad, RingSize as IsRingSize, Window as IsWindow, Ask as IsAsk, Shut as IsShut, Phase as IsPhase}
+use Rattle.script_lines.specs.declared.line.What.TheVariants.{Contact as IsContact, Offer as IsOffer, Bad as IsBad, RingSize as IsRingSize, Window as IsWindow, Ask as IsAsk, Rescind as IsRescind, Shut as IsShut, Phase as IsPhase}
 use Rattle.script_lines.specs.declared.line.DeviceSpec.{DeviceSpec}
 use Rattle.script_lines.specs.Parts.{parts, offered}
 use Rattle.bus_script.specs.Report.{prints, tells}
@@ -24,6 +24,7 @@ line_source p before (IsBad device lba) l ss ls is = is
 line_source p before (IsRingSize device pages) l ss ls is = is
 line_source p before (IsWindow device size) l ss ls is = is
 line_source p before (IsAsk device ask) l ss ls is = omega (arith, is)
+line_source p before (IsRescind device after held) l ss ls is = is
 line_source p before (IsShut device) l ss ls is = is
 line_source p before IsPhase l ss ls is = is
 

@@ -6,14 +6,14 @@ use Rattle.std.proofs.lemmas.List.{length-map}
 use Rattle.std.proofs.lemmas.List.Sums.{length-filter}
 use Rattle.script_lines.specs.declared.line.Line.{Line}
 use Rattle.script_lines.specs.declared.line.What.{What}
-use Rattle.script_lines.specs.declared.line.What.TheVariants.{Contact as IsContact, Offer as IsOffer, RingSize as IsRingSize, Window as IsWindow, Bad as IsBad, Ask as IsAsk, Shut as IsShut, Phase as IsPhase}
+use Rattle.script_lines.specs.declared.line.What.TheVariants.{Contact as IsContact, Offer as IsOffer, RingSize as IsRingSize, Window as IsWindow, Bad as IsBad, Ask as IsAsk, Rescind as IsRescind, Shut as IsShut, Phase as IsPhase}
 use Rattle.script_lines.specs.declared.line.DeviceSpec.{DeviceSpec}
 use Rattle.bus_script.specs.declared.outcome.LineResult.{LineResult}
 use Rattle.script_lines.specs.Parts.{is_phase, ends_part, parts}
 use Rattle.bus_script.specs.Report.{prints, tells}
 use Rattle.bus_model.specs.Dests.{Dest, dest_in, dests, addresses_from}
 use Rattle.bus_model.specs.Logs.{Recorded}
-use Rattle.bus_model.specs.ByDevice.{IsBusRun as RunsByDevice, RunFrom, outcome_at, outcomes_of}
+use Rattle.bus_model.specs.ByDevice.{IsBusRun as RunsByDevice, RunFrom, ChannelPhase, outcome_at}
 use Rattle.bus_model.specs.declared.channel_run.ChannelRun.{ChannelRun}
 use Rattle.bus_model.specs.declared.history.DeviceHistory.{DeviceHistory}
 
@@ -33,6 +33,7 @@ line_dest earlier (IsRingSize device pages) l ds ls is = is
 line_dest earlier (IsWindow device size) l ds ls is = is
 line_dest earlier (IsBad device lba) l ds ls is = is
 line_dest earlier (IsAsk device ask) l ds ls is = omega (arith, is)
+line_dest earlier (IsRescind device after held) l ds ls is = is
 line_dest earlier (IsShut device) l ds ls is = is
 line_dest earlier IsPhase l ds ls is = is
 
@@ -52,7 +53,7 @@ told_each kinds phase earlier (part ∷ rest) before settled after results run =
     let told = run.1 in
     let one = run.5 in
     let here : length told ≡ length (dests earlier part) =
-    sym (length-map told (λ r. Some r)) ∙ ap length one.outcomes ∙ length-map _ (outcome_at (map outcomes_of one.channels)) ∙ length-addresses [] (dests earlier part) in
+    sym (length-map told (λ r. Some r)) ∙ ap length one.outcomes ∙ length-map _ (outcome_at (map (λ (c : ChannelPhase). c.told) one.channels)) ∙ length-addresses [] (dests earlier part) in
     omega (arith, here, dests_print earlier part, told_each kinds (phase + 1) (earlier ++ part) rest run.2 run.3 after run.4 run.6, ap length run.8, length-append told run.4)
 
 -- the phases' lines that print are the script's
@@ -75,6 +76,7 @@ split_line l (IsRingSize device pages) is ps = onto l ps
 split_line l (IsWindow device size) is ps = onto l ps
 split_line l (IsBad device lba) is ps = onto l ps
 split_line l (IsAsk device ask) is ps = onto l ps
+split_line l (IsRescind device after held) is ps = onto l ps
 split_line l (IsShut device) is ps = onto l ps
 split_line l IsPhase is ps = let none : one l ≡ 0 = ap (λ w. length (cond (tells w) (l ∷ []) [])) is in omega (arith, none)
 

@@ -1,6 +1,6 @@
 -- Few runs come back.
-use Rattle.std.proofs.Common.{◌≡◌, ℕ, ◌+◌, ◌*◌, ◌≤◌, ◌<◌, Bool, true, false, cond, List, [], ◌∷◌, ◌++◌, length, nat_eq, sym, ap, ◌∙◌, subst, arith}
-use Rattle.std.specs.Prelude.{map, filter, Some, None, Ok}
+use Rattle.std.proofs.Common.{◌≡◌, ℕ, zero, suc, ◌+◌, ◌-◌, ◌*◌, ◌≤◌, ◌<◌, Bool, true, false, cond, List, [], ◌∷◌, ◌++◌, length, nat_eq, sym, ap, ◌∙◌, subst, arith}
+use Rattle.std.specs.Prelude.{map, filter, take, drop, replicate, min, nat_le, Option, Some, None, Ok, if◌then◌else◌}
 use Rattle.std.specs.List.{AllByRecursion, list_any}
 use Rattle.std.proofs.lemmas.Bool.Decides.{nat_tests}
 use Rattle.std.proofs.lemmas.List.{length-map}
@@ -17,20 +17,22 @@ use Rattle.util_ic.specs.declared.ic.IcAnswer.{IcAnswer}
 use Rattle.script_lines.specs.Grammar.{script_of}
 use Rattle.script_lines.specs.declared.line.Line.{Line}
 use Rattle.script_lines.specs.declared.line.What.{What}
-use Rattle.script_lines.specs.declared.line.What.TheVariants.{Contact as IsContact, Offer as IsOffer, Bad as IsBad, RingSize as IsRingSize, Window as IsWindow, Ask as IsAsk, Shut as IsShut, Phase as IsPhase}
+use Rattle.script_lines.specs.declared.line.What.TheVariants.{Contact as IsContact, Offer as IsOffer, Bad as IsBad, RingSize as IsRingSize, Window as IsWindow, Ask as IsAsk, Rescind as IsRescind, Shut as IsShut, Phase as IsPhase}
 use Rattle.script_lines.specs.declared.line.Ask.{Ask}
 use Rattle.script_lines.specs.declared.line.DeviceSpec.{DeviceSpec}
 use Rattle.script_lines.specs.declared.line.DeviceSpec.TheVariants.{Beat, Down, Disk}
 use Rattle.bus_script.specs.declared.outcome.Reply.{Reply}
 use Rattle.bus_script.specs.declared.outcome.LineResult.{LineResult}
-use Rattle.bus_script.specs.declared.outcome.LineResult.TheVariants.{Closed}
-use Rattle.script_lines.specs.Parts.{ends_part, parts, shuts, offered, bads_of}
+use Rattle.bus_script.specs.declared.outcome.LineResult.TheVariants.{Unserved, Gone, Closed}
+use Rattle.script_lines.specs.Parts.{ends_part, parts, rescinds, shuts, offered, bads_of}
 use Rattle.bus_script.specs.Report.{prints, disk_runs, reply_runs, result_runs, runs_back}
 use Rattle.script_lines.proofs.Plain.{PlainAsk, PlainWhat, PlainLine, script_plain}
 use Rattle.bus_model.specs.Served.{Served, done_of}
+use Rattle.bus_model.specs.Orders.{Order}
+use Rattle.bus_model.specs.Channel.{served_count, rescinded_of, outcomes_by}
 use Rattle.bus_model.specs.Dests.{Dest, ToChannel, Known, dest_of, dest_in, dests, asked_in, asks_to, Address, At, Fixed, address_of, addresses_from}
 use Rattle.bus_model.specs.Logs.{Recorded, ic_log, disk_log, log_of, IsHistory, EachHistory}
-use Rattle.bus_model.specs.ByDevice.{IsBusRun as RunsByDevice, ChannelPhase, CarriesIfOpened, EachChannel, DevicePhase, served_by, EachDevice, outcomes_of, outcome_at, PhaseRuns, RunFrom}
+use Rattle.bus_model.specs.ByDevice.{IsBusRun as RunsByDevice, ChannelPhase, CarriesIfOpened, EachChannel, DevicePhase, served_by, EachDevice, device_order, outcome_at, PhaseRuns, RunFrom}
 use Rattle.bus_model.specs.declared.channel_run.ChannelRun.{ChannelRun}
 use Rattle.bus_model.specs.declared.history.DeviceHistory.{DeviceHistory}
 use Rattle.bus_model.specs.declared.history.DeviceHistory.TheVariants.{Beat as BeatHistory, Down as DownHistory, Disk as DiskHistory}
@@ -68,9 +70,10 @@ abbrev FineDest : Dest → Type 0
 FineDest (ToChannel channel ask) = PlainAsk ask
 FineDest (Known result) = FewResult result
 
-ended_fine : (b : Bool) (device : ℕ) (ask : Ask) → PlainAsk ask → FineDest (dest_of (cond b (Some Closed) None) device ask)
-ended_fine true device ask plain = omega arith
-ended_fine false device ask plain = plain
+ended_fine : (r s : Bool) (device : ℕ) (ask : Ask) → PlainAsk ask → FineDest (dest_of (if r then Some Gone else if s then Some Closed else None) device ask)
+ended_fine true s device ask plain = omega arith
+ended_fine false true device ask plain = omega arith
+ended_fine false false device ask plain = plain
 
 dest_fine : (earlier : List Line) (w : What) → PlainWhat w → AllByRecursion FineDest (dest_in earlier w)
 dest_fine earlier (IsContact guest host) plain = (omega arith, tt)
@@ -78,7 +81,8 @@ dest_fine earlier (IsOffer name spec) plain = tt
 dest_fine earlier (IsRingSize device pages) plain = tt
 dest_fine earlier (IsWindow device size) plain = tt
 dest_fine earlier (IsBad device lba) plain = tt
-dest_fine earlier (IsAsk device ask) plain = (ended_fine (list_any (λ l. shuts device l.what) earlier) device ask plain, tt)
+dest_fine earlier (IsAsk device ask) plain = (ended_fine (list_any (λ l. rescinds device l.what) earlier) (list_any (λ l. shuts device l.what) earlier) device ask plain, tt)
+dest_fine earlier (IsRescind device after held) plain = tt
 dest_fine earlier (IsShut device) plain = tt
 dest_fine earlier IsPhase plain = tt
 
@@ -121,16 +125,50 @@ outcomes_few outcomes few (a ∷ addresses) fine = (outcome_few outcomes few a f
 
 -- channels serve what the lines ask
 
-carries_plain : (opened : Bool) (phase relid device : ℕ) (kind : DeviceSpec) (asks : List Ask) (runs : List ChannelRun) (served : List Served) → CarriesIfOpened opened phase relid device kind asks runs served → AllByRecursion PlainAsk asks → PlainServed served
-carries_plain false phase relid device kind asks runs served carries plain = subst PlainServed (sym carries.1) tt
-carries_plain true phase relid device kind asks [] served carries plain = absurd carries
-carries_plain true phase relid device kind asks (r ∷ []) served carries plain = each_unmap PlainAsk (λ (s : Served). s.request) served (subst (AllByRecursion PlainAsk) (sym carries.3.serves) plain)
-carries_plain true phase relid device kind asks (r ∷ s ∷ runs) served carries plain = absurd carries
+unserved_few : (n : ℕ) → AllByRecursion FewResult (replicate n Unserved)
+unserved_few zero = tt
+unserved_few (suc n) = (omega arith, unserved_few n)
+
+rescinded_few : (served : List Served) → AllByRecursion FewResult (map rescinded_of served)
+rescinded_few [] = tt
+rescinded_few (s ∷ served) = (omega arith, rescinded_few served)
+
+each_take : {X : Type 0} (P : X → Type 0) (n : ℕ) (xs : List X) → AllByRecursion P xs → AllByRecursion P (take n xs)
+each_take P zero [] all = tt
+each_take P zero (x ∷ xs) all = tt
+each_take P (suc n) [] all = tt
+each_take P (suc n) (x ∷ xs) all = (all.0, each_take P n xs all.1)
+
+carries_plain : (opened : Bool) (phase relid device : ℕ) (order : Order) (runs : List ChannelRun) (served : List Served) (told : List LineResult) → CarriesIfOpened opened phase relid device order runs served told → AllByRecursion PlainAsk order.asks → PlainServed served
+carries_plain false phase relid device order runs served told carries plain = subst PlainServed (sym carries.1) tt
+carries_plain true phase relid device order [] served told carries plain = absurd carries
+carries_plain true phase relid device order (r ∷ []) served told carries plain =
+    each_unmap PlainAsk (λ (s : Served). s.request) served (subst (AllByRecursion PlainAsk) (sym carries.3.serves) (each_take PlainAsk (served_count order) order.asks plain))
+carries_plain true phase relid device order (r ∷ s ∷ runs) served told carries plain = absurd carries
+
+-- an outcome brings back no more than the reply of a call that was served
+outcomes_by_few : (stop : Option (ℕ × Bool)) (m : ℕ) (served : List Served) → FewServed served → AllByRecursion FewResult (outcomes_by stop m served)
+outcomes_by_few None m served few = each_map FewResult done_of served few
+outcomes_by_few (Some (k, false)) m served few = each_append FewResult (map done_of served) (replicate (m - min k m) Unserved) (each_map FewResult done_of served few) (unserved_few (m - min k m))
+outcomes_by_few (Some (k, true)) m served few = by_flag (nat_le k m)
+  where
+    by_flag : (b : Bool) → AllByRecursion FewResult (if b then map done_of (take (k - 1) served) ++ (map rescinded_of (drop (k - 1) served) ++ replicate (m - k) Unserved) else map done_of served)
+    by_flag true =
+        each_append FewResult (map done_of (take (k - 1) served)) (map rescinded_of (drop (k - 1) served) ++ replicate (m - k) Unserved)
+        (each_map FewResult done_of (take (k - 1) served) (each_take (λ s. FewReply s.reply) (k - 1) served few))
+        (each_append FewResult (map rescinded_of (drop (k - 1) served)) (replicate (m - k) Unserved) (rescinded_few (drop (k - 1) served)) (unserved_few (m - k)))
+    by_flag false = each_map FewResult done_of served few
+
+carries_few : (opened : Bool) (phase relid device : ℕ) (order : Order) (runs : List ChannelRun) (served : List Served) (told : List LineResult) → CarriesIfOpened opened phase relid device order runs served told → FewServed served → AllByRecursion FewResult told
+carries_few false phase relid device order runs served told carries few = subst (AllByRecursion FewResult) (sym carries.2) tt
+carries_few true phase relid device order [] served told carries few = absurd carries
+carries_few true phase relid device order (r ∷ []) served told carries few = subst (AllByRecursion FewResult) (sym carries.4) (outcomes_by_few order.stop (length order.asks) served few)
+carries_few true phase relid device order (r ∷ s ∷ runs) served told carries few = absurd carries
 
 channels_plain : (earlier part : List Line) (phase place : ℕ) (channels : List ChannelPhase) → EachChannel earlier part phase place channels → AllByRecursion PlainLine part → AllByRecursion (λ c. PlainServed c.served) channels
 channels_plain earlier part phase place [] each plain = tt
 channels_plain earlier part phase place (c ∷ channels) each plain = (
-  carries_plain c.opened phase (place + 1) c.device c.kind (asks_to place (dests earlier part)) c.runs c.served each.0.carries (asks_plain place (dests earlier part) (dests_fine earlier part plain)),
+  carries_plain c.opened phase (place + 1) c.device (device_order earlier part place c.kind) c.runs c.served c.told each.0.carries (asks_plain place (dests earlier part) (dests_fine earlier part plain)),
   channels_plain earlier part phase (place + 1) channels each.1 plain,
 )
 
@@ -216,9 +254,12 @@ channels_few earlier part phase place many [] each within few = tt
 channels_few earlier part phase place many (c ∷ channels) each within few =
     (few.0 place (omega arith, omega (arith, within)) (let same = each.0.device in grind (arith, nat_tests, same)), channels_few earlier part phase (place + 1) many channels each.1 (omega (arith, within)) few.1)
 
-done_few : (channels : List ChannelPhase) → AllByRecursion (λ c. FewServed c.served) channels → AllByRecursion (AllByRecursion FewResult) (map outcomes_of channels)
-done_few [] few = tt
-done_few (c ∷ channels) few = (each_map FewResult done_of c.served few.0, done_few channels few.1)
+outcomes_each : (earlier part : List Line) (phase place : ℕ) (channels : List ChannelPhase) → EachChannel earlier part phase place channels → AllByRecursion (λ c. FewServed c.served) channels → AllByRecursion (AllByRecursion FewResult) (map (λ c. c.told) channels)
+outcomes_each earlier part phase place [] each few = tt
+outcomes_each earlier part phase place (c ∷ channels) each few = (
+  carries_few c.opened phase (place + 1) c.device (device_order earlier part place c.kind) c.runs c.served c.told each.0.carries few.0,
+  outcomes_each earlier part phase (place + 1) channels each.1 few.1,
+)
 
 told_few : (told : List LineResult) → AllByRecursion (IfThere FewResult) (map (λ r. Some r) told) → AllByRecursion FewResult told
 told_few [] few = tt
@@ -233,7 +274,7 @@ phase_few kinds phase earlier part before after runs told one plain few =
     let as_many : length channels ≡ length devices = sym (length-map channels (λ c. c.kind)) ∙ ap length one.channel_kinds ∙ sym (ap length one.device_kinds) ∙ length-map devices (λ d. d.kind) in
     let all = each_swap (λ (j : ℕ) (c : ChannelPhase). nat_eq c.device j ≡ true → FewServed c.served) (λ j. (0 ≤ j) × (j < 0 + length devices)) channels back.1 in
     let served = channels_few earlier part phase 0 (length devices) channels one.each_channel (omega (arith, as_many)) all in
-    let outcomes = outcomes_few (map outcomes_of channels) (done_few channels served) (addresses_from [] (dests earlier part)) (addresses_fine [] (dests earlier part) (dests_fine earlier part plain)) in
+    let outcomes = outcomes_few (map (λ c. c.told) channels) (outcomes_each earlier part phase 0 channels one.each_channel served) (addresses_from [] (dests earlier part)) (addresses_fine [] (dests earlier part) (dests_fine earlier part plain)) in
     (subst (AllByRecursion FewLog) one.before_is back.0, told_few told (subst (AllByRecursion (IfThere FewResult)) (sym one.outcomes) outcomes))
 
 run_few : (kinds : List DeviceSpec) (phase : ℕ) (earlier : List Line) (ps : List (List Line)) (before : List (List Recorded)) (settled : List ChannelRun) (after : List (List Recorded)) (results : List LineResult)

@@ -17,7 +17,7 @@ use Rattle.io_edge.specs.declared.side.Side.TheVariants.{Guest, Host}
 use Rattle.ring_model.specs.Lists.{Lists}
 use Rattle.script_lines.specs.declared.line.Line.{Line}
 use Rattle.script_lines.specs.declared.line.What.{What}
-use Rattle.script_lines.specs.declared.line.What.TheVariants.{Contact as IsContact, Offer as IsOffer, Bad as IsBad, RingSize as IsRingSize, Window as IsWindow, Ask as IsAsk, Shut as IsShut, Phase as IsPhase}
+use Rattle.script_lines.specs.declared.line.What.TheVariants.{Contact as IsContact, Offer as IsOffer, Bad as IsBad, RingSize as IsRingSize, Window as IsWindow, Ask as IsAsk, Rescind as IsRescind, Shut as IsShut, Phase as IsPhase}
 use Rattle.script_lines.specs.declared.line.Ask.{Ask}
 use Rattle.script_lines.specs.declared.line.DeviceSpec.{DeviceSpec}
 use Rattle.script_lines.specs.declared.line.DeviceSpec.TheVariants.{Beat, Down, Disk}
@@ -33,61 +33,16 @@ use Rattle.work_model.specs.Speech.{Speech}
 use Rattle.hist_lock.specs.Seat.{Call}
 use Rattle.bus_speech.specs.Speeches.{speech_of}
 use Rattle.bus_speech.specs.declared.want.Want.TheVariants.{Script}
-use Rattle.bus_model.specs.Served.{Served, done_of}
+use Rattle.bus_model.specs.Served.{Served}
 use Rattle.bus_model.specs.Dests.{Dest, At, dest_of, dest_in, dests, asks_to, address_of, addresses_from, ended_by, is_opened as opened_by_device}
 use Rattle.bus_model.specs.Logs.{Recorded, Grows, log_of}
-use Rattle.bus_model.specs.ByDevice.{ChannelPhase, CarriesIfOpened, EachChannel, DevicePhase, served_by, EachDevice, RunFrom, Carries as CarriesByDevice, IsChannelRun as RunsOfDevice, outcomes_of as outcomes_by_device, outcome_at as outcome_by_device, PhaseRuns as PhaseByDevice}
+use Rattle.bus_model.specs.ByDevice.{ChannelPhase, CarriesIfOpened, EachChannel, DevicePhase, served_by, EachDevice, RunFrom, device_order, outcome_at as outcome_by_device, PhaseRuns as PhaseByDevice}
 use Rattle.bus_model.specs.Orders.{Order, order_of}
-use Rattle.bus_model.specs.Channel.{IsChannelRun, Carries, replies_to, outcomes_by, outcomes_of}
+use Rattle.bus_model.specs.Channel.{IsChannelRun, outcomes_of}
 use Rattle.bus_model.specs.Run.{Carried, IsCarried, seats_of, EachGrows, Source, AskedOf, known_or, ended_as, source_of, sources_from, nth_of, told_by, outcome_at, PhaseRuns, RunsOf, over, then_on}
 use Rattle.bus_model.specs.ByDeviceLaws.{Implies}
 use Rattle.bus_model.specs.declared.channel_run.ChannelRun.{ChannelRun}
-use Rattle.bus_model.proofs.SameLines.{no_stop, ended_same, opened_same, asks_same, share_all}
-
--- a channel's run, where nothing stops
-
-pub answers_all : {P A Q R : Type 0} (s : Speech P A Q R) (n : ℕ) (calls : List (Call Q R)) → length calls ≤ n → answered s false n calls ≡ calls
-answers_all s n [] few = refl
-answers_all s zero (c ∷ calls) few = absurd (omega (arith, few))
-answers_all s (suc n) (c ∷ calls) few = ap (λ l. c ∷ l) (answers_all s n calls (omega (arith, few)))
-
-abbrev pub plain : Kind → List Ask → Order
-plain kind asks = record { kind = kind; sub = 0; subs = 0; asks = asks; stop = None }
-
-carries_on : (side : Side) (kind : Kind) (asks : List Ask) (lists : Lists) (served : List Served) → replies_to (plain kind asks) served ≡ served
-    → CarriesByDevice side kind asks lists served → Carries side (plain kind asks) lists served
-carries_on Guest kind asks lists served all run = record {
-  front = run.front;
-  whole_got = run.whole_got;
-  answers_got = run.answers_got;
-  requests = run.requests;
-  whole = run.whole;
-  served = run.served;
-  started = run.started;
-  asked = run.asked;
-  count = run.count;
-  replies = rw (sym (length-map asks Script)) refl;
-}
-carries_on Host kind asks lists served all run = record {
-  front = run.front;
-  whole_got = run.whole_got;
-  answers_got = run.answers_got;
-  requests = run.requests;
-  whole = run.whole;
-  served = run.served;
-  started = run.started;
-  asked = run.asked;
-  count = run.count;
-  replies = rw (sym (length-map asks Script)) refl;
-}
-
-plain_run : (kind : Kind) (asks : List Ask) (lists : Lists) (served : List Served) → RunsOfDevice kind asks lists served → IsChannelRun (plain kind asks) lists served
-plain_run kind asks lists served run =
-    let count : length served ≡ length asks = sym (length-map served (λ s. s.request)) ∙ ap length run.serves in
-    record {
-      carried = carries_on (side_that_asks kind) kind asks lists served (answers_all (speech_of kind) (length asks) served (omega (arith, count))) run.carried;
-      serves = run.serves ∙ sym (take_all (length asks) asks (omega arith));
-    }
+use Rattle.bus_model.proofs.SameLines.{ended_same, opened_same, asks_same, share_all}
 
 -- the order of a device's only channel
 
@@ -102,16 +57,14 @@ the_opening device spec = record { relid = device + 1; device = device; spec = s
 abbrev pub phase_of : ℕ → List Line → List Line → List Opening → Phase
 phase_of number earlier part os = record { number = number; earlier = earlier; part = part; opened = os }
 
-pub plain_order : (number : ℕ) (earlier part : List Line) (os : List Opening) (device : ℕ) (spec : DeviceSpec) → subs_of spec ≡ 0 → ended_by device earlier ≡ None
-    → order_of (phase_of number earlier part os) (the_opening device spec) ≡ plain (kind_of spec) (asks_to device (dests earlier part))
-plain_order number earlier part os device spec none served =
+pub same_order : (number : ℕ) (earlier part : List Line) (os : List Opening) (device : ℕ) (spec : DeviceSpec) → subs_of spec ≡ 0 → ended_by device earlier ≡ None
+    → order_of (phase_of number earlier part os) (the_opening device spec) ≡ device_order earlier part device spec
+same_order number earlier part os device spec none served =
     let many = one_channel spec none in
-    let stop = no_stop device part in
     let asks : share (channels_of spec) 0 0 (asks_of device part) ≡ asks_to device (dests earlier part) =
     ap (λ m. share m 0 0 (asks_of device part)) many ∙ (share_all 0 (asks_of device part) ∙ asks_same device earlier part served) in
     ap (λ n. record { kind = kind_of spec; sub = 0; subs = n; asks = share (channels_of spec) 0 0 (asks_of device part); stop = stop_of device part }) none
-    ∙ (ap (λ a. record { kind = kind_of spec; sub = 0; subs = 0; asks = a; stop = stop_of device part }) asks
-    ∙ ap (λ s. record { kind = kind_of spec; sub = 0; subs = 0; asks = asks_to device (dests earlier part); stop = s }) stop)
+    ∙ ap (λ a. record { kind = kind_of spec; sub = 0; subs = 0; asks = a; stop = stop_of device part }) asks
 
 -- what was carried
 
@@ -126,13 +79,14 @@ carried_from place [] = []
 carried_from place (c ∷ channels) = carried_of c.opened place c.kind c.runs c.served ++ carried_from (place + 1) channels
 
 -- what one channel gives
-record Gives (p : Phase) (opened : Bool) (device : ℕ) (spec : DeviceSpec) (runs : List ChannelRun) (served : List Served) : Type 0 where
+record Gives (p : Phase) (opened : Bool) (device : ℕ) (spec : DeviceSpec) (runs : List ChannelRun) (served : List Served) (told : List LineResult) : Type 0 where
   pub openings : map (λ c. c.opening) (carried_of opened device spec runs served) ≡ cond opened (the_opening device spec ∷ []) []
   pub each : AllByRecursion (IsCarried p) (carried_of opened device spec runs served)
   pub runs_are : runs ≡ map (λ c. c.run) (carried_of opened device spec runs served)
   pub seats : (d : ℕ) → seats_of d (carried_of opened device spec runs served) ≡ cond (nat_eq device d) (carried_of opened device spec runs served) []
   pub opened_one : opened ≡ true → (r : ChannelRun) × (carried_of opened device spec runs served ≡ record { opening = the_opening device spec; run = r; served = served } ∷ [])
-  pub unopened : opened ≡ false → served ≡ []
+  pub unopened : opened ≡ false → (served ≡ []) × (told ≡ [])
+  pub outcomes : opened ≡ true → told ≡ outcomes_of (order_of p (the_opening device spec)) served
 
 served_open : (e p : Bool) → (e && p) ≡ true → e ≡ true
 served_open true p e = refl
@@ -150,21 +104,30 @@ module _ (number : ℕ) (earlier part : List Line) (os : List Opening) where
   abbrev pub p : Phase
   p = phase_of number earlier part os
 
-  gives : (opened : Bool) (device : ℕ) (spec : DeviceSpec) (runs : List ChannelRun) (served : List Served) → subs_of spec ≡ 0 → (opened ≡ true → ended_by device earlier ≡ None)
-      → CarriesIfOpened opened number (device + 1) device spec (asks_to device (dests earlier part)) runs served → Gives p opened device spec runs served
-  gives false device spec runs served none still carries = record { openings = refl; each = tt; runs_are = carries.0; seats = λ d. sym (no_seat (nat_eq device d)); opened_one = λ e. absurd (cc); unopened = λ e. carries.1 }
-  gives true device spec [] served none still carries = absurd carries
-  gives true device spec (r ∷ []) served none still carries =
-      let order = plain_order number earlier part os device spec none (still refl) in
+  gives : (opened : Bool) (device : ℕ) (spec : DeviceSpec) (runs : List ChannelRun) (served : List Served) (told : List LineResult) → subs_of spec ≡ 0 → (opened ≡ true → ended_by device earlier ≡ None)
+      → CarriesIfOpened opened number (device + 1) device (device_order earlier part device spec) runs served told → Gives p opened device spec runs served told
+  gives false device spec runs served told none still carries = record {
+    openings = refl;
+    each = tt;
+    runs_are = carries.0;
+    seats = λ d. sym (no_seat (nat_eq device d));
+    opened_one = λ e. absurd (cc);
+    unopened = λ e. (carries.1, carries.2);
+    outcomes = λ e. absurd (cc);
+  }
+  gives true device spec [] served told none still carries = absurd carries
+  gives true device spec (r ∷ []) served told none still carries =
+      let order = same_order number earlier part os device spec none (still refl) in
       record {
         openings = refl;
-        each = (record { phase = carries.0; relid = carries.1; device = carries.2; carried = subst (λ o. IsChannelRun o r.settled served) (sym order) (plain_run (kind_of spec) (asks_to device (dests earlier part)) r.settled served carries.3) }, tt);
+        each = (record { phase = carries.0; relid = carries.1; device = carries.2; carried = subst (λ o. IsChannelRun o r.settled served) (sym order) carries.3 }, tt);
         runs_are = refl;
         seats = λ d. refl;
         opened_one = λ e. (r, refl);
         unopened = λ e. absurd (cc);
+        outcomes = λ e. carries.4 ∙ ap (λ o. outcomes_of o served) (sym order);
       }
-  gives true device spec (r ∷ s ∷ runs) served none still carries = absurd carries
+  gives true device spec (r ∷ s ∷ runs) served told none still carries = absurd carries
 
   -- all channels
   pub record GivesAll (place : ℕ) (channels : List ChannelPhase) (kinds : List DeviceSpec) : Type 0 where
@@ -174,11 +137,11 @@ module _ (number : ℕ) (earlier part : List Line) (os : List Opening) where
     pub firsts_all : AllByRecursion (λ (c : Carried). c.opening.sub ≡ 0) (carried_from place channels)
 
   gives_one : (place : ℕ) (c : ChannelPhase) (kind : DeviceSpec) → c.kind ≡ kind → subs_of kind ≡ 0 → (c.device ≡ place) → (c.opened ≡ opened_by_device c.device earlier part)
-      → CarriesIfOpened c.opened number (place + 1) c.device c.kind (asks_to place (dests earlier part)) c.runs c.served → Gives p c.opened place c.kind c.runs c.served
+      → CarriesIfOpened c.opened number (place + 1) c.device (device_order earlier part place c.kind) c.runs c.served c.told → Gives p c.opened place c.kind c.runs c.served c.told
   gives_one place c kind is none device opened carries =
-      gives c.opened place c.kind c.runs c.served (ap subs_of is ∙ none)
+      gives c.opened place c.kind c.runs c.served c.told (ap subs_of is ∙ none)
       (λ yes. none_of (ended_by place earlier) (ap (λ d. is_none (ended_by d earlier)) (sym device) ∙ served_open (is_none (ended_by c.device earlier)) _ (sym opened ∙ yes)))
-      (subst (λ d. CarriesIfOpened c.opened number (place + 1) d c.kind (asks_to place (dests earlier part)) c.runs c.served) device carries)
+      (subst (λ d. CarriesIfOpened c.opened number (place + 1) d (device_order earlier part place c.kind) c.runs c.served c.told) device carries)
 
   first_of_one : (b : Bool) (d : ℕ) (k : DeviceSpec) (runs : List ChannelRun) (served : List Served) → AllByRecursion (λ (c : Carried). c.opening.sub ≡ 0) (carried_of b d k runs served)
   first_of_one false d k runs served = tt
@@ -227,14 +190,14 @@ module _ (number : ℕ) (earlier part : List Line) (os : List Opening) where
       by_flag true = refl
       by_flag false = refl
 
-  new_seats : (d place : ℕ) (c : ChannelPhase) (rest : List Carried) → Gives p c.opened place c.kind c.runs c.served
+  new_seats : (d place : ℕ) (c : ChannelPhase) (rest : List Carried) → Gives p c.opened place c.kind c.runs c.served c.told
       → seats_of d (carried_of c.opened place c.kind c.runs c.served ++ rest) ≡ cond (nat_eq place d) (carried_of c.opened place c.kind c.runs c.served) [] ++ seats_of d rest
   new_seats d place c rest one = filter-append (λ (c : Carried). c.opening.device == d) (carried_of c.opened place c.kind c.runs c.served) rest ∙ ap (λ l. l ++ seats_of d rest) (one.seats d)
 
   -- what each channel gives, from a place on
   pub EachGives : ℕ → List ChannelPhase → Type 0
   EachGives place [] = Unit {0}
-  EachGives place (c ∷ channels) = (c.device ≡ place) × Gives p c.opened place c.kind c.runs c.served × EachGives (place + 1) channels
+  EachGives place (c ∷ channels) = (c.device ≡ place) × Gives p c.opened place c.kind c.runs c.served c.told × EachGives (place + 1) channels
 
   pub each_gives : (place : ℕ) (channels : List ChannelPhase) (kinds : List DeviceSpec) → map (λ c. c.kind) channels ≡ kinds → AllByRecursion (λ k. subs_of k ≡ 0) kinds → EachChannel earlier part number place channels → EachGives place channels
   unfolding EachGives
@@ -279,7 +242,7 @@ module _ (number : ℕ) (earlier part : List Line) (os : List Opening) where
       let new_is : seats_of d (cs ++ carried_from (place + 1) channels) ≡ cs = new ∙ (ap (λ b. cond b cs [] ++ seats_of d (carried_from (place + 1) channels)) yes ∙ (ap (λ l. cs ++ l) more.1 ∙ append-nil cs)) in
       subst (λ l. Kin l (map (λ (c : Carried). c.served) (seats_of d (cs ++ carried_from (place + 1) channels)))) (sym old_is)
       (subst (λ l. Kin (c.served ∷ []) (map (λ (c : Carried). c.served) l)) (sym new_is)
-      (kin_one c.opened cs c.served (λ e. (_, (each.1.opened_one e).1, refl)) (λ e. (unopened_none c.opened place c.kind c.runs c.served e, each.1.unopened e)))))
+      (kin_one c.opened cs c.served (λ e. (_, (each.1.opened_one e).1, refl)) (λ e. (unopened_none c.opened place c.kind c.runs c.served e, (each.1.unopened e).0)))))
       (λ no.
       let old_is : served_by d (c ∷ channels) ≡ served_by d channels = old ∙ ap (λ b. cond b (c.served ∷ []) [] ++ served_by d channels) no in
       let new_is : seats_of d (cs ++ carried_from (place + 1) channels) ≡ seats_of d (carried_from (place + 1) channels) = new ∙ ap (λ b. cond b cs [] ++ seats_of d (carried_from (place + 1) channels)) no in
@@ -296,12 +259,8 @@ module _ (number : ℕ) (earlier part : List Line) (os : List Opening) where
   each_grows d channels carried (x ∷ devices) kins each = (grows_kin x.before x.after _ _ (kins d) each.0, each_grows (d + 1) channels carried devices kins each.1)
 
   -- the outcomes of a device's requests
-  told : Carried → List LineResult
-  told c = outcomes_of (order_of p c.opening) c.served
-
-  no_stop_done : (o : Option (ℕ × Bool)) (m : ℕ) (served : List Served) → o ≡ None → outcomes_by o m served ≡ map done_of served
-  no_stop_done None m served e = refl
-  no_stop_done (Some k) m served e = absurd (cc)
+  told_of : Carried → List LineResult
+  told_of c = outcomes_of (order_of p c.opening) c.served
 
   of_one : (xs : List LineResult) (n : ℕ) → nth_of (xs ∷ []) n ≡ slice_get xs n
   of_one xs n =
@@ -310,24 +269,24 @@ module _ (number : ℕ) (earlier part : List Line) (os : List Opening) where
       let all : n / 1 ≡ n = omega (arith, div-add-mod' n 1, first) in
       ap (λ k. slice_get (slice_index_or (xs ∷ []) k []) (n / 1)) first ∙ ap (slice_get xs) all
 
-  here_told : (b : Bool) (device : ℕ) (spec : DeviceSpec) (runs : List ChannelRun) (served : List Served) (n : ℕ) → Gives p b device spec runs served → (b ≡ true ⊎ b ≡ false)
-      → nth_of (map told (carried_of b device spec runs served)) n ≡ slice_get (map done_of served) n
-  unfolding told
-  here_told b device spec runs served n one (inl is_open) =
+  here_told : (b : Bool) (device : ℕ) (spec : DeviceSpec) (runs : List ChannelRun) (served : List Served) (told : List LineResult) (n : ℕ) → Gives p b device spec runs served told → (b ≡ true ⊎ b ≡ false)
+      → nth_of (map told_of (carried_of b device spec runs served)) n ≡ slice_get told n
+  unfolding told_of
+  here_told b device spec runs served told n one (inl is_open) =
       let r = one.opened_one is_open in
       ap (λ l. nth_of (map (λ (c : Carried). outcomes_of (order_of p c.opening) c.served) l) n) r.1
       ∙ (of_one (outcomes_of (order_of p (the_opening device spec)) served) n
-      ∙ ap (λ l. slice_get l n) (no_stop_done (stop_of device part) (length (order_of p (the_opening device spec)).asks) served (no_stop device part)))
-  here_told b device spec runs served n one (inr not_open) =
+      ∙ ap (λ l. slice_get l n) (sym (one.outcomes is_open)))
+  here_told b device spec runs served told n one (inr not_open) =
       ap (λ l. nth_of (map (λ (c : Carried). outcomes_of (order_of p c.opening) c.served) l) n) (unopened_none b device spec runs served not_open)
-      ∙ sym (ap (λ l. slice_get (map done_of l) n) (one.unopened not_open))
+      ∙ sym (ap (λ l. slice_get l n) (one.unopened not_open).1)
 
   either_way : (b : Bool) → b ≡ true ⊎ b ≡ false
   either_way true = inl refl
   either_way false = inr refl
 
   told_same : (d i n place : ℕ) (channels : List ChannelPhase) → EachGives place channels → d ≡ place + i
-      → slice_get (slice_index_or (map outcomes_by_device channels) i []) n ≡ nth_of (map told (seats_of d (carried_from place channels))) n
+      → slice_get (slice_index_or (map (λ c. c.told) channels) i []) n ≡ nth_of (map told_of (seats_of d (carried_from place channels))) n
   unfolding EachGives
   told_same d i n place [] each is = refl
   told_same d zero n place (c ∷ channels) each is =
@@ -337,25 +296,25 @@ module _ (number : ℕ) (earlier part : List Line) (os : List Opening) where
       let new_is : seats_of d (cs ++ carried_from (place + 1) channels) ≡ cs =
       new_seats d place c (carried_from (place + 1) channels) each.1
       ∙ (ap (λ b. cond b cs [] ++ seats_of d (carried_from (place + 1) channels)) yes ∙ (ap (λ l. cs ++ l) more.1 ∙ append-nil cs)) in
-      sym (here_told c.opened place c.kind c.runs c.served n each.1 (either_way c.opened)) ∙ ap (λ l. nth_of (map told l) n) (sym new_is)
+      sym (here_told c.opened place c.kind c.runs c.served c.told n each.1 (either_way c.opened)) ∙ ap (λ l. nth_of (map told_of l) n) (sym new_is)
   told_same d (suc i) n place (c ∷ channels) each is =
       let cs = carried_of c.opened place c.kind c.runs c.served in
       let not_here : nat_eq place d ≡ false = grind (arith, nat_tests, is) in
       let new_is : seats_of d (cs ++ carried_from (place + 1) channels) ≡ seats_of d (carried_from (place + 1) channels) =
       new_seats d place c (carried_from (place + 1) channels) each.1 ∙ ap (λ b. cond b cs [] ++ seats_of d (carried_from (place + 1) channels)) not_here in
-      told_same d i n (place + 1) channels each.2 (omega (arith, is)) ∙ ap (λ l. nth_of (map told l) n) (sym new_is)
+      told_same d i n (place + 1) channels each.2 (omega (arith, is)) ∙ ap (λ l. nth_of (map told_of l) n) (sym new_is)
 
   -- the outcomes of the lines
   module _ (channels : List ChannelPhase) (each : EachGives 0 channels) where
     abbrev pub outs : List (List LineResult)
-    outs = map outcomes_by_device channels
+    outs = map (λ c. c.told) channels
 
     abbrev pub all : List Carried
     all = carried_from 0 channels
 
     ask_outcome : (c k k' : ℕ) (o o' : Option LineResult) (ask : Ask) → o' ≡ o → (o ≡ None → k' ≡ k) → outcome_by_device outs (At c k) ≡ slice_get (slice_index_or outs c []) k
         → (bd : List Dest) → length (asks_to c bd) ≡ k → outcome_by_device outs (address_of bd (dest_of o c ask)) ≡ outcome_at p all (known_or o' (AskedOf c k'))
-    unfolding told
+    unfolding told_of
     ask_outcome c k k' None o' ask is index here bd len =
         ap (slice_get (slice_index_or outs c [])) len ∙ (told_same c c k 0 channels each (omega arith) ∙ (ap (nth_of (told_by p all c)) (sym (index refl)) ∙ ap (λ o. outcome_at p all (known_or o (AskedOf c k'))) (sym is)))
     ask_outcome c k k' (Some r) o' ask is index here bd len = ap (λ o. outcome_at p all (known_or o (AskedOf c k'))) (sym is)
@@ -372,6 +331,7 @@ module _ (number : ℕ) (earlier part : List Line) (os : List Opening) where
         ask_outcome c (length (asks_to c (dests earlier before))) (length (asks_of c before)) (ended_by c earlier) (ended_as c earlier) ask (ended_same c earlier)
         (λ served. ap length (asks_same c earlier before served)) refl (dests earlier before) refl in
         ap (λ x. x ∷ map (outcome_by_device outs) (addresses_from (dests earlier before ++ dest_of (ended_by c earlier) c ask ∷ []) ds)) first ∙ ap (λ l. outcome_at p all (known_or (ended_as c earlier) (AskedOf c (length (asks_of c before)))) ∷ l) e
+    line_outcome before (IsRescind c after held) ds ss e = ap (λ b. map (outcome_by_device outs) (addresses_from b ds)) (sym (append-nil (dests earlier before))) ∙ e
     line_outcome before (IsShut c) ds ss e = ap (λ b. map (outcome_by_device outs) (addresses_from b ds)) (sym (append-nil (dests earlier before))) ∙ e
     line_outcome before IsPhase ds ss e = ap (λ b. map (outcome_by_device outs) (addresses_from b ds)) (sym (append-nil (dests earlier before))) ∙ e
 

@@ -1,4 +1,4 @@
--- No device of a script has a sub-channel.
+-- No device of a script that was read has a sub-channel.
 use Rattle.std.proofs.Common.{◌≡◌, ℕ, ◌+◌, Bool, true, false, ◌&&◌, List, [], ◌∷◌, ◌++◌, refl, subst, arith}
 use Rattle.std.specs.Prelude.{Option, Some, None, Result, Ok, Err, nat_le, unwrap_or, if◌then◌else◌}
 use Rattle.std.specs.List.{AllByRecursion}
@@ -9,18 +9,15 @@ use Rattle.script_text.specs.declared.fault.Why6.{Why6}
 use Rattle.script_text.specs.declared.fault.ScriptFault.{ScriptFault}
 use Rattle.script_lines.specs.declared.line.Line.{Line}
 use Rattle.script_lines.specs.declared.line.What.{What}
-use Rattle.script_lines.specs.declared.line.What.TheVariants.{Contact as IsContact, Offer as IsOffer, Bad as IsBad, RingSize as IsRingSize, Window as IsWindow, Ask as IsAsk, Shut as IsShut, Phase as IsPhase}
 use Rattle.script_lines.specs.declared.line.DeviceSpec.{DeviceSpec}
-use Rattle.script_lines.specs.declared.line.DeviceSpec.TheVariants.{Beat as IsBeat, Down as IsDown, Disk as IsDisk}
 use Rattle.script_lines.specs.declared.offering.Offering.{Offering}
 use Rattle.script_lines.specs.declared.offering.Offering.TheVariants.{Beat as OfBeat, Down as OfDown, Disk as OfDisk}
 use Rattle.script_lines.specs.declared.said.Said.{Said}
-use Rattle.script_lines.specs.declared.said.Said.TheVariants.{Nothing, Contact, Offer, Bad, Ring, Window, Beat, Down, Command, Close, Phase}
+use Rattle.script_lines.specs.declared.said.Said.TheVariants.{Nothing, Contact, Offer, Bad, Ring, Window, Beat, Down, Command, Rescind, Close, Phase}
 use Rattle.script_lines.specs.Parts.{offered, offered_by}
 use Rattle.script_lines.specs.Rows.{said_in}
 use Rattle.script_lines.specs.Faults.{device_said, fault_at}
 use Rattle.script_lines.specs.Grammar.{spec_of, what_of, numbered, said_lines, lines_at, or_fault, read_from, script_of}
-use Rattle.script_lines.specs.WellFormed.{IsDevice, IsRight, AllRight, IsScript}
 use Rattle.script_phases.specs.Openings.{subs_of}
 use Rattle.bus_model.specs.ByDeviceLaws.{NoSubs}
 use Rattle.bus_model.proofs.Lists.{each_append}
@@ -67,6 +64,7 @@ what_single device (Window name size) = tt
 what_single device (Beat name seq) = tt
 what_single device (Down name flags) = tt
 what_single device (Command name ask) = tt
+what_single device (Rescind name after held) = tt
 what_single device (Close name) = tt
 what_single device Phase = tt
 
@@ -94,27 +92,3 @@ read_single (line ∷ rest) number before single =
 
 pub script_no_subs : (bytes : List ℕ) (said : List Line) → script_of bytes ≡ Ok said → NoSubs said
 script_no_subs bytes said is = all_single said (subst SingleRead is (read_single (lines bytes) 1 [] tt))
-
--- lines that are right
-
-device_single : (spec : DeviceSpec) → IsDevice spec → Single spec
-device_single IsBeat is = refl
-device_single IsDown is = refl
-device_single (IsDisk blocks subs) is = is.2
-
-right_single : (kinds : List DeviceSpec) (what : What) → IsRight kinds what → SingleWhat what
-right_single kinds (IsContact guest host) is = tt
-right_single kinds (IsOffer name spec) is = (device_single spec is, tt)
-right_single kinds (IsBad device lba) is = tt
-right_single kinds (IsRingSize device pages) is = tt
-right_single kinds (IsWindow device size) is = tt
-right_single kinds (IsAsk device ask) is = tt
-right_single kinds (IsShut device) is = tt
-right_single kinds IsPhase is = tt
-
-all_right : (kinds : List DeviceSpec) (said : List Line) → AllRight kinds said → AllByRecursion SingleLine said
-all_right kinds [] right = tt
-all_right kinds (l ∷ said) right = (right_single kinds l.what right.0, all_right kinds said right.1)
-
-pub is_script_no_subs : (said : List Line) → IsScript said → NoSubs said
-is_script_no_subs said script = all_single said (all_right (offered said) said script.right)

@@ -1,38 +1,27 @@
 -- What the lines of a phase say to its devices, in the words of the run by devices.
 use Rattle.std.proofs.Common.{◌≡◌, ℕ, ◌+◌, ◌<◌, ◌%◌, Bool, true, false, cond, ◌||◌, ◌&&◌, not, List, [], ◌∷◌, ◌++◌, nat_eq, refl, sym, ap, ◌∙◌, arith, Option, Some, None}
-use Rattle.std.specs.Prelude.{is_none, is_some, slice_get, if◌then◌else◌}
+use Rattle.std.specs.Prelude.{is_none, if◌then◌else◌}
 use Rattle.std.specs.List.{flat_map, list_any}
 use Rattle.std.proofs.Math.Nat.{mod-lt}
 use Rattle.std.proofs.lemmas.Bool.Decides.{nat_tests}
 use Rattle.scsi_disk.proofs.RoomLaws.{by_test}
 use Rattle.script_lines.specs.declared.line.Line.{Line}
 use Rattle.script_lines.specs.declared.line.What.{What}
-use Rattle.script_lines.specs.declared.line.What.TheVariants.{Contact as IsContact, Offer as IsOffer, Bad as IsBad, RingSize as IsRingSize, Window as IsWindow, Ask as IsAsk, Shut as IsShut, Phase as IsPhase}
+use Rattle.script_lines.specs.declared.line.What.TheVariants.{Contact as IsContact, Offer as IsOffer, Bad as IsBad, RingSize as IsRingSize, Window as IsWindow, Ask as IsAsk, Rescind as IsRescind, Shut as IsShut, Phase as IsPhase}
 use Rattle.script_lines.specs.declared.line.Ask.{Ask}
-use Rattle.script_lines.specs.Parts.{shuts as line_shuts}
-use Rattle.script_phases.specs.Says.{Says, Asks, Shuts, heard_by, said, said_to, asked, stops, rescinds, shuts, asks_of, stop_of, is_rescinded, is_shut}
+use Rattle.script_lines.specs.Parts.{rescinds as line_rescinds, shuts as line_shuts}
+use Rattle.script_phases.specs.Says.{Says, Asks, Rescinds, Shuts, heard_by, said, said_to, asked, asks_of, is_rescinded, is_shut}
 use Rattle.script_phases.specs.Openings.{is_opened}
 use Rattle.script_phases.specs.Shares.{share}
+use Rattle.script_phases.proofs.Saying.{speaks, rescind_same, shut_same}
 use Rattle.bus_script.specs.declared.outcome.LineResult.{LineResult}
 use Rattle.bus_script.specs.declared.outcome.LineResult.TheVariants.{Gone, Closed}
 use Rattle.bus_model.specs.Dests.{Dest, dest_of, dest_in, dests, asked_in, asks_to, ended_by, wants_open, is_opened as opened_by_device}
 use Rattle.bus_model.specs.Run.{ended_as}
 
-any_none : {X : Type 0} (f : X → Bool) (b : Bool) (x : X) (xs : List X) → f x ≡ false → list_any f (cond b (x ∷ []) [] ++ xs) ≡ list_any f xs
-any_none f true x xs e = ap (λ c. c || list_any f xs) e
-any_none f false x xs e = refl
-
-any_same : {X : Type 0} (f : X → Bool) (b : Bool) (x : X) (xs : List X) → f x ≡ true → list_any f (cond b (x ∷ []) [] ++ xs) ≡ (b || list_any f xs)
-any_same f true x xs e = ap (λ c. c || list_any f xs) e
-any_same f false x xs e = refl
-
 flat_none : {X Y : Type 0} (f : X → List Y) (b : Bool) (x : X) (xs : List X) → f x ≡ [] → flat_map f (cond b (x ∷ []) [] ++ xs) ≡ flat_map f xs
 flat_none f true x xs e = ap (λ l. l ++ flat_map f xs) e
 flat_none f false x xs e = refl
-
--- something stands there
-abbrev speaks : {X : Type 0} → List X → Bool
-speaks xs = is_some (slice_get xs 0)
 
 speaks_if : {X : Type 0} (b : Bool) (x : X) (xs : List X) → speaks (cond b (x ∷ []) [] ++ xs) ≡ (b || speaks xs)
 speaks_if true x xs = refl
@@ -43,34 +32,6 @@ asked_if true a xs = refl
 asked_if false a xs = refl
 
 module _ (d : ℕ) where
-  rescind_line : (w : What) (ss : List Says) → list_any rescinds ss ≡ false → list_any rescinds (heard_by d (said w) ++ ss) ≡ false
-  rescind_line (IsContact guest host) ss e = e
-  rescind_line (IsOffer name spec) ss e = e
-  rescind_line (IsBad c lba) ss e = e
-  rescind_line (IsRingSize c pages) ss e = e
-  rescind_line (IsWindow c size) ss e = e
-  rescind_line (IsAsk c ask) ss e = any_none rescinds (nat_eq c d) (Asks ask) ss refl ∙ e
-  rescind_line (IsShut c) ss e = any_none rescinds (nat_eq c d) Shuts ss refl ∙ e
-  rescind_line IsPhase ss e = e
-
-  pub none_rescinded : (ls : List Line) → is_rescinded d ls ≡ false
-  none_rescinded [] = refl
-  none_rescinded (l ∷ ls) = rescind_line l.what (said_to d ls) (none_rescinded ls)
-
-  shut_line : (w : What) (ss : List Says) (rest : Bool) → list_any shuts ss ≡ rest → list_any shuts (heard_by d (said w) ++ ss) ≡ (line_shuts d w || rest)
-  shut_line (IsContact guest host) ss rest e = e
-  shut_line (IsOffer name spec) ss rest e = e
-  shut_line (IsBad c lba) ss rest e = e
-  shut_line (IsRingSize c pages) ss rest e = e
-  shut_line (IsWindow c size) ss rest e = e
-  shut_line (IsAsk c ask) ss rest e = any_none shuts (nat_eq c d) (Asks ask) ss refl ∙ e
-  shut_line (IsShut c) ss rest e = any_same shuts (nat_eq c d) Shuts ss refl ∙ ap (λ r. nat_eq c d || r) e
-  shut_line IsPhase ss rest e = e
-
-  pub shut_same : (ls : List Line) → is_shut d ls ≡ list_any (λ l. line_shuts d l.what) ls
-  shut_same [] = refl
-  shut_same (l ∷ ls) = shut_line l.what (said_to d ls) _ (shut_same ls)
-
   open_line : (w : What) (ss : List Says) (rest : Bool) → speaks ss ≡ rest → speaks (heard_by d (said w) ++ ss) ≡ (wants_open d w || rest)
   open_line (IsContact guest host) ss rest e = e
   open_line (IsOffer name spec) ss rest e = e
@@ -78,6 +39,7 @@ module _ (d : ℕ) where
   open_line (IsRingSize c pages) ss rest e = e
   open_line (IsWindow c size) ss rest e = e
   open_line (IsAsk c ask) ss rest e = speaks_if (nat_eq c d) (Asks ask) ss ∙ ap (λ r. nat_eq c d || r) e
+  open_line (IsRescind c after held) ss rest e = speaks_if (nat_eq c d) (Rescinds after held) ss ∙ ap (λ r. nat_eq c d || r) e
   open_line (IsShut c) ss rest e = speaks_if (nat_eq c d) Shuts ss ∙ ap (λ r. nat_eq c d || r) e
   open_line IsPhase ss rest e = e
 
@@ -85,41 +47,24 @@ module _ (d : ℕ) where
   open_same [] = refl
   open_same (l ∷ ls) = open_line l.what (said_to d ls) _ (open_same ls)
 
-  stop_line : (w : What) (ss : List Says) → flat_map stops ss ≡ [] → flat_map stops (heard_by d (said w) ++ ss) ≡ []
-  stop_line (IsContact guest host) ss e = e
-  stop_line (IsOffer name spec) ss e = e
-  stop_line (IsBad c lba) ss e = e
-  stop_line (IsRingSize c pages) ss e = e
-  stop_line (IsWindow c size) ss e = e
-  stop_line (IsAsk c ask) ss e = flat_none stops (nat_eq c d) (Asks ask) ss refl ∙ e
-  stop_line (IsShut c) ss e = flat_none stops (nat_eq c d) Shuts ss refl ∙ e
-  stop_line IsPhase ss e = e
-
-  none_stop : (ls : List Line) → flat_map stops (said_to d ls) ≡ []
-  none_stop [] = refl
-  none_stop (l ∷ ls) = stop_line l.what (said_to d ls) (none_stop ls)
-
-  pub no_stop : (ls : List Line) → stop_of d ls ≡ None
-  no_stop ls = ap (λ l. slice_get l 0) (none_stop ls)
-
-  ended_if : (r s : Bool) → r ≡ false → (if r then Some Gone else if s then Some Closed else None) ≡ (if s then Some Closed else None)
-  ended_if true s e = absurd (cc)
-  ended_if false s e = refl
-
   pub ended_same : (earlier : List Line) → ended_as d earlier ≡ ended_by d earlier
   ended_same earlier =
-      ended_if (is_rescinded d earlier) (is_shut d earlier) (none_rescinded earlier) ∙ ap (λ (s : Bool). if s then Some Closed else None) (shut_same earlier)
+      ap (λ (r : Bool). if r then Some Gone else if is_shut d earlier then Some Closed else None) (rescind_same d earlier)
+      ∙ ap (λ (s : Bool). if list_any (λ l. line_rescinds d l.what) earlier then Some Gone else if s then Some Closed else None) (shut_same d earlier)
 
-  none_if : (s : Bool) → not s ≡ is_none (if s then Some Closed else None)
-  none_if true = refl
-  none_if false = refl
+  none_if : (r s : Bool) → not (r || s) ≡ is_none (if r then Some Gone else if s then Some Closed else None)
+  none_if true s = refl
+  none_if false true = refl
+  none_if false false = refl
 
   pub opened_same : (earlier part : List Line) → is_opened earlier part d ≡ opened_by_device d earlier part
   opened_same earlier part =
-      ap (λ r. not (r || is_shut d earlier) && speaks (said_to d part)) (none_rescinded earlier)
-      ∙ (ap (λ s. not s && speaks (said_to d part)) (shut_same earlier)
-      ∙ (ap (λ o. not (list_any (λ l. line_shuts d l.what) earlier) && o) (open_same part)
-      ∙ ap (λ n. n && list_any (λ l. wants_open d l.what) part) (none_if (list_any (λ l. line_shuts d l.what) earlier))))
+      let r : Bool = list_any (λ l. line_rescinds d l.what) earlier in
+      let s : Bool = list_any (λ l. line_shuts d l.what) earlier in
+      ap (λ b. not (b || is_shut d earlier) && speaks (said_to d part)) (rescind_same d earlier)
+      ∙ (ap (λ b. not (r || b) && speaks (said_to d part)) (shut_same d earlier)
+      ∙ (ap (λ o. not (r || s) && o) (open_same part)
+      ∙ ap (λ n. n && list_any (λ l. wants_open d l.what) part) (none_if r s)))
 
   -- the requests of a device that is still served
   not_to : (o : Option LineResult) (c : ℕ) (ask : Ask) → nat_eq c d ≡ false → asked_in d (dest_of o c ask) ≡ []
@@ -144,6 +89,7 @@ module _ (d : ℕ) where
   ask_line earlier (IsRingSize c pages) ss ds served e = e
   ask_line earlier (IsWindow c size) ss ds served e = e
   ask_line earlier (IsAsk c ask) ss ds served e = asked_if (nat_eq c d) ask ss ∙ (ap (λ l. l ++ flat_map asked ss) (asked_same earlier c ask served) ∙ ap (λ l. asked_in d (dest_of (ended_by c earlier) c ask) ++ l) e)
+  ask_line earlier (IsRescind c after held) ss ds served e = flat_none asked (nat_eq c d) (Rescinds after held) ss refl ∙ e
   ask_line earlier (IsShut c) ss ds served e = flat_none asked (nat_eq c d) Shuts ss refl ∙ e
   ask_line earlier IsPhase ss ds served e = e
 

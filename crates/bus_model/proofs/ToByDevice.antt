@@ -20,54 +20,19 @@ use Rattle.bus_speech.specs.Speeches.{speech_of}
 use Rattle.bus_model.specs.Served.{Served}
 use Rattle.bus_model.specs.Dests.{dests, asks_to, ended_by, is_opened as opened_by_device}
 use Rattle.bus_model.specs.Logs.{Recorded, served_from, Grows, log_of}
-use Rattle.bus_model.specs.ByDevice.{ChannelPhase, EachChannel, DevicePhase, served_by, EachDevice, RunFrom, Carries as CarriesByDevice, IsChannelRun as RunsOfDevice, PhaseRuns as PhaseByDevice}
+use Rattle.bus_model.specs.ByDevice.{ChannelPhase, EachChannel, DevicePhase, served_by, EachDevice, RunFrom, device_order, PhaseRuns as PhaseByDevice}
 use Rattle.bus_model.specs.Orders.{order_of}
-use Rattle.bus_model.specs.Channel.{IsChannelRun, Carries, replies_to}
+use Rattle.bus_model.specs.Channel.{IsChannelRun, outcomes_of}
 use Rattle.bus_model.specs.Run.{Carried, IsCarried, seats_of, EachGrows, sources_from, outcome_at, PhaseRuns, RunsOf, over, then_on}
 use Rattle.bus_model.specs.ByDeviceLaws.{SaysNoLess}
 use Rattle.bus_model.specs.declared.channel_run.ChannelRun.{ChannelRun}
 use Rattle.bus_model.proofs.SameLines.{opened_same}
-use Rattle.bus_model.proofs.FromByDevice.{answers_all, plain, the_opening, phase_of, plain_order, carried_from, Kin, same, left_out, each_gives, kin, lines_outcomes}
-
--- a channel's run, where nothing stops
-
-carries_back : (side : Side) (kind : Kind) (asks : List Ask) (lists : Lists) (served : List Served) → replies_to (plain kind asks) served ≡ served
-    → Carries side (plain kind asks) lists served → CarriesByDevice side kind asks lists served
-carries_back Guest kind asks lists served all run = record {
-  front = run.front;
-  whole_got = run.whole_got;
-  answers_got = run.answers_got;
-  requests = run.requests;
-  whole = run.whole;
-  served = run.served;
-  started = run.started;
-  asked = run.asked;
-  count = run.count;
-  replies = ap (map (λ c. c.reply)) (sym all) ∙ run.replies;
-}
-carries_back Host kind asks lists served all run = record {
-  front = run.front;
-  whole_got = run.whole_got;
-  answers_got = run.answers_got;
-  requests = run.requests;
-  whole = run.whole;
-  served = run.served;
-  started = run.started;
-  asked = run.asked;
-  count = run.count;
-  replies = ap (map (λ c. c.reply)) (sym all) ∙ run.replies;
-}
-
-plain_back : (kind : Kind) (asks : List Ask) (lists : Lists) (served : List Served) → IsChannelRun (plain kind asks) lists served → RunsOfDevice kind asks lists served
-plain_back kind asks lists served run =
-    let serves : map (λ s. s.request) served ≡ asks = run.serves ∙ take_all (length asks) asks (omega arith) in
-    let count : length served ≡ length asks = sym (length-map served (λ s. s.request)) ∙ ap length serves in
-    record { carried = carries_back (side_that_asks kind) kind asks lists served (answers_all (speech_of kind) (length asks) served (omega (arith, count))) run.carried; serves = serves }
+use Rattle.bus_model.proofs.FromByDevice.{the_opening, phase_of, same_order, carried_from, Kin, same, left_out, each_gives, kin, lines_outcomes}
 
 -- the channels of all devices, of which those that were opened carried these
 
-abbrev channel_of : ℕ → DeviceSpec → Bool → List ChannelRun → List Served → ChannelPhase
-channel_of place kind opened runs served = record { device = place; kind = kind; opened = opened; runs = runs; served = served }
+abbrev channel_of : ℕ → DeviceSpec → Bool → List ChannelRun → List Served → List LineResult → ChannelPhase
+channel_of place kind opened runs served told = record { device = place; kind = kind; opened = opened; runs = runs; served = served; told = told }
 
 record Rebuilt (number : ℕ) (earlier part : List Line) (place : ℕ) (kinds : List DeviceSpec) (carried : List Carried) : Type 0 where
   pub channels : List ChannelPhase
@@ -102,20 +67,21 @@ module _ (number : ℕ) (earlier part : List Line) (os : List Opening) where
   with_one place k kinds c carried none is_open is one rest =
       let served : ended_by place earlier ≡ None = is_served (ended_by place earlier) (not_opened (is_none (ended_by place earlier)) _ is_open) in
       let here : IsChannelRun (order_of p (the_opening place k)) c.run.settled c.served = subst (λ o. IsChannelRun (order_of p o) c.run.settled c.served) is one.carried in
-      let old = plain_back (kind_of k) (asks_to place (dests earlier part)) c.run.settled c.served (subst (λ o. IsChannelRun o c.run.settled c.served) (plain_order number earlier part os place k none served) here) in
+      let order = same_order number earlier part os place k none served in
+      let old = subst (λ o. IsChannelRun o c.run.settled c.served) order here in
       record {
-        channels = channel_of place k true (c.run ∷ []) c.served ∷ rest.channels;
+        channels = channel_of place k true (c.run ∷ []) c.served (outcomes_of (device_order earlier part place k) c.served) ∷ rest.channels;
         kinds_are = ap (λ l. k ∷ l) rest.kinds_are;
-        each = (record { device = refl; opened = sym is_open; carries = (one.phase, one.relid ∙ ap (λ o. o.relid) is, one.device ∙ ap (λ o. o.device) is, old) }, rest.each);
+        each = (record { device = refl; opened = sym is_open; carries = (one.phase, one.relid ∙ ap (λ o. o.relid) is, one.device ∙ ap (λ o. o.device) is, old, refl) }, rest.each);
         runs_are = ap (λ l. c.run ∷ l) rest.runs_are;
         carried_are = ap (λ o. record { opening = o; run = c.run; served = c.served } ∷ carried_from (place + 1) rest.channels) (sym is) ∙ ap (λ l. c ∷ l) rest.carried_are;
       }
 
   without_one : (place : ℕ) (k : DeviceSpec) (kinds : List DeviceSpec) (carried : List Carried) → opened_by_device place earlier part ≡ false → Rebuilt number earlier part (place + 1) kinds carried → Rebuilt number earlier part place (k ∷ kinds) carried
   without_one place k kinds carried is_open rest = record {
-    channels = channel_of place k false [] [] ∷ rest.channels;
+    channels = channel_of place k false [] [] [] ∷ rest.channels;
     kinds_are = ap (λ l. k ∷ l) rest.kinds_are;
-    each = (record { device = refl; opened = sym is_open; carries = (refl, refl) }, rest.each);
+    each = (record { device = refl; opened = sym is_open; carries = (refl, refl, refl) }, rest.each);
     runs_are = rest.runs_are;
     carried_are = rest.carried_are;
   }

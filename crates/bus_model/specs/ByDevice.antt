@@ -1,64 +1,45 @@
--- A run of the bus device by device, where each device has one channel and none is rescinded: what the run of a script still gives. The run of Run.antt says
--- the same of such a script.
+-- A run of the bus device by device, where each device has one channel: what the run of a script still gives. The run of Run.antt says the same of such a script.
 use Rattle.std.specs.Prelude.{ℕ, ◌≡◌, ◌+◌, ◌==◌, Bool, true, false, List, [], ◌∷◌, ◌++◌, map, filter, Option, Some, None, slice_get, slice_index_or}
 use Rattle.std.specs.List.{flat_map}
-use Rattle.contact.specs.declared.kind.Kind.{Kind}
-use Rattle.io_edge.specs.declared.side.Side.{Side}
-use Rattle.ring_model.specs.Lists.{Lists}
 use Rattle.script_lines.specs.declared.line.Line.{Line}
-use Rattle.script_lines.specs.declared.line.Ask.{Ask}
 use Rattle.script_lines.specs.declared.line.DeviceSpec.{DeviceSpec}
 use Rattle.script_lines.specs.Parts.{parts, offered, kind_of}
+use Rattle.script_phases.specs.Says.{stop_of}
 use Rattle.bus_script.specs.declared.outcome.LineResult.{LineResult}
-use Rattle.bus_speech.specs.Wants.{startup}
-use Rattle.bus_speech.specs.declared.want.Want.{Want}
-use Rattle.bus_speech.specs.declared.want.Want.TheVariants.{Script}
-use Rattle.bus_speech.specs.Speeches.{speech_of}
-use Rattle.work_model.specs.Channel.{Plan, IsChannelRun as Runs}
-use Rattle.work_model.specs.Roles.{side_that_asks}
-use Rattle.bus_model.specs.Served.{Served, done_of}
-use Rattle.bus_model.specs.Channel.{sent_by, got_by, other}
+use Rattle.bus_model.specs.Served.{Served}
+use Rattle.bus_model.specs.Orders.{Order, only_order}
+use Rattle.bus_model.specs.Channel.{IsChannelRun, outcomes_of}
 use Rattle.bus_model.specs.Dests.{Address, At, Fixed, dests, asks_to, addresses, is_opened}
 use Rattle.bus_model.specs.Logs.{Recorded, Grows, EachHistory, log_of}
 use Rattle.bus_model.specs.declared.channel_run.ChannelRun.{ChannelRun}
 use Rattle.bus_model.specs.declared.history.DeviceHistory.{DeviceHistory}
 
--- what the end that asks has to ask in a phase: the requests of the start-up, and those of the script
-abbrev pub plan_of : Kind → List Ask → Plan Want
-plan_of kind asks = record { start = startup kind; script = map Script asks; stop = None }
+-- what a phase orders of a device's channel behind these earlier lines
+abbrev pub device_order : List Line → List Line → ℕ → DeviceSpec → Order
+device_order earlier part device spec = only_order (kind_of spec) (asks_to device (dests earlier part)) (stop_of device part)
 
--- What the end that asks and the end that serves sent and got is the run of one plan: all that was sent was got, as it was sent; the packets of the
--- one end ask the start-up's and the script's requests, in order; the packets of the other end answer them, in order, with what was served
-abbrev pub Carries : Side → Kind → List Ask → Lists → List Served → Type 0
-Carries asks_at kind asks lists served =
-    Runs (speech_of kind) (plan_of kind asks) (sent_by asks_at lists) (got_by asks_at lists) (sent_by (other asks_at) lists) (got_by (other asks_at) lists) served (map (λ s. s.reply) served)
-
--- and what was served is what was asked, in order
-pub record IsChannelRun (kind : Kind) (asks : List Ask) (lists : Lists) (served : List Served) : Type 0 where
-  pub carried : Carries (side_that_asks kind) kind asks lists served
-  pub serves : map (λ s. s.request) served ≡ asks
-
--- a channel in one phase: its device, what it carried, where it was opened, and what it served
+-- a channel in one phase: its device, what it carried, where it was opened, what it served, and the outcomes of its requests
 pub record ChannelPhase : Type 0 where
   pub device : ℕ
   pub kind : DeviceSpec
   pub opened : Bool
   pub runs : List ChannelRun
   pub served : List Served
+  pub told : List LineResult
 
--- an opened channel carried one run: of the phase, the relid and the device, with these requests. One that wasn't opened carried none
-abbrev pub CarriesIfOpened : Bool → ℕ → ℕ → ℕ → DeviceSpec → List Ask → List ChannelRun → List Served → Type 0
-CarriesIfOpened false phase relid device kind asks runs served = (runs ≡ []) × (served ≡ [])
-CarriesIfOpened true phase relid device kind asks [] served = ⊥
-CarriesIfOpened true phase relid device kind asks (r ∷ []) served =
-    (r.phase ≡ phase) × (r.relid ≡ relid) × (r.device ≡ device) × IsChannelRun (kind_of kind) asks r.settled served
-CarriesIfOpened true phase relid device kind asks (r ∷ s ∷ runs) served = ⊥
+-- an opened channel carried one run: of the phase, the relid and the device, by this order, and the outcomes are the order's. One that wasn't opened carried none
+abbrev pub CarriesIfOpened : Bool → ℕ → ℕ → ℕ → Order → List ChannelRun → List Served → List LineResult → Type 0
+CarriesIfOpened false phase relid device order runs served told = (runs ≡ []) × (served ≡ []) × (told ≡ [])
+CarriesIfOpened true phase relid device order [] served told = ⊥
+CarriesIfOpened true phase relid device order (r ∷ []) served told =
+    (r.phase ≡ phase) × (r.relid ≡ relid) × (r.device ≡ device) × IsChannelRun order r.settled served × (told ≡ outcomes_of order served)
+CarriesIfOpened true phase relid device order (r ∷ s ∷ runs) served told = ⊥
 
 -- the channel with this place among the phase's channels; relids count from 1
 pub record IsChannelPhase (earlier part : List Line) (phase place : ℕ) (c : ChannelPhase) : Type 0 where
   pub device : c.device ≡ place
   pub opened : c.opened ≡ is_opened c.device earlier part
-  pub carries : CarriesIfOpened c.opened phase (place + 1) c.device c.kind (asks_to place (dests earlier part)) c.runs c.served
+  pub carries : CarriesIfOpened c.opened phase (place + 1) c.device (device_order earlier part place c.kind) c.runs c.served c.told
 
 -- the channels from one on, in order of their relids
 abbrev pub EachChannel : List Line → List Line → ℕ → ℕ → List ChannelPhase → Type 0
@@ -80,10 +61,6 @@ abbrev pub EachDevice : ℕ → List ChannelPhase → List DevicePhase → Type 
 EachDevice device channels [] = Unit {0}
 EachDevice device channels (d ∷ devices) = Grows d.before d.after (served_by device channels) × EachDevice (device + 1) channels devices
 
--- the outcomes of a channel's requests
-abbrev pub outcomes_of : ChannelPhase → List LineResult
-outcomes_of c = map done_of c.served
-
 -- the outcome of a line
 abbrev pub outcome_at : List (List LineResult) → Address → Option LineResult
 outcome_at outcomes (At channel place) = slice_get (slice_index_or outcomes channel []) place
@@ -100,7 +77,7 @@ pub record PhaseRuns (kinds : List DeviceSpec) (phase : ℕ) (earlier part : Lis
   pub each_channel : EachChannel earlier part phase 0 channels
   pub each_device : EachDevice 0 channels devices
   pub runs_are : runs ≡ flat_map (λ c. c.runs) channels
-  pub outcomes : map (λ r. Some r) told ≡ map (outcome_at (map outcomes_of channels)) (addresses earlier part)
+  pub outcomes : map (λ r. Some r) told ≡ map (outcome_at (map (λ c. c.told) channels)) (addresses earlier part)
 
 -- phases, one after the other, behind the lines of the earlier ones: histories go on, and what was carried and the outcomes stand in order
 abbrev pub RunFrom : List DeviceSpec → ℕ → List Line → List (List Line) → List (List Recorded) → List ChannelRun → List (List Recorded) → List LineResult → Type 0

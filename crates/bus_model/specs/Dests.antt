@@ -4,15 +4,16 @@ use Rattle.std.specs.List.{flat_map, list_any}
 use Rattle.contact.specs.Versions.{versions_tried}
 use Rattle.script_lines.specs.declared.line.Line.{Line}
 use Rattle.script_lines.specs.declared.line.What.{What}
-use Rattle.script_lines.specs.declared.line.What.TheVariants.{Contact as IsContact, Offer as IsOffer, RingSize as IsRingSize, Window as IsWindow, Bad as IsBad, Ask as IsAsk, Shut as IsShut, Phase as IsPhase}
+use Rattle.script_lines.specs.declared.line.What.TheVariants.{Contact as IsContact, Offer as IsOffer, RingSize as IsRingSize, Window as IsWindow, Bad as IsBad, Ask as IsAsk, Rescind as IsRescind, Shut as IsShut, Phase as IsPhase}
 use Rattle.script_lines.specs.declared.line.Ask.{Ask}
 use Rattle.bus_script.specs.declared.outcome.LineResult.{LineResult}
-use Rattle.bus_script.specs.declared.outcome.LineResult.TheVariants.{Version as Agreed, Closed}
-use Rattle.script_lines.specs.Parts.{shuts}
+use Rattle.bus_script.specs.declared.outcome.LineResult.TheVariants.{Version as Agreed, Gone, Closed}
+use Rattle.script_lines.specs.Parts.{rescinds, shuts}
 
--- the outcome that an earlier phase leaves for all requests of a device: none while the device is still served
+-- the outcome that an earlier phase leaves for all requests of a device: none while the device is still served; a rescind goes before a close
 abbrev pub ended_by : ℕ → List Line → Option LineResult
-ended_by device earlier = if list_any (λ l. shuts device l.what) earlier then Some Closed else None
+ended_by device earlier =
+    if list_any (λ l. rescinds device l.what) earlier then Some Gone else if list_any (λ l. shuts device l.what) earlier then Some Closed else None
 
 -- what gives a line its outcome: a channel of the phase that is asked this, or the line and the earlier phases alone
 pub data Dest : Type 0 where
@@ -31,6 +32,7 @@ dest_in earlier (IsRingSize device pages) = []
 dest_in earlier (IsWindow device size) = []
 dest_in earlier (IsBad device lba) = []
 dest_in earlier (IsAsk device ask) = dest_of (ended_by device earlier) device ask ∷ []
+dest_in earlier (IsRescind device after held) = []
 dest_in earlier (IsShut device) = []
 dest_in earlier IsPhase = []
 
@@ -54,10 +56,11 @@ wants_open device (IsRingSize d pages) = false
 wants_open device (IsWindow d size) = false
 wants_open device (IsBad d lba) = false
 wants_open device (IsAsk d ask) = d == device
+wants_open device (IsRescind d after held) = d == device
 wants_open device (IsShut d) = d == device
 wants_open device IsPhase = false
 
--- a device is opened in a phase that has a request or a close for it and in which it is still served
+-- a device is opened in a phase that has a request, a rescind or a close for it and in which it is still served
 abbrev pub is_opened : ℕ → List Line → List Line → Bool
 is_opened device earlier part = is_none (ended_by device earlier) && list_any (λ l. wants_open device l.what) part
 

@@ -1,5 +1,5 @@
 -- Laws of runs.
-use Rattle.std.specs.Prelude.{ℕ, ◌≡◌, ◌≤◌, ◌<◌, ◌+◌, ◌-◌, ◌*◌, min, true, false, List, [], ◌∷◌, ◌++◌, length, map, take, replicate, count_by, Some, None, Ok}
+use Rattle.std.specs.Prelude.{ℕ, ◌≡◌, ◌≤◌, ◌<◌, ◌+◌, ◌-◌, ◌*◌, min, Bool, true, false, List, [], ◌∷◌, ◌++◌, length, map, take, replicate, count_by, slice_index_or, Some, None, Ok}
 use Rattle.std.specs.List.{AllByRecursion, flat_map}
 use Rattle.chan_run.specs.Runs.{IsFront}
 use Rattle.script_lines.specs.Grammar.{script_of}
@@ -9,7 +9,7 @@ use Rattle.script_lines.specs.declared.line.Ask.{Ask}
 use Rattle.script_phases.specs.Says.{Asks, is_rescinded, is_shut}
 use Rattle.script_phases.specs.Openings.{Phase, phases, by_relid}
 use Rattle.bus_script.specs.declared.outcome.LineResult.{LineResult}
-use Rattle.bus_script.specs.declared.outcome.LineResult.TheVariants.{Done, RescindedServed, Unserved, Gone, Closed}
+use Rattle.bus_script.specs.declared.outcome.LineResult.TheVariants.{Version, Done, RescindedServed, Unserved, Gone, Closed}
 use Rattle.bus_script.specs.declared.outcome.Reply.{Reply}
 use Rattle.bus_script.specs.Report.{prints, runs_back}
 use Rattle.bus_speech.specs.Wants.{IsAskable}
@@ -21,8 +21,9 @@ use Rattle.work_model.specs.Outcome.{Outcome, Done as IsDone, RescindedServed as
 use Rattle.work_model.specs.Roles.{side_that_asks}
 use Rattle.bus_model.specs.Served.{Served, done_of}
 use Rattle.bus_model.specs.Orders.{Order}
-use Rattle.bus_model.specs.Channel.{IsChannelRun, Carries, served_count, replies_to, rescinded_of, outcomes_of}
-use Rattle.bus_model.specs.Run.{IsBusRun, Known, source_said}
+use Rattle.bus_model.specs.Channel.{IsChannelRun, Carries, served_count, is_held, replies_to, rescinded_of, outcomes_of}
+use Rattle.bus_model.specs.Logs.{Recorded}
+use Rattle.bus_model.specs.Run.{IsBusRun, PhaseRuns, Known, source_said, told_by}
 use Rattle.bus_model.specs.declared.channel_run.ChannelRun.{ChannelRun}
 use Rattle.bus_model.specs.declared.history.DeviceHistory.{DeviceHistory}
 
@@ -62,6 +63,35 @@ pub record Table (m : ℕ) (order : Order) (served : List Served) : Type 0 where
 
 abbrev pub TableOfOutcomes : Type 0
 TableOfOutcomes = (order : Order) (lists : Lists) (served : List Served) → IsChannelRun order lists served → Table (length order.asks) order served
+
+-- What a rescind leaves of a channel's requests. Each has exactly one outcome. Those that were served are the first ones, and of these the first are done, and have
+-- their replies; one more was served without an answer exactly where the last answer is held and as many requests came. The others are unserved
+pub record Rescinded (order : Order) (served : List Served) : Type 0 where
+  pub one_each : length (outcomes_of order served) ≡ length order.asks
+  pub served_first : IsFront (map (λ s. s.request) served) order.asks
+  pub done : List Served
+  pub held : List Served
+  pub done_first : served ≡ done ++ held
+  pub outcomes : outcomes_of order served ≡ map done_of done ++ (map rescinded_of held ++ replicate (length order.asks - length served) Unserved)
+  pub none_held : is_held order ≡ false → held ≡ []
+  pub one_held : (k : ℕ) → order.stop ≡ Some (k, true) → 1 ≤ k → k ≤ length order.asks → length held ≡ 1
+
+abbrev pub Rescinds : Type 0
+Rescinds = (order : Order) (lists : Lists) (served : List Served) → IsChannelRun order lists served → Rescinded order served
+
+-- the request was served, whether its answer came back or not
+abbrev pub was_served : LineResult → Bool
+was_served (Version tried) = false
+was_served (Done serial reply) = true
+was_served (RescindedServed serial) = true
+was_served Unserved = false
+was_served Gone = false
+was_served Closed = false
+
+-- What the report calls unserved is in no history: in a phase a device's history gets as many entries as its channels' requests have outcomes that were served
+abbrev pub UnservedNowhere : Type 0
+UnservedNowhere = (p : Phase) (before after : List (List Recorded)) (runs : List ChannelRun) (told : List LineResult) (run : PhaseRuns p before after runs told) (device : ℕ) → device < length before
+    → length (slice_index_or after device []) ≡ length (slice_index_or before device []) + count_by was_served (flat_map (λ l. l) (told_by p run.channels device))
 
 -- the outcome of a line, by the words of both ends
 abbrev pub line_of : Outcome Reply → LineResult

@@ -30,6 +30,10 @@ order_of p o = record {
   stop = stop_of o.device p.part;
 }
 
+-- what is ordered of the only channel of a device of this kind
+abbrev pub only_order : Kind → List Ask → Option (ℕ × Bool) → Order
+only_order kind asks stop = record { kind = kind; sub = 0; subs = 0; asks = asks; stop = stop }
+
 -- a sub-channel has no start-up
 abbrev pub startup_of : Order → List Want
 startup_of order = if order.sub == 0 then startup order.kind else []

@@ -1,5 +1,5 @@
 //! Laws of runs. The functions do nothing: each one's contract is the law.
-ghost use Rattle.bus_model.specs.Laws.{Arrives, ServesEach, ServesFirst, OneEach, CarriesOpened, TableOfOutcomes, RowsOfEnded, ListsTell, FewRunsBack, ReportFits, OrdersRun};
+ghost use Rattle.bus_model.specs.Laws.{Arrives, ServesEach, ServesFirst, OneEach, CarriesOpened, TableOfOutcomes, RowsOfEnded, ListsTell, Rescinds, UnservedNowhere, FewRunsBack, ReportFits, OrdersRun};
 ghost use Rattle.bus_model.specs.Worked.{Shares, SharesOtherwise, Closes, Rescinded, Held};
 ghost use Rattle.bus_model.specs.ByDeviceLaws.{Implies, SaysNoLess};
 
@@ -38,6 +38,12 @@ pub fn table()
 /// The lists of both ends tell the outcomes of a channel's requests.
 pub fn lists_tell()
     ensures { ListsTell }
+{}
+
+/// What a rescind leaves of a channel's requests: each has one outcome, and the first ones were served. What the report calls unserved is in no history.
+pub fn rescinds()
+    ensures requests { Rescinds }
+    ensures unserved { UnservedNowhere }
 {}
 
 /// The bytes that come back in a run of a script have few runs of one byte, so that its report is

@@ -8,10 +8,10 @@ use Rattle.std.proofs.lemmas.Bool.Decides.{nat_tests}
 use Rattle.script_lines.specs.declared.line.Line.{Line}
 use Rattle.script_lines.specs.declared.line.Ask.{Ask}
 use Rattle.bus_script.specs.declared.outcome.LineResult.{LineResult}
-use Rattle.bus_script.specs.declared.outcome.LineResult.TheVariants.{Version, Closed}
+use Rattle.bus_script.specs.declared.outcome.LineResult.TheVariants.{Version, Gone, Closed}
 use Rattle.bus_model.specs.Dests.{Dest, ToChannel, Known, Address, At, Fixed, address_of, dest_in, dests, asked_in, asks_to, addresses_from, addresses}
 use Rattle.bus_plan.specs.declared.address.Address.{Address as Slot}
-use Rattle.bus_plan.specs.declared.address.Address.TheVariants.{At as SlotAt, Tried as SlotTried, Closed as SlotClosed}
+use Rattle.bus_plan.specs.declared.address.Address.TheVariants.{At as SlotAt, Tried as SlotTried, Gone as SlotGone, Closed as SlotClosed}
 use Rattle.bus_plan.specs.Plans.{IsDealt, IsPlanned, place_of, places_of}
 
 -- a line of the phase, and those before and behind
@@ -90,7 +90,11 @@ plan_known channels all done left piles slots slots' slot result planned told is
   rest = ap (λ (l : List Slot). places_of l ++ addresses_from (done ++ Known result ∷ []) left) told ∙ place_more all done left slots slot (Known result) planned.rest is;
 }
 
--- the device of a line is closed
+-- the device of a line is gone, or closed
+pub plan_gone : (channels : ℕ) (all : List Address) (done left : List Dest) (piles : List (List Ask)) (slots slots' : List Slot) → IsPlanned channels all done (Known Gone ∷ left) piles slots
+    → slots' ≡ slots ++ SlotGone ∷ [] → IsPlanned channels all (done ++ Known Gone ∷ []) left piles slots'
+plan_gone channels all done left piles slots slots' planned told = plan_known channels all done left piles slots slots' SlotGone Gone planned told refl
+
 pub plan_closed : (channels : ℕ) (all : List Address) (done left : List Dest) (piles : List (List Ask)) (slots slots' : List Slot) → IsPlanned channels all done (Known Closed ∷ left) piles slots
     → slots' ≡ slots ++ SlotClosed ∷ [] → IsPlanned channels all (done ++ Known Closed ∷ []) left piles slots'
 plan_closed channels all done left piles slots slots' planned told = plan_known channels all done left piles slots slots' SlotClosed Closed planned told refl

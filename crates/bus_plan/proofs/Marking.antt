@@ -1,5 +1,5 @@
 -- Flags, line by line.
-use Rattle.std.proofs.Common.{◌≡◌, ℕ, zero, suc, ◌+◌, ◌<◌, ◌==◌, Bool, true, false, cond, List, [], ◌∷◌, ◌++◌, length, take, get_or, refl, ap, sym, ◌∙◌, subst, arith, inl, inr, slice_set, slice_index_or, replicate, Some, None}
+use Rattle.std.proofs.Common.{◌≡◌, ℕ, zero, suc, ◌+◌, ◌<◌, ◌==◌, Bool, true, false, List, [], ◌∷◌, ◌++◌, length, take, get_or, refl, ap, sym, ◌∙◌, subst, arith, inl, inr, slice_set, slice_index_or, replicate}
 use Rattle.std.specs.Prelude.{◌||◌}
 use Rattle.std.specs.List.{list_any}
 use Rattle.std.proofs.Math.ListN.{length-set}
@@ -7,9 +7,7 @@ use Rattle.std.proofs.lemmas.List.{get_or-set_same, get_or-set_other, get_or-rep
 use Rattle.std.proofs.lemmas.Bool.{cases_eq}
 use Rattle.std.proofs.lemmas.Bool.Decides.{nat_tests}
 use Rattle.script_lines.specs.declared.line.Line.{Line}
-use Rattle.bus_script.specs.declared.outcome.LineResult.TheVariants.{Closed}
-use Rattle.bus_model.specs.Dests.{ended_by}
-use Rattle.bus_plan.specs.Flags.{Marks, AreMarked, IsBelow, AllBelow, closed_by}
+use Rattle.bus_plan.specs.Flags.{Marks, AreMarked, IsBelow, AllBelow}
 
 or_false : (b : Bool) → b ≡ (b || false)
 or_false true = refl
@@ -23,7 +21,7 @@ or_more : (a b c : Bool) → ((a || b) || c) ≡ (a || (b || c))
 or_more true b c = refl
 or_more false b c = refl
 
-any_more : (p : Line → Bool) (xs : List Line) (x : Line) → list_any p (xs ++ x ∷ []) ≡ (list_any p xs || p x)
+pub any_more : (p : Line → Bool) (xs : List Line) (x : Line) → list_any p (xs ++ x ∷ []) ≡ (list_any p xs || p x)
 any_more p [] x = sym (or_false (p x))
 any_more p (y ∷ xs) x = ap (λ b. p y || b) (any_more p xs x) ∙ sym (or_more (p y) (list_any p xs) (p x))
 
@@ -71,7 +69,3 @@ pub marked_new : (p : ℕ → Bool) (n : ℕ) (old new : List Bool) → old ≡ 
 marked_new p n old new none marks = λ k less.
     let within : k < length old = omega (arith, less, marks.count) in
     marks.each k within ∙ ap (λ b. b || p k) (ap (λ l. slice_index_or l k false) none ∙ get_or-replicate n k false false (omega (arith, within, ap length none, length-replicate n false)))
-
--- the device stands as the flag says
-pub ended_is : (earlier : List Line) (closed : List Bool) (device : ℕ) (b : Bool) → AreMarked (closed_by earlier) closed → device < length closed → slice_index_or closed device false ≡ b → ended_by device earlier ≡ cond b (Some Closed) None
-ended_is earlier closed device b marked within is = ap (λ b. cond b (Some Closed) None) (sym (marked device within) ∙ is)

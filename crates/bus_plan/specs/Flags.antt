@@ -1,12 +1,10 @@
 -- A flag for each device.
 use Rattle.std.specs.Prelude.{ℕ, ◌≡◌, ◌<◌, ◌||◌, Bool, false, List, [], ◌∷◌, length, slice_index_or}
-use Rattle.std.specs.List.{list_any}
 use Rattle.script_lines.specs.declared.line.Line.{Line}
 use Rattle.script_lines.specs.declared.line.What.{What}
-use Rattle.script_lines.specs.declared.line.What.TheVariants.{Contact as IsContact, Offer as IsOffer, RingSize as IsRingSize, Window as IsWindow, Bad as IsBad, Ask as IsAsk, Shut as IsShut, Phase as IsPhase}
-use Rattle.script_lines.specs.Parts.{shuts}
+use Rattle.script_lines.specs.declared.line.What.TheVariants.{Contact as IsContact, Offer as IsOffer, RingSize as IsRingSize, Window as IsWindow, Bad as IsBad, Ask as IsAsk, Rescind as IsRescind, Shut as IsShut, Phase as IsPhase}
 
--- the device that a line asks or closes is one of so many
+-- the device that a line asks, rescinds or closes is one of so many
 abbrev pub IsBelow : ℕ → What → Type 0
 IsBelow count (IsContact guest host) = Unit {0}
 IsBelow count (IsOffer name spec) = Unit {0}
@@ -14,6 +12,7 @@ IsBelow count (IsRingSize device pages) = Unit {0}
 IsBelow count (IsWindow device size) = Unit {0}
 IsBelow count (IsBad device lba) = Unit {0}
 IsBelow count (IsAsk device ask) = device < count
+IsBelow count (IsRescind device after held) = device < count
 IsBelow count (IsShut device) = device < count
 IsBelow count IsPhase = Unit {0}
 
@@ -29,7 +28,3 @@ pub record Marks (p : ℕ → Bool) (old new : List Bool) : Type 0 where
 -- exactly the devices of which this holds are marked
 abbrev pub AreMarked : (ℕ → Bool) → List Bool → Type 0
 AreMarked p flags = (k : ℕ) → k < length flags → slice_index_or flags k false ≡ p k
-
--- the devices that earlier lines close
-abbrev pub closed_by : List Line → ℕ → Bool
-closed_by earlier device = list_any (λ l. shuts device l.what) earlier

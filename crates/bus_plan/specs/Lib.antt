@@ -1,2 +1,4 @@
 pub mod Flags
+pub mod Endings
+pub mod Stops
 pub mod Plans

@@ -4,12 +4,13 @@ use Rattle.std.specs.List.{list_any}
 use Rattle.script_lines.specs.declared.line.Line.{Line}
 use Rattle.script_lines.specs.declared.line.Ask.{Ask}
 use Rattle.bus_script.specs.declared.outcome.LineResult.{LineResult}
-use Rattle.bus_script.specs.declared.outcome.LineResult.TheVariants.{Version, Closed}
+use Rattle.bus_script.specs.declared.outcome.LineResult.TheVariants.{Version, Gone, Closed}
 use Rattle.bus_model.specs.Dests.{Dest, ToChannel, Known, Address, At, Fixed, dests, asks_to, addresses_from, addresses, wants_open}
 use Rattle.bus_model.specs.ByDevice.{outcome_at}
 use Rattle.bus_plan.specs.Flags.{AreMarked}
+use Rattle.bus_plan.specs.Stops.{StopsBy}
 use Rattle.bus_plan.specs.declared.address.Address.{Address as Slot}
-use Rattle.bus_plan.specs.declared.address.Address.TheVariants.{At as SlotAt, Tried as SlotTried, Closed as SlotClosed}
+use Rattle.bus_plan.specs.declared.address.Address.TheVariants.{At as SlotAt, Tried as SlotTried, Gone as SlotGone, Closed as SlotClosed}
 use Rattle.bus_plan.specs.declared.plan.PartPlan.{PartPlan}
 
 -- each request goes to one of so many channels
@@ -29,6 +30,7 @@ pub record IsDealt (channels : ℕ) (ds : List Dest) (piles : List (List Ask)) :
 abbrev pub place_of : Slot → Address
 place_of (SlotAt channel place) = At channel place
 place_of (SlotTried tried) = Fixed (Version tried)
+place_of SlotGone = Fixed Gone
 place_of SlotClosed = Fixed Closed
 
 abbrev pub places_of : List Slot → List Address
@@ -44,6 +46,8 @@ pub record IsPlan (channels : ℕ) (earlier part : List Line) (plan : PartPlan) 
   pub asks : IsDealt channels (dests earlier part) plan.asks
   pub count : length plan.wanted.items ≡ channels
   pub wanted : AreMarked (λ k. list_any (λ l. wants_open k l.what) part) plan.wanted.items
+  pub stop_count : length plan.stops.items ≡ channels
+  pub stops : StopsBy part plan.stops.items
   pub places : places_of plan.addresses.items ≡ addresses earlier part
 
 -- the outcome stands there

@@ -7,6 +7,8 @@ pub enum Address {
     At { channel: usize, place: usize },
     /// It is known before the phase runs: the guest tries so many versions.
     Tried(u32),
+    /// It is known before the phase runs: an earlier phase rescinded the device.
+    Gone,
     /// It is known before the phase runs: an earlier phase closed the device.
     Closed,
 }

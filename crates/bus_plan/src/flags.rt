@@ -1,20 +1,19 @@
 //! What the lines of a phase want of the devices: a flag for each.
 ghost use Rattle.std.specs.Prelude.{◌≡◌, ◌<◌, ◌||◌, ℕ, Bool, List, length, false, slice_index_or};
 ghost use Rattle.std.specs.List.{list_any};
-ghost use Rattle.script_lines.specs.Parts.{shuts};
 ghost use Rattle.bus_model.specs.Dests.{wants_open};
 ghost use Rattle.bus_plan.specs.Flags.{Marks, IsBelow, AllBelow};
 
 use bus_script::{Line, What};
 
-/// Marks the device for which a line opens a channel: a request and a close do.
+/// Marks the device for which a line opens a channel: a request, a rescind and a close do.
 fn want(wanted: &mut [bool], what: &What)
     requires { IsBelow (length wanted.old) what.now }
     ensures { Marks (λ k. wants_open k what.now) wanted.old wanted.new }
 {
     match what {
         What::Ask { device, ask: _ } => wanted[*device as usize] = true,
-        What::Shut { device } => wanted[*device as usize] = true,
+        What::Rescind { device, .. } | What::Shut { device } => wanted[*device as usize] = true,
         _ => {}
     }
 }
@@ -26,26 +25,5 @@ pub fn mark_wanted(wanted: &mut [bool], part: &[Line])
 {
     for line in part {
         want(wanted, &line.what);
-    }
-}
-
-/// Marks the device that a line closes.
-fn close(closed: &mut [bool], what: &What)
-    requires { IsBelow (length closed.old) what.now }
-    ensures { Marks (λ k. shuts k what.now) closed.old closed.new }
-{
-    match what {
-        What::Shut { device } => closed[*device as usize] = true,
-        _ => {}
-    }
-}
-
-/// Marks each device that the lines of a phase close.
-pub fn mark_closed(closed: &mut [bool], part: &[Line])
-    requires { AllBelow (length closed.old) part.now }
-    ensures { Marks (λ k. list_any (λ l. shuts k l.what) part.now) closed.old closed.new }
-{
-    for line in part {
-        close(closed, &line.what);
     }
 }

@@ -14,6 +14,7 @@ fn told(outcomes: &Piles<LineResult>, address: Address) -> LineResult
     match address {
         Address::At { channel, place } => outcomes.get(channel)[place].again(),
         Address::Tried(tried) => LineResult::Version { tried },
+        Address::Gone => LineResult::Gone,
         Address::Closed => LineResult::Closed,
     }
 }

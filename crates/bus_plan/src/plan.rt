@@ -2,66 +2,77 @@
 ghost use Rattle.std.specs.Prelude.{◌≡◌, ◌<◌, ◌++◌, ◌∷◌, [], ℕ, List, length, IfOk, OnOk};
 ghost use Rattle.script_lines.specs.declared.line.Line.{Line as OneLine};
 ghost use Rattle.bus_model.specs.Dests.{Dest, Address as Place, dest_in, dest_of, ended_by};
-ghost use Rattle.bus_plan.specs.Flags.{IsBelow, AllBelow, AreMarked, closed_by};
+ghost use Rattle.bus_plan.specs.Flags.{IsBelow, AllBelow};
+ghost use Rattle.bus_plan.specs.Endings.{AreEnded};
 ghost use Rattle.bus_plan.specs.Plans.{IsPlanned, IsPlan};
 
-use crate::{Address, Piles, mark_wanted};
+use crate::{Address, Ending, Piles, blank, mark_stops, mark_wanted};
 use bus_script::{Ask, Line, What};
+use chan_state::Stop;
 use contact::tried;
 use std::alloc::{AllocError, Global};
 
-/// What each channel is asked in a phase, the devices for which its lines open a channel, and where the outcome of each line will stand.
+/// What each channel is asked in a phase, the devices for which its lines open a channel, where each device stops, and where the outcome of each line will stand.
 #[derive(Drop)]
 pub struct PartPlan {
     pub asks: Piles<Ask>,
     pub wanted: Vec<bool>,
+    pub stops: Vec<Option<Stop>>,
     pub addresses: Vec<Address>,
 }
 
-/// One request: it goes to its device's channel, or its outcome is known where the device is closed.
+/// One request: it goes to its device's channel, or its outcome is known where an earlier phase ended the device.
 fn deal_ask(
     asks: &mut Piles<Ask>,
     addresses: &mut Vec<Address>,
-    closed: &[bool],
+    ended: &[Option<Ending>],
     device: usize,
     ask: &Ask,
 ) -> Result<(), AllocError>
-    requires closed { device < length closed.now }
+    requires ended { device < length ended.now }
     requires piles { device < length asks.old }
     ensures count { OnOk result (length asks.new ≡ length asks.old) }
-    ensures plan { OnOk result ((channels : ℕ) (all : List Place) (done left : List Dest) (earlier : List OneLine) → AreMarked (closed_by earlier) closed.now
+    ensures plan { OnOk result ((channels : ℕ) (all : List Place) (done left : List Dest) (earlier : List OneLine) → AreEnded earlier ended.now
         → IsPlanned channels all done (dest_of (ended_by device earlier) device ask.now ∷ left) asks.old addresses.old.items
         → IsPlanned channels all (done ++ dest_of (ended_by device earlier) device ask.now ∷ []) left asks.new addresses.new.items) }
 {
-    if closed[device] {
-        addresses.push(Address::Closed)?;
-        return Ok(());
+    match ended[device] {
+        Some(Ending::Rescinded) => {
+            addresses.push(Address::Gone)?;
+            Ok(())
+        }
+        Some(Ending::Closed) => {
+            addresses.push(Address::Closed)?;
+            Ok(())
+        }
+        None => {
+            addresses.push(Address::At {
+                channel: device,
+                place: asks.get(device).len(),
+            })?;
+            asks.push(device, ask.again())?;
+            Ok(())
+        }
     }
-    addresses.push(Address::At {
-        channel: device,
-        place: asks.get(device).len(),
-    })?;
-    asks.push(device, ask.again())?;
-    Ok(())
 }
 
 /// One more line of a phase.
 fn deal(
     asks: &mut Piles<Ask>,
     addresses: &mut Vec<Address>,
-    closed: &[bool],
+    ended: &[Option<Ending>],
     what: &What,
 ) -> Result<(), AllocError>
-    requires closed { IsBelow (length closed.now) what.now }
+    requires ended { IsBelow (length ended.now) what.now }
     requires piles { IsBelow (length asks.old) what.now }
     ensures count { OnOk result (length asks.new ≡ length asks.old) }
-    ensures plan { OnOk result ((channels : ℕ) (all : List Place) (done left : List Dest) (earlier : List OneLine) → AreMarked (closed_by earlier) closed.now
+    ensures plan { OnOk result ((channels : ℕ) (all : List Place) (done left : List Dest) (earlier : List OneLine) → AreEnded earlier ended.now
         → IsPlanned channels all done (dest_in earlier what.now ++ left) asks.old addresses.old.items
         → IsPlanned channels all (done ++ dest_in earlier what.now) left asks.new addresses.new.items) }
 {
     match what {
         What::Ask { device, ask } => {
-            deal_ask(asks, addresses, closed, *device as usize, ask)?;
+            deal_ask(asks, addresses, ended, *device as usize, ask)?;
             Ok(())
         }
         What::Contact { guest, host } => {
@@ -73,21 +84,28 @@ fn deal(
     }
 }
 
-/// Plans a phase in one pass over its lines. `closed` marks the devices that an earlier phase closed.
-pub fn plan_part(alloc: Global, closed: &[bool], part: &[Line]) -> Result<PartPlan, AllocError>
-    requires { AllBelow (length closed.now) part.now }
-    ensures { IfOk result (λ plan. (earlier : List OneLine) → AreMarked (closed_by earlier) closed.now → IsPlan (length closed.now) earlier part.now plan) }
+/// Plans a phase. `ended` says how an earlier phase ended each device.
+pub fn plan_part(
+    alloc: Global,
+    ended: &[Option<Ending>],
+    part: &[Line],
+) -> Result<PartPlan, AllocError>
+    requires { AllBelow (length ended.now) part.now }
+    ensures { IfOk result (λ plan. (earlier : List OneLine) → AreEnded earlier ended.now → IsPlan (length ended.now) earlier part.now plan) }
 {
-    let mut asks = Piles::make(alloc, closed.len())?;
+    let mut asks = Piles::make(alloc, ended.len())?;
     let mut addresses = Vec::new(alloc);
     for line in part {
-        deal(&mut asks, &mut addresses, closed, &line.what)?;
+        deal(&mut asks, &mut addresses, ended, &line.what)?;
     }
-    let mut wanted = vec![in alloc; false; closed.len()]?;
+    let mut wanted = vec![in alloc; false; ended.len()]?;
     mark_wanted(&mut wanted, part);
+    let mut stops = blank(alloc, ended.len())?;
+    mark_stops(&mut stops, part);
     Ok(PartPlan {
         asks,
         wanted,
+        stops,
         addresses,
     })
 }

@@ -1,6 +1,7 @@
 -- What the lines of a phase ask of the channels.
-use Rattle.std.proofs.Common.{◌≡◌, ℕ, suc, ◌+◌, ◌<◌, ◌≤◌, ◌==◌, Bool, true, false, cond, List, [], ◌∷◌, ◌++◌, length, length-append, append_assoc, refl, ap, sym, ◌∙◌, arith, slice_index_or, slice_get, Option, Some, None}
-use Rattle.std.specs.Prelude.{map, filter, not, ◌&&◌, ◌||◌, is_none}
+use Rattle.std.proofs.Common.{◌≡◌, ℕ, suc, ◌+◌, ◌<◌, ◌≤◌, ◌==◌, Bool, true, false, cond, List, [], ◌∷◌, ◌++◌, length, length-append, append_assoc, refl, ap, sym, ◌∙◌, subst, arith, slice_index_or, slice_get, Option, Some, None}
+use Rattle.std.specs.Prelude.{map, filter, ◌&&◌, ◌||◌, is_none}
+use Rattle.std.specs.List.{flat_map}
 use Rattle.std.specs.List.{list_any}
 use Rattle.std.proofs.lemmas.List.{length-map, get_or-map}
 use Rattle.std.proofs.lemmas.List.Sums.{length-filter}
@@ -10,18 +11,22 @@ use Rattle.std.proofs.lemmas.Bool.Decides.{nat_tests}
 use Rattle.contact.specs.declared.kind.Kind.{Kind}
 use Rattle.script_lines.specs.declared.line.Line.{Line}
 use Rattle.script_lines.specs.declared.line.What.{What}
-use Rattle.script_lines.specs.declared.line.What.TheVariants.{Contact as IsContact, Offer as IsOffer, Bad as IsBad, RingSize as IsRingSize, Window as IsWindow, Ask as IsAsk, Shut as IsShut, Phase as IsPhase}
+use Rattle.script_lines.specs.declared.line.What.TheVariants.{Contact as IsContact, Offer as IsOffer, Bad as IsBad, RingSize as IsRingSize, Window as IsWindow, Ask as IsAsk, Rescind as IsRescind, Shut as IsShut, Phase as IsPhase}
 use Rattle.script_lines.specs.declared.line.Ask.{Ask}
 use Rattle.script_lines.specs.declared.line.DeviceSpec.{DeviceSpec}
 use Rattle.script_lines.specs.declared.line.DeviceSpec.TheVariants.{Beat}
 use Rattle.bus_script.specs.declared.outcome.LineResult.{LineResult}
-use Rattle.bus_script.specs.declared.outcome.LineResult.TheVariants.{Closed}
 use Rattle.script_lines.specs.Parts.{is_ask, asks_in, kind_of, kind_asked}
 use Rattle.script_lines.specs.WellFormed.{IsRight, AllRight, CanGo, AskGoes, AllGo}
 use Rattle.bus_model.specs.Dests.{Dest, ToChannel, Known, ended_by, dest_of, dest_in, dests, asked_in, asks_to, wants_open, is_opened, address_of, addresses_from}
-use Rattle.bus_plan.specs.Flags.{IsBelow, AllBelow, AreMarked, closed_by}
+use Rattle.bus_plan.specs.Flags.{IsBelow, AllBelow, AreMarked}
+use Rattle.bus_plan.specs.Endings.{AreEnded, outcome_left}
+use Rattle.bus_plan.specs.declared.ending.Ending.{Ending}
+use Rattle.bus_plan.specs.declared.ending.Ending.TheVariants.{Rescinded, Closed}
+use Rattle.script_phases.specs.Says.{Says, Asks, Rescinds, Shuts, said, said_to, heard_by, stops, stop_of}
+use Rattle.contact.specs.declared.kind.Kind.TheVariants.{Disk as KindDisk}
 use Rattle.bus_plan.specs.Plans.{LeadsBelow, AllLeadBelow, IsThere, AllThere}
-use Rattle.end_work.specs.Plans.{AllCarried}
+use Rattle.end_work.specs.Plans.{AllCarried, CanStop}
 use Rattle.bus_run.specs.Desk.{opened_by}
 
 -- right lines speak of devices that are offered
@@ -36,6 +41,7 @@ below_line kinds (IsRingSize device pages) right = tt
 below_line kinds (IsWindow device size) right = tt
 below_line kinds (IsBad device lba) right = tt
 below_line kinds (IsAsk device ask) right = asked_within kinds device (kind_asked ask) right
+below_line kinds (IsRescind device after held) right = asked_within kinds device KindDisk right.0
 below_line kinds (IsShut device) right = right
 below_line kinds IsPhase right = tt
 
@@ -54,6 +60,7 @@ lead_line kinds earlier (IsRingSize device pages) ds right rest = rest
 lead_line kinds earlier (IsWindow device size) ds right rest = rest
 lead_line kinds earlier (IsBad device lba) ds right rest = rest
 lead_line kinds earlier (IsAsk device ask) ds right rest = (lead_of (length kinds) (ended_by device earlier) device ask (asked_within kinds device (kind_asked ask) right), rest)
+lead_line kinds earlier (IsRescind device after held) ds right rest = rest
 lead_line kinds earlier (IsShut device) ds right rest = rest
 lead_line kinds earlier IsPhase ds right rest = rest
 
@@ -83,6 +90,7 @@ asks_line kinds earlier k (IsBad device lba) ds right goes rest = rest
 asks_line kinds earlier k (IsRingSize device pages) ds right goes rest = rest
 asks_line kinds earlier k (IsWindow device size) ds right goes rest = rest
 asks_line kinds earlier k (IsAsk device ask) ds right goes rest = ask_of (kind_of (slice_index_or kinds k Beat)) k (ended_by device earlier) device ask ds (kind_here kinds device k (kind_asked ask) right) goes rest
+asks_line kinds earlier k (IsRescind device after held) ds right goes rest = rest
 asks_line kinds earlier k (IsShut device) ds right goes rest = rest
 asks_line kinds earlier k IsPhase ds right goes rest = rest
 
@@ -107,6 +115,7 @@ few_line earlier k (IsRingSize device pages) l ds ls le = le
 few_line earlier k (IsWindow device size) l ds ls le = le
 few_line earlier k (IsBad device lba) l ds ls le = le
 few_line earlier k (IsAsk device ask) l ds ls le = few_of k (ended_by device earlier) device ask ds (length ls) le
+few_line earlier k (IsRescind device after held) l ds ls le = le
 few_line earlier k (IsShut device) l ds ls le = le
 few_line earlier k IsPhase l ds ls le = le
 
@@ -144,6 +153,7 @@ none_line k earlier (IsRingSize device pages) ds not rest = rest
 none_line k earlier (IsWindow device size) ds not rest = rest
 none_line k earlier (IsBad device lba) ds not rest = rest
 none_line k earlier (IsAsk device ask) ds not rest = ap (λ (l : List Ask). l ++ asks_to k ds) (none_asked (device == k) k earlier device ask refl not) ∙ rest
+none_line k earlier (IsRescind device after held) ds not rest = rest
 none_line k earlier (IsShut device) ds not rest = rest
 none_line k earlier IsPhase ds not rest = rest
 
@@ -160,15 +170,43 @@ none_all k earlier (l ∷ part) not =
 
 -- the flags tell which channels are opened
 
-is_not : (b : Bool) → not b ≡ is_none (cond b (Some Closed) None)
-is_not true = refl
-is_not false = refl
+none_left : (o : Option Ending) → is_none o ≡ is_none (outcome_left o)
+none_left None = refl
+none_left (Some Rescinded) = refl
+none_left (Some Closed) = refl
 
-pub opened_is : (earlier part : List Line) (closed wanted : List Bool) (k : ℕ) → AreMarked (closed_by earlier) closed → AreMarked (λ k. list_any (λ l. wants_open k l.what) part) wanted → k < length closed → k < length wanted → opened_by closed wanted k ≡ is_opened k earlier part
-opened_is earlier part closed wanted k shut wants in_closed in_wanted =
-    ap (λ (b : Bool). not b && slice_index_or wanted k false) (shut k in_closed)
-    ∙ ap (λ (b : Bool). not (closed_by earlier k) && b) (wants k in_wanted)
-    ∙ ap (λ (b : Bool). b && list_any (λ l. wants_open k l.what) part) (is_not (closed_by earlier k))
+pub opened_is : (earlier part : List Line) (ended : List (Option Ending)) (wanted : List Bool) (k : ℕ) → AreEnded earlier ended → AreMarked (λ k. list_any (λ l. wants_open k l.what) part) wanted → k < length ended → k < length wanted → opened_by ended wanted k ≡ is_opened k earlier part
+opened_is earlier part ended wanted k are wants in_ended in_wanted =
+    ap (λ (b : Bool). b && slice_index_or wanted k false) (none_left (slice_index_or ended k None) ∙ ap is_none (are k in_ended))
+    ∙ ap (λ (b : Bool). is_none (ended_by k earlier) && b) (wants k in_wanted)
+
+-- a device stops where one of its kind can
+
+stops_on : (b : Bool) (s : Says) (rest : List Says) → stops s ≡ [] → slice_get (flat_map stops (cond b (s ∷ []) [] ++ rest)) 0 ≡ slice_get (flat_map stops rest) 0
+stops_on true s rest none = ap (λ l. slice_get (l ++ flat_map stops rest) 0) none
+stops_on false s rest none = refl
+
+stop_here : (b : Bool) (kind : Kind) (after : ℕ) (held : Bool) (rest : List Says) → (b ≡ true → kind ≡ KindDisk) → after ≤ 4096 → (held ≡ true → 1 ≤ after) → CanStop kind (slice_get (flat_map stops rest) 0)
+    → CanStop kind (slice_get (flat_map stops (cond b (Rescinds after held ∷ []) [] ++ rest)) 0)
+stop_here true kind after held rest disk most least more = (disk refl, most, least)
+stop_here false kind after held rest disk most least more = more
+
+stop_line : (kinds : List DeviceSpec) (k : ℕ) (w : What) (rest : List Says) → IsRight kinds w → CanStop (kind_of (slice_index_or kinds k Beat)) (slice_get (flat_map stops rest) 0)
+    → CanStop (kind_of (slice_index_or kinds k Beat)) (slice_get (flat_map stops (heard_by k (said w) ++ rest)) 0)
+stop_line kinds k (IsContact guest host) rest right more = more
+stop_line kinds k (IsOffer name spec) rest right more = more
+stop_line kinds k (IsBad device lba) rest right more = more
+stop_line kinds k (IsRingSize device pages) rest right more = more
+stop_line kinds k (IsWindow device size) rest right more = more
+stop_line kinds k (IsAsk device ask) rest right more = subst (CanStop (kind_of (slice_index_or kinds k Beat))) (sym (stops_on (device == k) (Asks ask) rest refl)) more
+stop_line kinds k (IsRescind device after held) rest right more =
+    stop_here (device == k) (kind_of (slice_index_or kinds k Beat)) after held rest (λ same. sym (kind_here kinds device k KindDisk right.0 same)) right.1 right.2 more
+stop_line kinds k (IsShut device) rest right more = subst (CanStop (kind_of (slice_index_or kinds k Beat))) (sym (stops_on (device == k) Shuts rest refl)) more
+stop_line kinds k IsPhase rest right more = more
+
+pub can_stop : (kinds : List DeviceSpec) (k : ℕ) (part : List Line) → AllRight kinds part → CanStop (kind_of (slice_index_or kinds k Beat)) (stop_of k part)
+can_stop kinds k [] right = tt
+can_stop kinds k (l ∷ part) right = stop_line kinds k l.what (said_to k part) right.0 (can_stop kinds k part right.1)
 
 -- an outcome stands at each address
 

@@ -8,3 +8,4 @@ pub mod SettingLines
 pub mod BadPlaces
 pub mod PhaseRun
 pub mod Phases
+pub mod ServedLines

@@ -17,7 +17,8 @@ use Rattle.bus_model.specs.Logs.{EachHistory, IsHistory, log_of}
 use Rattle.bus_model.specs.ByDevice.{PhaseRuns, RunFrom, IsBusRun}
 use Rattle.bus_model.specs.declared.channel_run.ChannelRun.{ChannelRun}
 use Rattle.bus_model.specs.declared.history.DeviceHistory.{DeviceHistory}
-use Rattle.bus_plan.specs.Flags.{AreMarked, closed_by}
+use Rattle.bus_plan.specs.Endings.{AreEnded, outcome_left}
+use Rattle.bus_plan.specs.declared.ending.Ending.{Ending}
 use Rattle.bus_run.specs.declared.desk.Desk.{Desk}
 use Rattle.bus_run.specs.declared.runner.Runner.{Runner}
 use Rattle.scsi_disk.specs.DiskModel.{DiskState}
@@ -185,7 +186,7 @@ runs_on kinds all phase earlier part left desks desks' settled settled' results 
     subst (λ l. RunFrom kinds 0 [] all (map (λ k. []) kinds) l after (results' ++ r)) settled_are (subst (λ l. RunFrom kinds 0 [] all (map (λ k. []) kinds) (settled ++ (ran.runs ++ s)) after l) results_are whole)
 
 -- no phase ran
-pub start : (lines : List Line) (r : Runner) → AreFresh lines (offered lines) r.desks.items → SettingsOf lines (length r.desks.items) r.settings.items → r.closed.items ≡ replicate (length r.desks.items) false → r.phase ≡ 0 → r.next ≡ Some 0 → r.settled.items ≡ [] → r.results.items ≡ []
+pub start : (lines : List Line) (r : Runner) → AreFresh lines (offered lines) r.desks.items → SettingsOf lines (length r.desks.items) r.settings.items → r.ended.items ≡ replicate (length r.desks.items) None → r.phase ≡ 0 → r.next ≡ Some 0 → r.settled.items ≡ [] → r.results.items ≡ []
     → RunsSoFar lines r
 start lines r fresh settings none phase next settled results = record {
   earlier = [];
@@ -202,20 +203,23 @@ start lines r fresh settings none phase next settled results = record {
   setups = fresh.setups_are;
   ready = λ k d less. record { kept = (fresh.ready k d less).kept; few = omega (arith, (fresh.ready k d less).few) };
   settings = settings;
-  closed = λ k less. let within : k < length r.desks.items = omega (arith, less, ap length none, length-replicate (length r.desks.items) false) in ap (λ l. slice_index_or l k false) none ∙ get_or-replicate (length r.desks.items) k false false within;
-  closed_count = ap length none ∙ length-replicate (length r.desks.items) false;
+  ended = λ k less.
+      let blank : Option Ending = None in
+      let within : k < length r.desks.items = omega (arith, less, ap length none, length-replicate (length r.desks.items) blank) in
+      ap outcome_left (ap (λ l. slice_index_or l k None) none ∙ get_or-replicate (length r.desks.items) k blank None within);
+  ended_count = ap length none ∙ length-replicate (length r.desks.items) None;
 }
 
 -- one more phase ran
 pub go_on : (lines part : List Line) (old new : Runner) (at : ℕ) (next : Option ℕ) → RunsSoFar lines old → old.next ≡ Some at → length lines ≤ 20000
     → MatchOption next (parts (drop at lines) ≡ part ∷ []) (λ n. parts (drop at lines) ≡ part ∷ parts (drop n (drop at lines))) → MatchOption next ⊤ (λ n. n ≤ length (drop at lines))
-    → ((earlier : List Line) → AreMarked (closed_by earlier) old.closed.items → PhaseRan old.phase earlier part old.desks.items new.desks.items old.settled.items new.settled.items old.results.items new.results.items)
-    → ((earlier : List Line) → AreMarked (closed_by earlier) old.closed.items → AreMarked (closed_by (earlier ++ part)) new.closed.items)
-    → length new.closed.items ≡ length old.closed.items → All (IsReady (4096 * (old.phase + 1))) new.desks.items → new.phase ≡ old.phase + 1 → new.next ≡ behind at next → new.settings.items ≡ old.settings.items → RunsSoFar lines new
-go_on lines part old new at next so_far here few split within ran closed count ready phase moved settings =
+    → ((earlier : List Line) → AreEnded earlier old.ended.items → PhaseRan old.phase earlier part old.desks.items new.desks.items old.settled.items new.settled.items old.results.items new.results.items)
+    → ((earlier : List Line) → AreEnded earlier old.ended.items → AreEnded (earlier ++ part) new.ended.items)
+    → length new.ended.items ≡ length old.ended.items → All (IsReady (4096 * (old.phase + 1))) new.desks.items → new.phase ≡ old.phase + 1 → new.next ≡ behind at next → new.settings.items ≡ old.settings.items → RunsSoFar lines new
+go_on lines part old new at next so_far here few split within ran ended count ready phase moved settings =
     let cut : parts (drop at lines) ≡ part ∷ parts_left lines (behind at next) = part_next lines part at next split in
     let left : part ∷ parts_left lines (behind at next) ≡ drop old.phase (parts lines) = sym cut ∙ ap (parts_left lines) (sym here) ∙ so_far.left in
-    let one = ran so_far.earlier so_far.closed in
+    let one = ran so_far.earlier so_far.ended in
     let this = this_phase (parts lines) old.phase part (parts_left lines (behind at next)) left in
     let started : at ≤ length lines = subst (NextWithin lines) here so_far.within in
     let desks : length new.desks.items ≡ length old.desks.items = sym (length-map new.desks.items spec_of) ∙ ap length one.kinds ∙ length-map old.desks.items spec_of in
@@ -233,8 +237,8 @@ go_on lines part old new at next so_far here few split within ran closed count r
       setups = one.setups ∙ so_far.setups;
       ready = subst (λ p. All (IsReady (4096 * p)) new.desks.items) (sym phase) ready;
       settings = subst (λ n. SettingsOf lines n new.settings.items) (sym desks) (subst (SettingsOf lines (length old.desks.items)) (sym settings) so_far.settings);
-      closed = closed so_far.earlier so_far.closed;
-      closed_count = count ∙ so_far.closed_count ∙ sym desks;
+      ended = ended so_far.earlier so_far.ended;
+      ended_count = count ∙ so_far.ended_count ∙ sym desks;
     }
 
 -- all phases ran

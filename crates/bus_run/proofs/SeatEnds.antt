@@ -1,11 +1,5 @@
 -- A device behind the seat that it had in a phase.
 use Rattle.std.proofs.Common.{◌≡◌, ℕ, zero, suc, ◌+◌, ◌<◌, List, [], ◌∷◌, ◌++◌, length, Some, take, drop, get_or, ap, sym, ◌∙◌, refl, arith}
-use Rattle.std.specs.Prelude.{map}
-use Rattle.std.proofs.lemmas.List.{length-map}
-use Rattle.bus_model.specs.Served.{Served, done_of}
-use Rattle.bus_script.specs.declared.outcome.LineResult.{LineResult}
-use Rattle.bus_script.specs.declared.outcome.LineResult.TheVariants.{Done}
-use Rattle.bus_script.specs.declared.outcome.Reply.{Reply}
 use Rattle.script_lines.specs.declared.line.Ask.TheVariants.{Ic as AskIc, Disk as AskDisk}
 use Rattle.script_lines.specs.declared.line.DeviceSpec.TheVariants.{Disk}
 use Rattle.bus_script.specs.declared.outcome.Reply.TheVariants.{Ic as ReplyIc, Disk as ReplyDisk}
@@ -103,19 +97,3 @@ disk_goes_on (DiskDesk subs' state' history') subs quota (DiskSeat f) seat state
       setup = ap (λ k. Some (stands_for k)) setup;
       kept = leaves;
     }
-
--- the outcomes of what was served, one by one
-
-one_outcome : (served : List Served) (i serial d : ℕ) (reply : Reply) (left : List Reply) → i < length served → serial ≡ get_or (map (λ s. s.serial) served) i d → drop i (map (λ s. s.reply) served) ≡ reply ∷ left
-    → map done_of (take (suc i) served) ≡ map done_of (take i served) ++ Done serial reply ∷ []
-one_outcome [] i serial d reply left less is here = absurd (omega (arith, less))
-one_outcome (s ∷ served) zero serial d reply left less is here = let same : s.reply ≡ reply = ap (λ (l : List Reply). get_or l 0 reply) here in (λ i. Done (sym is i) (same i) ∷ [])
-one_outcome (s ∷ served) (suc i) serial d reply left less is here = ap (λ l. done_of s ∷ l) (one_outcome served i serial d reply left (omega (arith, less)) is here)
-
-pub outcomes_more : (served : List Served) (serials : List ℕ) (replies left : List Reply) (results new : List LineResult) (i serial d : ℕ) (reply : Reply) → serials ≡ map (λ s. s.serial) served → replies ≡ map (λ s. s.reply) served → i < length serials → serial ≡ get_or serials i d
-    → drop i replies ≡ reply ∷ left → results ≡ map done_of (take i served) → new ≡ results ++ Done serial reply ∷ [] → new ≡ map done_of (take (i + 1) served)
-outcomes_more served serials replies left results new i serial d reply serials_are replies_are less is here so_far grown =
-    let within : i < length served = omega (arith, less, ap length serials_are, length-map served (λ s. s.serial)) in
-    let next : i + 1 ≡ suc i = omega arith in
-    grown ∙ ap (λ l. l ++ Done serial reply ∷ []) so_far
-    ∙ sym (ap (λ n. map done_of (take n served)) next ∙ one_outcome served i serial d reply left within (is ∙ ap (λ l. get_or l i d) serials_are) (sym (ap (drop i) replies_are) ∙ here))

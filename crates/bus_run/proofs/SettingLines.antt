@@ -8,7 +8,7 @@ use Rattle.std.proofs.lemmas.Grind.{flat_map-append}
 use Rattle.std.proofs.lemmas.Bool.{cases_eq}
 use Rattle.script_lines.specs.declared.line.Line.{Line}
 use Rattle.script_lines.specs.declared.line.What.{What}
-use Rattle.script_lines.specs.declared.line.What.TheVariants.{Contact as IsContact, Offer as IsOffer, Bad as IsBad, RingSize as IsRingSize, Window as IsWindow, Ask as IsAsk, Shut as IsShut, Phase as IsPhase}
+use Rattle.script_lines.specs.declared.line.What.TheVariants.{Contact as IsContact, Offer as IsOffer, Bad as IsBad, RingSize as IsRingSize, Window as IsWindow, Ask as IsAsk, Rescind as IsRescind, Shut as IsShut, Phase as IsPhase}
 use Rattle.script_lines.specs.declared.line.DeviceSpec.{DeviceSpec}
 use Rattle.script_lines.specs.Parts.{pages_by, window_by}
 use Rattle.script_lines.specs.WellFormed.{IsRight, AllRight}
@@ -68,6 +68,7 @@ pages_line kinds device (IsRingSize d pages) rest right fits = within_test (d ==
 pages_line kinds device (IsBad d lba) rest right fits = fits
 pages_line kinds device (IsWindow d size) rest right fits = fits
 pages_line kinds device (IsAsk d ask) rest right fits = fits
+pages_line kinds device (IsRescind d after held) rest right fits = fits
 pages_line kinds device (IsShut d) rest right fits = fits
 pages_line kinds device IsPhase rest right fits = fits
 
@@ -78,6 +79,7 @@ window_line kinds device (IsRingSize d pages) rest right fits = fits
 window_line kinds device (IsBad d lba) rest right fits = fits
 window_line kinds device (IsWindow d size) rest right fits = within_test (d == device) 1 64 4 size rest right.1 right.2 fits
 window_line kinds device (IsAsk d ask) rest right fits = fits
+window_line kinds device (IsRescind d after held) rest right fits = fits
 window_line kinds device (IsShut d) rest right fits = fits
 window_line kinds device IsPhase rest right fits = fits
 

@@ -2,3 +2,4 @@ pub mod Desk
 pub mod Settings
 pub mod Opening
 pub mod Whole
+pub mod Outcomes

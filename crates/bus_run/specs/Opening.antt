@@ -1,6 +1,8 @@
 -- The devices of a phase while their channels have them.
-use Rattle.std.specs.Prelude.{ℕ, ◌≡◌, ◌+◌, ◌*◌, All, Bool, true, false, List, [], ◌∷◌, ◌++◌, length, slice_index_or}
-use Rattle.script_lines.specs.Parts.{kind_of}
+use Rattle.std.specs.Prelude.{ℕ, ◌≡◌, ◌+◌, ◌*◌, All, Bool, true, false, List, [], ◌∷◌, ◌++◌, length, Option, slice_index_or}
+use Rattle.chan_state.specs.declared.stop.Stop.{Stop}
+use Rattle.bus_model.specs.Orders.{Order}
+use Rattle.script_lines.specs.declared.line.DeviceSpec.{DeviceSpec}
 use Rattle.script_lines.specs.declared.line.Ask.{Ask}
 use Rattle.hist_lock.specs.History.{entries_of}
 use Rattle.hist_lock.specs.Seat.{Seat}
@@ -11,7 +13,7 @@ use Rattle.end_work.specs.declared.device_seat.DeviceSeat.{DeviceSeat}
 use Rattle.end_work.specs.declared.device_seat.DeviceSeat.TheVariants.{Beat as BeatSeat, Down as DownSeat, Disk as DiskSeat}
 use Rattle.scsi_disk.specs.FiniteMap.{unwritten}
 use Rattle.util_ic.specs.Machines.{beat_start, down_start}
-use Rattle.bus_run.specs.Desk.{spec_of, subs_of, asks_of, IsKept, IsReady, Suits}
+use Rattle.bus_run.specs.Desk.{spec_of, subs_of, order_at, IsKept, IsReady, Suits}
 use Rattle.bus_run.specs.Settings.{unset}
 use Rattle.bus_run.specs.declared.desk.Desk.{Desk}
 use Rattle.bus_run.specs.declared.settings.Settings.{Settings}
@@ -44,25 +46,25 @@ abbrev pub held_from : (ℕ → Bool) → ℕ → List Desk → List Desk
 held_from opened place [] = []
 held_from opened place (d ∷ desks) = held_of (opened place) d ∷ held_from opened (place + 1) desks
 
--- a channel was opened for the device at this place, as its settings say, with a new seat for as many calls as it is asked; relids count from 1
-pub record OpensDesk (device : ℕ) (settings : Settings) (asks : List Ask) (desk : Desk) (pair : Pairing) : Type 0 where
+-- a channel was opened for the device at this place, as its settings say and as was ordered, with a new seat for as many calls as it is asked; relids count from 1
+pub record OpensDesk (device : ℕ) (settings : Settings) (order : Order) (desk : Desk) (pair : Pairing) : Type 0 where
   pub seat : DeviceSeat
-  pub is_for : IsSeatFor desk (length asks) seat
-  pub opens : Opens (kind_of (spec_of desk)) asks seat pair
+  pub is_for : IsSeatFor desk (length order.asks) seat
+  pub opens : Opens order seat pair
   pub channel : AreOnChannel (device + 1) (512 * settings.pages) settings.window pair
 
 -- the same with the settings of all devices
-abbrev pub OpensAt : List Settings → ℕ → List Ask → Desk → Pairing → Type 0
-OpensAt settings place asks desk pair = OpensDesk place (slice_index_or settings place unset) asks desk pair
+abbrev pub OpensAt : List Settings → ℕ → Order → Desk → Pairing → Type 0
+OpensAt settings place order desk pair = OpensDesk place (slice_index_or settings place unset) order desk pair
 
 -- that channel has run
-pub record DeskRan (asks : List Ask) (desk : Desk) (done : PairDone) : Type 0 where
+pub record DeskRan (order : Order) (desk : Desk) (done : PairDone) : Type 0 where
   pub seat : DeviceSeat
-  pub is_for : IsSeatFor desk (length asks) seat
-  pub ran : Ran (kind_of (spec_of desk)) asks seat done
+  pub is_for : IsSeatFor desk (length order.asks) seat
+  pub ran : Ran order seat done
 
-abbrev pub RanAt : ℕ → List Ask → Desk → PairDone → Type 0
-RanAt place asks desk done = DeskRan asks desk done
+abbrev pub RanAt : ℕ → Order → Desk → PairDone → Type 0
+RanAt place order desk done = DeskRan order desk done
 
 -- one for a device whose channel is opened, and none for another
 abbrev pub OneIf : {A : Type 0} → Bool → (A → Type 0) → List A → Type 0
@@ -72,21 +74,21 @@ OneIf true P (x ∷ []) = P x
 OneIf true P (x ∷ y ∷ xs) = ⊥
 
 -- one for each device from this place on whose channel is opened, in order
-abbrev pub OneEach : {A : Type 0} → (ℕ → List Ask → Desk → A → Type 0) → (ℕ → Bool) → (ℕ → List Ask) → ℕ → List Desk → List A → Type 0
-OneEach P opened asks place [] xs = xs ≡ []
-OneEach {A} P opened asks place (d ∷ desks) xs =
-    (front : List A) × (rest : List A) × (xs ≡ front ++ rest) × OneIf (opened place) (P place (asks place) d) front × OneEach P opened asks (place + 1) desks rest
+abbrev pub OneEach : {A : Type 0} → (ℕ → Order → Desk → A → Type 0) → (ℕ → Bool) → (ℕ → DeviceSpec → Order) → ℕ → List Desk → List A → Type 0
+OneEach P opened orders place [] xs = xs ≡ []
+OneEach {A} P opened orders place (d ∷ desks) xs =
+    (front : List A) × (rest : List A) × (xs ≡ front ++ rest) × OneIf (opened place) (P place (orders place (spec_of d)) d) front × OneEach P opened orders (place + 1) desks rest
 
 -- what comes back for a device, before the others: its channel's end, if it was opened
-pub record ComesBack (opened : Bool) (asks : List Ask) (old held : Desk) (dones front rest : List PairDone) : Type 0 where
+pub record ComesBack (opened : Bool) (order : Order) (old held : Desk) (dones front rest : List PairDone) : Type 0 where
   pub held_is : held ≡ held_of opened old
   pub kept : IsKept old
   pub dones_are : dones ≡ front ++ rest
-  pub ran : OneIf opened (DeskRan asks old) front
+  pub ran : OneIf opened (DeskRan order old) front
 
 -- all channels that a phase opens of these devices have run, and the devices are held
-pub record AllCome (opened : ℕ → Bool) (phase : ℕ) (piles : List (List Ask)) (old held : List Desk) (dones : List PairDone) : Type 0 where
+pub record AllCome (opened : ℕ → Bool) (phase : ℕ) (piles : List (List Ask)) (stops : List (Option Stop)) (old held : List Desk) (dones : List PairDone) : Type 0 where
   pub ready : All (IsReady (4096 * phase)) old
-  pub suits : Suits 4096 old piles
+  pub suits : Suits 4096 old piles stops
   pub held_is : held ≡ held_from opened 0 old
-  pub ran : OneEach RanAt opened (asks_of piles) 0 old dones
+  pub ran : OneEach RanAt opened (order_at piles stops) 0 old dones

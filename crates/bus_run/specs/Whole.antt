@@ -2,7 +2,7 @@
 use Rattle.std.specs.Prelude.{ℕ, ◌≡◌, ◌+◌, ◌*◌, ◌<◌, ◌≤◌, List, [], ◌∷◌, ◌++◌, length, map, drop, All, Option, Some, None}
 use Rattle.script_lines.specs.declared.line.Line.{Line}
 use Rattle.script_lines.specs.declared.line.What.{What}
-use Rattle.script_lines.specs.declared.line.What.TheVariants.{Contact as IsContact, Offer as IsOffer, Bad as IsBad, RingSize as IsRingSize, Window as IsWindow, Ask as IsAsk, Shut as IsShut, Phase as IsPhase}
+use Rattle.script_lines.specs.declared.line.What.TheVariants.{Contact as IsContact, Offer as IsOffer, Bad as IsBad, RingSize as IsRingSize, Window as IsWindow, Ask as IsAsk, Rescind as IsRescind, Shut as IsShut, Phase as IsPhase}
 use Rattle.script_lines.specs.declared.line.DeviceSpec.{DeviceSpec}
 use Rattle.bus_script.specs.declared.outcome.LineResult.{LineResult}
 use Rattle.script_lines.specs.Parts.{parts, offered, blocks_of, bads_of}
@@ -10,7 +10,7 @@ use Rattle.script_lines.specs.WellFormed.{IsDevice}
 use Rattle.bus_model.specs.Logs.{Recorded}
 use Rattle.bus_model.specs.ByDevice.{PhaseRuns, RunFrom}
 use Rattle.bus_model.specs.declared.channel_run.ChannelRun.{ChannelRun}
-use Rattle.bus_plan.specs.Flags.{AreMarked, closed_by}
+use Rattle.bus_plan.specs.Endings.{AreEnded}
 use Rattle.scsi_disk.specs.DiskModel.{DiskState}
 use Rattle.bus_run.specs.declared.desk.Desk.{Desk}
 use Rattle.bus_run.specs.declared.runner.Runner.{Runner}
@@ -35,6 +35,7 @@ CanMake lines device (IsBad d lba) = Unit {0}
 CanMake lines device (IsRingSize d pages) = Unit {0}
 CanMake lines device (IsWindow d size) = Unit {0}
 CanMake lines device (IsAsk d ask) = Unit {0}
+CanMake lines device (IsRescind d after held) = Unit {0}
 CanMake lines device (IsShut d) = Unit {0}
 CanMake lines device IsPhase = Unit {0}
 
@@ -82,5 +83,5 @@ pub record RunsSoFar (lines : List Line) (r : Runner) : Type 0 where
   pub setups : map setup_of r.desks.items ≡ setups_from lines 0 (offered lines)
   pub ready : All (IsReady (4096 * r.phase)) r.desks.items
   pub settings : SettingsOf lines (length r.desks.items) r.settings.items
-  pub closed : AreMarked (closed_by earlier) r.closed.items
-  pub closed_count : length r.closed.items ≡ length r.desks.items
+  pub ended : AreEnded earlier r.ended.items
+  pub ended_count : length r.ended.items ≡ length r.desks.items

@@ -1,14 +1,17 @@
 //! A device's channel is closed.
-ghost use Rattle.std.specs.Prelude.{◌≡◌, ◌+◌, ◌<◌, ◌^◌, ◌++◌, ℕ, List, length, map, IfOk, OnOk};
+ghost use Rattle.std.specs.Prelude.{◌≡◌, ◌+◌, ◌<◌, ◌≤◌, ◌^◌, ◌++◌, ℕ, List, length, map, replicate, IfOk, OnOk};
 ghost use Rattle.std.specs.Vec.Iter.{into_iter_items};
-ghost use Rattle.bus_model.specs.Served.{Served, done_of};
-ghost use Rattle.script_lines.specs.declared.line.Ask.{Ask as OneAsk};
+ghost use Rattle.work_model.specs.Outcome.{lines_of};
+ghost use Rattle.bus_model.specs.Laws.{line_of};
+ghost use Rattle.bus_model.specs.Orders.{Order as OneOrder};
+ghost use Rattle.bus_script.specs.declared.outcome.LineResult.TheVariants.{Unserved};
 ghost use Rattle.end_work.specs.Seats.{served_at, IsSameSeat};
 ghost use Rattle.phase_run.specs.declared.pair.PairDone.{PairDone as OneDone};
 ghost use Rattle.end_work.specs.declared.device_seat.DeviceSeat.{DeviceSeat as OneSeat};
 ghost use Rattle.bus_run.specs.declared.desk.Desk.{Desk as OneDesk};
 ghost use Rattle.bus_run.specs.Desk.{subs_of, GoesOn, OpenRan, DeviceRan};
 ghost use Rattle.bus_run.specs.Opening.{IsSeatFor, DeskRan, ComesBack};
+ghost use Rattle.bus_run.specs.Outcomes.{served_line, served_lines};
 
 use crate::desk::Desk;
 use crate::lock::close_seat;
@@ -44,37 +47,66 @@ fn desk_of(alloc: Global, subs: u32, seat: DeviceSeat) -> Result<Desk, AllocErro
     }
 }
 
-/// The outcomes of requests that were all served: each has its place in the history, and its reply.
-fn results_of(
+/// The outcome of a request that was served: it is done where its reply came back.
+fn outcome_of(serial: u32, reply: Option<Reply>) -> LineResult
+    ensures { result ≡ served_line serial reply }
+{
+    match reply {
+        Some(reply) => LineResult::Done { serial, reply },
+        None => LineResult::RescindedServed { serial },
+    }
+}
+
+/// The outcomes of requests that were served: each has its place in the history, and the first ones have their replies.
+fn served_lines(
     alloc: Global,
     serials: &[u32],
     replies: Vec<Reply>,
 ) -> Result<Vec<LineResult>, AllocError>
-    requires { (served : List Served) × (serials.now ≡ map (λ s. s.serial) served) × (replies.items ≡ map (λ s. s.reply) served) }
-    ensures { IfOk result (λ results. (served : List Served) → serials.now ≡ map (λ s. s.serial) served → replies.items ≡ map (λ s. s.reply) served → results.items ≡ map done_of served) }
+    ensures { IfOk result (λ results. results.items ≡ served_lines serials.now replies.items) }
 {
     let mut results = Vec::new(alloc);
     let mut replies = replies.into_iter();
     for serial in serials {
-        let Some(reply) = replies.next() else {
-            unreachable!();
-        };
-        results.push(LineResult::Done {
-            serial: *serial,
-            reply,
-        })?;
+        results.push(outcome_of(*serial, replies.next()))?;
     }
     Ok(results)
 }
 
-/// What a channel carried, its device, and the outcomes of its requests.
+/// The outcomes of so many requests that were not served, behind others.
+fn add_unserved(results: &mut Vec<LineResult>, count: usize) -> Result<(), AllocError>
+    ensures { OnOk result (results.new.items ≡ results.old.items ++ replicate count Unserved) }
+{
+    for _ in 0..count {
+        results.push(LineResult::Unserved)?;
+    }
+    Ok(())
+}
+
+/// The outcomes of a channel's requests, of which there are so many: the served ones come first, and each of the others is unserved.
+fn results_of(
+    alloc: Global,
+    serials: &[u32],
+    replies: Vec<Reply>,
+    asked: usize,
+) -> Result<Vec<LineResult>, AllocError>
+    requires { length serials.now ≤ asked }
+    ensures { IfOk result (λ results. results.items ≡ map line_of (lines_of asked serials.now replies.items)) }
+{
+    let mut results = served_lines(alloc, serials, replies)?;
+    add_unserved(&mut results, asked - serials.len())?;
+    Ok(results)
+}
+
+/// What a channel carried, its device, and the outcomes of its requests, of which there are so many.
 fn close_desk(
     alloc: Global,
     subs: u32,
+    asked: usize,
     done: PairDone,
 ) -> Result<(Settled, Desk, Vec<LineResult>), AllocError>
-    requires { (asks : List OneAsk) × (old : OneDesk) × DeskRan asks old done }
-    ensures { IfOk result (λ r. (asks : List OneAsk) (old : OneDesk) → subs_of old ≡ subs → DeskRan asks old done → OpenRan asks old r.1 r.0 r.2.items) }
+    requires { (order : OneOrder) × (old : OneDesk) × (length order.asks ≡ asked) × DeskRan order old done }
+    ensures { IfOk result (λ r. (order : OneOrder) (old : OneDesk) → subs_of old ≡ subs → length order.asks ≡ asked → DeskRan order old done → OpenRan order old r.1 r.0 r.2.items) }
 {
     let PairDone {
         settled,
@@ -88,26 +120,27 @@ fn close_desk(
     let Some(seat) = serving_seat(guest_seat, host_seat) else {
         unreachable!();
     };
-    let results = results_of(alloc, &serials, replies)?;
+    let results = results_of(alloc, &serials, replies, asked)?;
     let desk = desk_of(alloc, subs, seat)?;
     Ok((settled, desk, results))
 }
 
 /// Closes the channel of a device in a phase, if the phase opened it: what it carried stands behind the runs before, and the answer is the outcomes of
-/// its requests.
+/// its requests, of which there are so many.
 pub fn close_device(
     alloc: Global,
     phase: u32,
     device: u32,
     opened: bool,
+    asked: usize,
     desk: &mut Desk,
     dones: &mut IntoIter<PairDone>,
     settled: &mut Vec<ChannelRun>,
 ) -> Result<Vec<LineResult>, AllocError>
     requires device { device + 1 < 2 ^ 32 }
-    requires comes { (asks : List OneAsk) × (old : OneDesk) × (front : List OneDone) × (rest : List OneDone) × ComesBack opened asks old desk.old (into_iter_items dones.old) front rest }
-    ensures ran { IfOk result (λ results. (asks : List OneAsk) (old : OneDesk) (front rest : List OneDone) → ComesBack opened asks old desk.old (into_iter_items dones.old) front rest → DeviceRan opened phase device asks old desk.new settled.old.items settled.new.items results.items) }
-    ensures rest { OnOk result ((asks : List OneAsk) (old : OneDesk) (front rest : List OneDone) → ComesBack opened asks old desk.old (into_iter_items dones.old) front rest → into_iter_items dones.new ≡ rest) }
+    requires comes { (order : OneOrder) × (old : OneDesk) × (front : List OneDone) × (rest : List OneDone) × (length order.asks ≡ asked) × ComesBack opened order old desk.old (into_iter_items dones.old) front rest }
+    ensures ran { IfOk result (λ results. (order : OneOrder) (old : OneDesk) (front rest : List OneDone) → length order.asks ≡ asked → ComesBack opened order old desk.old (into_iter_items dones.old) front rest → DeviceRan opened phase device order old desk.new settled.old.items settled.new.items results.items) }
+    ensures rest { OnOk result ((order : OneOrder) (old : OneDesk) (front rest : List OneDone) → ComesBack opened order old desk.old (into_iter_items dones.old) front rest → into_iter_items dones.new ≡ rest) }
 {
     if !opened {
         return Ok(Vec::new(alloc));
@@ -115,7 +148,7 @@ pub fn close_device(
     let Some(done) = dones.next() else {
         unreachable!();
     };
-    let (lists, new, results) = close_desk(alloc, desk.subs(), done)?;
+    let (lists, new, results) = close_desk(alloc, desk.subs(), asked, done)?;
     *desk = new;
     settled.push(ChannelRun {
         phase,

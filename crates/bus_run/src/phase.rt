@@ -3,7 +3,7 @@ ghost use Rattle.std.specs.Prelude.{◌≡◌, ◌+◌, ◌*◌, ◌≤◌, ◌+
 ghost use Rattle.script_lines.specs.declared.line.Line.{Line as OneLine};
 ghost use Rattle.script_lines.specs.Parts.{asks_in};
 ghost use Rattle.script_lines.specs.WellFormed.{AllRight, AllGo};
-ghost use Rattle.bus_plan.specs.Flags.{AreMarked, closed_by};
+ghost use Rattle.bus_plan.specs.Endings.{AreEnded};
 ghost use Rattle.bus_run.specs.Desk.{spec_of, IsReady};
 ghost use Rattle.bus_run.specs.Settings.{HasLimits};
 ghost use Rattle.bus_run.specs.Whole.{PhaseRan};
@@ -12,14 +12,14 @@ use crate::desk::Desk;
 use crate::devices::run_devices;
 use crate::settings::Settings;
 use bus_model::ChannelRun;
-use bus_plan::{mark_closed, plan_part, tell};
+use bus_plan::{Ending, mark_ended, plan_part, tell};
 use bus_script::{Line, LineResult};
 use io_edge::Gate;
 use std::alloc::{AllocError, Global};
 use std::sync::Wait;
 use std::thread::Threads;
 
-/// Plans a phase, runs its channels, tells the outcomes of its lines in their order, and notes which devices it closed.
+/// Plans a phase, runs its channels, tells the outcomes of its lines in their order, and notes which devices it ended.
 pub fn run_phase<R: Threads + Wait + Sync, G: Gate>(
     rt: &R,
     gate: &G,
@@ -27,7 +27,7 @@ pub fn run_phase<R: Threads + Wait + Sync, G: Gate>(
     phase: u32,
     part: &[Line],
     settings: &[Settings],
-    closed: &mut [bool],
+    ended: &mut [Option<Ending>],
     desks: &mut Vec<Desk>,
     settled: &mut Vec<ChannelRun>,
     results: &mut Vec<LineResult>,
@@ -36,22 +36,22 @@ pub fn run_phase<R: Threads + Wait + Sync, G: Gate>(
     requires right { AllRight (map spec_of desks.old.items) part.now }
     requires go { AllGo part.now }
     requires asks { asks_in part.now ≤ 4096 }
-    requires earlier { (earlier : List OneLine) × AreMarked (closed_by earlier) closed.old }
-    requires closed { length closed.old ≡ length desks.old.items }
+    requires earlier { (earlier : List OneLine) × AreEnded earlier ended.old }
+    requires ended { length ended.old ≡ length desks.old.items }
     requires settings { length settings.now ≡ length desks.old.items }
     requires limits { All HasLimits settings.now }
     requires few { length desks.old.items ≤ 16 }
     requires phase { phase ≤ 20000 }
-    ensures ran { OnOk result ((earlier : List OneLine) → AreMarked (closed_by earlier) closed.old → PhaseRan phase earlier part.now desks.old.items desks.new.items settled.old.items settled.new.items results.old.items results.new.items) }
+    ensures ran { OnOk result ((earlier : List OneLine) → AreEnded earlier ended.old → PhaseRan phase earlier part.now desks.old.items desks.new.items settled.old.items settled.new.items results.old.items results.new.items) }
     ensures ready { OnOk result (All (IsReady (4096 * (phase + 1))) desks.new.items) }
-    ensures closed { OnOk result ((earlier : List OneLine) → AreMarked (closed_by earlier) closed.old → AreMarked (closed_by (earlier ++ part.now)) closed.new) }
-    ensures count { OnOk result (length closed.new ≡ length closed.old) }
+    ensures ended { OnOk result ((earlier : List OneLine) → AreEnded earlier ended.old → AreEnded (earlier ++ part.now) ended.new) }
+    ensures count { OnOk result (length ended.new ≡ length ended.old) }
 {
-    let plan = plan_part(alloc, closed, part)?;
+    let plan = plan_part(alloc, ended, part)?;
     let outcomes = run_devices(
-        rt, gate, alloc, phase, &plan, closed, settings, desks, settled,
+        rt, gate, alloc, phase, &plan, ended, settings, desks, settled,
     )?;
     tell(&outcomes, &plan.addresses, results)?;
-    mark_closed(closed, part);
+    mark_ended(ended, part);
     Ok(())
 }

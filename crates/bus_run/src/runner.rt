@@ -15,7 +15,7 @@ use crate::desk::{Desk, history_of, new_desk};
 use crate::phase::run_phase;
 use crate::settings::{Settings, all_settings};
 use bus_model::{ChannelRun, DeviceHistory};
-use bus_plan::first_part;
+use bus_plan::{Ending, blank, first_part};
 use bus_script::{Line, LineResult, Script, What};
 use io_edge::Gate;
 use std::alloc::{AllocError, Global};
@@ -37,7 +37,8 @@ pub struct Ran {
 pub struct Runner {
     desks: Vec<Desk>,
     settings: Vec<Settings>,
-    closed: Vec<bool>,
+    // how an earlier phase ended each device
+    ended: Vec<Option<Ending>>,
     phase: u32,
     // where the lines of the next phase begin
     next: Option<usize>,
@@ -111,11 +112,11 @@ impl Runner {
         let lines = script.lines();
         let desks = new_desks(alloc, lines)?;
         let settings = all_settings(alloc, desks.len(), lines)?;
-        let closed = vec![in alloc; false; desks.len()]?;
+        let ended = blank(alloc, desks.len())?;
         Ok(Runner {
             desks,
             settings,
-            closed,
+            ended,
             phase: 0,
             next: Some(0),
             settled: Vec::new(alloc),
@@ -162,7 +163,7 @@ impl Runner {
             self.phase,
             part,
             &self.settings,
-            &mut self.closed,
+            &mut self.ended,
             &mut self.desks,
             &mut self.settled,
             &mut self.results,

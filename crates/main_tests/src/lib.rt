@@ -8,6 +8,8 @@ mod check;
 #[cfg(test)]
 mod hold;
 #[cfg(test)]
+mod rescind_tests;
+#[cfg(test)]
 mod thread_tests;
 #[cfg(test)]
 mod vmbus_main_tests;

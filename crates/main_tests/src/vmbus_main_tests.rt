@@ -151,7 +151,7 @@ const WRONG_SCRIPTS: &[(&[u8], u32, Why6)] = &[
     (
         b"offer disk d 64 0\nrescind d after 0 held\n",
         2,
-        Why6::Form,
+        Why6::Range,
     ),
     (b"offer disk d 64 0\nbad d 64\n", 2, Why6::Range),
     (b"offer disk d 64 0\nbad d 6\nbad d 6\n", 3, Why6::Repeat),

@@ -8,6 +8,7 @@ use Rattle.work_model.specs.Channel.{AllFixed}
 use Rattle.work_model.proofs.Opens.{by_test}
 use Rattle.work_model.proofs.Served.{filter_first, filter_past}
 use Rattle.worker_core.specs.Asking.{AsksBy}
+use Rattle.worker_core.proofs.AskSteps.{encoded_few}
 use Rattle.worker_core.specs.Serving.{is_asked}
 use Rattle.worker_core.specs.declared.ended.Ended.{Ended}
 use Rattle.worker_core.specs.declared.ended.Ended.TheVariants.{Marked, PeerMarked, Room}
@@ -20,14 +21,9 @@ filter_le f (p ∷ ps) =
     (λ e. omega (arith, ap length (filter_past f p ps e), filter_le f ps))
 
 module _ {A Q R : Type 0} (s : Speech (List ℕ) A Q R) (keeps : Keeps s) where
-  encoded_few : (asks : List A) (ps : List (List ℕ)) → Encoded s asks ps → length ps ≤ length asks
-  encoded_few asks [] h = omega arith
-  encoded_few [] (p ∷ ps) h = absurd h
-  encoded_few (a ∷ asks) (p ∷ ps) h = omega (arith, encoded_few asks ps h.1)
-
   -- the start-up asks nothing of the device
   asked_few : (start script : List A) (ps : List (List ℕ)) → AllFixed s start → Encoded s (start ++ script) ps → length (filter (is_asked s) ps) ≤ length script
-  asked_few [] script ps fixed h = omega (arith, filter_le (is_asked s) ps, encoded_few script ps h)
+  asked_few [] script ps fixed h = omega (arith, filter_le (is_asked s) ps, encoded_few s script ps h)
   asked_few (a ∷ start) script [] fixed h = omega arith
   asked_few (a ∷ start) script (p ∷ ps) fixed h =
       let none : is_asked s p ≡ false = ap is_some (ap s.read h.0 ∙ fixed.0 (s.id_of p)) in

@@ -1,12 +1,13 @@
 -- The two workers of a channel are made.
-use Rattle.std.proofs.Common.{◌≡◌, ◌≤◌, ◌+◌, ◌*◌, ℕ, length, filter, List, [], Option, Some, None, is_some, Result, Ok, Err, ap, sym, ◌∙◌, subst, arith}
-use Rattle.std.specs.Prelude.{IfOk}
+use Rattle.std.proofs.Common.{◌≡◌, ◌≤◌, ◌+◌, ◌*◌, ℕ, length, filter, List, [], Option, Some, None, is_some, Bool, true, false, Result, Ok, Err, refl, ap, sym, ◌∙◌, subst, arith}
+use Rattle.std.specs.Prelude.{IfOk, ◌==◌, if◌then◌else◌}
 use Rattle.std.specs.List.{AllByRecursion}
 use Rattle.script_lines.specs.declared.line.Ask.{Ask}
 use Rattle.bus_speech.specs.Speeches.{has_answer_on}
 use Rattle.bus_speech.specs.Talks.{Talked, asks_of}
 use Rattle.bus_speech.specs.Wants.{startup, IsAskable}
 use Rattle.bus_script.specs.declared.outcome.Reply.{Reply}
+use Rattle.bus_model.specs.Orders.{Order}
 use Rattle.worker_core.specs.Asking.{Asking}
 use Rattle.worker_core.specs.Serving.{Serving}
 use Rattle.contact.specs.declared.kind.Kind.{Kind}
@@ -22,7 +23,7 @@ use Rattle.ring_seat.specs.declared.table_seat.TableSeat.{TableSeat}
 use Rattle.end_work.specs.Pairs.{AreRoles, ArePair, PlansAgree}
 use Rattle.end_work.specs.Seats.{served_at}
 use Rattle.end_work.specs.Workers.{end_at, relid_at, HasWindow}
-use Rattle.end_work.specs.Plans.{Planned, AsksFor, ServesFor, IsMade}
+use Rattle.end_work.specs.Plans.{Planned, CanStop, AsksFor, ServesFor, IsMade}
 use Rattle.end_work.specs.declared.device_seat.DeviceSeat.{DeviceSeat}
 use Rattle.end_work.specs.declared.worker.ChannelWorker.{ChannelWorker}
 use Rattle.end_work.specs.declared.worker.ChannelWorker.TheVariants.{Asks, Serves}
@@ -35,63 +36,81 @@ room_for : (kind : Kind) (asks : List Ask) (a : Asking Talked Reply) (s : Servin
     → length (asks_of a.talk) ≤ s.starts + s.come
 room_for kind asks a s talk starts come = omega (arith, asks_length kind asks a.talk talk, starts_all kind, starts, come)
 
+-- the start-up of a first channel
+starts_at : Kind → ℕ → ℕ
+starts_at kind sub = length (filter (has_answer_on kind) (if sub == 0 then startup kind else []))
+
+unstopped : (stop : Option (ℕ × Bool)) → is_some stop ≡ false → stop ≡ None
+unstopped None e = refl
+unstopped (Some k) e = absurd (cc)
+
+-- no service stops
+pub goes_on : (kind : Kind) (stop : Option (ℕ × Bool)) → side_that_asks kind ≡ Host → CanStop kind stop → None ≡ stop
+goes_on kind None side can = refl
+goes_on kind (Some k) side can = let other : Guest ≡ Host = sym (ap side_that_asks can.0) ∙ side in absurd (cc)
+
 -- so the plans agree
-plans_agree : (kind : Kind) (asks : List Ask) (seat : DeviceSeat) (a : Asking Talked Reply) (s : Serving Talked DeviceSeat Ask Reply) → MadeFor kind asks seat a s → s.come ≡ length asks → PlansAgree a s
-plans_agree kind asks seat a s made come = record {
+plans_agree : (order : Order) (seat : DeviceSeat) (a : Asking Talked Reply) (s : Serving Talked DeviceSeat Ask Reply) → MadeFor order seat a s → s.come ≡ length order.asks → PlansAgree a s
+unfolding starts_at
+plans_agree order seat a s made come = record {
   kind = ap (λ (t : Talked). t.kind) made.talk ∙ sym made.answers;
-  room = room_for kind asks a s made.talk made.starts come;
-  calls = λ go. omega (arith, made.serve, ap (λ (t : Talked). length t.asks) made.talk);
+  room = room_for order.kind order.asks a s made.talk (made.starts ∙ ap (starts_at order.kind) made.primary) come;
+  calls = λ go.
+      let all : s.serve ≡ length order.asks = made.serve ∙ ap (λ k. count_of k (length order.asks)) (unstopped order.stop (sym made.stops ∙ go)) in
+      omega (arith, all, ap (λ (t : Talked). length t.asks) made.talk);
 }
 
--- both were made for one plan
-made_for : (kind : Kind) (asks : List Ask) (seat : DeviceSeat) (g h : Planned) (a : Asking Talked Reply) (s : Serving Talked DeviceSeat Ask Reply) → g.kind ≡ kind → g.asks ≡ asks → h.kind ≡ kind → h.count ≡ length asks → h.stop ≡ None → served_at seat ≡ [] → AsksFor g a → ServesFor h seat s
-    → MadeFor kind asks seat a s
-made_for kind asks seat g h a s g_kind g_asks h_kind h_count h_stop fresh asked served = record {
-  can = subst (λ k. AllByRecursion (IsAskable k) asks) g_kind (subst (AllByRecursion (IsAskable g.kind)) g_asks asked.can);
-  talk = asked.talk ∙ ap (λ k. talked k g.asks) g_kind ∙ ap (talked kind) g_asks;
+-- both were made for one order
+made_for : (order : Order) (seat : DeviceSeat) (g h : Planned) (a : Asking Talked Reply) (s : Serving Talked DeviceSeat Ask Reply) → order.sub ≡ 0 → g.kind ≡ order.kind → g.asks ≡ order.asks → h.kind ≡ order.kind → h.count ≡ length order.asks → h.stop ≡ order.stop
+    → served_at seat ≡ [] → AsksFor g a → ServesFor h seat s → MadeFor order seat a s
+unfolding starts_at
+made_for order seat g h a s primary g_kind g_asks h_kind h_count h_stop fresh asked served = record {
+  can = subst (λ k. AllByRecursion (IsAskable k) order.asks) g_kind (subst (AllByRecursion (IsAskable g.kind)) g_asks asked.can);
+  primary = primary;
+  talk = asked.talk ∙ ap (λ k. talked k g.asks) g_kind ∙ ap (talked order.kind) g_asks;
   answers = served.answers ∙ h_kind;
   seat_is = served.seat_is;
   before = served.before ∙ fresh;
-  serve = served.serve ∙ ap (λ k. count_of k h.count) h_stop ∙ h_count;
-  held = served.held ∙ ap (λ k. held_of k h.count) h_stop;
+  serve = served.serve ∙ ap (λ k. count_of k h.count) h_stop ∙ ap (count_of order.stop) h_count;
+  held = served.held ∙ ap (λ k. held_of k h.count) h_stop ∙ ap (held_of order.stop) h_count;
   stops = served.stops ∙ ap is_some h_stop;
-  starts = served.starts ∙ ap (λ k. length (filter (has_answer_on k) (startup k))) h_kind;
+  starts = served.starts ∙ ap (λ k. length (filter (has_answer_on k) (startup k))) h_kind ∙ sym (ap (starts_at order.kind) primary);
 }
   where
     talked : Kind → List Ask → Talked
     talked k l = record { kind = k; asks = l }
 
 -- a guest that serves, and a host that asks
-pub guest_roles : (kind : Kind) (asks : List Ask) (seat : Option DeviceSeat) (g h : Planned) (guest host : ChannelWorker) → IsNewSeat kind (length asks) seat → g.kind ≡ kind → g.count ≡ length asks → g.stop ≡ None → h.kind ≡ kind → h.asks ≡ asks
+pub guest_roles : (order : Order) (seat : Option DeviceSeat) (g h : Planned) (guest host : ChannelWorker) → IsNewSeat order.kind (length order.asks) seat → order.sub ≡ 0 → g.kind ≡ order.kind → g.count ≡ length order.asks → g.stop ≡ order.stop → h.kind ≡ order.kind → h.asks ≡ order.asks
     → IsMade g seat guest → IsMade h None host → AreRoles guest host
-guest_roles kind asks None g h guest host new g_kind g_count g_stop h_kind h_asks made asked = absurd new
-guest_roles kind asks (Some seat) g h (Asks a) host new g_kind g_count g_stop h_kind h_asks made asked = absurd made
-guest_roles kind asks (Some seat) g h (Serves s) (Asks a) new g_kind g_count g_stop h_kind h_asks made asked =
-    plans_agree kind asks seat a s (made_for kind asks seat h g a s h_kind h_asks g_kind g_count g_stop new.1 asked made) (made.come ∙ g_count)
-guest_roles kind asks (Some seat) g h (Serves s) (Serves t) new g_kind g_count g_stop h_kind h_asks made asked = absurd asked
+guest_roles order None g h guest host new primary g_kind g_count g_stop h_kind h_asks made asked = absurd new
+guest_roles order (Some seat) g h (Asks a) host new primary g_kind g_count g_stop h_kind h_asks made asked = absurd made
+guest_roles order (Some seat) g h (Serves s) (Asks a) new primary g_kind g_count g_stop h_kind h_asks made asked =
+    plans_agree order seat a s (made_for order seat h g a s primary h_kind h_asks g_kind g_count g_stop new.1 asked made) (made.come ∙ g_count)
+guest_roles order (Some seat) g h (Serves s) (Serves t) new primary g_kind g_count g_stop h_kind h_asks made asked = absurd asked
 
-pub guest_opens : (kind : Kind) (asks : List Ask) (seat : Option DeviceSeat) (g h : Planned) (guest host : ChannelWorker) → side_that_asks kind ≡ Host → IsNewSeat kind (length asks) seat → g.kind ≡ kind → g.count ≡ length asks → g.stop ≡ None → h.kind ≡ kind → h.asks ≡ asks
-    → IsMade g seat guest → IsMade h None host → OpensWith kind asks seat (record { guest = guest; host = host })
-guest_opens kind asks None g h guest host side new g_kind g_count g_stop h_kind h_asks made asked = absurd new
-guest_opens kind asks (Some seat) g h (Asks a) host side new g_kind g_count g_stop h_kind h_asks made asked = absurd made
-guest_opens kind asks (Some seat) g h (Serves s) (Asks a) side new g_kind g_count g_stop h_kind h_asks made asked = (side, made_for kind asks seat h g a s h_kind h_asks g_kind g_count g_stop new.1 asked made)
-guest_opens kind asks (Some seat) g h (Serves s) (Serves t) side new g_kind g_count g_stop h_kind h_asks made asked = absurd asked
+pub guest_opens : (order : Order) (seat : Option DeviceSeat) (g h : Planned) (guest host : ChannelWorker) → side_that_asks order.kind ≡ Host → IsNewSeat order.kind (length order.asks) seat → order.sub ≡ 0 → g.kind ≡ order.kind → g.count ≡ length order.asks → g.stop ≡ order.stop → h.kind ≡ order.kind → h.asks ≡ order.asks
+    → IsMade g seat guest → IsMade h None host → OpensWith order seat (record { guest = guest; host = host })
+guest_opens order None g h guest host side new primary g_kind g_count g_stop h_kind h_asks made asked = absurd new
+guest_opens order (Some seat) g h (Asks a) host side new primary g_kind g_count g_stop h_kind h_asks made asked = absurd made
+guest_opens order (Some seat) g h (Serves s) (Asks a) side new primary g_kind g_count g_stop h_kind h_asks made asked = (side, made_for order seat h g a s primary h_kind h_asks g_kind g_count g_stop new.1 asked made)
+guest_opens order (Some seat) g h (Serves s) (Serves t) side new primary g_kind g_count g_stop h_kind h_asks made asked = absurd asked
 
 -- a guest that asks, and a host that serves
-pub host_roles : (kind : Kind) (asks : List Ask) (seat : Option DeviceSeat) (g h : Planned) (guest host : ChannelWorker) → IsNewSeat kind (length asks) seat → h.kind ≡ kind → h.count ≡ length asks → h.stop ≡ None → g.kind ≡ kind → g.asks ≡ asks
+pub host_roles : (order : Order) (seat : Option DeviceSeat) (g h : Planned) (guest host : ChannelWorker) → IsNewSeat order.kind (length order.asks) seat → order.sub ≡ 0 → h.kind ≡ order.kind → h.count ≡ length order.asks → h.stop ≡ order.stop → g.kind ≡ order.kind → g.asks ≡ order.asks
     → IsMade h seat host → IsMade g None guest → AreRoles guest host
-host_roles kind asks None g h guest host new h_kind h_count h_stop g_kind g_asks made asked = absurd new
-host_roles kind asks (Some seat) g h guest (Asks a) new h_kind h_count h_stop g_kind g_asks made asked = absurd made
-host_roles kind asks (Some seat) g h (Asks a) (Serves s) new h_kind h_count h_stop g_kind g_asks made asked =
-    plans_agree kind asks seat a s (made_for kind asks seat g h a s g_kind g_asks h_kind h_count h_stop new.1 asked made) (made.come ∙ h_count)
-host_roles kind asks (Some seat) g h (Serves t) (Serves s) new h_kind h_count h_stop g_kind g_asks made asked = absurd asked
+host_roles order None g h guest host new primary h_kind h_count h_stop g_kind g_asks made asked = absurd new
+host_roles order (Some seat) g h guest (Asks a) new primary h_kind h_count h_stop g_kind g_asks made asked = absurd made
+host_roles order (Some seat) g h (Asks a) (Serves s) new primary h_kind h_count h_stop g_kind g_asks made asked =
+    plans_agree order seat a s (made_for order seat g h a s primary g_kind g_asks h_kind h_count h_stop new.1 asked made) (made.come ∙ h_count)
+host_roles order (Some seat) g h (Serves t) (Serves s) new primary h_kind h_count h_stop g_kind g_asks made asked = absurd asked
 
-pub host_opens : (kind : Kind) (asks : List Ask) (seat : Option DeviceSeat) (g h : Planned) (guest host : ChannelWorker) → side_that_asks kind ≡ Guest → IsNewSeat kind (length asks) seat → h.kind ≡ kind → h.count ≡ length asks → h.stop ≡ None → g.kind ≡ kind → g.asks ≡ asks
-    → IsMade h seat host → IsMade g None guest → OpensWith kind asks seat (record { guest = guest; host = host })
-host_opens kind asks None g h guest host side new h_kind h_count h_stop g_kind g_asks made asked = absurd new
-host_opens kind asks (Some seat) g h guest (Asks a) side new h_kind h_count h_stop g_kind g_asks made asked = absurd made
-host_opens kind asks (Some seat) g h (Asks a) (Serves s) side new h_kind h_count h_stop g_kind g_asks made asked = (side, made_for kind asks seat g h a s g_kind g_asks h_kind h_count h_stop new.1 asked made)
-host_opens kind asks (Some seat) g h (Serves t) (Serves s) side new h_kind h_count h_stop g_kind g_asks made asked = absurd asked
+pub host_opens : (order : Order) (seat : Option DeviceSeat) (g h : Planned) (guest host : ChannelWorker) → side_that_asks order.kind ≡ Guest → IsNewSeat order.kind (length order.asks) seat → order.sub ≡ 0 → h.kind ≡ order.kind → h.count ≡ length order.asks → h.stop ≡ order.stop → g.kind ≡ order.kind → g.asks ≡ order.asks
+    → IsMade h seat host → IsMade g None guest → OpensWith order seat (record { guest = guest; host = host })
+host_opens order None g h guest host side new primary h_kind h_count h_stop g_kind g_asks made asked = absurd new
+host_opens order (Some seat) g h guest (Asks a) side new primary h_kind h_count h_stop g_kind g_asks made asked = absurd made
+host_opens order (Some seat) g h (Asks a) (Serves s) side new primary h_kind h_count h_stop g_kind g_asks made asked = (side, made_for order seat g h a s primary g_kind g_asks h_kind h_count h_stop new.1 asked made)
+host_opens order (Some seat) g h (Serves t) (Serves s) side new primary h_kind h_count h_stop g_kind g_asks made asked = absurd asked
 
 -- a new end of a ring of so many pages
 pub is_new : (e : Seen TableSeat) (cells : ℕ) (side : Side) → e.state ≡ new_end cells side → e.state ≡ new_end e.state.machine.cells side
@@ -138,10 +157,10 @@ has_cells cells g h guest host g_new h_new at_g at_h = record {
 }
 
 -- a pair that was made for both plans is opened as any two such workers are
-pub made_opens : {E : Type 0} (kind : Kind) (asks : List Ask) (seat : Option DeviceSeat) (p q : Planned) (s t : Option DeviceSeat) (pair : Result Pairing E)
-    → ((guest host : ChannelWorker) → IsMade p s guest → IsMade q t host → OpensWith kind asks seat (record { guest = guest; host = host })) → IfOk pair (λ w. IsMade p s w.guest) → IfOk pair (λ w. IsMade q t w.host) → IfOk pair (OpensWith kind asks seat)
-made_opens kind asks seat p q s t (Ok w) opens p_made q_made = opens w.guest w.host p_made q_made
-made_opens kind asks seat p q s t (Err e) opens p_made q_made = tt
+pub made_opens : {E : Type 0} (order : Order) (seat : Option DeviceSeat) (p q : Planned) (s t : Option DeviceSeat) (pair : Result Pairing E)
+    → ((guest host : ChannelWorker) → IsMade p s guest → IsMade q t host → OpensWith order seat (record { guest = guest; host = host })) → IfOk pair (λ w. IsMade p s w.guest) → IfOk pair (λ w. IsMade q t w.host) → IfOk pair (OpensWith order seat)
+made_opens order seat p q s t (Ok w) opens p_made q_made = opens w.guest w.host p_made q_made
+made_opens order seat p q s t (Err e) opens p_made q_made = tt
 
 -- and has the channel of the plans' relid, with their window
 pub on_channel : {E : Type 0} (relid cells window : ℕ) (p q : Planned) (s t : Option DeviceSeat) (pair : Result Pairing E) → p.relid ≡ relid → q.relid ≡ relid → p.window ≡ window → q.window ≡ window

@@ -1,12 +1,14 @@
 -- What both workers of a pair come to, once they ended.
 use Rattle.std.proofs.Common.{◌≡◌, ◌≤◌, ◌+◌, ℕ, length, filter, arith, true, false, List, [], ◌++◌, map, Option, refl, sym, ap, ◌∙◌, subst}
+use Rattle.std.specs.Prelude.{◌==◌, if◌then◌else◌}
 use Rattle.std.proofs.lemmas.List.{length-map, append-nil}
 use Rattle.chan_run.specs.declared.event.Event.{Event}
 use Rattle.chan_run.specs.Laws.{AreOfOneRun}
 use Rattle.chan_run.specs.Runs.{sent_of, got_of}
 use Rattle.chan_run.proofs.Steps.{ends_exchanged}
-use Rattle.bus_model.specs.ByDevice.{IsChannelRun, plan_of}
-use Rattle.bus_model.specs.Channel.{sent_by, got_by, other}
+use Rattle.bus_model.specs.Orders.{Order, startup_of, plan_of}
+use Rattle.bus_model.specs.Channel.{IsChannelRun, Carries, served_count, is_held, replies_to, sent_by, got_by, other}
+use Rattle.bus_model.proofs.FromLists.{serves_first_lem}
 use Rattle.bus_model.specs.Served.{Served}
 use Rattle.script_lines.specs.declared.line.Ask.{Ask}
 use Rattle.bus_script.specs.declared.outcome.Reply.{Reply}
@@ -22,7 +24,7 @@ use Rattle.io_edge.specs.declared.side.Side.TheVariants.{Guest, Host}
 use Rattle.ring_core.specs.Seen.{Seen}
 use Rattle.ring_model.specs.Lists.{Lists}
 use Rattle.ring_seat.specs.declared.table_seat.TableSeat.{TableSeat}
-use Rattle.work_model.specs.Channel.{AskerEnds, ServerEnds, IsChannelRun as Runs}
+use Rattle.work_model.specs.Channel.{AskerEnds, ServerEnds, count_of, held_of, IsChannelRun as Runs}
 use Rattle.work_model.specs.Roles.{side_that_asks}
 use Rattle.work_model.specs.Speech.{Speech}
 use Rattle.worker_core.specs.Asking.{Asking, AsksAll, AsksBy}
@@ -42,7 +44,7 @@ use Rattle.end_work.proofs.SeatLaws.{same_place}
 use Rattle.phase_run.specs.Pairs.{MadeFor, RunsPair, ComesBack, first_of, is_whole}
 use Rattle.phase_run.specs.declared.pair.PairDone.{PairDone}
 use Rattle.phase_run.proofs.Asked.{few_asked}
-use Rattle.phase_run.proofs.Joining.{BothEnd, told_is, runs, serves_asks}
+use Rattle.phase_run.proofs.Joining.{BothEnd, told_is, runs}
 
 -- what the joined ends of a channel tell: their lists, and one run of both
 pub record Joins (asker server : Seen TableSeat) (lists : Lists) (side : Side) : Type 0 where
@@ -87,54 +89,63 @@ ends_all s Marked w past calls whole by = by.0
 ends_all s PeerMarked w past calls whole by = by.0
 ends_all s (Room packets words left) w past calls whole by = absurd (cc (whole))
 
--- the end that asks, for the plan of the phase
-asker_ends : (kind : Kind) (asks : List Ask) (talk : Talked) (past : List (Event (List ℕ))) (told : List Reply) → talk ≡ record { kind = kind; asks = asks } → AsksAll (speech_of talk.kind) (asks_of talk) past told
-    → AskerEnds (speech_of kind) (plan_of kind asks) past told
-asker_ends kind asks talk past told is all = subst (λ (t : Talked). AsksAll (speech_of t.kind) (asks_of t) past told) is all (plan_of kind asks) refl
+-- the start-up of a first channel is that of its kind
+starts_up : (order : Order) → order.sub ≡ 0 → startup_of order ≡ startup order.kind
+starts_up order primary = ap (λ (n : ℕ). if n == 0 then startup order.kind else []) primary
+
+-- the end that asks, for what the phase orders
+asker_ends : (order : Order) (talk : Talked) (past : List (Event (List ℕ))) (told : List Reply) → order.sub ≡ 0 → talk ≡ record { kind = order.kind; asks = order.asks } → AsksAll (speech_of talk.kind) (asks_of talk) past told
+    → AskerEnds (speech_of order.kind) (plan_of order) past told
+asker_ends order talk past told primary is all =
+    subst (λ (t : Talked). AsksAll (speech_of t.kind) (asks_of t) past told) is all (plan_of order) (ap (λ (l : List Want). l ++ map Script order.asks) (starts_up order primary))
 
 -- and the one that serves
-server_ends : (kind : Kind) (asks : List Ask) (seat : DeviceSeat) (a : Asking Talked Reply) (s : Serving Talked DeviceSeat Ask Reply) (past : List (Event (List ℕ))) (calls : List Served) → MadeFor kind asks seat a s
-    → EndsAll (speech_of s.desk.talk.kind) s past calls → ServerEnds (speech_of kind) (plan_of kind asks) past calls
-server_ends kind asks seat a s past calls made all =
-    subst (λ k. EndsAll (speech_of k) s past calls) made.answers all (plan_of kind asks)
-    (record { serve = made.serve ∙ sym (length-map asks Script); held = made.held; stops = made.stops; starts = made.starts })
+server_ends : (order : Order) (seat : DeviceSeat) (a : Asking Talked Reply) (s : Serving Talked DeviceSeat Ask Reply) (past : List (Event (List ℕ))) (calls : List Served) → MadeFor order seat a s
+    → EndsAll (speech_of s.desk.talk.kind) s past calls → ServerEnds (speech_of order.kind) (plan_of order) past calls
+server_ends order seat a s past calls made all =
+    subst (λ k. EndsAll (speech_of k) s past calls) made.answers all (plan_of order) (record {
+      serve = made.serve ∙ ap (count_of order.stop) (sym (length-map order.asks Script));
+      held = made.held ∙ ap (held_of order.stop) (sym (length-map order.asks Script));
+      stops = made.stops;
+      starts = made.starts;
+    })
 
 -- the lists of a run are those that the joined ends tell
-lists_are : (kind : Kind) (asks : List Ask) (a b c d a' b' c' d' : List (List ℕ)) (calls : List Served) (told : List Reply) → a' ≡ a → b' ≡ b → c' ≡ c → d' ≡ d
-    → Runs (speech_of kind) (plan_of kind asks) a b c d calls told → Runs (speech_of kind) (plan_of kind asks) a' b' c' d' calls told
-lists_are kind asks a b c d a' b' c' d' calls told e f g h run =
-    subst (λ x. Runs (speech_of kind) (plan_of kind asks) x b' c' d' calls told) (sym e) (subst (λ x. Runs (speech_of kind) (plan_of kind asks) a x c' d' calls told) (sym f)
-    (subst (λ x. Runs (speech_of kind) (plan_of kind asks) a b x d' calls told) (sym g) (subst (λ x. Runs (speech_of kind) (plan_of kind asks) a b c x calls told) (sym h) run)))
+lists_are : (side : Side) (order : Order) (a b c d : List (List ℕ)) (lists : Lists) (calls : List Served) → sent_by side lists ≡ a → got_by side lists ≡ b → sent_by (other side) lists ≡ c → got_by (other side) lists ≡ d
+    → Runs (speech_of order.kind) (plan_of order) a b c d calls (map (λ c. c.reply) (replies_to order calls)) → Carries side order lists calls
+lists_are side order a b c d lists calls e f g h run =
+    let Of : List (List ℕ) → List (List ℕ) → List (List ℕ) → List (List ℕ) → Type 0 = λ x y z w. Runs (speech_of order.kind) (plan_of order) x y z w calls (map (λ c. c.reply) (replies_to order calls)) in
+    subst (λ x. Of x (got_by side lists) (sent_by (other side) lists) (got_by (other side) lists)) (sym e) (subst (λ x. Of a x (sent_by (other side) lists) (got_by (other side) lists)) (sym f)
+    (subst (λ x. Of a b x (got_by (other side) lists)) (sym g) (subst (λ x. Of a b c x) (sym h) run)))
 
--- the channel ran, and each request was a call of the seat
-pub record RanBy (kind : Kind) (asks : List Ask) (seat back : DeviceSeat) (lists : Lists) (asked served : WorkerDone) : Type 0 where
-  pub channel : IsChannelRun kind asks lists (served_at back)
+-- the channel ran, and each request that was served was a call of the seat
+pub record RanBy (order : Order) (seat back : DeviceSeat) (lists : Lists) (asked served : WorkerDone) : Type 0 where
+  pub channel : IsChannelRun order lists (served_at back)
   pub same : IsSameSeat seat back
   pub serials : served.serials.items ≡ map (λ s. s.serial) (served_at back)
-  pub replies : asked.replies.items ≡ map (λ s. s.reply) (served_at back)
+  pub replies : asked.replies.items ≡ map (λ s. s.reply) (replies_to order (served_at back))
 
-ran : (kind : Kind) (asks : List Ask) (seat : DeviceSeat) (a : Asking Talked Reply) (s : Serving Talked DeviceSeat Ask Reply) (asked served : WorkerDone) (lists : Lists) (side : Side) → side_that_asks kind ≡ side → MadeFor kind asks seat a s
-    → (both : BothLeave a s asked served lists side) → RanBy kind asks seat both.server_leaves.back lists asked served
-ran kind asks seat a s asked served lists side at_side made ended =
+ran : (order : Order) (seat : DeviceSeat) (a : Asking Talked Reply) (s : Serving Talked DeviceSeat Ask Reply) (asked served : WorkerDone) (lists : Lists) (side : Side) → side_that_asks order.kind ≡ side → MadeFor order seat a s
+    → (both : BothLeave a s asked served lists side) → RanBy order seat both.server_leaves.back lists asked served
+ran order seat a s asked served lists side at_side made ended =
     let told = asked.replies.items in
     let calls = served_at ended.server_leaves.back in
     let none_before : calls_behind s.desk.before calls ≡ calls = ap (λ l. calls_behind l calls) made.before in
     let whole = both_whole a s asked served lists side ended in
-    let at : Joins asked.end served.end lists (side_that_asks kind) = subst (Joins asked.end served.end lists) (sym at_side) ended.joins in
-    let both : BothEnd kind asks asked.end.state.past served.end.state.past calls told = record {
+    let at : Joins asked.end served.end lists (side_that_asks order.kind) = subst (Joins asked.end served.end lists) (sym at_side) ended.joins in
+    let both : BothEnd order asked.end.state.past served.end.state.past calls told = record {
       can = made.can;
       one = at.one;
-      asker_ends = asker_ends kind asks a.talk asked.end.state.past told made.talk (asks_all _ asked.ended _ _ _ whole.0 ended.asker_leaves.asks);
-      server_ends = server_ends kind asks seat a s served.end.state.past calls made (ends_all _ served.ended _ _ _ whole.1 (subst (λ l. EndsBy (speech_of s.desk.talk.kind) served.ended s served.end.state.past l) none_before ended.server_leaves.serves));
+      asker_ends = asker_ends order a.talk asked.end.state.past told made.primary made.talk (asks_all _ asked.ended _ _ _ whole.0 ended.asker_leaves.asks);
+      server_ends = server_ends order seat a s served.end.state.past calls made (ends_all _ served.ended _ _ _ whole.1 (subst (λ l. EndsBy (speech_of s.desk.talk.kind) served.ended s served.end.state.past l) none_before ended.server_leaves.serves));
     } in
+    let carried : Carries (side_that_asks order.kind) order lists calls =
+    lists_are (side_that_asks order.kind) order _ _ _ _ lists calls at.asker_sent at.asker_got at.server_sent at.server_got (runs order asked.end.state.past served.end.state.past calls told both) in
     record {
-      channel = record {
-        carried = lists_are kind asks _ _ _ _ _ _ _ _ calls (map (λ c. c.reply) calls) at.asker_sent at.asker_got at.server_sent at.server_got (runs kind asks asked.end.state.past served.end.state.past calls told both);
-        serves = serves_asks kind asks asked.end.state.past served.end.state.past calls told both;
-      };
+      channel = record { carried = carried; serves = serves_first_lem (side_that_asks order.kind) order lists calls made.can carried };
       same = same_place seat ended.server_leaves.back (ended.server_leaves.place ∙ ap device_place made.seat_is);
       serials = ended.server_leaves.serials ∙ ap (map (λ c. c.serial)) none_before;
-      replies = told_is kind asks asked.end.state.past served.end.state.past calls told both;
+      replies = told_is order asked.end.state.past served.end.state.past calls told both;
     }
 
 -- the seat that comes back
@@ -194,8 +205,8 @@ runs_pair (Asks a) (Serves s) guest host done closes =
       guest = ap is_whole closes.guest_ended ∙ whole.0;
       host = ap is_whole closes.host_ended ∙ whole.1;
       seats = (closes.guest_seat ∙ closes.guest_leaves.seat, comes_back s host (at_host done.host_seat) closes.host_seat closes.host_leaves);
-      runs = λ kind asks seat opens.
-          let r = ran kind asks seat a s guest host done.settled Guest opens.0 opens.1 both in
+      runs = λ order seat opens.
+          let r = ran order seat a s guest host done.settled Guest opens.0 opens.1 both in
           record {
             back = closes.host_leaves.back;
             serving = ap (λ o. first_of o (at_host done.host_seat)) (closes.guest_seat ∙ closes.guest_leaves.seat) ∙ closes.host_seat ∙ closes.host_leaves.seat;
@@ -212,8 +223,8 @@ runs_pair (Serves s) (Asks a) guest host done closes =
       guest = ap is_whole closes.guest_ended ∙ whole.1;
       host = ap is_whole closes.host_ended ∙ whole.0;
       seats = (comes_back s guest (at_guest done.guest_seat) closes.guest_seat closes.guest_leaves, closes.host_seat ∙ closes.host_leaves.seat);
-      runs = λ kind asks seat opens.
-          let r = ran kind asks seat a s host guest done.settled Host opens.0 opens.1 both in
+      runs = λ order seat opens.
+          let r = ran order seat a s host guest done.settled Host opens.0 opens.1 both in
           record {
             back = closes.guest_leaves.back;
             serving = ap (λ o. first_of o (at_host done.host_seat)) (closes.guest_seat ∙ closes.guest_leaves.seat);

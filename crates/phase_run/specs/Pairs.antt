@@ -1,12 +1,13 @@
 -- The two workers of a channel, and what they come to.
-use Rattle.std.specs.Prelude.{ℕ, ◌≡◌, ◌≤◌, Bool, true, false, List, [], ◌∷◌, length, map, filter, Option, Some, None}
+use Rattle.std.specs.Prelude.{ℕ, ◌≡◌, ◌≤◌, Bool, true, false, List, [], ◌∷◌, length, map, filter, Option, Some, None, is_some}
 use Rattle.std.specs.List.{AllByRecursion, filter_map}
-use Rattle.bus_model.specs.ByDevice.{IsChannelRun}
+use Rattle.bus_model.specs.Orders.{Order, startup_of}
+use Rattle.bus_model.specs.Channel.{IsChannelRun, served_count, is_held, replies_to}
 use Rattle.script_lines.specs.declared.line.Ask.{Ask}
 use Rattle.bus_script.specs.declared.outcome.Reply.{Reply}
 use Rattle.bus_speech.specs.Speeches.{has_answer_on}
 use Rattle.bus_speech.specs.Talks.{Talked}
-use Rattle.bus_speech.specs.Wants.{startup, IsAskable}
+use Rattle.bus_speech.specs.Wants.{IsAskable}
 use Rattle.contact.specs.declared.kind.Kind.{Kind}
 use Rattle.end_work.specs.Seats.{served_at, kind_at, left_at, IsSameSeat, at_guest, at_host}
 use Rattle.end_work.specs.Workers.{end_at, relid_at, HasWindow}
@@ -28,27 +29,29 @@ pub record Pairing : Type 0 where
   pub guest : ChannelWorker
   pub host : ChannelWorker
 
--- the workers were made for a device of this kind, with these requests of the phase, and its device has this seat
-pub record MadeFor (kind : Kind) (asks : List Ask) (seat : DeviceSeat) (asker : Asking Talked Reply) (server : Serving Talked DeviceSeat Ask Reply) : Type 0 where
-  pub can : AllByRecursion (IsAskable kind) asks
-  pub talk : asker.talk ≡ record { kind = kind; asks = asks }
-  pub answers : server.desk.talk.kind ≡ kind
+-- The workers were made for this order of a device's first channel, whose device has this seat: the one asks what is ordered, and the other serves as many
+-- requests, holds the answer to the last one where the order says so, and stops where the order does
+pub record MadeFor (order : Order) (seat : DeviceSeat) (asker : Asking Talked Reply) (server : Serving Talked DeviceSeat Ask Reply) : Type 0 where
+  pub can : AllByRecursion (IsAskable order.kind) order.asks
+  pub primary : order.sub ≡ 0
+  pub talk : asker.talk ≡ record { kind = order.kind; asks = order.asks }
+  pub answers : server.desk.talk.kind ≡ order.kind
   pub seat_is : server.desk.seat ≡ seat
   pub before : server.desk.before ≡ []
-  pub serve : server.serve ≡ length asks
-  pub held : server.desk.held ≡ false
-  pub stops : server.stops ≡ false
-  pub starts : server.starts ≡ length (filter (has_answer_on kind) (startup kind))
+  pub serve : server.serve ≡ served_count order
+  pub held : server.desk.held ≡ is_held order
+  pub stops : server.stops ≡ is_some order.stop
+  pub starts : server.starts ≡ length (filter (has_answer_on order.kind) (startup_of order))
 
 -- and the one that asks is at the side that asks such a device
-abbrev pub OpensAt : Kind → List Ask → DeviceSeat → ChannelWorker → ChannelWorker → Type 0
-OpensAt kind asks seat (Asks a) (Asks b) = ⊥
-OpensAt kind asks seat (Asks a) (Serves s) = (side_that_asks kind ≡ Guest) × MadeFor kind asks seat a s
-OpensAt kind asks seat (Serves s) (Asks a) = (side_that_asks kind ≡ Host) × MadeFor kind asks seat a s
-OpensAt kind asks seat (Serves s) (Serves t) = ⊥
+abbrev pub OpensAt : Order → DeviceSeat → ChannelWorker → ChannelWorker → Type 0
+OpensAt order seat (Asks a) (Asks b) = ⊥
+OpensAt order seat (Asks a) (Serves s) = (side_that_asks order.kind ≡ Guest) × MadeFor order seat a s
+OpensAt order seat (Serves s) (Asks a) = (side_that_asks order.kind ≡ Host) × MadeFor order seat a s
+OpensAt order seat (Serves s) (Serves t) = ⊥
 
-abbrev pub Opens : Kind → List Ask → DeviceSeat → Pairing → Type 0
-Opens kind asks seat p = OpensAt kind asks seat p.guest p.host
+abbrev pub Opens : Order → DeviceSeat → Pairing → Type 0
+Opens order seat p = OpensAt order seat p.guest p.host
 
 -- both workers have the channel of this relid, whose rings have so many cells, and so many requests can be open on it
 pub record AreOnChannel (relid cells window : ℕ) (p : Pairing) : Type 0 where
@@ -65,9 +68,9 @@ IsNewSeat kind count None = ⊥
 IsNewSeat kind count (Some s) = (kind_at s ≡ kind) × (served_at s ≡ []) × (count ≤ left_at s)
 
 -- the pair was opened with this seat
-abbrev pub OpensWith : Kind → List Ask → Option DeviceSeat → Pairing → Type 0
-OpensWith kind asks None p = ⊥
-OpensWith kind asks (Some s) p = Opens kind asks s p
+abbrev pub OpensWith : Order → Option DeviceSeat → Pairing → Type 0
+OpensWith order None p = ⊥
+OpensWith order (Some s) p = Opens order s p
 
 -- the seat of the end that served, which is not of two
 abbrev pub first_of : Option DeviceSeat → Option DeviceSeat → Option DeviceSeat
@@ -77,14 +80,15 @@ first_of (Some s) host = Some s
 abbrev pub serving_of : GuestSeat → HostSeat → Option DeviceSeat
 serving_of guest host = first_of (at_guest guest) (at_host host)
 
--- a pair of this kind, with these requests and this seat, has run: its channel carried them, each was a call of the seat, and these are the calls' serials and replies
-pub record Ran (kind : Kind) (asks : List Ask) (seat : DeviceSeat) (done : PairDone) : Type 0 where
+-- A pair with this order and this seat has run: its channel carried what is ordered, each request that was served was a call of the seat, these are the serials
+-- of the calls, and these the replies that came back: all of them but that of the last call where its answer is held
+pub record Ran (order : Order) (seat : DeviceSeat) (done : PairDone) : Type 0 where
   pub back : DeviceSeat
   pub serving : serving_of done.guest_seat done.host_seat ≡ Some back
-  pub channel : IsChannelRun kind asks done.settled (served_at back)
+  pub channel : IsChannelRun order done.settled (served_at back)
   pub same : IsSameSeat seat back
   pub serials : done.serials.items ≡ map (λ s. s.serial) (served_at back)
-  pub replies : done.replies.items ≡ map (λ s. s.reply) (served_at back)
+  pub replies : done.replies.items ≡ map (λ s. s.reply) (replies_to order (served_at back))
 
 -- it ended where its plan ends, and not for want of room in its lists
 abbrev pub is_whole : Ended → Bool
@@ -105,12 +109,12 @@ KeepsSeats (Asks a) (Serves s) guest host = (guest ≡ None) × ComesBack s.desk
 KeepsSeats (Serves s) (Asks a) guest host = ComesBack s.desk.seat guest × (host ≡ None)
 KeepsSeats (Serves s) (Serves t) guest host = ⊥
 
--- both workers of a pair ended where their plans end, with their seats; and for each plan that the pair was opened for, it has run
+-- both workers of a pair ended where their plans end, with their seats; and for each order that the pair was opened for, it has run
 pub record RunsPair (p : Pairing) (done : PairDone) : Type 0 where
   pub guest : is_whole done.guest ≡ true
   pub host : is_whole done.host ≡ true
   pub seats : KeepsSeats p.guest p.host (at_guest done.guest_seat) (at_host done.host_seat)
-  pub runs : (kind : Kind) (asks : List Ask) (seat : DeviceSeat) → Opens kind asks seat p → Ran kind asks seat done
+  pub runs : (order : Order) (seat : DeviceSeat) → Opens order seat p → Ran order seat done
 
 -- each pair has run, in order
 abbrev pub EachRuns : List Pairing → List PairDone → Type 0

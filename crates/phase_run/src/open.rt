@@ -1,17 +1,19 @@
 //! A channel is opened with its two workers.
-ghost use Rattle.std.specs.Prelude.{◌≡◌, ◌≤◌, ◌*◌, [], length, map, IfOk};
+ghost use Rattle.std.specs.Prelude.{◌≡◌, ◌≤◌, ◌*◌, [], length, map, IfOk, None};
 ghost use Rattle.script_lines.specs.Parts.{kind_asked};
 ghost use Rattle.script_lines.specs.declared.line.Ask.TheVariants.{Ic as AskedIc, Disk as AskedDisk};
 ghost use Rattle.contact.specs.declared.kind.Kind.TheVariants.{Disk as DiskKind};
 ghost use Rattle.io_edge.specs.declared.side.Side.TheVariants.{Guest as GuestSide, Host as HostSide};
 ghost use Rattle.work_model.specs.Roles.{side_that_asks};
-ghost use Rattle.end_work.specs.Plans.{AllCarried, CanPlan, HasSeat, IsMade, guest_planned, host_planned};
+ghost use Rattle.bus_model.specs.Orders.{only_order};
+ghost use Rattle.end_work.specs.Plans.{AllCarried, CanPlan, CanStop, HasSeat, IsMade, guest_planned, host_planned, stop_of};
 ghost use Rattle.end_work.specs.Seats.{served_at, kind_at, left_at, at_guest, at_host};
 ghost use Rattle.phase_run.specs.Agreeing.{Agree, HasCells};
 ghost use Rattle.phase_run.specs.Pairs.{AreOnChannel, IsNewSeat, Opens, OpensWith};
 
 use crate::Pair;
 use bus_script::Ask;
+use chan_state::Stop;
 use contact::Kind;
 use end_work::{DeviceSeat, GuestPlan, GuestSeat, GuestWorker, HostPlan, HostSeat, HostWorker};
 use ring_seat::ChannelMem;
@@ -85,8 +87,15 @@ fn guest_plan(relid: u32, kind: Kind, window: u32, count: u32, disk: Vec<DiskReq
 }
 
 // The plan of a host.
-fn host_plan(relid: u32, kind: Kind, window: u32, count: u32, asks: Vec<IcAsk>) -> HostPlan
-    ensures { host_planned result ≡ record { relid = relid; kind = kind; sub = 0; subs = 0; window = window; count = count; stop = None; asks = map AskedIc asks.items } }
+fn host_plan(
+    relid: u32,
+    kind: Kind,
+    window: u32,
+    count: u32,
+    stop: Option<Stop>,
+    asks: Vec<IcAsk>,
+) -> HostPlan
+    ensures { host_planned result ≡ record { relid = relid; kind = kind; sub = 0; subs = 0; window = window; count = count; stop = stop_of stop; asks = map AskedIc asks.items } }
 {
     HostPlan {
         relid,
@@ -95,7 +104,7 @@ fn host_plan(relid: u32, kind: Kind, window: u32, count: u32, asks: Vec<IcAsk>) 
         subs: 0,
         window,
         count,
-        stop: None,
+        stop,
         asks,
     }
 }
@@ -125,7 +134,7 @@ fn make_pair(
     Ok(Pair { guest, host })
 }
 
-// Opens the channel of a service, which the guest serves.
+// Opens the channel of a service, which the guest serves. No service stops.
 fn open_service(
     alloc: Global,
     kind: Kind,
@@ -134,24 +143,26 @@ fn open_service(
     window: u32,
     seat: GuestSeat,
     asks: &[Ask],
+    stop: Option<Stop>,
 ) -> Result<Pair, AllocError>
     requires host { side_that_asks kind ≡ HostSide }
+    requires stop { CanStop kind (stop_of stop) }
     requires pages { (1 ≤ pages) × (pages ≤ 16) }
     requires window { (1 ≤ window) × (window ≤ 64) }
     requires few { length asks.now ≤ 4096 }
     requires asks { AllCarried kind asks.now }
     requires seat { IsNewSeat kind (length asks.now) (at_guest seat) }
-    ensures opens { IfOk result (OpensWith kind asks.now (at_guest seat)) }
+    ensures opens { IfOk result (OpensWith (only_order kind asks.now (stop_of stop)) (at_guest seat)) }
     ensures channel { IfOk result (AreOnChannel relid (512 * pages) window) }
 {
     let count = asks.len() as u32;
     let requests = ic_requests(alloc, kind, asks)?;
     let guest = guest_plan(relid, kind, window, count, Vec::new(alloc));
-    let host = host_plan(relid, kind, window, count, requests);
+    let host = host_plan(relid, kind, window, count, stop, requests);
     make_pair(alloc, pages, seat, guest, HostSeat::None, host)
 }
 
-// Opens the channel of a disk, which the host serves.
+// Opens the channel of a disk, which the host serves up to where it stops.
 fn open_disk(
     alloc: Global,
     kind: Kind,
@@ -160,24 +171,27 @@ fn open_disk(
     window: u32,
     seat: HostSeat,
     asks: &[Ask],
+    stop: Option<Stop>,
 ) -> Result<Pair, AllocError>
     requires disk { kind ≡ DiskKind }
+    requires stop { CanStop kind (stop_of stop) }
     requires pages { (1 ≤ pages) × (pages ≤ 16) }
     requires window { (1 ≤ window) × (window ≤ 64) }
     requires few { length asks.now ≤ 4096 }
     requires asks { AllCarried kind asks.now }
     requires seat { IsNewSeat kind (length asks.now) (at_host seat) }
-    ensures opens { IfOk result (OpensWith kind asks.now (at_host seat)) }
+    ensures opens { IfOk result (OpensWith (only_order kind asks.now (stop_of stop)) (at_host seat)) }
     ensures channel { IfOk result (AreOnChannel relid (512 * pages) window) }
 {
     let count = asks.len() as u32;
     let requests = disk_requests(alloc, kind, asks)?;
     let guest = guest_plan(relid, kind, window, count, requests);
-    let host = host_plan(relid, kind, window, count, Vec::new(alloc));
+    let host = host_plan(relid, kind, window, count, stop, Vec::new(alloc));
     make_pair(alloc, pages, GuestSeat::None, guest, seat, host)
 }
 
-/// Opens a channel whose rings have so many pages, with its two workers, and takes all memory that they need.
+/// Opens a channel whose rings have so many pages, with its two workers, and takes all memory that they need. The end that serves stops where this says,
+/// which the channel of a disk alone can.
 pub fn open_pair(
     alloc: Global,
     kind: Kind,
@@ -186,29 +200,31 @@ pub fn open_pair(
     window: u32,
     seat: DeviceSeat,
     asks: &[Ask],
+    stop: Option<Stop>,
 ) -> Result<Pair, AllocError>
     requires kind { kind_at seat ≡ kind }
+    requires stop { CanStop kind (stop_of stop) }
     requires pages { (1 ≤ pages) × (pages ≤ 16) }
     requires window { (1 ≤ window) × (window ≤ 64) }
     requires few { length asks.now ≤ 4096 }
     requires asks { AllCarried kind asks.now }
     requires fresh { served_at seat ≡ [] }
     requires left { length asks.now ≤ left_at seat }
-    ensures opens { IfOk result (Opens kind asks.now seat) }
+    ensures opens { IfOk result (Opens (only_order kind asks.now (stop_of stop)) seat) }
     ensures channel { IfOk result (AreOnChannel relid (512 * pages) window) }
 {
     match seat {
         DeviceSeat::Beat(seat) => {
             let seat = GuestSeat::Beat(seat);
-            open_service(alloc, kind, relid, pages, window, seat, asks)
+            open_service(alloc, kind, relid, pages, window, seat, asks, stop)
         }
         DeviceSeat::Down(seat) => {
             let seat = GuestSeat::Down(seat);
-            open_service(alloc, kind, relid, pages, window, seat, asks)
+            open_service(alloc, kind, relid, pages, window, seat, asks, stop)
         }
         DeviceSeat::Disk(seat) => {
             let seat = HostSeat::Disk(seat);
-            open_disk(alloc, kind, relid, pages, window, seat, asks)
+            open_disk(alloc, kind, relid, pages, window, seat, asks, stop)
         }
     }
 }

@@ -1,32 +1,18 @@
 -- The parts of the control path, around the phases of a script.
-use Rattle.std.proofs.Common.{◌≡◌, ◌∙◌, ◌+◌, ◌<◌, ◌≤◌, ℕ, Bool, true, false, List, [], ◌∷◌, ◌++◌, length, nat_lt, Option, Some, cond, if◌then◌else◌, IsTrue, ◌↔◌, suc, inl, inr, refl, sym, ap, subst, arith}
+use Rattle.std.proofs.Common.{◌≡◌, ◌∙◌, ◌+◌, ◌<◌, ◌≤◌, ℕ, Bool, true, false, List, length, nat_lt, Some, if◌then◌else◌, IsTrue, ◌↔◌, inl, inr, refl, sym, ap, subst, arith}
 use Rattle.std.proofs.lemmas.Bool.Decides.{nat_tests}
 use Rattle.std.proofs.lemmas.Bool.{cases_eq}
-use Rattle.contact.specs.declared.part.Part.{Part}
 use Rattle.contact.specs.declared.part.Part.TheVariants.{Contact, PhaseStart, PhaseEnd, Unload}
 use Rattle.script_lines.specs.declared.line.Line.{Line}
-use Rattle.script_lines.specs.Parts.{parts, offered, ring_pages_of}
+use Rattle.script_lines.specs.Parts.{parts}
 use Rattle.bus_run.specs.declared.runner.Runner.{Runner}
 use Rattle.bus_run.specs.Whole.{RunsSoFar}
-use Rattle.control_model.specs.Plan.{BusPlan, IsPlan, part_after, first_gpadl}
-use Rattle.control_model.specs.Openings.{plan_of, numbered, devices_by_phase, pages_in}
+use Rattle.control_model.specs.Plan.{IsPlan, part_after}
+use Rattle.control_model.specs.Openings.{plan_of}
+use Rattle.control_model.proofs.ScriptLaws.{phases_are}
 use Rattle.control_model.specs.Guest.{new_guest}
 use Rattle.control_run.specs.Path.{PathSeen, Rests, Ran}
 use Rattle.vmbus_main.specs.Between.{part_at, IsBetween}
-
-numbered_length : (sizes : ℕ → ℕ) (gpadl page : ℕ) (phases : List (List ℕ)) → length (numbered sizes gpadl page phases) ≡ length phases
-numbered_length sizes gpadl page [] = refl
-numbered_length sizes gpadl page (ds ∷ phases) = ap (λ n. suc n) (numbered_length sizes (gpadl + length ds) (page + pages_in sizes ds) phases)
-
-devices_length : (count : ℕ) (earlier : List Line) (ps : List (List Line)) → length (devices_by_phase count earlier ps) ≡ length ps
-devices_length count earlier [] = refl
-devices_length count earlier (p ∷ ps) = ap (λ n. suc n) (devices_length count (earlier ++ p) ps)
-
--- a script's plan has its phases
-pub phases_are : (lines : List Line) → length (plan_of lines).phases ≡ length (parts lines)
-phases_are lines =
-    numbered_length (λ d. ring_pages_of d lines) first_gpadl 0 (devices_by_phase (length (offered lines)) [] (parts lines))
-    ∙ devices_length (length (offered lines)) [] (parts lines)
 
 some_of : {A : Type 0} (b : Bool) (x y : A) → (if b then Some x else Some y) ≡ Some (if b then x else y)
 some_of true x y = refl

@@ -1,5 +1,5 @@
 -- An input that has an answer is not refused.
-use Rattle.std.proofs.Common.{◌≡◌, ◌∙◌, ◌<◌, ◌≤◌, ℕ, List, length, Option, Some, None, Ok, Err, inl, inr, ap, sym, subst, arith}
+use Rattle.std.proofs.Common.{◌≡◌, ◌∙◌, ◌≤◌, ℕ, List, length, Option, Some, None, Ok, Err, inl, inr, ap, sym, subst, arith}
 use Rattle.script_text.specs.declared.fault.ScriptFault.{ScriptFault}
 use Rattle.io_edge.specs.Edge.{HoldsWhole}
 use Rattle.bus_model.specs.declared.channel_run.ChannelRun.{ChannelRun}

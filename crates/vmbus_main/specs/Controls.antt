@@ -6,7 +6,8 @@ use Rattle.control_run.specs.Over.{IsOver}
 use Rattle.vmbus_main.specs.declared.outcome.Controls.{Controls}
 
 -- Both controls were made from the script, and are done with the farewell. They have one version, the greatest that both know; each said all that it has
--- to say for the script, and was fed what the other said; a channel that was opened is closed at both, and each other one is offered
+-- to say for the script, and was fed what the other said; at both a channel that was rescinded is given back, each other one that was opened is closed, and each
+-- one that wasn't is offered
 pub record AreControls (lines : List Line) (controls : Controls) : Type 0 where
   pub guest_plan : controls.guest.plan ≡ plan_of lines
   pub host_plan : controls.host.plan ≡ plan_of lines

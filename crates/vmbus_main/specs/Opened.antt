@@ -1,11 +1,7 @@
 -- The channels of a run are those that the controls opened.
-use Rattle.std.specs.Prelude.{ℕ, ◌≡◌, ◌+◌, List, [], ◌∷◌, ◌++◌, map, Some, Ok}
-use Rattle.script_lines.specs.declared.line.Line.{Line}
-use Rattle.script_lines.specs.Grammar.{script_of}
-use Rattle.script_phases.specs.Openings.{phases}
+use Rattle.std.specs.Prelude.{ℕ, ◌≡◌, ◌+◌, List, [], ◌∷◌, ◌++◌, map, Some}
 use Rattle.control_model.specs.declared.opening.Opening.{Opening}
 use Rattle.control_model.specs.Plan.{BusPlan}
-use Rattle.control_model.specs.Openings.{plan_of}
 use Rattle.bus_model.specs.declared.channel_run.ChannelRun.{ChannelRun}
 use Rattle.bus_model.specs.declared.history.DeviceHistory.{DeviceHistory}
 use Rattle.vmbus_main.specs.declared.outcome.Controls.{Controls}
@@ -22,10 +18,6 @@ opened_in plan = opened_from 0 plan.phases
 -- phase and relid of what was carried
 abbrev pub carried_on : List ChannelRun → List (ℕ × ℕ)
 carried_on settled = map (λ r. (r.phase, r.relid)) settled
-
--- the controls open in each phase of a script the channels that the phase opens, in the same order
-abbrev pub SameOpenings : Type 0
-SameOpenings = (bytes : List ℕ) (lines : List Line) → script_of bytes ≡ Ok lines → map (λ p. map (λ o. o.relid) p.opened) (phases lines) ≡ map (λ os. map (λ o. o.relid) os) (plan_of lines).phases
 
 -- what was carried was carried on the channels that both controls opened, in that order
 abbrev pub CarriedOnOpened : Type 0

@@ -4,9 +4,11 @@ ghost use Rattle.contact.specs.declared.kind.Kind.{Kind as OneKind};
 ghost use Rattle.script_lines.specs.Parts.{kind_asked};
 ghost use Rattle.script_lines.specs.Requests.{IsCarried};
 ghost use Rattle.script_lines.specs.WellFormed.{CanGo};
+ghost use Rattle.end_work.specs.Plans.{CanStop, stop_of};
 
 use crate::check::check;
 use bus_script::{Ask, Reply};
+use chan_state::Stop;
 use contact::Kind;
 use end_work::DeviceSeat;
 use hist_lock::HistLock;
@@ -31,7 +33,17 @@ fn beats(rt: &(impl Abort + AllocGlobal)) -> Pair {
     let Some(seat) = seats.pop() else {
         unreachable!()
     };
-    open_pair(alloc, Kind::Beat, 1, 1, 2, DeviceSeat::Beat(seat), &asks).expect(rt, "memory")
+    open_pair(
+        alloc,
+        Kind::Beat,
+        1,
+        1,
+        2,
+        DeviceSeat::Beat(seat),
+        &asks,
+        None,
+    )
+    .expect(rt, "memory")
 }
 
 // A shutdown with these flags.
@@ -54,7 +66,17 @@ fn downs(rt: &(impl Abort + AllocGlobal)) -> Pair {
     let Some(seat) = seats.pop() else {
         unreachable!()
     };
-    open_pair(alloc, Kind::Down, 2, 2, 1, DeviceSeat::Down(seat), &asks).expect(rt, "memory")
+    open_pair(
+        alloc,
+        Kind::Down,
+        2,
+        2,
+        1,
+        DeviceSeat::Down(seat),
+        &asks,
+        None,
+    )
+    .expect(rt, "memory")
 }
 
 // Whether this is a read or a write that a disk's channel carries.
@@ -85,8 +107,10 @@ fn command(rt: &impl Abort, front: [u8; 10], out: &[u8]) -> Ask
     })
 }
 
-// Block 3 is written and read, and block 5 can't be read.
-fn blocks(rt: &(impl Abort + AllocGlobal)) -> Pair {
+// Block 3 is written and read, and block 5 can't be read. The disk serves all of it, or stops.
+fn blocks(rt: &(impl Abort + AllocGlobal), stop: Option<Stop>) -> Pair
+    requires { CanStop OneKind.Disk (stop_of stop) }
+{
     let alloc = rt.alloc();
     let asks = [
         command(rt, [0x2a, 0, 0, 0, 0, 3, 0, 0, 1, 0], &[9; 512]),
@@ -98,7 +122,17 @@ fn blocks(rt: &(impl Abort + AllocGlobal)) -> Pair {
     let Some(seat) = seats.pop() else {
         unreachable!()
     };
-    open_pair(alloc, Kind::Disk, 3, 1, 4, DeviceSeat::Disk(seat), &asks).expect(rt, "memory")
+    open_pair(
+        alloc,
+        Kind::Disk,
+        3,
+        1,
+        4,
+        DeviceSeat::Disk(seat),
+        &asks,
+        stop,
+    )
+    .expect(rt, "memory")
 }
 
 // Whether two lists have the same packets, so many.
@@ -178,7 +212,18 @@ fn run(rt: &impl Wait, pair: Pair) -> PairDone {
 fn pairs_by_turns(rt: HostRuntime) {
     check_beats(&rt, &run(&rt, beats(&rt)));
     check_downs(&rt, &run(&rt, downs(&rt)));
-    check_blocks(&rt, &run(&rt, blocks(&rt)));
+    check_blocks(&rt, &run(&rt, blocks(&rt, None)));
+}
+
+// A disk that stops serves two of its requests, and answers both or the first alone.
+#[test]
+fn a_disk_that_stops(rt: HostRuntime) {
+    for held in [false, true] {
+        let stop = Stop { after: 2, held };
+        let done = run(&rt, blocks(&rt, Some(stop)));
+        check(&rt, done.serials.as_slice() == [0, 1].as_slice());
+        check(&rt, done.replies.len() == if held { 1 } else { 2 });
+    }
 }
 
 // The three channels of a phase.
@@ -188,7 +233,7 @@ fn pairs(rt: &(impl Abort + AllocGlobal)) -> Vec<Pair>
     let mut pairs = Vec::with_capacity(rt.alloc(), 3).expect(rt, "memory");
     pairs.push_reserved(beats(rt));
     pairs.push_reserved(downs(rt));
-    pairs.push_reserved(blocks(rt));
+    pairs.push_reserved(blocks(rt, None));
     pairs
 }
 

@@ -3,4 +3,4 @@ use Rattle.bus_run.proofs.Opened.{OpenedSoFar}
 use Rattle.bus_run.proofs.devices.open_all.Given as goal
 
 abbrev pub invariant-loop-i : goal.invariant-loop-i
-invariant-loop-i l = OpenedSoFar l.settings (opened_by l.closed l.plan.wanted.items) l.plan.asks l.i l.fn.desks.items l.desks.items l.pairs.items
+invariant-loop-i l = OpenedSoFar l.settings (opened_by l.ended l.plan.wanted.items) l.plan.asks l.plan.stops.items l.i l.fn.desks.items l.desks.items l.pairs.items

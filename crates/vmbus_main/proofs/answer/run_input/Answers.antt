@@ -4,7 +4,7 @@ use Rattle.script_lines.specs.WellFormed.{IsScript}
 use Rattle.bus_model.specs.Run.{IsBusRun}
 use Rattle.bus_model.proofs.FewBack.{report_fits_lem}
 use Rattle.bus_model.proofs.FromByDevice.{implies_lem}
-use Rattle.bus_model.proofs.NoSubs.{is_script_no_subs}
+use Rattle.script_phases.proofs.NoSubs.{is_script_no_subs}
 use Rattle.vmbus_main.proofs.answer.run_input.Goals as goal
 
 pub returns-in-Ok-report : goal.returns-in-Ok-report

@@ -1,4 +1,4 @@
-use Rattle.std.proofs.Common.{◌≡◌, ◌∙◌, Some, sym, ap}
+use Rattle.std.proofs.Common.{◌∙◌, Some, sym, ap}
 use Rattle.contact.specs.declared.part.Part.TheVariants.{PhaseStart}
 use Rattle.vmbus_main.proofs.Parting.{starts}
 use Rattle.vmbus_main.proofs.run.run_next.Goals as goal

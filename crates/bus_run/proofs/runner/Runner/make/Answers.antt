@@ -1,4 +1,4 @@
-use Rattle.std.proofs.Common.{◌≡◌, ap, subst, ◌∙◌, refl, length, arith, replicate, false}
+use Rattle.std.proofs.Common.{◌≡◌, ap, subst, ◌∙◌, refl, length, arith, replicate, None}
 use Rattle.script_lines.specs.Parts.{offered}
 use Rattle.bus_run.specs.Whole.{AreFresh}
 use Rattle.bus_run.specs.Settings.{SettingsOf}
@@ -13,5 +13,5 @@ returns-clause-so_far c =
     let long : c.len.result ≡ length desks.items = omega (arith, c.len.ensures, desks.ok.0) in
     let long_2 : c.len-2.result ≡ length desks.items = omega (arith, c.len-2.ensures, desks.ok.0) in
     let settings = subst (λ n. SettingsOf lines n c.in_ok-settings.settings.items) long (subst (λ l. SettingsOf l c.len.result c.in_ok-settings.settings.items) c.lines-lines.ensures.lines c.in_ok-settings.ensures) in
-    let none = c.in_ok-closed.ensures.items_if_clones_equal (λ y same. same) ∙ ap (λ n. replicate n false) long_2 in
+    let none = c.in_ok-ended.ensures ∙ ap (λ n. replicate n None) long_2 in
     start lines _ fresh settings none refl refl c.new.ensures.items c.new-2.ensures.items

@@ -3,7 +3,7 @@ use Rattle.std.specs.Prelude.{All, map, MatchOption, ⊤}
 use Rattle.std.proofs.lemmas.List.{with_items_is, places}
 use Rattle.script_lines.specs.Parts.{parts, offered, asks_in}
 use Rattle.script_lines.specs.WellFormed.{AllRight, AllGo}
-use Rattle.bus_plan.specs.Flags.{AreMarked, closed_by}
+use Rattle.bus_plan.specs.Endings.{AreEnded}
 use Rattle.bus_run.specs.Desk.{spec_of}
 use Rattle.bus_run.specs.Settings.{HasLimits}
 use Rattle.bus_run.specs.Whole.{parts_left, behind}
@@ -64,9 +64,9 @@ returns-clause-so_far g c =
     let split = subst (λ l. MatchOption next (parts l ≡ part ∷ []) (λ n. parts l ≡ part ∷ parts (drop n l))) rest c.first_part-next.ensures.parts in
     let within = subst (λ l. MatchOption next ⊤ (λ n. n ≤ length l)) rest c.first_part-next.ensures.within in
     let before = c.deref_mut.ensures.value in
-    let whole = with_items_is old.closed c.run_phase.new.closed (search (rules, places)) in
+    let whole = with_items_is old.ended c.run_phase.new.ended (search (rules, places)) in
     let ran = c.in_ok-run_phase.ensures in
     go_on lines part old _ at next c.requires.so_far c.in-Some.is c.lines.ensures.script.short split within
-    (λ earlier marked. ran.ran earlier (subst (AreMarked (closed_by earlier)) (sym before) marked))
-    (λ earlier marked. subst (AreMarked (closed_by (earlier ++ part))) (sym whole) (ran.closed earlier (subst (AreMarked (closed_by earlier)) (sym before) marked)))
+    (λ earlier marked. ran.ran earlier (subst (AreEnded earlier) (sym before) marked))
+    (λ earlier marked. subst (AreEnded (earlier ++ part)) (sym whole) (ran.ended earlier (subst (AreEnded earlier) (sym before) marked)))
     (ap length whole ∙ ran.count ∙ ap length before) ran.ready refl c.behind-self.ensures refl
