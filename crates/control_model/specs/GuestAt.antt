@@ -1,18 +1,22 @@
--- What a guest has still to say and to hear, by its part and what it waits for.
-use Rattle.std.specs.Prelude.{◌≡◌, ℕ, suc, ◌+◌, List, [], ◌∷◌, ◌++◌, length, map, drop, Option, Some, None}
+-- Where a guest stands, by its part and what it waits for: its channels, and what it has still to say and to hear.
+use Rattle.std.specs.Prelude.{◌≡◌, ℕ, suc, ◌+◌, ◌<◌, ◌≤◌, true, false, List, [], ◌∷◌, ◌++◌, length, map, drop, replicate, Option, Some, None}
 use Rattle.std.specs.List.{flat_map}
+use Rattle.contact.specs.declared.version.Version.{Version}
 use Rattle.contact.specs.declared.part.Part.{Part}
 use Rattle.contact.specs.declared.part.Part.TheVariants.{Contact, PhaseStart, PhaseEnd, Unload}
 use Rattle.contact.specs.Versions.{versions_tried}
 use Rattle.contact.specs.Classes.{offers_from}
+use Rattle.chan_state.specs.declared.state.State.TheVariants.{Opening as IsOpening, Opened as IsOpened, Closing}
 use Rattle.vmbus_msg.specs.declared.msg.Msg.{Msg}
 use Rattle.control_model.specs.declared.opening.Opening.{Opening}
+use Rattle.control_model.specs.declared.channel.Channel.{Channel}
 use Rattle.control_model.specs.declared.guest_wait.GuestWait.{GuestWait}
-use Rattle.control_model.specs.declared.guest_wait.GuestWait.TheVariants.{Response, Offers, Created, Opened, Torn, Rescinded, Unloaded}
+use Rattle.control_model.specs.declared.guest_wait.GuestWait.TheVariants.{Nothing, Response, Offers, Created, Opened, Torn, Rescinded, Unloaded}
 use Rattle.control_model.specs.Plan.{BusPlan, phase_of}
 use Rattle.control_model.specs.Messages.{propose, request, delivered, open_on, opened, farewell, farewell_taken}
 use Rattle.control_model.specs.Said.{answer_to, guest_opens, host_opens, guest_closes, host_closes, guest_in_phase, host_in_phase, from_3_0, said_by_guest, said_by_host}
-use Rattle.control_model.specs.Guest.{GuestSeen}
+use Rattle.control_model.specs.Guest.{GuestSeen, offered_channel}
+use Rattle.control_model.specs.Stand.{At, marked, guest_is, guest_ends, guest_before, Tries, Agreed, Meet}
 
 -- from a phase on: the phases that are left, and the farewell
 abbrev pub guest_from : BusPlan → ℕ → List Msg
@@ -82,7 +86,34 @@ to_hear plan (Some (PhaseStart phase)) awaits channels = start_to_hear (phase_of
 to_hear plan (Some (PhaseEnd phase)) awaits channels = end_to_hear (phase_of plan phase) awaits ++ host_from plan (suc phase)
 to_hear plan (Some Unload) awaits channels = unload_to_hear awaits
 
--- a guest said the front of all that it says, and heard the front of all that its host says; where it stands tells what is left of both
+-- the version and the channels of a guest, a row for each part and what it waits for
+pub data GuestStands (plan : BusPlan) : Option Part → GuestWait → Option Version → List Channel → Type 0 where
+  -- no part has begun
+  fresh : GuestStands plan None Nothing None []
+  -- a version is proposed; the offers come; all came
+  proposes : (v : Version) → Tries plan v → GuestStands plan (Some Contact) (Response v) None []
+  asks : (v : Version) (n : ℕ) → Agreed plan v → n ≤ length plan.kinds → GuestStands plan (Some Contact) Offers (Some v) (replicate n offered_channel)
+  contacted : (v : Version) (channels : List Channel) → Meet plan v channels (guest_before plan 0) → GuestStands plan (Some Contact) Nothing (Some v) channels
+  -- a channel's page list was sent; the channel is to be opened; all channels of the phase are open
+  lists : (v : Version) (channels : List Channel) (phase place : ℕ) (done : List Opening) (o : Opening) (left : List Opening) → At plan phase place done o left
+      → Meet plan v channels (marked (guest_is IsOpened) done (guest_before plan phase)) → GuestStands plan (Some (PhaseStart phase)) (Created place) (Some v) channels
+  opens : (v : Version) (channels : List Channel) (phase place : ℕ) (done : List Opening) (o : Opening) (left : List Opening) → At plan phase place done o left
+      → Meet plan v channels (marked (guest_is IsOpened) done (marked (guest_is IsOpening) (o ∷ []) (guest_before plan phase))) → GuestStands plan (Some (PhaseStart phase)) (Opened place) (Some v) channels
+  started : (v : Version) (channels : List Channel) (phase : ℕ) → phase < length plan.phases
+      → Meet plan v channels (marked (guest_is IsOpened) (phase_of plan phase) (guest_before plan phase)) → GuestStands plan (Some (PhaseStart phase)) Nothing (Some v) channels
+  -- a channel is being closed; one is to be rescinded; all channels of the phase are done with
+  closes : (v : Version) (channels : List Channel) (phase place : ℕ) (done : List Opening) (o : Opening) (left : List Opening) → At plan phase place done o left → o.rescinded ≡ false
+      → Meet plan v channels (marked guest_ends done (marked (guest_is Closing) (o ∷ []) (marked (guest_is IsOpened) left (guest_before plan phase)))) → GuestStands plan (Some (PhaseEnd phase)) (Torn place) (Some v) channels
+  gives_back : (v : Version) (channels : List Channel) (phase place : ℕ) (done : List Opening) (o : Opening) (left : List Opening) → At plan phase place done o left → o.rescinded ≡ true
+      → Meet plan v channels (marked guest_ends done (marked (guest_is IsOpened) (o ∷ left) (guest_before plan phase))) → GuestStands plan (Some (PhaseEnd phase)) (Rescinded place) (Some v) channels
+  ended : (v : Version) (channels : List Channel) (phase : ℕ) → phase < length plan.phases → Meet plan v channels (guest_before plan (suc phase)) → GuestStands plan (Some (PhaseEnd phase)) Nothing (Some v) channels
+  -- the farewell is said; it is over
+  leaves : (v : Version) (channels : List Channel) → Meet plan v channels (guest_before plan (length plan.phases)) → GuestStands plan (Some Unload) Unloaded (Some v) channels
+  is_over : (v : Version) (channels : List Channel) → Meet plan v channels (guest_before plan (length plan.phases)) → GuestStands plan (Some Unload) Nothing (Some v) channels
+
+-- a guest stands so, said the front of all that it says, and heard the front of all that its host says; where it stands tells what is left of both
 pub record GuestAt (plan : BusPlan) (g : GuestSeen) : Type 0 where
+  pub plan_is : g.plan ≡ plan
+  pub stands : GuestStands plan g.part g.awaits g.version g.channels
   pub said : said_by_guest plan ≡ g.posted ++ to_say plan g.part g.awaits
   pub heard : said_by_host plan ≡ g.fed ++ to_hear plan g.part g.awaits (length g.channels)

@@ -6,4 +6,6 @@ pub mod Host
 pub mod Openings
 pub mod Dealing
 pub mod Said
+pub mod Stand
 pub mod GuestAt
+pub mod HostAt

@@ -1,106 +1,36 @@
--- Both are done where no message is on its way; few are; and how both stand at the end.
-use Rattle.std.proofs.Common.{◌≡◌, ◌∙◌, ℕ, zero, suc, ◌+◌, ◌<◌, ◌≤◌, ◌==◌, ◌&&◌, ◌||◌, Bool, true, false, List, [], ◌∷◌, ◌++◌, length, take, Some, is_some, if◌then◌else◌, refl, sym, ap, length-append, arith}
+-- How both stand at the end.
+use Rattle.std.proofs.Common.{◌≡◌, ◌∙◌, ℕ, zero, suc, ◌+◌, ◌<◌, ◌≤◌, ◌==◌, ◌&&◌, ◌||◌, Bool, true, false, List, [], ◌∷◌, ◌++◌, length, map, take, Option, Some, is_some, if◌then◌else◌, refl, sym, ap, arith}
 use Rattle.std.specs.List.{AllByRecursion, list_any}
 use Rattle.std.proofs.lemmas.Bool.{eqb-true}
 use Rattle.std.proofs.lemmas.List.{take_all, append-nil}
 use Rattle.std.proofs.lemmas.List.Folds.{list_any-append}
+use Rattle.contact.specs.declared.version.Version.{Version}
+use Rattle.contact.specs.declared.part.Part.{Part}
 use Rattle.contact.specs.declared.part.Part.TheVariants.{Unload}
-use Rattle.contact.specs.Classes.{offers_from}
 use Rattle.chan_state.specs.declared.state.State.{State}
 use Rattle.chan_state.specs.declared.state.State.TheVariants.{Offered, Closed, Released}
 use Rattle.chan_state.specs.declared.chan_state.ChanState.{ChanState}
+use Rattle.gpadl.specs.Assembly.{Assembly}
 use Rattle.io_edge.specs.declared.side.Side.TheVariants.{Host as HostSide}
 use Rattle.vmbus_msg.specs.declared.msg.Msg.{Msg}
 use Rattle.control_model.specs.declared.opening.Opening.{Opening}
 use Rattle.control_model.specs.declared.channel.Channel.{Channel}
+use Rattle.control_model.specs.declared.guest_wait.GuestWait.{GuestWait}
+use Rattle.control_model.specs.declared.host_wait.HostWait.{HostWait}
 use Rattle.control_model.specs.Plan.{BusPlan, all_openings, Rising, IsPlan, phase_of}
-use Rattle.control_model.specs.Messages.{delivered}
-use Rattle.control_model.specs.Guest.{GuestSeen, offered_channel, guest_done, can_begin}
-use Rattle.control_model.specs.Host.{HostSeen, host_done, host_can_begin}
-use Rattle.control_model.specs.Said.{last_state}
-use Rattle.control_model.specs.GuestAt.{GuestAt}
-use Rattle.control_model.proofs.PlanLaws.{offers_length}
-use Rattle.control_run.specs.Stand.{marked, before_phase, end_state, guest_ends, host_ends}
-use Rattle.control_run.specs.NextEnd.{host_sends, host_next_sends}
-use Rattle.control_run.specs.Talk.{Logs, Talk}
-use Rattle.control_run.specs.Talk.Talk.{fresh, proposes, accepts, refuses, asks, offering, offered, contacted, lists, listed, opens, is_open, started, closes, tears, torn, rescinds, releases, ended, leaves, may_leave, is_over}
-use Rattle.control_run.specs.Over.{IsOver}
+use Rattle.control_model.specs.Guest.{offered_channel, waits_for_nothing}
+use Rattle.control_model.specs.Host.{host_waits_for_nothing}
+use Rattle.control_model.specs.Said.{said_by_guest, said_by_host, last_state, at_end}
+use Rattle.control_model.specs.Stand.{marked, before_phase, end_state, guest_ends, host_ends, Agreed}
+use Rattle.control_model.specs.GuestAt.{to_say, to_hear, GuestStands}
+use Rattle.control_model.specs.GuestAt.GuestStands.{fresh, proposes, asks, contacted, lists, opens, started, closes, gives_back, ended, leaves, is_over}
+use Rattle.control_model.specs.HostAt.{host_to_say, host_to_hear, HostStands}
+use Rattle.control_model.specs.HostAt.HostStands.{fresh as IsFresh, answers as IsAnswering, accepts as IsAccepting, contacted as IsContacted, lists as IsListing, listed as IsListed, started as IsStarted, closes as IsClosing, tears as IsTearing, takes_back as IsTakingBack, ended as IsEnded, leaves as IsLeaving, is_over as IsDone}
+use Rattle.control_run.specs.Sides.{BothOver}
 use Rattle.control_run.proofs.Marks.{by_test, differ}
 use Rattle.control_run.proofs.Plans.{all_weaker, above, openings_more, earlier_ends, phase_rises}
-use Rattle.control_run.proofs.NextEnd.{says_most}
 use Rattle.control_run.proofs.States.{all_stand}
-
--- both are in one part of one plan
-pub same_part : (plan : BusPlan) (logs : Logs) (g : GuestSeen) (h : HostSeen) (to_host to_guest : List Msg) → Talk plan logs g h to_host to_guest → (g.plan ≡ plan) × (h.plan ≡ plan) × (h.part ≡ g.part)
-same_part plan logs g h to_host to_guest fresh = (refl, refl, refl)
-same_part plan logs g h to_host to_guest (proposes v tries) = (refl, refl, refl)
-same_part plan logs g h to_host to_guest (accepts v agreed) = (refl, refl, refl)
-same_part plan logs g h to_host to_guest (refuses v tries above) = (refl, refl, refl)
-same_part plan logs g h to_host to_guest (asks v agreed) = (refl, refl, refl)
-same_part plan logs g h to_host to_guest (offering v hosts n seen kind left agreed stand is count) = (refl, refl, refl)
-same_part plan logs g h to_host to_guest (offered v hosts n agreed stand all) = (refl, refl, refl)
-same_part plan logs g h to_host to_guest (contacted v guests hosts meet) = (refl, refl, refl)
-same_part plan logs g h to_host to_guest (lists v guests hosts phase place done o left s m ms at meet pieces) = (refl, refl, refl)
-same_part plan logs g h to_host to_guest (listed v guests hosts phase place done o left at meet) = (refl, refl, refl)
-same_part plan logs g h to_host to_guest (opens v guests hosts phase place done o left at meet) = (refl, refl, refl)
-same_part plan logs g h to_host to_guest (is_open v guests hosts phase place done o left at meet) = (refl, refl, refl)
-same_part plan logs g h to_host to_guest (started v guests hosts phase in_plan meet) = (refl, refl, refl)
-same_part plan logs g h to_host to_guest (closes v guests hosts phase place done o left at closed meet) = (refl, refl, refl)
-same_part plan logs g h to_host to_guest (tears v guests hosts phase place done o left at closed meet) = (refl, refl, refl)
-same_part plan logs g h to_host to_guest (torn v guests hosts phase place done o left at closed meet) = (refl, refl, refl)
-same_part plan logs g h to_host to_guest (rescinds v guests hosts phase place done o left at gone meet) = (refl, refl, refl)
-same_part plan logs g h to_host to_guest (releases v guests hosts phase place done o left at gone meet) = (refl, refl, refl)
-same_part plan logs g h to_host to_guest (ended v guests hosts phase in_plan meet) = (refl, refl, refl)
-same_part plan logs g h to_host to_guest (leaves v guests hosts meet) = (refl, refl, refl)
-same_part plan logs g h to_host to_guest (may_leave v guests hosts meet) = (refl, refl, refl)
-same_part plan logs g h to_host to_guest (is_over v guests hosts meet) = (refl, refl, refl)
-
-host_most : (o : Opening) (b : Bool) → length (host_sends o b) ≤ 1
-host_most o true = omega arith
-host_most o false = omega arith
-
-host_says_most : (left : List Opening) → length (host_next_sends left) ≤ 1
-host_says_most [] = omega arith
-host_says_most (o ∷ left) = host_most o o.rescinded
-
--- at most 32 messages are on their way
-pub few_on_way : (plan : BusPlan) (logs : Logs) (g : GuestSeen) (h : HostSeen) (to_host to_guest : List Msg) → IsPlan plan → Talk plan logs g h to_host to_guest → (length to_host ≤ 32) × (length to_guest ≤ 32)
-few_on_way plan logs g h to_host to_guest planned fresh = (omega arith, omega arith)
-few_on_way plan logs g h to_host to_guest planned (proposes v tries) = (omega arith, omega arith)
-few_on_way plan logs g h to_host to_guest planned (accepts v agreed) = (omega arith, omega arith)
-few_on_way plan logs g h to_host to_guest planned (refuses v tries above) = (omega arith, omega arith)
-few_on_way plan logs g h to_host to_guest planned (asks v agreed) = (omega arith, omega arith)
-few_on_way plan logs g h to_host to_guest planned (offering v hosts n seen kind left agreed stand is count) =
-    let few = planned.few in
-    let all = ap length is in
-    let parts = length-append seen (kind ∷ left) in
-    let rest = length-append (offers_from (n + 1 + 1) left) (delivered ∷ []) in
-    let offers = offers_length (n + 1 + 1) left in
-    (omega arith, omega (arith, few, all, parts, rest, offers))
-few_on_way plan logs g h to_host to_guest planned (offered v hosts n agreed stand all) = (omega arith, omega arith)
-few_on_way plan logs g h to_host to_guest planned (contacted v guests hosts meet) = (omega arith, omega arith)
-few_on_way plan logs g h to_host to_guest planned (lists v guests hosts phase place done o left s m ms at meet pieces) = (pieces.few, omega arith)
-few_on_way plan logs g h to_host to_guest planned (listed v guests hosts phase place done o left at meet) = (omega arith, omega arith)
-few_on_way plan logs g h to_host to_guest planned (opens v guests hosts phase place done o left at meet) = (omega arith, omega arith)
-few_on_way plan logs g h to_host to_guest planned (is_open v guests hosts phase place done o left at meet) = (omega arith, omega arith)
-few_on_way plan logs g h to_host to_guest planned (started v guests hosts phase in_plan meet) = (omega arith, omega arith)
-few_on_way plan logs g h to_host to_guest planned (closes v guests hosts phase place done o left at closed meet) = (omega arith, omega arith)
-few_on_way plan logs g h to_host to_guest planned (tears v guests hosts phase place done o left at closed meet) = (omega arith, omega arith)
-few_on_way plan logs g h to_host to_guest planned (torn v guests hosts phase place done o left at closed meet) = let one = host_says_most left in (omega arith, omega (arith, one))
-few_on_way plan logs g h to_host to_guest planned (rescinds v guests hosts phase place done o left at gone meet) = (omega arith, omega arith)
-few_on_way plan logs g h to_host to_guest planned (releases v guests hosts phase place done o left at gone meet) = let two = says_most left in (omega (arith, two), omega arith)
-few_on_way plan logs g h to_host to_guest planned (ended v guests hosts phase in_plan meet) = (omega arith, omega arith)
-few_on_way plan logs g h to_host to_guest planned (leaves v guests hosts meet) = (omega arith, omega arith)
-few_on_way plan logs g h to_host to_guest planned (may_leave v guests hosts meet) = (omega arith, omega arith)
-few_on_way plan logs g h to_host to_guest planned (is_over v guests hosts meet) = (omega arith, omega arith)
-
--- where no message is on its way, both are done
-pub both_are_done : (plan : BusPlan) (logs : Logs) (g : GuestSeen) (h : HostSeen) → Talk plan logs g h [] [] → is_some g.part ≡ true → (guest_done g ≡ true) × (host_done h ≡ true)
-both_are_done plan logs g h fresh some = absurd (cc)
-both_are_done plan logs g h (contacted v guests hosts meet) some = (refl, refl)
-both_are_done plan logs g h (started v guests hosts phase in_plan meet) some = (refl, refl)
-both_are_done plan logs g h (ended v guests hosts phase in_plan meet) some = (refl, refl)
-both_are_done plan logs g h (is_over v guests hosts meet) some = (refl, refl)
+use Rattle.control_run.proofs.Tried.{agreed_is}
 
 -- openings of a channel, and those of them that are rescinded
 abbrev pub opens_it : ℕ → List Opening → Bool
@@ -201,34 +131,84 @@ at_last plan state as_left unopened relid planned first is =
     before_state plan state as_left unopened (length plan.phases) relid planned first is (omega arith)
     ∙ ap (λ phases. stands_so (rescinds_it relid (all_openings phases)) (opens_it relid (all_openings phases))) (take_all (length plan.phases) plan.phases (omega arith))
 
--- how both stand at the end
-pub is_ended : (plan : BusPlan) (logs : Logs) (g : GuestSeen) (h : HostSeen) → IsPlan plan → Talk plan logs g h [] [] → GuestAt plan g → g.part ≡ Some Unload → g.posted ≡ h.fed → h.posted ≡ g.fed → IsOver plan g h
-is_ended plan logs g h planned fresh at last guest_sent host_sent = absurd (cc)
-is_ended plan logs g h planned (contacted v guests hosts meet) at last guest_sent host_sent = absurd (cc)
-is_ended plan logs g h planned (started v guests hosts phase in_plan meet) at last guest_sent host_sent = absurd (cc)
-is_ended plan logs g h planned (ended v guests hosts phase in_plan meet) at last guest_sent host_sent = absurd (cc)
-is_ended plan logs g h planned (is_over v guests hosts meet) at last guest_sent host_sent = record {
-  guest_part = refl;
-  host_part = refl;
-  guest_done = refl;
-  host_done = refl;
-  version = v;
+-- a side that is done with the farewell
+record AllOver {X : Type 0} (plan : BusPlan) (version : Option Version) (channels : List X) (state : X → State) (say hear : List Msg) : Type 0 where
+  last : Version
+  agreed : Agreed plan last
+  version_is : version ≡ Some last
+  stands : map state channels ≡ at_end plan
+  no_say : say ≡ []
+  no_hear : hear ≡ []
+
+guest_ended : (plan : BusPlan) (part : Option Part) (awaits : GuestWait) (version : Option Version) (channels : List Channel) → IsPlan plan → GuestStands plan part awaits version channels → part ≡ Some Unload → (is_some part && waits_for_nothing awaits) ≡ true
+    → AllOver plan version channels (λ c. c.life.state) (to_say plan part awaits) (to_hear plan part awaits (length channels))
+guest_ended plan part awaits version channels planned fresh last over = absurd (cc)
+guest_ended plan part awaits version channels planned (proposes v tries) last over = absurd (cc)
+guest_ended plan part awaits version channels planned (asks v n agreed few) last over = absurd (cc)
+guest_ended plan part awaits version channels planned (contacted v cs meet) last over = absurd (cc)
+guest_ended plan part awaits version channels planned (lists v cs phase place done o left at meet) last over = absurd (cc)
+guest_ended plan part awaits version channels planned (opens v cs phase place done o left at meet) last over = absurd (cc)
+guest_ended plan part awaits version channels planned (started v cs phase in_plan meet) last over = absurd (cc)
+guest_ended plan part awaits version channels planned (closes v cs phase place done o left at closed meet) last over = absurd (cc)
+guest_ended plan part awaits version channels planned (gives_back v cs phase place done o left at gone meet) last over = absurd (cc)
+guest_ended plan part awaits version channels planned (ended v cs phase in_plan meet) last over = absurd (cc)
+guest_ended plan part awaits version channels planned (leaves v cs meet) last over = absurd (cc)
+guest_ended plan part awaits version channels planned (is_over v cs meet) last over = record {
+  last = v;
   agreed = meet.agreed;
-  at_guest = refl;
-  at_host = refl;
-  guest_stands = all_stand (λ (c : Channel). c.life.state) guests plan (before_phase plan guest_ends offered_channel (length plan.phases)) meet.guest (λ relid. at_last plan (λ (c : Channel). c.life.state) guest_ends offered_channel relid planned refl (λ o. refl));
-  host_stands = all_stand (λ (c : ChanState). c.state) hosts plan (before_phase plan host_ends (record { side = HostSide; state = Offered }) (length plan.phases)) meet.host
-      (λ relid. at_last plan (λ (c : ChanState). c.state) host_ends (record { side = HostSide; state = Offered }) relid planned refl (λ o. refl));
-  guest_said = sym (at.said ∙ append-nil g.posted);
-  host_said = host_sent ∙ sym (at.heard ∙ append-nil g.fed);
-  guest_fed = sym host_sent;
-  host_fed = sym guest_sent;
+  version_is = refl;
+  stands = all_stand (λ (c : Channel). c.life.state) cs plan (before_phase plan guest_ends offered_channel (length plan.phases)) meet.stand (λ relid. at_last plan (λ (c : Channel). c.life.state) guest_ends offered_channel relid planned refl (λ o. refl));
+  no_say = refl;
+  no_hear = refl;
 }
 
--- where no message is on its way, both may begin
-pub both_can_begin : (plan : BusPlan) (logs : Logs) (g : GuestSeen) (h : HostSeen) → Talk plan logs g h [] [] → (can_begin g ≡ true) × (host_can_begin h ≡ true)
-both_can_begin plan logs g h fresh = (refl, refl)
-both_can_begin plan logs g h (contacted v guests hosts meet) = (refl, refl)
-both_can_begin plan logs g h (started v guests hosts phase in_plan meet) = (refl, refl)
-both_can_begin plan logs g h (ended v guests hosts phase in_plan meet) = (refl, refl)
-both_can_begin plan logs g h (is_over v guests hosts meet) = (refl, refl)
+host_ended : (plan : BusPlan) (part : Option Part) (awaits : HostWait) (version : Option Version) (channels : List ChanState) (assembly : Assembly) (tried : List ℕ) (pieces : List Msg) → IsPlan plan → HostStands plan part awaits version channels assembly tried pieces
+    → part ≡ Some Unload → (is_some part && host_waits_for_nothing awaits) ≡ true → AllOver plan version channels (λ c. c.state) (host_to_say plan part awaits tried) (host_to_hear plan part awaits tried pieces)
+host_ended plan part awaits version channels assembly tried pieces planned IsFresh last over = absurd (cc)
+host_ended plan part awaits version channels assembly tried pieces planned (IsAnswering v tries) last over = absurd (cc)
+host_ended plan part awaits version channels assembly tried pieces planned (IsAccepting v agreed) last over = absurd (cc)
+host_ended plan part awaits version channels assembly tried pieces planned (IsContacted v cs meet) last over = absurd (cc)
+host_ended plan part awaits version channels assembly tried pieces planned (IsListing v cs phase place done o left s m ms at meet list) last over = absurd (cc)
+host_ended plan part awaits version channels assembly tried pieces planned (IsListed v cs phase place done o left at meet) last over = absurd (cc)
+host_ended plan part awaits version channels assembly tried pieces planned (IsStarted v cs phase in_plan meet) last over = absurd (cc)
+host_ended plan part awaits version channels assembly tried pieces planned (IsClosing v cs phase place done o left at closed meet) last over = absurd (cc)
+host_ended plan part awaits version channels assembly tried pieces planned (IsTearing v cs phase place done o left at closed meet) last over = absurd (cc)
+host_ended plan part awaits version channels assembly tried pieces planned (IsTakingBack v cs phase place done o left at gone meet) last over = absurd (cc)
+host_ended plan part awaits version channels assembly tried pieces planned (IsEnded v cs phase in_plan meet) last over = absurd (cc)
+host_ended plan part awaits version channels assembly tried pieces planned (IsLeaving v cs meet) last over = absurd (cc)
+host_ended plan part awaits version channels assembly tried pieces planned (IsDone v cs meet) last over = record {
+  last = v;
+  agreed = meet.agreed;
+  version_is = refl;
+  stands = all_stand (λ (c : ChanState). c.state) cs plan (before_phase plan host_ends (record { side = HostSide; state = Offered }) (length plan.phases)) meet.stand
+      (λ relid. at_last plan (λ (c : ChanState). c.state) host_ends (record { side = HostSide; state = Offered }) relid planned refl (λ o. refl));
+  no_say = refl;
+  no_hear = refl;
+}
+
+-- how both stand at the end
+pub over_law : BothOver
+over_law plan g h planned guest host guest_part host_part guest_over host_over =
+    let here = guest_ended plan g.part g.awaits g.version g.channels planned guest.stands guest_part guest_over in
+    let there = host_ended plan h.part h.awaits h.version h.channels h.lists host.tried host.pieces planned host.stands host_part host_over in
+    let one : there.last.0 ≡ here.last.0 = agreed_is plan there.last planned there.agreed ∙ sym (agreed_is plan here.last planned here.agreed) in
+    let guest_said : g.posted ≡ said_by_guest plan = sym (guest.said ∙ ap (λ xs. g.posted ++ xs) here.no_say ∙ append-nil g.posted) in
+    let guest_fed : g.fed ≡ said_by_host plan = sym (guest.heard ∙ ap (λ xs. g.fed ++ xs) here.no_hear ∙ append-nil g.fed) in
+    let host_said : h.posted ≡ said_by_host plan = sym (host.said ∙ ap (λ xs. h.posted ++ xs) there.no_say ∙ append-nil h.posted) in
+    let host_fed : h.fed ≡ said_by_guest plan = sym (host.heard ∙ ap (λ xs. h.fed ++ xs) there.no_hear ∙ append-nil h.fed) in
+    record {
+      guest_part = guest_part;
+      host_part = host_part;
+      guest_done = guest_over;
+      host_done = host_over;
+      version = here.last;
+      agreed = here.agreed;
+      at_guest = here.version_is;
+      at_host = there.version_is ∙ (λ i. Some (record { 0 = one i }));
+      guest_stands = here.stands;
+      host_stands = there.stands;
+      guest_said = guest_said;
+      host_said = host_said;
+      guest_fed = guest_fed ∙ sym host_said;
+      host_fed = host_fed ∙ sym guest_said;
+    }

@@ -11,33 +11,37 @@ use Rattle.control_model.specs.Guest.{GuestSeen, can_begin, guest_hears, GuestBe
 use Rattle.control_model.specs.Host.{HostSeen, HostTurn, host_can_begin, host_hears, HostBegins, HostTakes}
 use Rattle.host_end.specs.Feeding.{Comes}
 use Rattle.contact.specs.declared.part.Part.TheVariants.{Unload}
-use Rattle.control_run.specs.Laws.{logs_of, Agrees, measure}
+use Rattle.control_run.specs.Laws.{Agrees, measure}
 use Rattle.control_run.specs.Over.{IsOver}
 use Rattle.control_run.specs.Path.{PathSeen, Rests, Ran}
-use Rattle.control_run.proofs.Ending.{same_part, both_can_begin}
-use Rattle.control_run.proofs.Going.{host_law, guest_law, begin_law, done_law, ends_law}
+use Rattle.control_run.proofs.Going.{both_can_begin, host_law, guest_law, begin_law, done_law, ends_law}
 
 -- both may begin the part that comes next
 pub ready : (g : GuestSeen) (h : HostSeen) (to_host to_guest : List Msg) → Agrees g.plan g h to_host to_guest → to_host ≡ [] → to_guest ≡ [] → (can_begin g ≡ true) × (host_can_begin h ≡ true)
 ready g h to_host to_guest agrees at_host at_guest =
     let rests : Agrees g.plan g h [] [] = subst (λ xs. Agrees g.plan g h xs []) at_host (subst (λ xs. Agrees g.plan g h to_host xs) at_guest agrees) in
-    both_can_begin g.plan (logs_of g h) g h rests.talk
+    both_can_begin g.plan g h rests
 
 pub part_of_host : (g : GuestSeen) (h : HostSeen) (to_host to_guest : List Msg) (part : Part) → Agrees g.plan g h to_host to_guest → part_after g.plan g.part ≡ Some part → part_after h.plan h.part ≡ Some part
 part_of_host g h to_host to_guest part agrees is =
-    let plans = same_part g.plan (logs_of g h) g h to_host to_guest agrees.talk in
-    (λ i. part_after (plans.1 i) (plans.2 i)) ∙ is
+    let plan = agrees.host_at.plan_is in
+    let same = agrees.part in
+    (λ i. part_after (plan i) (same i)) ∙ is
 
 -- what the host makes of a message
+pub record HostTold (g : GuestSeen) (h after : HostSeen) (to_host to_guest : List Msg) : Type 0 where
+  pub agree : Agrees g.plan g after to_host to_guest
+  pub falls : measure g after < measure g h
+
 host_fed : (g : GuestSeen) (h after : HostSeen) (m : Msg) (to_host : List Msg) (turn : HostTurn) (old new : Mail) (r : Result Unit ControlFault) → Agrees g.plan g h (m ∷ to_host) old.queue → host_hears h m ≡ Ok turn → Comes (Ok turn) h after m old new r
-    → OnOk r (Agrees g.plan g after to_host new.queue)
+    → OnOk r (HostTold g h after to_host new.queue)
 host_fed g h after m to_host turn old new (Ok u) agrees is comes =
     let takes : HostTakes h m comes.sent after = record { turn = turn; hears = is; sends = comes.sends; now = comes.now } in
     let there = (host_law g.plan g h m to_host old.queue agrees).1 comes.sent after takes in
-    subst (λ (box : Mail). Agrees g.plan g after to_host box.queue) (sym comes.mail) there.0
+    record { agree = subst (λ (box : Mail). Agrees g.plan g after to_host box.queue) (sym comes.mail) there.0; falls = there.1 }
 host_fed g h after m to_host turn old new (Err fault) agrees is comes = tt
 
-pub host_told : (g : GuestSeen) (h after : HostSeen) (m : Msg) (to_host : List Msg) (old new : Mail) (r : Result Unit ControlFault) → Agrees g.plan g h (m ∷ to_host) old.queue → Comes (host_hears h m) h after m old new r → OnOk r (Agrees g.plan g after to_host new.queue)
+pub host_told : (g : GuestSeen) (h after : HostSeen) (m : Msg) (to_host : List Msg) (old new : Mail) (r : Result Unit ControlFault) → Agrees g.plan g h (m ∷ to_host) old.queue → Comes (host_hears h m) h after m old new r → OnOk r (HostTold g h after to_host new.queue)
 host_told g h after m to_host old new r agrees comes =
     let taken = (host_law g.plan g h m to_host old.queue agrees).0 in
     host_fed g h after m to_host taken.0 old new r agrees taken.1 (subst (λ t. Comes t h after m old new r) taken.1 comes)
@@ -52,7 +56,7 @@ pub record GuestTold (g after : GuestSeen) (h : HostSeen) (to_host to_guest : Li
   pub agree : Agrees after.plan after h (to_host ++ sent) to_guest
   pub plan : after.plan ≡ g.plan
   pub part : after.part ≡ g.part
-  pub falls : measure after (to_host ++ sent) < measure g to_host
+  pub falls : measure after h < measure g h
 
 pub guest_told : (g after : GuestSeen) (h : HostSeen) (m : Msg) (to_host to_guest sent : List Msg) → Agrees g.plan g h to_host (m ∷ to_guest) → GuestTakes g m sent after → GuestTold g after h to_host to_guest sent
 guest_told g after h m to_host to_guest sent agrees takes =
@@ -78,7 +82,7 @@ rests_law g h to_host to_guest agrees at_host at_guest last =
 
 -- both go by one plan
 pub rests_plan : (g : GuestSeen) (h : HostSeen) (to_host to_guest : List Msg) → Agrees g.plan g h to_host to_guest → h.plan ≡ g.plan
-rests_plan g h to_host to_guest agrees = (same_part g.plan (logs_of g h) g h to_host to_guest agrees.talk).1
+rests_plan g h to_host to_guest agrees = agrees.host_at.plan_is
 
 -- both began a part
 pub both_began : (g g' : GuestSeen) (h h' : HostSeen) (to_host to_guest sent back : List Msg) (part : Part) → Agrees g.plan g h to_host to_guest → to_host ≡ [] → to_guest ≡ [] → part_after g.plan g.part ≡ Some part → GuestBegins g part sent g' → HostBegins h part back h' → Agrees g'.plan g' h' sent back

@@ -14,7 +14,7 @@ use Rattle.control_model.specs.declared.channel.Channel.{Channel}
 use Rattle.control_model.specs.Plan.{BusPlan, phase_of}
 use Rattle.control_model.specs.Channels.{lived, row_of, is_handle, place_of_list}
 use Rattle.control_model.specs.Guest.{offered_channel}
-use Rattle.control_run.specs.Stand.{marked, before_phase, end_state, guest_is, host_is, guest_ends, host_ends, guest_before, host_before, Stand}
+use Rattle.control_model.specs.Stand.{marked, before_phase, end_state, guest_is, host_is, guest_ends, host_ends, guest_before, host_before, Stand}
 use Rattle.control_run.proofs.Marks.{differ, at_relid, marked_has, marked_at, marked_there}
 use Rattle.control_run.proofs.Plans.{all_weaker, Facts}
 

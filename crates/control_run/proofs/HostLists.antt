@@ -1,46 +1,37 @@
--- The host takes a piece of a page list.
-use Rattle.std.proofs.Common.{◌≡◌, ◌∙◌, ℕ, ◌==◌, true, false, List, [], ◌∷◌, ◌++◌, length, Option, Some, None, Ok, if◌then◌else◌, refl, sym, ap, subst, arith}
-use Rattle.std.specs.List.{AllByRecursion}
+-- A host takes a piece of a page list, and each row in which it takes a message.
+use Rattle.std.proofs.Common.{◌≡◌, ◌∙◌, ℕ, suc, ◌==◌, true, false, List, [], ◌∷◌, ◌++◌, length, drop, Option, Some, None, Ok, if◌then◌else◌, refl, sym, ap, subst, append_assoc}
+use Rattle.std.specs.List.{flat_map}
 use Rattle.std.proofs.lemmas.List.{map-append}
+use Rattle.std.proofs.lemmas.List.Concat.{flat_map-cons}
 use Rattle.contact.specs.declared.version.Version.{Version}
+use Rattle.contact.specs.declared.part.Part.{Part}
 use Rattle.contact.specs.declared.part.Part.TheVariants.{PhaseStart}
 use Rattle.chan_state.specs.declared.state.State.TheVariants.{Opened}
 use Rattle.chan_state.specs.declared.chan_state.ChanState.{ChanState}
-use Rattle.gpadl.specs.Assembly.{Partial, Assembly, built, begun, with_frames, body_fault, fault_of}
-use Rattle.gpadl.specs.Whole.{settled, next, whole, whole_lists, after, AreTaken}
+use Rattle.gpadl.specs.Assembly.{Partial, Assembly, built, fault_of}
+use Rattle.gpadl.specs.Cut.{cut}
+use Rattle.gpadl.specs.Whole.{next, whole, after}
 use Rattle.vmbus_msg.specs.declared.msg.Msg.{Msg}
 use Rattle.vmbus_msg.specs.declared.msg.Msg.TheVariants.{GpadlHeader, GpadlBody}
-use Rattle.vmbus_msg.specs.declared.gpadl_body.GpadlBody.{GpadlBody as Body}
 use Rattle.control_model.specs.declared.opening.Opening.{Opening}
-use Rattle.control_model.specs.declared.channel.Channel.{Channel}
 use Rattle.control_model.specs.declared.burst.Burst.TheVariants.{One}
-use Rattle.control_model.specs.declared.guest_wait.GuestWait.TheVariants.{Created}
+use Rattle.control_model.specs.declared.host_wait.HostWait.{HostWait}
 use Rattle.control_model.specs.declared.host_wait.HostWait.TheVariants.{List as AwaitsList, Open as AwaitsOpen}
-use Rattle.control_model.specs.Plan.{BusPlan, opening_at, IsPlan}
+use Rattle.control_model.specs.Plan.{BusPlan, opening_at, IsPlan, phase_of}
 use Rattle.control_model.specs.Channels.{by_relid}
-use Rattle.control_model.specs.Messages.{created}
-use Rattle.control_model.specs.Guest.{GuestSeen}
-use Rattle.control_model.specs.Host.{HostSeen, HostTurn, at_rest, hears_header, hears_piece, listed as listed_for, lists_by, is_of, host_hears, host_after}
-use Rattle.control_run.specs.Stand.{At, marked, guest_is, host_is, guest_before, host_before, handles}
-use Rattle.control_run.specs.Talk.{Logs, Talk, Meet, a_guest, a_host, live_ones, IsPieceFor, IsBody, list_of, Piecewise}
-use Rattle.control_run.specs.Talk.Talk.{lists, listed}
+use Rattle.control_model.specs.Messages.{propose, request, pages_from, created, open_on, close, teardown, release, farewell}
+use Rattle.control_model.specs.Said.{host_opens, host_closes, guest_closes}
+use Rattle.control_model.specs.Host.{HostSeen, HostTurn, host_waits_for_nothing, at_rest, hears_header, hears_piece, listed as listed_for, lists_by, is_of, host_hears}
+use Rattle.control_model.specs.Stand.{At, marked, host_is, host_before, Meet, handles}
+use Rattle.control_model.specs.GuestAt.{guest_from, host_from, opens_listed, answers_open}
+use Rattle.control_model.specs.HostAt.{live_ones, ListComes, HostStands}
+use Rattle.control_model.specs.HostAt.HostStands.{fresh, answers, accepts, contacted, lists, listed, started, closes, tears, takes_back, ended, leaves, is_over}
 use Rattle.control_run.proofs.Marks.{by_test, same, stand_at}
 use Rattle.control_run.proofs.Plans.{facts, opening_here}
-use Rattle.control_run.proofs.HostSteps.{host_logs, HostStep}
-
--- the list that is being built, once a piece is taken
-record Built (building : Option Partial) (m : Msg) : Type 0 where
-  list : Partial
-  is : built building m ≡ Some list
-
-body_built : (building : Option Partial) (b : Body) → body_fault building b ≡ None → Built building (GpadlBody b)
-body_built None b fine = absurd (cc)
-body_built (Some p) b fine = record { list = with_frames p b.frames; is = refl }
-
-piece_built : (s : Assembly) (m : Msg) (relid : ℕ) → IsPieceFor relid m → fault_of s m ≡ None → Built s.building m
-piece_built s (GpadlHeader h) relid piece fine = record { list = begun h; is = refl }
-piece_built s (GpadlBody b) relid piece fine = body_built s.building b fine
-piece_built s _ relid piece fine = absurd piece
+use Rattle.control_run.proofs.Logs.{Logs}
+use Rattle.control_run.proofs.Pieces.{IsPieceFor, list_of, Piecewise, piece_built, is_last, comes, after_more}
+use Rattle.control_run.proofs.Saying.{left_at}
+use Rattle.control_run.proofs.HostSteps.{a_host, HostStep, step_proposes, step_asks, step_opens, step_closes, step_tears, step_releases, step_leaves}
 
 -- what comes of a piece
 heard : (h : HostSeen) (life : ChanState) (relid : ℕ) (m : Msg) → IsPieceFor relid m → by_relid h.channels relid ≡ Some life → fault_of h.lists m ≡ None → host_hears h m ≡ Ok (lists_by h (next h.lists m) (built h.lists.building m))
@@ -48,92 +39,94 @@ heard h life relid (GpadlHeader d) piece known fine = ap (λ r. hears_header h d
 heard h life relid (GpadlBody b) piece known fine = ap (hears_piece h (GpadlBody b)) fine
 heard h life relid _ piece known fine = absurd piece
 
-body_is_piece : (relid : ℕ) (m : Msg) → IsBody m → IsPieceFor relid m
-body_is_piece relid (GpadlBody b) is = tt
-body_is_piece relid _ is = absurd is
-
--- no body is taken where no list is being built
-no_body : (live : List ℕ) (m : Msg) → IsBody m → fault_of (live_ones live) m ≡ None → ⊥
-no_body live (GpadlBody b) is fine = absurd (cc)
-no_body live _ is fine = absurd is
-
-none_left : (live : List ℕ) (ms : List Msg) → AllByRecursion IsBody ms → AreTaken (live_ones live) ms → ms ≡ []
-none_left live [] are taken = refl
-none_left live (m ∷ ms) are taken = absurd (no_body live m are.0 taken.0)
-
-module _ (plan : BusPlan) (logs : Logs) (v : Version) (guests : List Channel) (hosts : List ChanState) (phase place : ℕ) (done : List Opening) (o : Opening) (left : List Opening) (s : Assembly) where
+module _ (plan : BusPlan) (logs : Logs) (v : Version) (hosts : List ChanState) (phase place : ℕ) (done : List Opening) (o : Opening) (left : List Opening) (s : Assembly) where
   abbrev host_at : HostSeen
   host_at = a_host plan logs (Some (PhaseStart phase)) (AwaitsList place) (Some v) hosts s
 
-  abbrev guest_at : Logs → GuestSeen
-  guest_at after = a_guest plan after (Some (PhaseStart phase)) (Created place) (Some v) guests
-
   abbrev AreOpen : Type 0
-  AreOpen = Meet plan v guests hosts (marked (guest_is Opened) done (guest_before plan phase)) (marked (host_is Opened) done (host_before plan phase))
+  AreOpen = Meet plan v hosts (marked (host_is Opened) done (host_before plan phase))
 
   abbrev HeardSo : Msg → Partial → Type 0
   HeardSo m p = host_hears host_at m ≡ Ok (lists_by host_at (next s m) (Some p))
 
   -- the list is whole
-  last_piece : (m : Msg) (ms : List Msg) (p : Partial) → At plan phase place done o left → AreOpen → Piecewise o done s m ms → built s.building m ≡ Some p → HeardSo m p → (length p.pages == p.want) ≡ true → HostStep plan logs guest_at host_at m ms []
+  last_piece : (m : Msg) (ms : List Msg) (p : Partial) → At plan phase place done o left → AreOpen → Piecewise o done s m ms → built s.building m ≡ Some p → HeardSo m p → (length p.pages == p.want) ≡ true → HostStep plan host_at [] m (m ∷ ms)
   last_piece m ms p at meet pieces is heard_so e =
-      let made : p ∷ whole_lists (next s m) ms ≡ list_of o ∷ [] =
-      sym (ap (λ b. (if b then p ∷ [] else []) ++ whole_lists (next s m) ms) e) ∙ sym (ap (λ b. whole b ++ whole_lists (next s m) ms) is) ∙ pieces.assemble.made in
-      let list : p ≡ list_of o = cc in
-      let over : next s m ≡ live_ones (s.live ++ p.handle ∷ []) = ap (λ b. settled b s.live) is ∙ ap (λ b. if b then live_ones (s.live ++ p.handle ∷ []) else record { building = Some p; live = s.live }) e in
-      let empty : ms ≡ [] = none_left (s.live ++ p.handle ∷ []) ms pieces.rest (subst (λ t. AreTaken t ms) over pieces.assemble.taken.1) in
-      let all : next s m ≡ live_ones (handles (done ++ o ∷ [])) = over ∙ (λ i. live_ones (pieces.live i ++ (list i).handle ∷ [])) ∙ ap live_ones (sym (map-append (λ (q : Opening). q.gpadl) done (o ∷ []))) in
+      let last = is_last o done s m ms p pieces is e in
+      let list = last.list in
+      let all : next s m ≡ live_ones (handles (done ++ o ∷ [])) = last.over ∙ (λ i. live_ones (pieces.live i ++ (list i).handle ∷ [])) ∙ ap live_ones (sym (map-append (λ (q : Opening). q.gpadl) done (o ∷ []))) in
       let mine : is_of o.relid (opening_at plan phase place) ≡ true = ap (is_of o.relid) (opening_here plan phase place done o left at) ∙ same o.relid in
       let waits : listed_for host_at (AwaitsList place) p ≡ AwaitsOpen place = ap (listed_for host_at (AwaitsList place)) list ∙ ap (λ b. if b then AwaitsOpen place else AwaitsList place) mine in
-      let turn : HostTurn = record (at_rest host_at) { awaits = AwaitsOpen place; lists = live_ones (handles (done ++ o ∷ [])); burst = One (created o.relid o.gpadl) } in
       let first : HostTurn = record (at_rest host_at) { awaits = listed_for host_at (AwaitsList place) p; lists = next s m; burst = One (created p.relid p.handle) } in
       let other : HostTurn = record (at_rest host_at) { lists = next s m } in
+      let here = left_at plan phase place done (o ∷ left) at.phase_is at.place_is in
       record {
-        turn = turn;
+        turn = record (at_rest host_at) { awaits = AwaitsOpen place; lists = live_ones (handles (done ++ o ∷ [])); burst = One (created o.relid o.gpadl) };
         hears = heard_so ∙ ap (λ b. Ok (if b then first else other)) e ∙ (λ i. Ok (record (at_rest host_at) { awaits = waits i; lists = all i; burst = One (created (list i).relid (list i).handle) }));
-        goes = λ sent f.
-            let logs2 : Logs = host_logs logs sent m in
-            let there : Talk plan logs2 (guest_at logs2) (host_after host_at host_at.part turn sent (m ∷ [])) [] (created o.relid o.gpadl ∷ []) = listed v guests hosts phase place done o left at meet in
-            let boxed : Talk plan logs2 (guest_at logs2) (host_after host_at host_at.part turn sent (m ∷ [])) [] sent = subst (λ t. Talk plan logs2 (guest_at logs2) (host_after host_at host_at.part turn sent (m ∷ [])) [] t) (sym f) there in
-            subst (λ t. Talk plan logs2 (guest_at logs2) (host_after host_at host_at.part turn sent (m ∷ [])) t sent) (sym empty) boxed;
+        tried_then = [];
+        pieces_then = [];
+        goes = listed v hosts phase place done o left at meet;
+        says = λ sent f.
+            let later : List Msg = flat_map host_closes (phase_of plan phase) ++ host_from plan (suc phase) in
+            ap (λ os. flat_map host_opens os ++ later) here ∙ ap (λ xs. xs ++ later) (flat_map-cons host_opens o left) ∙ ap (λ os. created o.relid o.gpadl ∷ (answers_open os ++ later)) (sym here)
+            ∙ ap (λ xs. xs ++ (answers_open (drop place (phase_of plan phase)) ++ later)) (sym f);
+        heard = ap (λ xs. m ∷ ((xs ++ opens_listed (drop place (phase_of plan phase))) ++ (flat_map guest_closes (phase_of plan phase) ++ guest_from plan (suc phase)))) last.empty;
       }
 
   -- frames are missing
-  one_piece : (m : Msg) (ms : List Msg) (p : Partial) → At plan phase place done o left → AreOpen → Piecewise o done s m ms → built s.building m ≡ Some p → HeardSo m p → (length p.pages == p.want) ≡ false → HostStep plan logs guest_at host_at m ms []
-  one_piece m [] p at meet pieces is heard_so e =
+  one_piece : (m : Msg) (ms came : List Msg) (p : Partial) → At plan phase place done o left → AreOpen → Piecewise o done s m ms → cut o.relid o.gpadl (pages_from o) ≡ came ++ m ∷ ms → s ≡ after (live_ones (handles done)) came
+      → built s.building m ≡ Some p → HeardSo m p → (length p.pages == p.want) ≡ false → HostStep plan host_at [] m (m ∷ ms)
+  one_piece m [] came p at meet pieces whole_is so_far is heard_so e =
       let made : [] ≡ list_of o ∷ [] = sym (ap (λ b. (if b then p ∷ [] else []) ++ []) e) ∙ sym (ap (λ b. whole b ++ []) is) ∙ pieces.assemble.made in
       absurd (cc)
-  one_piece m (n ∷ ms) p at meet pieces is heard_so e =
-      let made : whole_lists (next s m) (n ∷ ms) ≡ list_of o ∷ [] =
-      sym (ap (λ b. (if b then p ∷ [] else []) ++ whole_lists (next s m) (n ∷ ms)) e) ∙ sym (ap (λ b. whole b ++ whole_lists (next s m) (n ∷ ms)) is) ∙ pieces.assemble.made in
-      let goes_on : next s m ≡ record { building = Some p; live = s.live } = ap (λ b. settled b s.live) is ∙ ap (λ b. if b then live_ones (s.live ++ p.handle ∷ []) else record { building = Some p; live = s.live }) e in
-      let still : (next s m).live ≡ s.live = ap (λ (t : Assembly). t.live) goes_on in
-      let few = pieces.few in
+  one_piece m (n ∷ ms) came p at meet pieces whole_is so_far is heard_so e =
       let turn : HostTurn = record (at_rest host_at) { lists = next s m } in
       let first : HostTurn = record (at_rest host_at) { awaits = listed_for host_at (AwaitsList place) p; lists = next s m; burst = One (created p.relid p.handle) } in
-      let rest : Piecewise o done (next s m) n ms = record {
-        assemble = record { taken = pieces.assemble.taken.1; made = made; left = pieces.assemble.left ∙ ap (λ xs. live_ones (xs ++ o.gpadl ∷ [])) (sym still) };
-        live = still ∙ pieces.live;
-        first = body_is_piece o.relid n pieces.rest.0;
-        rest = pieces.rest.1;
-        few = omega (arith, few);
-      } in
       record {
         turn = turn;
         hears = heard_so ∙ ap (λ b. Ok (if b then first else turn)) e;
-        goes = λ sent f.
-            let logs2 : Logs = host_logs logs sent m in
-            subst (λ t. Talk plan logs2 (guest_at logs2) (host_after host_at host_at.part turn sent (m ∷ [])) (n ∷ ms) t) (sym f) (lists v guests hosts phase place done o left (next s m) n ms at meet rest);
+        tried_then = [];
+        pieces_then = n ∷ ms;
+        goes = lists v hosts phase place done o left (next s m) n ms at meet (record {
+          came = came ++ m ∷ [];
+          whole = whole_is ∙ sym (append_assoc came (m ∷ []) (n ∷ ms));
+          lists_are = ap (λ (t : Assembly). next t m) so_far ∙ sym (after_more (live_ones (handles done)) came m);
+        });
+        says = λ sent f. ap (λ xs. xs ++ (flat_map host_opens (drop place (phase_of plan phase)) ++ (flat_map host_closes (phase_of plan phase) ++ host_from plan (suc phase)))) (sym f);
+        heard = refl;
       }
 
-  pub step_lists : (m : Msg) (ms : List Msg) → IsPlan plan → At plan phase place done o left → AreOpen → Piecewise o done s m ms → HostStep plan logs guest_at host_at m ms []
-  step_lists m ms planned at meet pieces =
+  pub step_lists : (m : Msg) (ms : List Msg) → IsPlan plan → At plan phase place done o left → AreOpen → ListComes done o s (m ∷ ms) → HostStep plan host_at [] m (m ∷ ms)
+  step_lists m ms planned at meet list =
       let fact = facts plan phase place done o left planned at in
+      let pieces : Piecewise o done s m ms = subst (λ (t : Assembly). Piecewise o done t m ms) (sym list.lists_are) (comes o done list.came m ms fact.fits fact.done_handles list.whole) in
       let fine = pieces.assemble.taken.0 in
       let life : ChanState = host_before plan phase o.relid in
-      let known : by_relid hosts o.relid ≡ Some life = stand_at hosts plan (host_is Opened) done o (host_before plan phase) life meet.host fact.fits.named fact.known fact.done_apart refl in
+      let known : by_relid hosts o.relid ≡ Some life = stand_at hosts plan (host_is Opened) done o (host_before plan phase) life meet.stand fact.fits.named fact.known fact.done_apart refl in
       let made = piece_built s m o.relid pieces.first fine in
       let heard_so : HeardSo m made.list = heard host_at life o.relid m pieces.first known fine ∙ ap (λ b. Ok (lists_by host_at (next s m) b)) made.is in
-      by_test {P = HostStep plan logs guest_at host_at m ms []} (length made.list.pages == made.list.want)
+      by_test {P = HostStep plan host_at [] m (m ∷ ms)} (length made.list.pages == made.list.want)
       (λ e. last_piece m ms made.list at meet pieces made.is heard_so e)
-      (λ e. one_piece m ms made.list at meet pieces made.is heard_so e)
+      (λ e. one_piece m ms list.came made.list at meet pieces list.whole list.lists_are made.is heard_so e)
+
+-- the message that a host takes where it stands
+pub record HostGoes (plan : BusPlan) (h : HostSeen) (tried : List ℕ) (pieces : List Msg) : Type 0 where
+  pub next : Msg
+  pub step : HostStep plan h tried next pieces
+
+-- each row in which a host waits for a message
+pub host_step : (plan : BusPlan) (logs : Logs) (part : Option Part) (awaits : HostWait) (version : Option Version) (channels : List ChanState) (assembly : Assembly) (tried : List ℕ) (pieces : List Msg) → IsPlan plan → HostStands plan part awaits version channels assembly tried pieces
+    → host_waits_for_nothing awaits ≡ false → HostGoes plan (a_host plan logs part awaits version channels assembly) tried pieces
+host_step plan logs part awaits version channels assembly tried pieces planned fresh waits = absurd (cc)
+host_step plan logs part awaits version channels assembly tried pieces planned (answers v tries) waits = record { next = propose v.0; step = step_proposes plan logs v planned tries }
+host_step plan logs part awaits version channels assembly tried pieces planned (accepts v agreed) waits = record { next = request; step = step_asks plan logs v agreed }
+host_step plan logs part awaits version channels assembly tried pieces planned (contacted v cs meet) waits = absurd (cc)
+host_step plan logs part awaits version channels assembly tried pieces planned (lists v cs phase place done o left s m ms at meet list) waits = record { next = m; step = step_lists plan logs v cs phase place done o left s m ms planned at meet list }
+host_step plan logs part awaits version channels assembly tried pieces planned (listed v cs phase place done o left at meet) waits = record { next = open_on o; step = step_opens plan logs v cs phase place done o left planned at meet }
+host_step plan logs part awaits version channels assembly tried pieces planned (started v cs phase in_plan meet) waits = absurd (cc)
+host_step plan logs part awaits version channels assembly tried pieces planned (closes v cs phase place done o left at closed meet) waits = record { next = close o.relid; step = step_closes plan logs v cs phase place done o left planned at closed meet }
+host_step plan logs part awaits version channels assembly tried pieces planned (tears v cs phase place done o left at closed meet) waits = record { next = teardown o; step = step_tears plan logs v cs phase place done o left planned at closed meet }
+host_step plan logs part awaits version channels assembly tried pieces planned (takes_back v cs phase place done o left at gone meet) waits = record { next = release o.relid; step = step_releases plan logs v cs phase place done o left planned at gone meet }
+host_step plan logs part awaits version channels assembly tried pieces planned (ended v cs phase in_plan meet) waits = absurd (cc)
+host_step plan logs part awaits version channels assembly tried pieces planned (leaves v cs meet) waits = record { next = farewell; step = step_leaves plan logs v cs meet }
+host_step plan logs part awaits version channels assembly tried pieces planned (is_over v cs meet) waits = absurd (cc)

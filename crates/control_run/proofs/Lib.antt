@@ -1,3 +1,5 @@
+pub mod NextOne
+pub mod Logs
 pub mod Marks
 pub mod Plans
 pub mod Lower
@@ -18,3 +20,5 @@ pub mod Rescinded
 pub mod Once
 pub mod Going
 pub mod Handing
+pub mod Counting
+pub mod Never

@@ -7,7 +7,7 @@ use Rattle.contact.specs.declared.version.Version.{Version}
 use Rattle.contact.specs.Versions.{versions, IsVersion}
 use Rattle.control_model.specs.Plan.{BusPlan, IsPlan}
 use Rattle.control_model.specs.Channels.{first_below, version_below, accepts}
-use Rattle.control_run.specs.Talk.{Tries}
+use Rattle.control_model.specs.Stand.{Tries}
 use Rattle.control_run.proofs.Marks.{by_test, by_place, same, differ}
 
 abbrev pub Falling : List ℕ → Type 0

@@ -7,7 +7,7 @@ use Rattle.std.proofs.lemmas.List.{length-set}
 use Rattle.control_model.specs.declared.opening.Opening.{Opening}
 use Rattle.control_model.specs.Plan.{BusPlan}
 use Rattle.control_model.specs.Channels.{by_relid}
-use Rattle.control_run.specs.Stand.{marked, Stand}
+use Rattle.control_model.specs.Stand.{marked, Stand}
 
 pub by_place : {P : Type 0} (a b : ℕ) → (a ≡ b → P) → (a ≢ b → P) → P
 by_place a b f g = ⊎_elim f g (cases_eq a b)

@@ -1,5 +1,5 @@
 -- At the end of a phase each side goes on with the opening at a place, if there is one.
-use Rattle.std.proofs.Common.{◌≡◌, ◌≢◌, ◌∙◌, ℕ, suc, ◌+◌, ◌-◌, ◌*◌, ◌<◌, ◌≤◌, ◌==◌, not, Bool, true, false, List, [], ◌∷◌, ◌++◌, filter, length, slice_get, slice_set, Option, Some, None, refl, sym, ap, subst, arith}
+use Rattle.std.proofs.Common.{◌≡◌, ◌≢◌, ◌∙◌, ℕ, ◌+◌, ◌-◌, ◌<◌, ◌==◌, not, Bool, true, false, List, [], ◌∷◌, ◌++◌, filter, length, slice_get, slice_set, Option, Some, None, refl, sym, ap, subst}
 use Rattle.std.specs.Option.{option_to_list}
 use Rattle.std.specs.List.{AllByRecursion}
 use Rattle.std.proofs.lemmas.List.{append-nil}
@@ -25,17 +25,18 @@ use Rattle.control_model.specs.declared.host_next.Rescind.{Rescind}
 use Rattle.control_model.specs.Plan.{BusPlan, opening_at, IsPlan, phase_of}
 use Rattle.control_model.specs.Channels.{by_relid, changed}
 use Rattle.control_model.specs.Messages.{close, teardown, rescind, Sends}
-use Rattle.control_model.specs.Guest.{GuestSeen, and_close, closes, ends_one, closes_next}
-use Rattle.control_model.specs.Host.{HostSeen, without, wants_rescind, one_next, next_end, rescinded_among, without_its, and_rescind}
-use Rattle.control_run.specs.Stand.{At, marked, guest_is, host_is, guest_ends, host_ends, guest_before, host_before, Stand, handles}
-use Rattle.control_run.specs.NextEnd.{guest_waits, guest_next_awaits, guest_marks, guest_next_stands, guest_sends, guest_next_sends, host_waits, host_next_awaits, host_marks, host_next_stands, host_lists, host_next_live, host_sends, host_next_sends}
-use Rattle.control_run.specs.Talk.{Logs, Talk, Meet, a_guest, a_host, live_ones}
-use Rattle.control_run.specs.Talk.Talk.{closes as IsClosing, rescinds as IsTakingBack, ended}
-use Rattle.control_run.specs.Laws.{openings_of, still_to_come}
+use Rattle.control_model.specs.Guest.{and_close, closes, ends_one, closes_next}
+use Rattle.control_model.specs.Host.{without, wants_rescind, one_next, next_end, rescinded_among, without_its, and_rescind}
+use Rattle.control_model.specs.Stand.{At, marked, guest_is, host_is, guest_ends, host_ends, guest_before, host_before, Stand, Meet, handles}
+use Rattle.control_model.specs.GuestAt.{GuestStands}
+use Rattle.control_model.specs.GuestAt.GuestStands.{closes as GuestCloses, gives_back, ended as GuestEnded}
+use Rattle.control_model.specs.HostAt.{HostStands, live_ones}
+use Rattle.control_model.specs.HostAt.HostStands.{closes as HostCloses, takes_back, ended as HostEnded}
+use Rattle.control_run.proofs.NextOne.{guest_waits, guest_next_awaits, guest_marks, guest_next_stands, guest_sends, guest_next_sends, host_waits, host_next_awaits, host_marks, host_next_stands, host_lists, host_next_live, host_sends, host_next_sends}
 use Rattle.control_run.proofs.Marks.{same, differ, stand_mark, stand_at, marked_here, marked_there}
 use Rattle.control_run.proofs.Plans.{facts, done_more, place_more, opening_from}
 use Rattle.control_run.proofs.Handles.{all_front}
-use Rattle.control_run.proofs.Next.{turned}
+use Rattle.control_run.proofs.Next.{Turned}
 
 -- the next channel that is done with was open when the turn began
 abbrev pub NextIs : {X : Type 0} → (Opening → X) → List X → List Opening → Type 0
@@ -105,31 +106,24 @@ guest_goes plan v guests phase place done left awaits heard first planned in_pla
     subst (λ x. GuestEnds plan v guests (closes_next (heard_with awaits v heard first) guests place x) (guest_next_awaits place left) (marked guest_ends done (guest_next_stands left (guest_before plan phase))) (option_to_list first ++ guest_next_sends left))
     (sym (opening_from plan phase place done left is at)) (guest_from_left plan v guests phase place done left awaits heard first planned in_plan is at stand next)
 
--- a moment of the talk with a guest after such a turn
-pub guest_talks : (plan : BusPlan) (logs : Logs) (v : Version) (part : Option Part) (guests : List Channel) (turn : GuestTurn) (waits : GuestWait) (stands : ℕ → Channel) (says : List Msg) (h : HostSeen) (sent back : List Msg)
-    → GuestEnds plan v guests turn waits stands says → Sends plan turn.burst sent → Talk plan logs (a_guest plan logs part waits (Some v) (changed (changed guests turn.heard) turn.wished)) h says back → Talk plan logs (turned plan logs part turn guests) h sent back
-guest_talks plan logs v part guests turn waits stands says h sent back ends sends talk =
-    let cs : List Channel = changed (changed guests turn.heard) turn.wished in
-    subst (λ w. Talk plan logs (a_guest plan logs part w turn.version cs) h sent back) (sym ends.awaits)
-    (subst (λ u. Talk plan logs (a_guest plan logs part waits u cs) h sent back) (sym ends.version)
-    (subst (λ s. Talk plan logs (a_guest plan logs part waits (Some v) cs) h s back) (sym (ends.said sent sends)) talk))
+-- and stands so
+pub guest_stands_so : (plan : BusPlan) (v : Version) (part : Option Part) (guests : List Channel) (turn : GuestTurn) (waits : GuestWait) (stands : ℕ → Channel) (says : List Msg) → GuestEnds plan v guests turn waits stands says
+    → GuestStands plan part waits (Some v) (changed (changed guests turn.heard) turn.wished) → Turned plan part guests turn
+guest_stands_so plan v part guests turn waits stands says ends there =
+    let channels : List Channel = changed (changed guests turn.heard) turn.wished in
+    subst (λ w. GuestStands plan part w turn.version channels) (sym ends.awaits) (subst (λ u. GuestStands plan part waits u channels) (sym ends.version) there)
 
--- little is left to come then
-waits_most : (g : GuestSeen) (place : ℕ) (b : Bool) → still_to_come g (guest_waits place b) ≡ 4 * (openings_of g.plan g.part - place)
-waits_most g place true = refl
-waits_most g place false = refl
+guest_next_one : (plan : BusPlan) (v : Version) (guests : List Channel) (phase place : ℕ) (done : List Opening) (o : Opening) (left : List Opening) (b : Bool) → o.rescinded ≡ b → At plan phase place done o left
+    → Meet plan v guests (marked guest_ends done (guest_marks o left (guest_before plan phase) b)) → GuestStands plan (Some (PhaseEnd phase)) (guest_waits place b) (Some v) guests
+guest_next_one plan v guests phase place done o left true is at meet = gives_back v guests phase place done o left at is meet
+guest_next_one plan v guests phase place done o left false is at meet = GuestCloses v guests phase place done o left at is meet
 
-pub awaits_most : (g : GuestSeen) (place : ℕ) (left : List Opening) → still_to_come g (guest_next_awaits place left) ≤ 4 * (openings_of g.plan g.part - place)
-awaits_most g place [] = omega arith
-awaits_most g place (o ∷ left) = let is = waits_most g place o.rescinded in omega (arith, is)
-
-sends_most : (o : Opening) (b : Bool) → length (guest_sends o b) ≤ 2
-sends_most o true = omega arith
-sends_most o false = omega arith
-
-pub says_most : (left : List Opening) → length (guest_next_sends left) ≤ 2
-says_most [] = omega arith
-says_most (o ∷ left) = sends_most o o.rescinded
+pub guest_next : (plan : BusPlan) (v : Version) (guests : List Channel) (phase place : ℕ) (done left : List Opening) → phase < length plan.phases → phase_of plan phase ≡ done ++ left → place ≡ length done
+    → Meet plan v guests (marked guest_ends done (guest_next_stands left (guest_before plan phase))) → GuestStands plan (Some (PhaseEnd phase)) (guest_next_awaits place left) (Some v) guests
+guest_next plan v guests phase place done [] in_plan is at meet =
+    let full : phase_of plan phase ≡ done = is ∙ append-nil done in
+    GuestEnded v guests phase in_plan (subst (λ os. Meet plan v guests (marked guest_ends os (guest_before plan phase))) (sym full) meet)
+guest_next plan v guests phase place done (o ∷ left) in_plan is at meet = guest_next_one plan v guests phase place done o left o.rescinded refl (record { in_plan = in_plan; phase_is = is; place_is = at }) meet
 
 -- how a host stands that goes on so
 pub record HostEnds (plan : BusPlan) (hosts : List ChanState) (live : List ℕ) (next : HostNext) (waits : HostWait) (stands : ℕ → ChanState) (lists : List ℕ) (says : List Msg) : Type 0 where
@@ -186,30 +180,21 @@ host_goes plan hosts channels phase place done left planned in_plan is at stand 
     subst (λ x. HostEnds plan hosts (handles left) (next_end channels place x) (host_next_awaits place left) (marked host_ends done (host_next_stands left (host_before plan phase))) (host_next_live left) (host_next_sends left))
     (sym (opening_from plan phase place done left is at)) (host_from_left plan hosts channels phase place done left planned in_plan is at stand next)
 
--- a moment of the talk with a host that goes on so
-pub host_talks : (plan : BusPlan) (logs : Logs) (v : Version) (part : Option Part) (g : GuestSeen) (hosts : List ChanState) (live : List ℕ) (next : HostNext) (waits : HostWait) (stands : ℕ → ChanState) (lists : List ℕ) (says : List Msg) (answer : Option Msg) (to_host sent : List Msg)
-    → HostEnds plan hosts live next waits stands lists says → Sends plan (and_rescind answer next.rescinds) sent → Talk plan logs g (a_host plan logs part waits (Some v) (rescinded_among hosts next.rescinds) (live_ones lists)) to_host (option_to_list answer ++ says)
-    → Talk plan logs g (a_host plan logs part next.awaits (Some v) (rescinded_among hosts next.rescinds) (without_its (live_ones live) next.rescinds)) to_host sent
-host_talks plan logs v part g hosts live next waits stands lists says answer to_host sent ends sends talk =
-    let cs : List ChanState = rescinded_among hosts next.rescinds in
-    subst (λ w. Talk plan logs g (a_host plan logs part w (Some v) cs (without_its (live_ones live) next.rescinds)) to_host sent) (sym ends.awaits)
-    (subst (λ l. Talk plan logs g (a_host plan logs part waits (Some v) cs l) to_host sent) (sym ends.lists_are)
-    (subst (λ s. Talk plan logs g (a_host plan logs part waits (Some v) cs (live_ones lists)) to_host s) (sym (ends.said answer sent sends)) talk))
+-- and stands so
+pub host_stands_so : (plan : BusPlan) (v : Version) (part : Option Part) (hosts : List ChanState) (live : List ℕ) (next : HostNext) (waits : HostWait) (stands : ℕ → ChanState) (lists : List ℕ) (says : List Msg) → HostEnds plan hosts live next waits stands lists says
+    → HostStands plan part waits (Some v) (rescinded_among hosts next.rescinds) (live_ones lists) [] [] → HostStands plan part next.awaits (Some v) (rescinded_among hosts next.rescinds) (without_its (live_ones live) next.rescinds) [] []
+host_stands_so plan v part hosts live next waits stands lists says ends there =
+    let channels : List ChanState = rescinded_among hosts next.rescinds in
+    subst (λ w. HostStands plan part w (Some v) channels (without_its (live_ones live) next.rescinds) [] []) (sym ends.awaits) (subst (λ l. HostStands plan part waits (Some v) channels l [] []) (sym ends.lists_are) there)
 
--- both went on with the same opening
-both_one : (plan : BusPlan) (logs : Logs) (v : Version) (guests : List Channel) (hosts : List ChanState) (phase place : ℕ) (done : List Opening) (o : Opening) (left : List Opening) (b : Bool) → o.rescinded ≡ b → At plan phase place done o left
-    → Meet plan v guests hosts (marked guest_ends done (guest_marks o left (guest_before plan phase) b)) (marked host_ends done (host_marks o left (host_before plan phase) b))
-    → Talk plan logs (a_guest plan logs (Some (PhaseEnd phase)) (guest_waits place b) (Some v) guests) (a_host plan logs (Some (PhaseEnd phase)) (host_waits place b) (Some v) hosts (live_ones (host_lists o left b))) (guest_sends o b) (host_sends o b)
-both_one plan logs v guests hosts phase place done o left true is at meet = IsTakingBack v guests hosts phase place done o left at is meet
-both_one plan logs v guests hosts phase place done o left false is at meet = IsClosing v guests hosts phase place done o left at is meet
+host_next_one : (plan : BusPlan) (v : Version) (hosts : List ChanState) (phase place : ℕ) (done : List Opening) (o : Opening) (left : List Opening) (b : Bool) → o.rescinded ≡ b → At plan phase place done o left
+    → Meet plan v hosts (marked host_ends done (host_marks o left (host_before plan phase) b)) → HostStands plan (Some (PhaseEnd phase)) (host_waits place b) (Some v) hosts (live_ones (host_lists o left b)) [] []
+host_next_one plan v hosts phase place done o left true is at meet = takes_back v hosts phase place done o left at is meet
+host_next_one plan v hosts phase place done o left false is at meet = HostCloses v hosts phase place done o left at is meet
 
-pub both_next : (plan : BusPlan) (logs : Logs) (v : Version) (guests : List Channel) (hosts : List ChanState) (phase place : ℕ) (done left : List Opening) → phase < length plan.phases → phase_of plan phase ≡ done ++ left → place ≡ length done
-    → Meet plan v guests hosts (marked guest_ends done (guest_next_stands left (guest_before plan phase))) (marked host_ends done (host_next_stands left (host_before plan phase)))
-    → Talk plan logs (a_guest plan logs (Some (PhaseEnd phase)) (guest_next_awaits place left) (Some v) guests) (a_host plan logs (Some (PhaseEnd phase)) (host_next_awaits place left) (Some v) hosts (live_ones (host_next_live left))) (guest_next_sends left) (host_next_sends left)
-both_next plan logs v guests hosts phase place done [] in_plan is at meet =
+pub host_next : (plan : BusPlan) (v : Version) (hosts : List ChanState) (phase place : ℕ) (done left : List Opening) → phase < length plan.phases → phase_of plan phase ≡ done ++ left → place ≡ length done
+    → Meet plan v hosts (marked host_ends done (host_next_stands left (host_before plan phase))) → HostStands plan (Some (PhaseEnd phase)) (host_next_awaits place left) (Some v) hosts (live_ones (host_next_live left)) [] []
+host_next plan v hosts phase place done [] in_plan is at meet =
     let full : phase_of plan phase ≡ done = is ∙ append-nil done in
-    let all : Meet plan v guests hosts (guest_before plan (suc phase)) (host_before plan (suc phase)) =
-    subst (λ os. Meet plan v guests hosts (marked guest_ends os (guest_before plan phase)) (marked host_ends os (host_before plan phase))) (sym full) meet in
-    ended v guests hosts phase in_plan all
-both_next plan logs v guests hosts phase place done (o ∷ left) in_plan is at meet =
-    both_one plan logs v guests hosts phase place done o left o.rescinded refl (record { in_plan = in_plan; phase_is = is; place_is = at }) meet
+    HostEnded v hosts phase in_plan (subst (λ os. Meet plan v hosts (marked host_ends os (host_before plan phase))) (sym full) meet)
+host_next plan v hosts phase place done (o ∷ left) in_plan is at meet = host_next_one plan v hosts phase place done o left o.rescinded refl (record { in_plan = in_plan; phase_is = is; place_is = at }) meet

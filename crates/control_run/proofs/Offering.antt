@@ -5,7 +5,7 @@ use Rattle.contact.specs.declared.kind.Kind.{Kind}
 use Rattle.contact.specs.declared.kind.Kind.TheVariants.{Beat, Down, Disk, Net}
 use Rattle.control_model.specs.Plan.{BusPlan}
 use Rattle.control_model.specs.Channels.{same_kind}
-use Rattle.control_run.specs.Stand.{Stand}
+use Rattle.control_model.specs.Stand.{Stand}
 use Rattle.control_run.proofs.Marks.{at_relid}
 
 pub kind_same : (kind : Kind) → same_kind kind kind ≡ true

@@ -8,7 +8,7 @@ use Rattle.control_model.specs.declared.opening.Opening.{Opening}
 use Rattle.control_model.specs.declared.channel.Channel.{Channel}
 use Rattle.control_model.specs.Plan.{BusPlan, opening_at, IsOpening, Rising, Follows, RescindsEnd, all_openings, first_gpadl, list_pages, IsPlan, phase_of}
 use Rattle.control_model.specs.Channels.{is_handle}
-use Rattle.control_run.specs.Stand.{At, guest_ends, guest_before}
+use Rattle.control_model.specs.Stand.{At, guest_ends, guest_before}
 use Rattle.control_run.proofs.Marks.{differ, marked_has}
 
 pub all_weaker : {X : Type 0} (P Q : X → Type 0) → ((x : X) → P x → Q x) → (xs : List X) → AllByRecursion P xs → AllByRecursion Q xs
@@ -175,7 +175,7 @@ earlier_all (os ∷ later) j zero ends less few = absurd (omega (arith, less))
 earlier_all (os ∷ later) zero (suc k) ends less few = λ i q in_os. All-get_or (λ ps. All (λ p. p.relid ≡ (get_or os i q).relid → (get_or os i q).rescinded ≡ false) ps) later k [] (omega (arith, few)) (ends.0 i q in_os)
 earlier_all (os ∷ later) (suc j) (suc k) ends less few = earlier_all later j k ends.1 (omega (arith, less)) (omega (arith, few))
 
-by_all : (P : Opening → Type 0) (xs : List Opening) → All P xs → AllByRecursion P xs
+pub by_all : (P : Opening → Type 0) (xs : List Opening) → All P xs → AllByRecursion P xs
 by_all P [] all = tt
 by_all P (x ∷ xs) all = (All-head P x xs all, by_all P xs (All-tail P x xs all))
 

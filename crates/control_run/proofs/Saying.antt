@@ -1,9 +1,8 @@
--- What a guest has still to say and to hear, as it goes on.
+-- What a side has still to say and to hear, as it goes on.
 use Rattle.std.proofs.Common.{◌≡◌, ◌∙◌, ℕ, zero, suc, ◌<◌, Bool, true, false, if◌then◌else◌, List, [], ◌∷◌, ◌++◌, length, drop, slice_get, slice_index_or, Option, refl, sym, ap, subst, append_assoc, length-append, arith}
 use Rattle.std.specs.List.{flat_map}
 use Rattle.std.proofs.lemmas.List.Concat.{flat_map-cons}
 use Rattle.contact.specs.declared.version.Version.{Version}
-use Rattle.contact.specs.declared.part.Part.{Part}
 use Rattle.vmbus_msg.specs.declared.msg.Msg.{Msg}
 use Rattle.gpadl.specs.Cut.{cut}
 use Rattle.gpadl.proofs.Cutting.{cuts_so}
@@ -12,15 +11,16 @@ use Rattle.control_model.specs.declared.change.Change.{Change}
 use Rattle.control_model.specs.declared.guest_wait.GuestWait.{GuestWait}
 use Rattle.control_model.specs.declared.guest_turn.GuestTurn.{GuestTurn}
 use Rattle.control_model.specs.Plan.{BusPlan, opening_at, phase_of}
-use Rattle.control_model.specs.Channels.{changed}
-use Rattle.control_model.specs.Messages.{pages_from, open_on, close, teardown, release, farewell, farewell_taken, Sends}
+use Rattle.control_model.specs.Messages.{pages_from, open_on, close, teardown, torndown, rescind, release, farewell, farewell_taken, Sends}
 use Rattle.control_model.specs.Said.{guest_opens, host_opens, guest_closes, host_closes, guest_in_phase, host_in_phase, from_3_0}
-use Rattle.control_model.specs.GuestAt.{guest_from, host_from, opens_listed, start_to_say, start_to_hear, end_to_say, end_to_hear, to_say, to_hear, GuestAt}
-use Rattle.control_model.specs.Guest.{GuestSeen, lists_next, guest_after}
-use Rattle.control_run.specs.Stand.{At}
-use Rattle.control_run.specs.NextEnd.{guest_waits, guest_next_awaits, guest_sends, guest_next_sends}
+use Rattle.control_model.specs.GuestAt.{guest_from, host_from, opens_listed, start_to_say, start_to_hear, end_to_say, end_to_hear}
+use Rattle.control_model.specs.HostAt.{host_start_to_say, host_start_to_hear, host_end_to_say, host_end_to_hear}
+use Rattle.control_model.specs.Guest.{lists_next}
+use Rattle.control_model.specs.Host.{waits_list}
+use Rattle.control_model.specs.Stand.{At}
+use Rattle.control_run.proofs.NextOne.{guest_waits, guest_next_awaits, guest_sends, guest_next_sends, host_waits, host_next_awaits, host_sends, host_next_sends}
 use Rattle.control_run.proofs.Plans.{opening_from, done_more}
-use Rattle.control_run.proofs.Next.{heard_so}
+use Rattle.control_run.proofs.Next.{heard_so, pieces_of}
 
 -- behind those that are done, the others are left
 pub drop_done : {X : Type 0} (xs ys : List X) → drop (length xs) (xs ++ ys) ≡ ys
@@ -78,6 +78,39 @@ pub lists_heard : (plan : BusPlan) (v : Version) (phase place : ℕ) (done left 
 lists_heard plan v phase place done left awaits heard is at =
     subst (λ x. ListsHeard plan phase left (lists_next (heard_so awaits v heard) place x)) (sym (opening_from plan phase place done left is at)) (lists_heard_from plan v phase place done left awaits heard is at)
 
+-- a host waits for the page list of the next channel, if there is one
+abbrev Waits : BusPlan → ℕ → ℕ → List Opening → Option Opening → Type 0
+Waits plan phase place left x = (flat_map host_opens left ≡ host_start_to_say (phase_of plan phase) (waits_list place x)) × (flat_map guest_opens left ≡ host_start_to_hear (phase_of plan phase) (waits_list place x) (pieces_of x))
+
+waits_from : (plan : BusPlan) (phase place : ℕ) (done left : List Opening) → phase_of plan phase ≡ done ++ left → place ≡ length done → Waits plan phase place left (slice_get left 0)
+waits_from plan phase place done [] is at = (refl, refl)
+waits_from plan phase place done (o ∷ left) is at =
+    let here = sym (left_at plan phase place done (o ∷ left) is at) in
+    let list : List Msg = cut o.relid o.gpadl (pages_from o) in
+    (ap (flat_map host_opens) here, flat_map-cons guest_opens o left ∙ append_assoc list (open_on o ∷ []) (flat_map guest_opens left) ∙ ap (λ os. list ++ opens_listed os) here)
+
+pub waits_so : (plan : BusPlan) (phase place : ℕ) (done left : List Opening) → phase_of plan phase ≡ done ++ left → place ≡ length done → Waits plan phase place left (opening_at plan phase place)
+waits_so plan phase place done left is at = subst (Waits plan phase place left) (sym (opening_from plan phase place done left is at)) (waits_from plan phase place done left is at)
+
+-- a host goes on with the end of a phase
+host_said_one : (plan : BusPlan) (phase place : ℕ) (done : List Opening) (o : Opening) (left : List Opening) (b : Bool) → o.rescinded ≡ b → At plan phase place done o left → flat_map host_closes (o ∷ left) ≡ host_sends o b ++ host_end_to_say (phase_of plan phase) (host_waits place b)
+host_said_one plan phase place done o left false is at = ap (flat_map host_closes) (sym (left_at plan phase place done (o ∷ left) at.phase_is at.place_is))
+host_said_one plan phase place done o left true is at =
+    flat_map-cons host_closes o left ∙ ap (λ b. (if b then rescind o.relid ∷ [] else torndown o.gpadl ∷ []) ++ flat_map host_closes left) is
+    ∙ ap (λ os. rescind o.relid ∷ flat_map host_closes os) (sym (left_behind plan phase place done o left at))
+
+pub host_ends_said : (plan : BusPlan) (phase place : ℕ) (done left : List Opening) → phase < length plan.phases → phase_of plan phase ≡ done ++ left → place ≡ length done → flat_map host_closes left ≡ host_next_sends left ++ host_end_to_say (phase_of plan phase) (host_next_awaits place left)
+host_ends_said plan phase place done [] in_plan is at = refl
+host_ends_said plan phase place done (o ∷ left) in_plan is at = host_said_one plan phase place done o left o.rescinded refl (record { in_plan = in_plan; phase_is = is; place_is = at })
+
+host_heard_one : (plan : BusPlan) (phase place : ℕ) (done : List Opening) (o : Opening) (left : List Opening) (b : Bool) → phase_of plan phase ≡ done ++ o ∷ left → place ≡ length done → flat_map guest_closes (o ∷ left) ≡ host_end_to_hear (phase_of plan phase) (host_waits place b)
+host_heard_one plan phase place done o left true is at = ap (flat_map guest_closes) (sym (left_at plan phase place done (o ∷ left) is at))
+host_heard_one plan phase place done o left false is at = ap (flat_map guest_closes) (sym (left_at plan phase place done (o ∷ left) is at))
+
+pub host_ends_heard : (plan : BusPlan) (phase place : ℕ) (done left : List Opening) → phase_of plan phase ≡ done ++ left → place ≡ length done → flat_map guest_closes left ≡ host_end_to_hear (phase_of plan phase) (host_next_awaits place left)
+host_ends_heard plan phase place done [] is at = refl
+host_ends_heard plan phase place done (o ∷ left) is at = host_heard_one plan phase place done o left o.rescinded is at
+
 -- a guest goes on with the end of a phase
 said_one : (plan : BusPlan) (phase place : ℕ) (done : List Opening) (o : Opening) (left : List Opening) (b : Bool) → o.rescinded ≡ b → At plan phase place done o left → flat_map guest_closes (o ∷ left) ≡ guest_sends o b ++ end_to_say (phase_of plan phase) (guest_waits place b)
 said_one plan phase place done o left true is at = ap (flat_map guest_closes) (sym (left_at plan phase place done (o ∷ left) at.phase_is at.place_is))
@@ -120,11 +153,3 @@ guest_at_last plan = ap (λ ps. flat_map guest_in_phase ps ++ from_3_0 plan (far
 
 pub host_at_last : (plan : BusPlan) → host_from plan (length plan.phases) ≡ from_3_0 plan (farewell_taken ∷ [])
 host_at_last plan = ap (λ ps. flat_map host_in_phase ps ++ from_3_0 plan (farewell_taken ∷ [])) (drop_all plan.phases)
-
--- a guest after a turn
-pub at_after : (plan : BusPlan) (g : GuestSeen) (part : Option Part) (turn : GuestTurn) (sent fed : List Msg) → GuestAt plan g → to_say plan g.part g.awaits ≡ sent ++ to_say plan part turn.awaits
-    → to_hear plan g.part g.awaits (length g.channels) ≡ fed ++ to_hear plan part turn.awaits (length (changed (changed g.channels turn.heard) turn.wished)) → GuestAt plan (guest_after g part turn sent fed)
-at_after plan g part turn sent fed at says hears = record {
-  said = at.said ∙ ap (λ xs. g.posted ++ xs) says ∙ sym (append_assoc g.posted sent (to_say plan part turn.awaits));
-  heard = at.heard ∙ ap (λ xs. g.fed ++ xs) hears ∙ sym (append_assoc g.fed fed (to_hear plan part turn.awaits (length (changed (changed g.channels turn.heard) turn.wished))));
-}

@@ -13,7 +13,7 @@ use Rattle.control_model.specs.Said.{last_state, at_end}
 use Rattle.control_model.specs.Channels.{by_relid}
 use Rattle.control_model.specs.Guest.{state_at}
 use Rattle.control_model.specs.Host.{life_at}
-use Rattle.control_run.specs.Stand.{Stand}
+use Rattle.control_model.specs.Stand.{Stand}
 use Rattle.control_run.specs.Laws.{EndTellsEach, EndsAtLower}
 use Rattle.control_run.proofs.Marks.{at_relid}
 use Rattle.control_run.proofs.Tried.{agreed_is}

@@ -7,7 +7,7 @@ use Rattle.contact.specs.declared.version.Version.{Version}
 use Rattle.contact.specs.Versions.{version, versions, versions_tried, is_tried}
 use Rattle.control_model.specs.Plan.{BusPlan, IsPlan}
 use Rattle.control_model.specs.Said.{agreed}
-use Rattle.control_run.specs.Talk.{Tries, Agreed}
+use Rattle.control_model.specs.Stand.{Tries, Agreed}
 use Rattle.control_run.proofs.Marks.{by_test}
 use Rattle.control_run.proofs.Lower.{Falling, listed, under, falling, Lower, lower_one}
 

@@ -1,54 +1,33 @@
--- What holds of a guest and its host at each moment of their talk.
-use Rattle.std.specs.Prelude.{◌≡◌, ℕ, ◌+◌, ◌*◌, ◌-◌, ◌<◌, ◌≤◌, ◌==◌, Bool, true, false, filter, List, [], ◌∷◌, ◌++◌, length, Option, Some, is_some, Ok}
+-- What holds of a guest and its host while they talk.
+use Rattle.std.specs.Prelude.{◌≡◌, ℕ, ◌+◌, ◌-◌, ◌<◌, ◌≤◌, ◌==◌, Bool, true, false, filter, List, [], ◌∷◌, ◌++◌, length, Some, is_some, Ok}
 use Rattle.contact.specs.declared.part.Part.{Part}
-use Rattle.contact.specs.declared.part.Part.TheVariants.{PhaseStart, PhaseEnd, Unload}
+use Rattle.contact.specs.declared.part.Part.TheVariants.{Unload}
 use Rattle.chan_state.specs.declared.state.State.TheVariants.{Released}
 use Rattle.vmbus_msg.specs.declared.msg.Msg.{Msg}
 use Rattle.vmbus_msg.specs.declared.msg.Msg.TheVariants.{RescindChannelOffer, RelidReleased}
 use Rattle.control_model.specs.declared.opening.Opening.{Opening}
 use Rattle.control_model.specs.declared.guest_turn.GuestTurn.{GuestTurn}
-use Rattle.control_model.specs.declared.guest_wait.GuestWait.{GuestWait}
-use Rattle.control_model.specs.declared.guest_wait.GuestWait.TheVariants.{Nothing, Response, Offers, Created, Opened, Torn, Rescinded, Unloaded}
-use Rattle.control_model.specs.Plan.{BusPlan, part_after, opening_at, IsPlan, phase_of}
+use Rattle.control_model.specs.Plan.{BusPlan, part_after, opening_at, IsPlan}
 use Rattle.control_model.specs.Messages.{rescind, release}
-use Rattle.control_model.specs.Said.{agreed}
+use Rattle.control_model.specs.Said.{agreed, said_by_guest, said_by_host}
 use Rattle.control_model.specs.GuestAt.{GuestAt}
+use Rattle.control_model.specs.HostAt.{HostAt}
 use Rattle.control_model.specs.Guest.{new_guest, GuestSeen, state_of, guest_done, guest_hears, GuestBegins, GuestTakes}
 use Rattle.control_model.specs.Host.{new_host, HostSeen, HostTurn, host_state_of, host_done, host_hears, HostBegins, HostTakes}
-use Rattle.control_run.specs.Talk.{Logs, Talk}
 use Rattle.control_run.specs.Over.{IsOver, StandsSo}
 
-abbrev pub logs_of : GuestSeen → HostSeen → Logs
-logs_of g h = record { guest_posted = g.posted; guest_fed = g.fed; host_posted = h.posted; host_fed = h.fed }
-
--- Both controls and the messages on their way to the host and to the guest are at one moment of a talk, the guest said and heard what it has to up to there, and each side was fed what the other sent, but for what is on its way.
+-- A guest and its host agree, with these messages on their way to the host and to the guest: each stands as it does by itself, in the same part, and was fed what the other sent, but for what is on its way.
 pub record Agrees (plan : BusPlan) (g : GuestSeen) (h : HostSeen) (to_host to_guest : List Msg) : Type 0 where
   pub planned : IsPlan plan
   pub guest_at : GuestAt plan g
-  pub talk : Talk plan (logs_of g h) g h to_host to_guest
+  pub host_at : HostAt plan h
+  pub part : h.part ≡ g.part
   pub guest_sent : g.posted ≡ h.fed ++ to_host
   pub host_sent : h.posted ≡ g.fed ++ to_guest
 
--- how many openings the phase has that a part starts or ends
-abbrev pub openings_of : BusPlan → Option Part → ℕ
-openings_of plan (Some (PhaseStart phase)) = length (phase_of plan phase)
-openings_of plan (Some (PhaseEnd phase)) = length (phase_of plan phase)
-openings_of plan part = 0
-
--- a bound on the messages that are still to come while a guest waits
-abbrev pub still_to_come : GuestSeen → GuestWait → ℕ
-still_to_come g Nothing = 0
-still_to_come g (Response v) = 32 + 2 * v.0
-still_to_come g Offers = length g.plan.kinds + 1 - length g.channels
-still_to_come g (Created place) = 64 * (openings_of g.plan g.part - place) + 2
-still_to_come g (Opened place) = 64 * (openings_of g.plan g.part - place)
-still_to_come g (Torn place) = 4 * (openings_of g.plan g.part - place)
-still_to_come g (Rescinded place) = 4 * (openings_of g.plan g.part - place)
-still_to_come g Unloaded = 1
-
--- the measure of a talk
-abbrev pub measure : GuestSeen → List Msg → ℕ
-measure g to_host = still_to_come g g.awaits + length to_host
+-- the messages that both are still to be fed
+abbrev pub measure : GuestSeen → HostSeen → ℕ
+measure g h = (length (said_by_host g.plan) - length g.fed) + (length (said_by_guest g.plan) - length h.fed)
 
 -- two new controls of one plan agree
 abbrev pub NewOnesAgree : Type 0
@@ -63,13 +42,13 @@ BothBegin = (plan : BusPlan) (g g' : GuestSeen) (h h' : HostSeen) (part : Part) 
 abbrev pub HostGoesOn : Type 0
 HostGoesOn = (plan : BusPlan) (g : GuestSeen) (h : HostSeen) (m : Msg) (to_host to_guest : List Msg) → Agrees plan g h (m ∷ to_host) to_guest
     → ((turn : HostTurn) × (host_hears h m ≡ Ok turn))
-    × ((sent : List Msg) (h' : HostSeen) → HostTakes h m sent h' → Agrees plan g h' to_host (to_guest ++ sent) × (measure g to_host < measure g (m ∷ to_host)))
+    × ((sent : List Msg) (h' : HostSeen) → HostTakes h m sent h' → Agrees plan g h' to_host (to_guest ++ sent) × (measure g h' < measure g h))
 
 -- the first message on its way to the guest is not refused, and both still agree when it was taken
 abbrev pub GuestGoesOn : Type 0
 GuestGoesOn = (plan : BusPlan) (g : GuestSeen) (h : HostSeen) (m : Msg) (to_host to_guest : List Msg) → Agrees plan g h to_host (m ∷ to_guest)
     → ((turn : GuestTurn) × (guest_hears g m ≡ Ok turn))
-    × ((sent : List Msg) (g' : GuestSeen) → GuestTakes g m sent g' → Agrees plan g' h (to_host ++ sent) to_guest × (measure g' (to_host ++ sent) < measure g to_host))
+    × ((sent : List Msg) (g' : GuestSeen) → GuestTakes g m sent g' → Agrees plan g' h (to_host ++ sent) to_guest × (measure g' h < measure g h))
 
 -- where no message is on its way, both are done
 abbrev pub BothDone : Type 0

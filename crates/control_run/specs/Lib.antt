@@ -1,7 +1,5 @@
-pub mod Stand
-pub mod NextEnd
-pub mod Talk
 pub mod Over
+pub mod Sides
 pub mod Laws
 pub mod Rows
 pub mod Path

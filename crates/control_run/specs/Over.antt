@@ -6,7 +6,7 @@ use Rattle.control_model.specs.Plan.{BusPlan}
 use Rattle.control_model.specs.Said.{said_by_guest, said_by_host, last_state, at_end}
 use Rattle.control_model.specs.Guest.{GuestSeen, state_of, guest_done}
 use Rattle.control_model.specs.Host.{HostSeen, host_state_of, host_done}
-use Rattle.control_run.specs.Talk.{Agreed}
+use Rattle.control_model.specs.Stand.{Agreed}
 
 -- both are done with the farewell: they have one version, which is the greatest that both know; their channels stand as they are to at the end; each said all that it has to say, and was fed what the other said
 pub record IsOver (plan : BusPlan) (g : GuestSeen) (h : HostSeen) : Type 0 where

@@ -39,5 +39,5 @@ pub record Ran (old new : PathSeen) (part : Part) : Type 0 where
 
 -- a message was handed over where one was on its way, and nothing is changed otherwise
 abbrev pub HandedOver : PathSeen → PathSeen → Bool → Type 0
-HandedOver old new true = Agree new × Continues old new × (measure new.guest new.to_host < measure old.guest old.to_host)
+HandedOver old new true = Agree new × Continues old new × (measure new.guest new.host < measure old.guest old.host)
 HandedOver old new false = Rests old × (new ≡ old)

@@ -1,7 +1,58 @@
-//! Laws of the talk between a guest's control and its host's. The functions do nothing: each one's
-//! contract is the law.
+//! Laws of a guest's control and of its host's, of each by itself and of both as they talk. The
+//! functions do nothing: each one's contract is the law.
+ghost use Rattle.control_run.specs.Sides.{NewOnesStand, GuestStarts, HostStarts, GuestHears, HostHears, GuestFronts, HostFronts, GuestIsCut, HostIsCut, BothOver};
 ghost use Rattle.control_run.specs.Laws.{NewOnesAgree, BothBegin, HostGoesOn, GuestGoesOn, BothDone, FewOnTheirWay, EndsWell, EndTellsEach, RescindedAreReleased, RescindedOnce, EndsAtLower};
 ghost use Rattle.control_run.specs.Rows.{GuestSays, HostSays, GuestSaysNone, HostSaysNone, GuestGivesFirst, HostTakesFirst, GuestGivesSecond, HostTakesSecond, EndStates};
+
+/// A side that was made from a plan stands at the start.
+pub fn new_ones_stand()
+    ensures { NewOnesStand }
+{}
+
+/// A guest that begins the part that comes next stands where that part begins.
+pub fn guest_starts()
+    ensures { GuestStarts }
+{}
+
+/// A host that begins the part that comes next stands where that part begins.
+pub fn host_starts()
+    ensures { HostStarts }
+{}
+
+/// A guest that waits doesn't refuse the next message of all that its host says, and goes on.
+pub fn guest_takes()
+    ensures { GuestHears }
+{}
+
+/// A host that waits doesn't refuse the next message of all that its guest says, and goes on.
+pub fn host_takes()
+    ensures { HostHears }
+{}
+
+/// A guest posted the front of all that it says, and was fed the front of all that its host says.
+pub fn guest_fronts()
+    ensures { GuestFronts }
+{}
+
+/// A host posted the front of all that it says, and was fed the front of all that its guest says.
+pub fn host_fronts()
+    ensures { HostFronts }
+{}
+
+/// A host never says UNLOAD, and a guest never takes it.
+pub fn guest_is_cut()
+    ensures { GuestIsCut }
+{}
+
+/// A guest never says UNLOAD_RESPONSE, and a host never takes it.
+pub fn host_is_cut()
+    ensures { HostIsCut }
+{}
+
+/// What holds of both where each is done with the farewell.
+pub fn both_over()
+    ensures { BothOver }
+{}
 
 /// A guest and a host that were made from one plan agree.
 pub fn new_ones_agree()

@@ -137,8 +137,8 @@ impl ControlPath {
     fn tell_host(&mut self, m: &Msg) -> Result<(), AllocError>
         requires { Agrees self.old.guest.plan self.old.guest self.old.host (m.now ∷ self.old.to_host) self.old.to_guest }
         ensures agree { OnOk result (Agree self.new) }
-        ensures guest { OnOk result (self.new.guest ≡ self.old.guest) }
-        ensures to_host { OnOk result (self.new.to_host ≡ self.old.to_host) }
+        ensures continues { OnOk result (Continues self.old self.new) }
+        ensures falls { OnOk result (measure self.new.guest self.new.host < measure self.old.guest self.old.host) }
     {
         match self.host.feed(m, &mut self.to_guest) {
             Ok(()) => Ok(()),
@@ -151,7 +151,7 @@ impl ControlPath {
         requires { Agrees self.old.guest.plan self.old.guest self.old.host self.old.to_host (m.now ∷ self.old.to_guest) }
         ensures agree { OnOk result (Agree self.new) }
         ensures continues { OnOk result (Continues self.old self.new) }
-        ensures falls { OnOk result (measure self.new.guest self.new.to_host < measure self.old.guest self.old.to_host) }
+        ensures falls { OnOk result (measure self.new.guest self.new.host < measure self.old.guest self.old.host) }
     {
         match self.guest.feed(m, &mut self.to_host) {
             Ok(()) => Ok(()),

@@ -11,4 +11,4 @@ invariant-loop l = record {
 }
 
 abbrev pub decreases-loop : goal.decreases-loop
-decreases-loop l = measure l.self.guest l.self.to_host
+decreases-loop l = measure l.self.guest l.self.host

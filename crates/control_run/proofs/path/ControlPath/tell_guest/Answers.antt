@@ -36,11 +36,11 @@ pub returns-clause-falls : goal.returns-clause-falls
 returns-clause-falls c =
     let P : PathSeen → Type 0 = λ p. Agrees p.guest.plan p.guest p.host p.to_host (c.args.m.now ∷ p.to_guest) in
     let agrees = subst P (sym c.self.view_is) c.requires in
-    let Q : PathSeen → Type 0 = λ p. measure c.feed.new.self c.feed.new.post.queue < measure p.guest p.to_host in
+    let Q : PathSeen → Type 0 = λ p. measure c.feed.new.self c.self.inside.host < measure p.guest p.host in
     elim c.match-feed.branch [
       | in-Ok w ↦
           let took = w.in-Ok.ensures.taken in
           let told = guest_told c.self.inside.guest c.feed.new.self c.self.inside.host c.args.m.now c.self.inside.to_host.queue c.self.inside.to_guest.queue took.0 agrees took.1.0 in
-          rw w.result-is (subst Q c.self.view_is (subst (λ (box : Mail). measure c.feed.new.self box.queue < measure c.self.inside.guest c.self.inside.to_host.queue) (sym took.1.1) told.falls))
+          rw w.result-is (subst Q c.self.view_is told.falls)
       | in-Err w ↦ rw w.result-is tt
     ]

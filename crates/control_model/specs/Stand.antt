@@ -1,5 +1,7 @@
--- Where the channels of both sides stand.
+-- Where the channels of a side stand, and the versions that a guest tries.
 use Rattle.std.specs.Prelude.{◌≡◌, ℕ, zero, suc, ◌<◌, ◌≤◌, ◌==◌, Bool, true, false, List, [], ◌∷◌, ◌++◌, length, map, Some, if◌then◌else◌}
+use Rattle.contact.specs.declared.version.Version.{Version}
+use Rattle.contact.specs.Versions.{IsVersion}
 use Rattle.io_edge.specs.declared.side.Side.TheVariants.{Guest as GuestSide, Host as HostSide}
 use Rattle.chan_state.specs.declared.state.State.{State}
 use Rattle.chan_state.specs.declared.state.State.TheVariants.{Offered, Closed, Released}
@@ -54,6 +56,22 @@ host_before plan phase = before_phase plan host_ends (record { side = HostSide; 
 pub record Stand {X : Type 0} (channels : List X) (plan : BusPlan) (stands : ℕ → X) : Type 0 where
   pub many : length channels ≡ length plan.kinds
   pub each : (relid : ℕ) → 1 ≤ relid → relid ≤ length plan.kinds → by_relid channels relid ≡ Some (stands relid)
+
+-- a version that the guest may propose: no version that both know is above it
+pub record Tries (plan : BusPlan) (v : Version) : Type 0 where
+  pub listed : IsVersion v.0
+  pub within : v.0 ≤ plan.guest.0
+  pub greatest : (u : ℕ) → IsVersion u → u ≤ plan.guest.0 → u ≤ plan.host.0 → u ≤ v.0
+
+-- the version that both agree on: the greatest in the list that is not above either end's highest
+pub record Agreed (plan : BusPlan) (v : Version) : Type 0 where
+  pub tried : Tries plan v
+  pub within_host : v.0 ≤ plan.host.0
+
+-- a version is agreed on, and a side's channels stand so
+pub record Meet {X : Type 0} (plan : BusPlan) (v : Version) (channels : List X) (stands : ℕ → X) : Type 0 where
+  pub agreed : Agreed plan v
+  pub stand : Stand channels plan stands
 
 -- the handles of page lists
 abbrev pub handles : List Opening → List ℕ

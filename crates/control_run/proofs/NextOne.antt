@@ -1,5 +1,5 @@
 -- How both sides go on at the end of a phase with the openings that are left of it: the first of them is closed, or rescinded.
-use Rattle.std.specs.Prelude.{ℕ, Bool, true, false, List, [], ◌∷◌}
+use Rattle.std.proofs.Common.{ℕ, Bool, true, false, List, [], ◌∷◌}
 use Rattle.chan_state.specs.declared.state.State.TheVariants.{Opened, Closing, Rescinded as IsRescinded}
 use Rattle.chan_state.specs.declared.chan_state.ChanState.{ChanState}
 use Rattle.vmbus_msg.specs.declared.msg.Msg.{Msg}
@@ -10,7 +10,7 @@ use Rattle.control_model.specs.declared.guest_wait.GuestWait.TheVariants.{Nothin
 use Rattle.control_model.specs.declared.host_wait.HostWait.{HostWait}
 use Rattle.control_model.specs.declared.host_wait.HostWait.TheVariants.{Nothing as HostNothing, Close, Release}
 use Rattle.control_model.specs.Messages.{close, teardown, rescind}
-use Rattle.control_run.specs.Stand.{marked, guest_is, host_is, handles}
+use Rattle.control_model.specs.Stand.{marked, guest_is, host_is, handles}
 
 -- the guest closes the first one, or waits for it to be rescinded
 abbrev pub guest_waits : ℕ → Bool → GuestWait
