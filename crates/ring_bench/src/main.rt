@@ -9,7 +9,7 @@ mod packet;
 mod words;
 
 use packet::{MOST, words};
-use ring_rows::is_packet;
+use ring_core::is_packet;
 use std::alloc::Global;
 use std::io;
 use std::rt::Runtime;

@@ -2,8 +2,7 @@
 ghost use Rattle.std.specs.Prelude.{◌≡◌};
 ghost use Rattle.ring_machine.specs.States.{IsPacket};
 
-use ring_core::{End, Room, Seatlike};
-use ring_rows::may_take;
+use ring_core::{End, Room, Seatlike, may_take};
 use std::io;
 
 // The longest packet, in words.

@@ -24,9 +24,15 @@ fn store_where(copies: bool, buf: &mut Vec<u64>, i: usize, v: u64)
     }
 }
 
-// Makes the step that the machine names, and feeds the machine what it gave. A word of a packet that was loaded goes into the buffer.
+/// Makes the one step that the machine names, by the seat, feeds the machine what it gave, and answers that. A word of a packet that was loaded goes into the
+/// buffer, at its place in the packet. A driver is a loop over this while the machine is busy.
 #[inline(always)]
-fn step<S: Seatlike>(seat: &mut S, core: &mut EndCore, buf: &mut Vec<u64>, packet: &[u64]) -> u64
+pub fn step<S: Seatlike>(
+    seat: &mut S,
+    core: &mut EndCore,
+    buf: &mut Vec<u64>,
+    packet: &[u64],
+) -> u64
     requires busy { is_busy_at core.old.machine.stage ≡ true }
     requires wide { length buf.old.items ≡ core.old.machine.cells }
     requires fits { S.cells seat.old ≡ core.old.machine.cells }

@@ -3,6 +3,7 @@
 
 mod driver;
 mod end;
+mod guards;
 mod laws;
 mod packets;
 mod parts;
@@ -14,7 +15,9 @@ mod told;
 mod told_mem;
 mod words;
 
+pub use driver::step;
 pub use end::End;
+pub use guards::{is_packet, may_begin, may_send, may_take};
 pub use laws::refuses_by_value;
 pub use packets::Packets;
 pub use ring_machine::{

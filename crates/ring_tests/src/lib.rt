@@ -18,6 +18,6 @@ mod ring_machine_tests;
 #[cfg(test)]
 mod ring_model_tests;
 #[cfg(test)]
-mod ring_rows_tests;
-#[cfg(test)]
 mod ring_seat_tests;
+#[cfg(test)]
+mod told_mem_tests;

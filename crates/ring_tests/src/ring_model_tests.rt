@@ -9,8 +9,9 @@ ghost use Rattle.ring_model.specs.Calls.{SendSays, CommitSays, TakeSays};
 use crate::check::check;
 use crate::ends::solo_end;
 use crate::packet::packet;
-use ring_core::{End, Room, SendRefusal, Side, Signalled, SoloMem, TakeRefusal};
-use ring_rows::{may_send, may_take};
+use ring_core::{
+    End, Room, SendRefusal, Side, Signalled, SoloMem, TakeRefusal, may_send, may_take,
+};
 
 // The room of each list.
 const ROOM: Room = Room {

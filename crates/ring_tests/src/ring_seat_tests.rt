@@ -4,8 +4,7 @@ ghost use Rattle.ring_seat.specs.Settling.{AreOfOneChannel, IsSameEnd};
 
 use crate::check::check;
 use crate::packet::packet;
-use ring_core::{Armed, End, Room, SendRefusal, Signalled, TakeRefusal};
-use ring_rows::{may_send, may_take};
+use ring_core::{Armed, End, Room, SendRefusal, Signalled, TakeRefusal, may_send, may_take};
 use ring_seat::{ChannelMem, GuestEnd, HostEnd, Settled, Sleeper, TableSeat, finish};
 use std::alloc::AllocGlobal;
 use std::process::Abort;

@@ -1,8 +1,9 @@
-//! Whether an end may make a call, by what it can read of itself.
+//! Whether an end may make a call, by what it can read of itself: so a program that keeps no count of its own can make each call safely.
 ghost use Rattle.std.specs.Prelude.{◌≡◌, ◌<◌, ◌≤◌, ◌+◌, IsTrue, false, length};
 ghost use Rattle.ring_machine.specs.States.{IsPacket};
 
-use ring_core::{End, Seatlike};
+use crate::end::End;
+use crate::seat::Seatlike;
 
 /// Whether these words are a packet: at least two, the first of which gives their number, and an offset of the payload between 2 and it.
 /// Source: Linux `include/linux/hyperv.h`, struct vmpacket_descriptor.

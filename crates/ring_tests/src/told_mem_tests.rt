@@ -7,9 +7,8 @@ use crate::ends::solo_end;
 use crate::packet::packet;
 use ring_core::{
     Bad, Change, End, Place, Ring, Room, Seatlike, SendRefusal, Side, Signalled, SoloMem,
-    TakeRefusal, ToldMem, Why,
+    TakeRefusal, ToldMem, Why, may_send, may_take,
 };
-use ring_rows::{may_send, may_take};
 use std::alloc::AllocGlobal;
 use std::process::Abort;
 
