@@ -4,8 +4,8 @@ use Rattle.script_lines.specs.declared.line.Ask.{Ask}
 use Rattle.bus_script.specs.declared.outcome.Reply.{Reply}
 use Rattle.bus_speech.specs.Talks.{Talked, asks_of}
 use Rattle.ring_seat.specs.Settling.{AreOfOneChannel}
-use Rattle.worker_core.specs.Asking.{Asking}
-use Rattle.worker_core.specs.Serving.{Serving}
+use Rattle.requester.specs.Asking.{Asking}
+use Rattle.server.specs.Serving.{Serving}
 use Rattle.end_work.specs.Workers.{end_at, IsLive}
 use Rattle.end_work.specs.declared.device_seat.DeviceSeat.{DeviceSeat}
 use Rattle.end_work.specs.declared.worker.ChannelWorker.{ChannelWorker}

@@ -15,8 +15,8 @@ use Rattle.contact.specs.declared.kind.Kind.TheVariants.{Disk as DiskKind}
 use Rattle.io_edge.specs.declared.side.Side.{Side}
 use Rattle.work_model.specs.Channel.{count_of, held_of}
 use Rattle.work_model.specs.Roles.{side_that_asks}
-use Rattle.worker_core.specs.Asking.{Asking}
-use Rattle.worker_core.specs.Serving.{Serving}
+use Rattle.requester.specs.Asking.{Asking}
+use Rattle.server.specs.Serving.{Serving}
 use Rattle.end_work.specs.Seats.{served_at, kind_at, left_at}
 use Rattle.end_work.specs.declared.device_seat.DeviceSeat.{DeviceSeat}
 use Rattle.end_work.specs.declared.guest_plan.GuestPlan.{GuestPlan}

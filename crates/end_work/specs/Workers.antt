@@ -5,10 +5,11 @@ use Rattle.bus_speech.specs.Speeches.{speech_of}
 use Rattle.bus_speech.specs.Talks.{asks_of}
 use Rattle.ring_core.specs.Seen.{Seen}
 use Rattle.ring_seat.specs.declared.table_seat.TableSeat.{TableSeat}
-use Rattle.worker_core.specs.Asking.{AskTurns, AskEnds, AsksOn}
-use Rattle.worker_core.specs.Causes.{AskCause, ServeCause}
-use Rattle.worker_core.specs.Serving.{Turns, ServeEnds, ServesOn}
-use Rattle.worker_core.specs.declared.ended.Turn.{Turn}
+use Rattle.requester.specs.Asking.{AskTurns, AskEnds, AsksOn}
+use Rattle.requester.specs.Causes.{AskCause}
+use Rattle.server.specs.Causes.{ServeCause}
+use Rattle.server.specs.Serving.{Turns, ServeEnds, ServesOn}
+use Rattle.channel_port.specs.declared.ended.Turn.{Turn}
 use Rattle.end_work.specs.Seats.{device_place, left_at, IsAt}
 use Rattle.end_work.specs.declared.device_seat.DeviceSeat.{DeviceSeat}
 use Rattle.end_work.specs.declared.worker.ChannelWorker.{ChannelWorker}
@@ -45,7 +46,7 @@ pub record IsOfSide (side : Side) (w : ChannelWorker) : Type 0 where
 
 -- how a turn ends, by what the worker does
 abbrev pub Turned : Turn → ChannelWorker → Type 0
-Turned turn (Asks w) = AskTurns (speech_of w.talk.kind) (asks_of w.talk) turn w × AskEnds (length (asks_of w.talk)) turn w.end.state.past
+Turned turn (Asks w) = AskTurns (speech_of w.talk.kind) (asks_of w.talk) turn w × AskEnds (speech_of w.talk.kind) w.starts (asks_of w.talk) turn w.end.state.past
 Turned turn (Serves w) = Turns left_at (speech_of w.desk.talk.kind) turn w × ServeEnds (speech_of w.desk.talk.kind) turn w
 
 -- why it went so: what the worker did in it

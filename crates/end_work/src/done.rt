@@ -1,8 +1,8 @@
 //! What the workers of a channel leave.
 use crate::{GuestSeat, HostSeat};
 use bus_script::Reply;
+use channel_port::Ended;
 use ring_seat::{GuestEnd, HostEnd};
-use worker_core::Ended;
 
 /// What a guest's worker leaves.
 #[derive(Drop)]

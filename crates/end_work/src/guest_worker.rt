@@ -10,12 +10,12 @@ ghost use Rattle.end_work.specs.Workers.{Caused, GoesOn, IsLive, IsOfSide, Turne
 use crate::making::{Order, disk_asks, make_worker};
 use crate::worker::{ChannelWorker, WorkerDone};
 use crate::{GuestDone, GuestPlan, GuestSeat};
+use channel_port::Turn;
 use io_edge::{Gate, Side};
 use ring_seat::GuestEnd;
 use std::alloc::{AllocError, Global};
 use std::marker::Model;
 use std::sync::Wait;
-use worker_core::Turn;
 
 /// The worker of the guest's end of a channel. It asks a disk, and serves heartbeats and shutdowns.
 #[derive(Drop)]

@@ -10,12 +10,12 @@ ghost use Rattle.end_work.specs.Workers.{Caused, GoesOn, IsLive, IsOfSide, Turne
 use crate::making::{Order, ic_asks, make_worker};
 use crate::worker::{ChannelWorker, WorkerDone};
 use crate::{HostDone, HostPlan, HostSeat};
+use channel_port::Turn;
 use io_edge::{Gate, Side};
 use ring_seat::HostEnd;
 use std::alloc::{AllocError, Global};
 use std::marker::Model;
 use std::sync::Wait;
-use worker_core::Turn;
 
 /// The worker of the host's end of a channel. It serves a disk, and asks for heartbeats and shutdowns.
 #[derive(Drop)]

@@ -16,18 +16,19 @@ ghost use Rattle.end_work.specs.Seats.{served_at, kind_at, left_at, IsAt};
 ghost use Rattle.end_work.specs.Workers.{IsOfSide, end_at};
 
 use crate::DeviceSeat;
-use crate::worker::{ChannelAsker, ChannelServer, ChannelWorker};
+use crate::worker::{ChannelRequester, ChannelServer, ChannelWorker};
 use bus_script::Ask;
 use bus_talk::KindTalk;
 use chan_state::Stop;
 use contact::Kind;
 use io_edge::Side;
+use requester::Requester;
 use ring_core::End;
 use ring_seat::TableSeat;
 use scsi_disk::DiskRequest;
+use server::Server;
 use std::alloc::{AllocError, Global};
 use util_ic::IcAsk;
-use worker_core::{Asker, Server};
 
 // How many requests of a start-up have answers.
 fn starts_of(kind: Kind) -> u32
@@ -104,7 +105,7 @@ fn make_asker(
     kind: Kind,
     window: u32,
     asks: Vec<Ask>,
-) -> Result<ChannelAsker, AllocError>
+) -> Result<ChannelRequester, AllocError>
     requires window { (1 ≤ window) × (window ≤ 64) }
     requires few { length asks.items ≤ 4096 }
     requires asks { AllCarried kind asks.items }
@@ -119,7 +120,7 @@ fn make_asker(
     ensures end { IfOk result (λ w. (w.end.state ≡ end.state) × (w.end.seat ≡ end.seat)) }
 {
     all_can(kind, &asks);
-    Asker::make(alloc, KindTalk::make(kind, asks), end, side, relid, window)
+    Requester::make(alloc, KindTalk::make(kind, asks), end, side, relid, window)
 }
 
 // How many of so many requests are served.

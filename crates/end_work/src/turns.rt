@@ -1,24 +1,24 @@
 //! Both workers of a channel on one thread.
 ghost use Rattle.std.specs.Prelude.{◌≡◌, false, Some};
-ghost use Rattle.worker_core.specs.Asking.{AsksOn};
-ghost use Rattle.worker_core.specs.Serving.{ServesOn};
+ghost use Rattle.requester.specs.Asking.{AsksOn};
+ghost use Rattle.server.specs.Serving.{ServesOn};
 ghost use Rattle.end_work.specs.Leaving.{Leaves, LeavesAsked, LeavesServed, StandsAsking, StandsServing, of_guest, of_host};
 ghost use Rattle.end_work.specs.Pairs.{ArePair};
 ghost use Rattle.end_work.specs.Seats.{device_place};
 
 use crate::guest_worker::guest_done;
 use crate::host_worker::host_done;
-use crate::worker::{ChannelAsker, ChannelServer, ChannelWorker, WorkerDone, asked, served};
+use crate::worker::{ChannelRequester, ChannelServer, ChannelWorker, WorkerDone, asked, served};
 use crate::{GuestDone, GuestWorker, HostDone, HostWorker};
+use channel_port::{Ended, Turn};
 use io_edge::Gate;
 use std::sync::Wait;
-use worker_core::{Ended, Turn};
 
 // A turn of the end that asks, unless it has ended.
 fn ask<R: Wait, G: Gate>(
     rt: &R,
     gate: &G,
-    asker: &mut ChannelAsker,
+    asker: &mut ChannelRequester,
     ended: Option<Ended>,
 ) -> Option<Ended>
     requires { StandsAsking ended asker.old }
@@ -57,7 +57,7 @@ fn serve<R: Wait, G: Gate>(
 }
 
 // What the end that asks leaves, once it has ended.
-fn asker_done(asker: ChannelAsker, ended: Ended) -> WorkerDone
+fn asker_done(asker: ChannelRequester, ended: Ended) -> WorkerDone
     requires { StandsAsking (Some ended) asker }
     ensures { LeavesAsked asker result }
 {
@@ -76,7 +76,7 @@ fn server_done(server: ChannelServer, ended: Ended) -> WorkerDone
 fn by_turns<R: Wait, G: Gate>(
     rt: &R,
     gate: &G,
-    mut asker: ChannelAsker,
+    mut asker: ChannelRequester,
     mut server: ChannelServer,
 ) -> (WorkerDone, WorkerDone)
     requires asker { asker.end.state.machine.marked ≡ false }

@@ -6,14 +6,16 @@ ghost use Rattle.end_work.specs.Workers.{Caused, GoesOn, IsLive, Turned};
 use crate::DeviceSeat;
 use bus_script::Reply;
 use bus_talk::KindTalk;
+use channel_port::{Ended, Turn};
 use io_edge::Gate;
+use requester::{Requester, RequesterDone};
 use ring_core::End;
 use ring_seat::TableSeat;
+use server::{Server, ServerDone};
 use std::sync::Wait;
-use worker_core::{Asker, AskerDone, Ended, Server, ServerDone, Turn};
 
 /// The worker of the end that asks.
-pub(crate) type ChannelAsker = Asker<KindTalk>;
+pub(crate) type ChannelRequester = Requester<KindTalk>;
 
 /// The worker of the end that serves.
 pub(crate) type ChannelServer = Server<KindTalk, DeviceSeat>;
@@ -21,7 +23,7 @@ pub(crate) type ChannelServer = Server<KindTalk, DeviceSeat>;
 /// A worker, by what it does.
 #[derive(Drop)]
 pub enum ChannelWorker {
-    Asks(ChannelAsker),
+    Asks(ChannelRequester),
     Serves(ChannelServer),
 }
 
@@ -36,7 +38,7 @@ pub struct WorkerDone {
 }
 
 /// What a worker leaves that asked.
-pub(crate) fn asked(done: AskerDone<KindTalk>) -> WorkerDone
+pub(crate) fn asked(done: RequesterDone<KindTalk>) -> WorkerDone
     ensures end { (result.end ≡ done.end) × (result.ended ≡ done.ended) }
     ensures replies { result.replies.items ≡ done.replies.items }
     ensures others { (result.seat ≡ None) × (result.serials.items ≡ []) }

@@ -7,11 +7,11 @@ use Rattle.work_model.specs.Asker.{Encoded, requests_of}
 use Rattle.work_model.specs.Channel.{AllFixed}
 use Rattle.work_model.proofs.Opens.{by_test}
 use Rattle.work_model.proofs.Served.{filter_first, filter_past}
-use Rattle.worker_core.specs.Asking.{AsksBy}
-use Rattle.worker_core.proofs.AskSteps.{encoded_few}
-use Rattle.worker_core.specs.Serving.{is_asked}
-use Rattle.worker_core.specs.declared.ended.Ended.{Ended}
-use Rattle.worker_core.specs.declared.ended.Ended.TheVariants.{Marked, PeerMarked, Room}
+use Rattle.requester.specs.Asking.{AsksBy}
+use Rattle.requester.proofs.AskSteps.{encoded_few}
+use Rattle.server.specs.Serving.{is_asked}
+use Rattle.channel_port.specs.declared.ended.Ended.{Ended}
+use Rattle.channel_port.specs.declared.ended.Ended.TheVariants.{Marked, PeerMarked, Room}
 
 filter_le : (f : List ℕ → Bool) (ps : List (List ℕ)) → length (filter f ps) ≤ length ps
 filter_le f [] = omega arith

@@ -8,8 +8,8 @@ use Rattle.bus_speech.specs.Talks.{Talked, asks_of}
 use Rattle.bus_speech.specs.Wants.{startup, IsAskable}
 use Rattle.bus_script.specs.declared.outcome.Reply.{Reply}
 use Rattle.bus_model.specs.Orders.{Order}
-use Rattle.worker_core.specs.Asking.{Asking}
-use Rattle.worker_core.specs.Serving.{Serving}
+use Rattle.requester.specs.Asking.{Asking}
+use Rattle.server.specs.Serving.{Serving}
 use Rattle.contact.specs.declared.kind.Kind.{Kind}
 use Rattle.io_edge.specs.declared.side.Side.{Side}
 use Rattle.io_edge.specs.declared.side.Side.TheVariants.{Guest, Host}
@@ -122,9 +122,9 @@ has_size e pages side is within =
     (omega (arith, cells, within.0), omega (arith, cells, within.1))
 
 -- the ends of one channel, which the workers have, and which are new
-pub pair_of : (g h : Seen TableSeat) (cells : ℕ) (guest host : ChannelWorker) → AreOfOneChannel g h → g.state ≡ new_end cells Guest → h.state ≡ new_end cells Host → ((end_at guest).state ≡ g.state) × ((end_at guest).seat ≡ g.seat)
+pub pair_of : (g h : Seen TableSeat) (cells cells' : ℕ) (guest host : ChannelWorker) → AreOfOneChannel g h → g.state ≡ new_end cells Guest → h.state ≡ new_end cells' Host → ((end_at guest).state ≡ g.state) × ((end_at guest).seat ≡ g.seat)
     → ((end_at host).state ≡ h.state) × ((end_at host).seat ≡ h.seat) → AreRoles guest host → ArePair guest host
-pair_of g h cells guest host one g_new h_new at_g at_h roles = record {
+pair_of g h cells cells' guest host one g_new h_new at_g at_h roles = record {
   ends = record {
     same = ap (λ (s : TableSeat). s.seat.table_id) at_g.1 ∙ one.same ∙ sym (ap (λ (s : TableSeat). s.seat.table_id) at_h.1);
     guest = ap (λ (s : EndState). s.machine.side) at_g.0 ∙ one.guest;
@@ -150,11 +150,21 @@ made_window p (Some s) (Asks w) made = absurd made
 made_window p (Some s) (Serves w) made = tt
 
 -- the rings have as many cells as both ends of the channel
-pub has_cells : (cells : ℕ) (g h : Seen TableSeat) (guest host : ChannelWorker) → g.state ≡ new_end cells Guest → h.state ≡ new_end cells Host → (end_at guest).state ≡ g.state → (end_at host).state ≡ h.state → HasCells cells (record { guest = guest; host = host })
+has_cells : (cells : ℕ) (g h : Seen TableSeat) (guest host : ChannelWorker) → g.state ≡ new_end cells Guest → h.state ≡ new_end cells Host → (end_at guest).state ≡ g.state → (end_at host).state ≡ h.state → HasCells cells (record { guest = guest; host = host })
 has_cells cells g h guest host g_new h_new at_g at_h = record {
   guest = ap (λ (s : EndState). s.machine.cells) (at_g ∙ g_new);
   host = ap (λ (s : EndState). s.machine.cells) (at_h ∙ h_new);
 }
+
+pub cells_if : {E : Type 0} (cells : ℕ) (g h : Seen TableSeat) (pair : Result Pairing E) → g.state ≡ new_end cells Guest → h.state ≡ new_end cells Host → IfOk pair (λ w. (end_at w.guest).state ≡ g.state) → IfOk pair (λ w. (end_at w.host).state ≡ h.state)
+    → IfOk pair (HasCells cells)
+cells_if cells g h (Ok w) g_new h_new at_g at_h = has_cells cells g h w.guest w.host g_new h_new at_g at_h
+cells_if cells g h (Err e) g_new h_new at_g at_h = tt
+
+-- what holds of the guest's worker holds of it in its pair
+pub guest_if : {E : Type 0} (P : ChannelWorker → Type 0) (guest : ChannelWorker) (pair : Result Pairing E) → P guest → IfOk pair (λ w. w.guest ≡ guest) → IfOk pair (λ w. P w.guest)
+guest_if P guest (Ok w) holds is = subst P (sym is) holds
+guest_if P guest (Err e) holds is = tt
 
 -- a pair that was made for both plans is opened as any two such workers are
 pub made_opens : {E : Type 0} (order : Order) (seat : Option DeviceSeat) (p q : Planned) (s t : Option DeviceSeat) (pair : Result Pairing E)

@@ -27,12 +27,12 @@ use Rattle.ring_seat.specs.declared.table_seat.TableSeat.{TableSeat}
 use Rattle.work_model.specs.Channel.{AskerEnds, ServerEnds, count_of, held_of, IsChannelRun as Runs}
 use Rattle.work_model.specs.Roles.{side_that_asks}
 use Rattle.work_model.specs.Speech.{Speech}
-use Rattle.worker_core.specs.Asking.{Asking, AsksAll, AsksBy}
-use Rattle.worker_core.specs.Rooms.{has_room}
-use Rattle.worker_core.specs.Serving.{Serving, EndsAll, EndsBy, calls_behind, is_asked}
-use Rattle.worker_core.specs.declared.ended.Ended.{Ended}
-use Rattle.worker_core.specs.declared.ended.Ended.TheVariants.{Marked, PeerMarked, Room}
-use Rattle.worker_core.proofs.RoomLaws.{never_lacks}
+use Rattle.requester.specs.Asking.{Asking, AsksAll, AsksBy}
+use Rattle.channel_port.specs.Rooms.{has_room}
+use Rattle.server.specs.Serving.{Serving, EndsAll, EndsBy, calls_behind, is_asked}
+use Rattle.channel_port.specs.declared.ended.Ended.{Ended}
+use Rattle.channel_port.specs.declared.ended.Ended.TheVariants.{Marked, PeerMarked, Room}
+use Rattle.channel_port.proofs.RoomLaws.{never_lacks}
 use Rattle.end_work.specs.Leaving.{Leaves, LeavesAsked, LeavesServed}
 use Rattle.end_work.specs.Pairs.{ArePair, PlansAgree}
 use Rattle.end_work.specs.Seats.{served_at, device_place, IsSameSeat, at_guest, at_host}
@@ -84,10 +84,10 @@ asks_all s Marked asks past told whole by = by.0
 asks_all s PeerMarked asks past told whole by = by.0
 asks_all s (Room packets words left) asks past told whole by = absurd (cc (whole))
 
-ends_all : (s : Speech (List ℕ) Want Ask Reply) (how : Ended) (w : Serving Talked DeviceSeat Ask Reply) (past : List (Event (List ℕ))) (calls : List Served) → is_whole how ≡ true → EndsBy s how w past calls → EndsAll s w past calls
-ends_all s Marked w past calls whole by = by.0
-ends_all s PeerMarked w past calls whole by = by.0
-ends_all s (Room packets words left) w past calls whole by = absurd (cc (whole))
+ends_all : (s : Speech (List ℕ) Want Ask Reply) (how : Ended) (w : Serving Talked DeviceSeat Ask Reply) (e : Seen TableSeat) (calls : List Served) → is_whole how ≡ true → EndsBy s how w e calls → EndsAll s w e.state.past calls
+ends_all s Marked w e calls whole by = by.0
+ends_all s PeerMarked w e calls whole by = by.0
+ends_all s (Room packets words left) w e calls whole by = absurd (cc (whole))
 
 -- the start-up of a first channel is that of its kind
 starts_up : (order : Order) → order.sub ≡ 0 → startup_of order ≡ startup order.kind
@@ -137,7 +137,7 @@ ran order seat a s asked served lists side at_side made ended =
       can = made.can;
       one = at.one;
       asker_ends = asker_ends order a.talk asked.end.state.past told made.primary made.talk (asks_all _ asked.ended _ _ _ whole.0 ended.asker_leaves.asks);
-      server_ends = server_ends order seat a s served.end.state.past calls made (ends_all _ served.ended _ _ _ whole.1 (subst (λ l. EndsBy (speech_of s.desk.talk.kind) served.ended s served.end.state.past l) none_before ended.server_leaves.serves));
+      server_ends = server_ends order seat a s served.end.state.past calls made (ends_all _ served.ended _ _ _ whole.1 (subst (λ l. EndsBy (speech_of s.desk.talk.kind) served.ended s served.end l) none_before ended.server_leaves.serves));
     } in
     let carried : Carries (side_that_asks order.kind) order lists calls =
     lists_are (side_that_asks order.kind) order _ _ _ _ lists calls at.asker_sent at.asker_got at.server_sent at.server_got (runs order asked.end.state.past served.end.state.past calls told both) in

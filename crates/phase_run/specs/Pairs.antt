@@ -18,10 +18,10 @@ use Rattle.end_work.specs.declared.worker.ChannelWorker.{ChannelWorker}
 use Rattle.end_work.specs.declared.worker.ChannelWorker.TheVariants.{Asks, Serves}
 use Rattle.io_edge.specs.declared.side.Side.TheVariants.{Guest, Host}
 use Rattle.work_model.specs.Roles.{side_that_asks}
-use Rattle.worker_core.specs.Asking.{Asking}
-use Rattle.worker_core.specs.Serving.{Serving}
-use Rattle.worker_core.specs.declared.ended.Ended.{Ended}
-use Rattle.worker_core.specs.declared.ended.Ended.TheVariants.{Marked, PeerMarked, Room}
+use Rattle.requester.specs.Asking.{Asking}
+use Rattle.server.specs.Serving.{Serving}
+use Rattle.channel_port.specs.declared.ended.Ended.{Ended}
+use Rattle.channel_port.specs.declared.ended.Ended.TheVariants.{Marked, PeerMarked, Room}
 use Rattle.phase_run.specs.declared.pair.PairDone.{PairDone}
 
 -- the guest's worker and the host's

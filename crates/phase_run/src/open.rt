@@ -8,7 +8,11 @@ ghost use Rattle.work_model.specs.Roles.{side_that_asks};
 ghost use Rattle.bus_model.specs.Orders.{only_order};
 ghost use Rattle.end_work.specs.Plans.{AllCarried, CanPlan, CanStop, HasSeat, IsMade, guest_planned, host_planned, stop_of};
 ghost use Rattle.end_work.specs.Seats.{served_at, kind_at, left_at, at_guest, at_host};
-ghost use Rattle.phase_run.specs.Agreeing.{Agree, HasCells};
+ghost use Rattle.ring_seat.specs.Seats.{new_end};
+ghost use Rattle.ring_seat.specs.Settling.{AreOfOneChannel};
+ghost use Rattle.end_work.specs.Pairs.{ArePair};
+ghost use Rattle.end_work.specs.Workers.{end_at};
+ghost use Rattle.phase_run.specs.Agreeing.{Agree, HasCells, PairsWith};
 ghost use Rattle.phase_run.specs.Pairs.{AreOnChannel, IsNewSeat, Opens, OpensWith};
 
 use crate::Pair;
@@ -16,7 +20,7 @@ use bus_script::Ask;
 use chan_state::Stop;
 use contact::Kind;
 use end_work::{DeviceSeat, GuestPlan, GuestSeat, GuestWorker, HostPlan, HostSeat, HostWorker};
-use ring_seat::ChannelMem;
+use ring_seat::{ChannelMem, GuestEnd, HostEnd};
 use scsi_disk::DiskRequest;
 use std::alloc::{AllocError, Global};
 use util_ic::IcAsk;
@@ -109,6 +113,64 @@ fn host_plan(
     }
 }
 
+// A pair of two workers of one channel.
+fn paired(guest: GuestWorker, host: HostWorker) -> Pair
+    requires { ArePair guest host }
+    ensures { (result.guest ≡ guest) × (result.host ≡ host) }
+{
+    Pair { guest, host }
+}
+
+// The pair of a guest's worker and of the host's worker that is made here, over a new end.
+fn pair_with(
+    alloc: Global,
+    guest: GuestWorker,
+    host_end: HostEnd,
+    host_seat: HostSeat,
+    host_plan: HostPlan,
+) -> Result<Pair, AllocError>
+    requires plan { CanPlan HostSide (host_planned host_plan) }
+    requires seat { HasSeat HostSide (host_planned host_plan) (at_host host_seat) }
+    requires fresh { host_end.state ≡ new_end host_end.state.machine.cells HostSide }
+    requires size { (512 ≤ host_end.state.machine.cells) × (host_end.state.machine.cells ≤ 8192) }
+    requires pairs { PairsWith guest (host_planned host_plan) (at_host host_seat) host_end }
+    ensures guest { IfOk result (λ pair. pair.guest ≡ guest) }
+    ensures host { IfOk result (λ pair. IsMade (host_planned host_plan) (at_host host_seat) pair.host) }
+    ensures end { IfOk result (λ pair. (end_at pair.host).state ≡ host_end.state) }
+{
+    let host = HostWorker::make(alloc, host_end, host_seat, host_plan)?;
+    Ok(paired(guest, host))
+}
+
+// The two workers of a channel over its new ends, whose plans agree.
+fn pair_over(
+    alloc: Global,
+    guest_end: GuestEnd,
+    guest_seat: GuestSeat,
+    guest_plan: GuestPlan,
+    host_end: HostEnd,
+    host_seat: HostSeat,
+    host_plan: HostPlan,
+) -> Result<Pair, AllocError>
+    requires channel { AreOfOneChannel guest_end host_end }
+    requires guest_fresh { guest_end.state ≡ new_end guest_end.state.machine.cells GuestSide }
+    requires guest_size { (512 ≤ guest_end.state.machine.cells) × (guest_end.state.machine.cells ≤ 8192) }
+    requires host_fresh { host_end.state ≡ new_end host_end.state.machine.cells HostSide }
+    requires host_size { (512 ≤ host_end.state.machine.cells) × (host_end.state.machine.cells ≤ 8192) }
+    requires guest { CanPlan GuestSide (guest_planned guest_plan) }
+    requires guest_seat { HasSeat GuestSide (guest_planned guest_plan) (at_guest guest_seat) }
+    requires host { CanPlan HostSide (host_planned host_plan) }
+    requires host_seat { HasSeat HostSide (host_planned host_plan) (at_host host_seat) }
+    requires roles { Agree (guest_planned guest_plan) (at_guest guest_seat) (host_planned host_plan) (at_host host_seat) }
+    ensures guest { IfOk result (λ pair. IsMade (guest_planned guest_plan) (at_guest guest_seat) pair.guest) }
+    ensures host { IfOk result (λ pair. IsMade (host_planned host_plan) (at_host host_seat) pair.host) }
+    ensures guest_end { IfOk result (λ pair. (end_at pair.guest).state ≡ guest_end.state) }
+    ensures host_end { IfOk result (λ pair. (end_at pair.host).state ≡ host_end.state) }
+{
+    let guest = GuestWorker::make(alloc, guest_end, guest_seat, guest_plan)?;
+    pair_with(alloc, guest, host_end, host_seat, host_plan)
+}
+
 // Makes the two workers of a new channel, whose plans agree.
 fn make_pair(
     alloc: Global,
@@ -129,9 +191,9 @@ fn make_pair(
     ensures cells { IfOk result (HasCells (512 * pages)) }
 {
     let (guest_end, host_end) = ChannelMem::make(alloc, pages, 0)?;
-    let guest = GuestWorker::make(alloc, guest_end, guest_seat, guest_plan)?;
-    let host = HostWorker::make(alloc, host_end, host_seat, host_plan)?;
-    Ok(Pair { guest, host })
+    pair_over(
+        alloc, guest_end, guest_seat, guest_plan, host_end, host_seat, host_plan,
+    )
 }
 
 // Opens the channel of a service, which the guest serves. No service stops.

@@ -6,6 +6,7 @@ ghost use Rattle.ring_seat.specs.Seats.{new_end};
 
 use crate::check::check;
 use bus_script::Reply;
+use channel_port::{Ended, Turn};
 use contact::Kind;
 use end_work::{GuestPlan, GuestSeat, GuestWorker, HostPlan, HostSeat, HostWorker};
 use hist_lock::HistLock;
@@ -16,7 +17,6 @@ use std::process::Abort;
 use std::sync::Wait;
 use std::thread::join;
 use util_ic::{BeatMachine, IcAsk};
-use worker_core::{Ended, Turn};
 
 // A guest that serves two heartbeats.
 fn guest_of(rt: &(impl Abort + AllocGlobal), end: GuestEnd) -> GuestWorker

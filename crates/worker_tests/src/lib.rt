@@ -2,6 +2,8 @@
 #![tactic(auto)]
 
 #[cfg(test)]
+mod channel_tests;
+#[cfg(test)]
 mod check;
 #[cfg(test)]
 mod echo;
@@ -11,5 +13,3 @@ mod end_work_tests;
 mod phase_run_tests;
 #[cfg(test)]
 mod work_model_tests;
-#[cfg(test)]
-mod worker_core_tests;

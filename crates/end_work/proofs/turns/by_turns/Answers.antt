@@ -1,5 +1,5 @@
 use Rattle.std.proofs.Common.{◌≡◌, ◌∙◌}
-use Rattle.worker_core.proofs.ServeSteps.{on_trans}
+use Rattle.server.proofs.ServeSteps.{on_trans}
 use Rattle.end_work.specs.Seats.{device_place}
 use Rattle.end_work.proofs.Going.{served_on}
 use Rattle.end_work.proofs.turns.by_turns.Goals as goal

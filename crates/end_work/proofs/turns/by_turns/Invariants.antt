@@ -1,6 +1,6 @@
 use Rattle.std.proofs.Common.{◌≡◌}
-use Rattle.worker_core.specs.Asking.{AsksOn}
-use Rattle.worker_core.specs.Serving.{ServesOn}
+use Rattle.requester.specs.Asking.{AsksOn}
+use Rattle.server.specs.Serving.{ServesOn}
 use Rattle.end_work.specs.Seats.{device_place}
 use Rattle.end_work.specs.Leaving.{StandsAsking, StandsServing}
 use Rattle.end_work.proofs.turns.by_turns.Given as goal

@@ -1,0 +1,5 @@
+use Rattle.channel_port.proofs.PortLaws.{new_line}
+use Rattle.channel_port.proofs.port.Port.over.Goals as goal
+
+pub invariant_of-result : goal.invariant_of-result
+invariant_of-result c = new_line c.args.end c.requires.fresh c.requires.size

@@ -1,0 +1,4 @@
+pub mod Rooms
+pub mod Line
+pub mod Owed
+pub mod Causes

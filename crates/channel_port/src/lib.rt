@@ -1,0 +1,12 @@
+//! One end of a channel as a worker uses it: the port over the end, the sheet on which a packet is written, the room that is reserved, and how a worker's
+//! turn goes and ends.
+#![tactic(auto)]
+
+mod ended;
+pub mod laws;
+mod port;
+mod sheet;
+
+pub use ended::{Ended, Turn};
+pub use port::{Looked, Port};
+pub use sheet::Sheet;

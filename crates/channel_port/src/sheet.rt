@@ -1,0 +1,108 @@
+//! A sheet on which a packet is written.
+ghost use Rattle.std.specs.Prelude.{◌≡◌, ◌<◌, ◌≤◌, ◌+◌, ◌*◌, [], ℕ, length, slice_get, Some, IfOk, true, ◌⊎◌};
+ghost use Rattle.chan_talk.specs.Listed.{listed_packet};
+ghost use Rattle.ring_machine.specs.States.{IsPacket};
+ghost use Rattle.channel_port.specs.Owed.{is_nil, FitsReply};
+
+use chan_talk::Talk;
+use std::alloc::{AllocError, Global};
+use std::marker::Model;
+
+// The words of a packet at most.
+const MOST: usize = 384;
+
+/// A packet of at most 384 words, or none. Contracts see its words.
+#[derive(Drop)]
+pub struct Sheet {
+    words: Vec<u64>,
+    len: usize,
+}
+
+impl Model for Sheet {
+    ghost use Rattle.std.specs.Prelude.{List, ℕ, take};
+    ghost use Rattle.channel_port.specs.Owed.{IsSheet};
+
+    ghost Value = { List ℕ };
+
+    ghost view = { λ s. take s.len s.words.items };
+
+    ghost invariant = { λ s. IsSheet s.words.items s.len };
+}
+
+impl Sheet {
+    /// A sheet with no packet. It takes the memory of one of 384 words.
+    pub fn make(alloc: Global) -> Result<Sheet, AllocError>
+        ensures { IfOk result (λ s. s ≡ []) }
+    {
+        let words = Vec::from_elem(alloc, 0, MOST)?;
+        Ok(Sheet { words, len: 0 })
+    }
+
+    /// Whether it has no packet.
+    pub fn is_empty(&self) -> bool
+        ensures { result ≡ is_nil self.now }
+    {
+        self.len == 0
+    }
+
+    /// Takes the packet away.
+    pub fn clear(&mut self)
+        ensures { self.new ≡ [] }
+    {
+        self.len = 0;
+    }
+
+    /// The words of the packet.
+    pub fn packet(&self) -> &[u64]
+        ensures value { result.now ≡ self.now }
+        ensures packet { is_nil self.now ≡ true ⊎ IsPacket result.now }
+        ensures most { length result.now ≤ 384 }
+    {
+        &self.words[..self.len]
+    }
+
+    /// The room in bytes that the packet needs.
+    pub fn need(&self) -> u32
+        requires { IsPacket self.now }
+        ensures value { result ≡ 8 * length self.now + 8 }
+        ensures most { (24 ≤ result) × (result ≤ 3080) }
+    {
+        8 * self.len as u32 + 8
+    }
+
+    /// Writes the k-th request of a talk under an id.
+    pub fn encode<T: Talk>(&mut self, talk: &T, k: u32, id: u64)
+        requires which { k < length (T.asks talk.now) }
+        ensures value { (a : T.Ask) → slice_get (T.asks talk.now) k ≡ Some a → self.new ≡ (T.speech talk.now).encode id a }
+        ensures packet { IsPacket self.new }
+        ensures most { length self.new ≤ 384 }
+    {
+        self.len = talk.encode(k, id, self.words.as_mut_slice());
+    }
+
+    /// Writes what goes back for a packet that asks nothing of the device.
+    pub fn write_fixed<T: Talk>(&mut self, talk: &T, packet: &[u64])
+        requires packet { IsPacket packet.now }
+        ensures { listed_packet self.new ≡ (T.speech talk.now).fixed packet.now }
+    {
+        self.len = talk.write_fixed(packet, self.words.as_mut_slice());
+    }
+
+    /// Writes the message that goes back before the answer.
+    pub fn write_message<T: Talk>(&mut self, talk: &T, packet: &[u64], reply: &T::Reply, back: u64)
+        requires packet { IsPacket packet.now }
+        requires fits { FitsReply (T.speech talk.now) packet.now reply.now }
+        ensures { self.new ≡ T.message talk.now packet.now reply.now back }
+    {
+        self.len = talk.write_message(packet, reply, back, self.words.as_mut_slice());
+    }
+
+    /// Writes the answer with the device's reply.
+    pub fn write_answer<T: Talk>(&mut self, talk: &T, packet: &[u64], reply: &T::Reply)
+        requires packet { IsPacket packet.now }
+        requires fits { FitsReply (T.speech talk.now) packet.now reply.now }
+        ensures { self.new ≡ T.answer talk.now packet.now reply.now }
+    {
+        self.len = talk.write_answer(packet, reply, self.words.as_mut_slice());
+    }
+}

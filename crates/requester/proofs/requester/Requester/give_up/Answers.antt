@@ -1,0 +1,39 @@
+use Rattle.std.proofs.Common.{ap, sym, ◌∙◌, length, subst}
+use Rattle.chan_run.specs.Runs.{is_drained, has_marked, has_seen}
+use Rattle.chan_run.proofs.Pasts.{drained_seen}
+use Rattle.requester.proofs.AskSteps.{marks_drained}
+use Rattle.channel_port.proofs.RoomLaws.{sent_marked}
+use Rattle.requester.specs.Asking.{IsPaced}
+use Rattle.requester.proofs.requester.Requester.give_up.Goals as goal
+
+pub returns-clause-ends : goal.returns-clause-ends
+returns-clause-ends g c =
+    let v = c.self.view_is in
+    let l = c.self.invariant (ap (λ w. w.end.state.machine.marked) v ∙ c.requires.ready.unmarked) in
+    let drained = ap (λ w. is_drained w.end.state.past) v ∙ c.requires.drained in (
+      marks_drained (g.T.Talk.speech c.self.inside.talk) (g.T.Talk.keeps c.self.inside.talk) (g.T.Talk.answers c.self.inside.talk) (g.T.Talk.asks c.self.inside.talk) (record {
+        talk = c.self.inside.talk;
+        end = c.self.inside.port;
+        table = c.self.inside.table;
+        next = c.self.inside.next;
+        waiting = c.self.inside.waiting;
+        told = c.self.inside.replies.items;
+        starts = c.self.inside.starts;
+        seen = c.self.inside.seen;
+        hold = c.self.inside.hold;
+        relid = c.self.inside.relid;
+      }) _ c.mark.ensures.past drained c.mark.ensures.first l.live,
+      ap has_marked c.mark.ensures.past,
+      ap has_seen c.mark.ensures.past ∙ drained_seen c.self.inside.port.state.past drained,
+    )
+
+pub returns-clause-sent : goal.returns-clause-sent
+returns-clause-sent g c =
+    let v = c.self.view_is in
+    let l = c.self.invariant (ap (λ w. w.end.state.machine.marked) v ∙ c.requires.ready.unmarked) in
+    sent_marked (length (g.T.Talk.asks c.self.inside.talk)) c.self.inside.next _ _ c.mark.ensures.past l.live.within l.room
+
+pub returns-clause-paced : goal.returns-clause-paced
+returns-clause-paced g c =
+    let l = c.self.invariant (ap (λ w. w.end.state.machine.marked) c.self.view_is ∙ c.requires.ready.unmarked) in
+    subst (IsPaced (g.T.Talk.speech c.self.inside.talk) c.self.inside.starts (g.T.Talk.asks c.self.inside.talk)) (sym c.mark.ensures.past) l.live.paced

@@ -1,0 +1,33 @@
+-- Why a turn of the asking worker moved, or left the end asleep: what the turn itself did.
+use Rattle.std.specs.Prelude.{ℕ, ◌≡◌, ◌⊎◌, true, false, List, ◌∷◌}
+use Rattle.chan_run.specs.declared.event.Event.{Event}
+use Rattle.chan_run.specs.declared.event.Event.TheVariants.{Empty}
+use Rattle.ring_core.specs.Seen.{Seen}
+use Rattle.ring_seat.specs.declared.table_seat.TableSeat.{TableSeat}
+use Rattle.channel_port.specs.Causes.{FellAsleep, FoundWork, HasSent, HasTaken, Polls}
+use Rattle.channel_port.specs.declared.ended.Turn.{Turn}
+use Rattle.channel_port.specs.declared.ended.Turn.TheVariants.{Moved, Idle, Ended as TurnEnded}
+use Rattle.requester.specs.declared.requester.Asked.{Asked}
+use Rattle.requester.specs.declared.requester.Asked.TheVariants.{Sent as AskedSent, Held as AskedHeld}
+
+-- the next request was sent after this past, or nothing was done
+abbrev pub AsksOne : Asked → List (Event (List ℕ)) → Seen TableSeat → Type 0
+AsksOne AskedSent before e = HasSent before e
+AsksOne (AskedHeld hold) before e = e.state.past ≡ before
+
+-- a turn that sends the next request after this past, or arms
+abbrev pub AsksOrArms : Turn → List (Event (List ℕ)) → Seen TableSeat → Type 0
+AsksOrArms Moved before e = HasSent before e ⊎ FoundWork before e
+AsksOrArms Idle before e = FellAsleep before e
+AsksOrArms (TurnEnded how) before e = ⊥
+
+-- a turn of the asking worker, awake, after this past: it took a packet; or none came, and it sent the next request, or armed
+abbrev pub AskerActs : Turn → List (Event (List ℕ)) → Seen TableSeat → Type 0
+AskerActs Moved before e = HasTaken before e ⊎ AsksOrArms Moved (Empty ∷ before) e
+AskerActs Idle before e = AsksOrArms Idle (Empty ∷ before) e
+AskerActs (TurnEnded how) before e = Unit {0}
+
+-- why a turn of the asking worker went so: where the end was asleep, the exchange of its signal; where it was awake, what it did
+pub record AskCause (turn : Turn) (old new : Seen TableSeat) : Type 0 where
+  pub asleep : old.state.machine.asleep ≡ true → Polls turn old new
+  pub awake : old.state.machine.asleep ≡ false → AskerActs turn old.state.past new

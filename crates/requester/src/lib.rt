@@ -1,0 +1,7 @@
+//! The worker of the end of a channel that asks, for every kind of device.
+#![tactic(auto)]
+
+mod requester;
+mod settle;
+
+pub use requester::{Hold, Requester, RequesterDone};

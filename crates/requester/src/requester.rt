@@ -1,0 +1,516 @@
+//! The worker of the end that asks.
+ghost use Rattle.std.specs.Prelude.{◌≡◌, ◌<◌, ◌≤◌, ◌+◌, [], ◌∷◌, ℕ, length, replicate, slice_get, All, IsSome, Some, None, true, false, IfOk, count_by, is_some};
+ghost use Rattle.chan_run.specs.Runs.{got_of, is_drained};
+ghost use Rattle.ring_seat.specs.Seats.{new_end};
+ghost use Rattle.ring_seat.specs.Settling.{IsSameEnd};
+ghost use Rattle.work_model.specs.Channel.{AskerBreaks};
+ghost use Rattle.channel_port.specs.declared.ended.Ended.TheVariants.{Marked as MarkedEnd, PeerMarked as PeerMarkedEnd, Room as RoomEnd};
+ghost use Rattle.channel_port.specs.Causes.{Arms, Polls};
+ghost use Rattle.requester.specs.Causes.{AskCause, AskerActs, AsksOne, AsksOrArms};
+ghost use Rattle.channel_port.specs.Line.{IsReady, HasTakeRoom, LacksTake, TookOne};
+ghost use Rattle.requester.specs.Asking.{AsksBy, AskTurns, IsPaced, AskLacks, AsksOn, AskEnds, Holds, HasSettled, HasNone, waits_under, want_by, AskedBy};
+ghost use Rattle.channel_port.specs.Rooms.{CameOver, HasReserved, LacksFor, SentAtMost};
+
+use crate::settle::settle;
+use chan_talk::Talk;
+use channel_port::{Ended, Looked, Port, Sheet, Turn};
+use io_edge::{Gate, Side};
+use ring_core::{End, Room};
+use ring_seat::TableSeat;
+use std::alloc::{AllocError, Global};
+use std::marker::Model;
+use std::sync::Wait;
+use txn_table::TxnTable;
+
+/// Why nothing more is sent.
+#[derive(Clone, Copy, Debug, PartialEq, Eq)]
+pub enum Hold {
+    /// All was sent.
+    Done,
+    /// No id is free.
+    Place,
+    /// An answer of the start-up is missing.
+    Answer,
+    /// The next packet needs so many bytes of room.
+    Room { need: u32 },
+}
+
+// What became of the next request.
+#[derive(Clone, Copy)]
+enum Asked {
+    Sent,
+    Held(Hold),
+}
+
+/// The worker of the end that asks: it asks all that its talk has to ask, in order, and reads the replies.
+#[derive(Drop)]
+pub struct Requester<T: Talk> {
+    talk: T,
+    port: Port,
+    table: TxnTable<u32>,
+    next: u32,
+    waiting: Option<u64>,
+    replies: Vec<T::Reply>,
+    starts: u32,
+    seen: bool,
+    hold: Hold,
+    sheet: Sheet,
+    rescinded: Vec<u32>,
+    // Whether the next request passed the gate.
+    passed: bool,
+    side: Side,
+    relid: u32,
+}
+
+impl<T: Talk> Model for Requester<T> {
+    ghost use Rattle.std.specs.Prelude.{◌≡◌, ◌≤◌, ◌+◌, ◌-◌, false, length, count_by, is_some, vec_len, vec_capacity};
+    ghost use Rattle.requester.specs.Asking.{Asking, IsAsking, pending};
+    ghost use Rattle.channel_port.specs.Rooms.{AsksInRoom};
+
+    ghost Value = { Asking T T.Reply };
+
+    ghost view = { λ w. record { talk = w.talk; end = w.port; table = w.table; next = w.next; waiting = w.waiting; told = w.replies.items; starts = w.starts; seen = w.seen; hold = w.hold; relid = w.relid } };
+
+    ghost invariant = { λ w. w.port.state.machine.marked ≡ false → record { live : IsAsking (T.speech w.talk) (T.asks w.talk) (record { talk = w.talk; end = w.port; table = w.table; next = w.next; waiting = w.waiting; told = w.replies.items; starts = w.starts; seen = w.seen; hold = w.hold; relid = w.relid }); replies : vec_len w.replies + count_by is_some w.table + (length (T.asks w.talk) - w.next) ≤ vec_capacity w.replies + pending w.waiting; spare : vec_len w.rescinded + length w.table ≤ vec_capacity w.rescinded; size : length w.table ≤ 64; room : AsksInRoom (length (T.asks w.talk)) w.next w.port; side : w.side ≡ w.port.state.machine.side } };
+}
+
+/// What an asking worker gives once it has ended.
+#[derive(Drop)]
+pub struct RequesterDone<T: Talk> {
+    pub end: End<TableSeat>,
+    pub ended: Ended,
+    /// The replies to the requests of the script, in order.
+    pub replies: Vec<T::Reply>,
+}
+
+impl<T: Talk> Requester<T> {
+    // Takes a packet, if one waits, and settles the request that it answers. An answer to the request that isn't sent yet is dropped.
+    fn take_one(&mut self) -> bool
+        requires ready { IsReady self.old.end }
+        requires room { HasTakeRoom self.old.end }
+        ensures took { TookOne result self.old.end.state self.new.end.state }
+        ensures drained { result ≡ false → self.old.seen ≡ true → is_drained self.new.end.state.past ≡ true }
+        ensures seen { self.new.seen ≡ self.old.seen }
+        ensures ready { IsReady self.new.end }
+        ensures on { AsksOn self.old self.new }
+    {
+        if !self.port.take() {
+            return false;
+        }
+        let id = self.talk.id(self.port.last());
+        if is_waiting_under(self.waiting, id) {
+            return true;
+        }
+        settle(
+            &self.talk,
+            &mut self.table,
+            &mut self.replies,
+            self.port.last(),
+        );
+        true
+    }
+
+    // Gives the next request a free id.
+    fn accept(&mut self) -> bool
+        requires ready { IsReady self.old.end }
+        requires next { self.old.next < length (T.asks self.old.talk) }
+        requires none { self.old.waiting ≡ None }
+        requires alone { self.old.next ≤ self.old.starts → count_by is_some self.old.table ≡ 0 }
+        requires answers { (a : T.Ask) → slice_get (T.asks self.old.talk) self.old.next ≡ Some a → (T.speech self.old.talk).has_answer a ≡ true }
+        ensures next { (self.new.next ≡ self.old.next) × (self.new.end ≡ self.old.end) × (self.new.seen ≡ self.old.seen) }
+        ensures waits { result ≡ true → (id : ℕ) × (self.new.waiting ≡ Some id) }
+        ensures full { result ≡ false → (self.new.waiting ≡ None) × All IsSome self.new.table }
+        ensures on { AsksOn self.old self.new }
+    {
+        match self.table.accept(self.next) {
+            Ok(id) => {
+                self.waiting = Some(id);
+                true
+            }
+            Err(_) => false,
+        }
+    }
+
+    // Sends the next request, which stands under this id.
+    fn send_waiting(&mut self, id: u64) -> Asked
+        requires ready { IsReady self.old.end }
+        requires next { self.old.next < length (T.asks self.old.talk) }
+        requires waits { self.old.waiting ≡ Some id }
+        requires unseen { self.old.seen ≡ false }
+        ensures asked { AskedBy (T.speech self.new.talk) (T.asks self.new.talk) result self.new }
+        ensures cause { AsksOne result self.old.end.state.past self.new.end }
+        ensures ready { IsReady self.new.end }
+        ensures on { AsksOn self.old self.new }
+    {
+        let count = self.talk.count();
+        prove!(self.next < count);
+        self.sheet.encode(&self.talk, self.next, id);
+        if !self.port.send(self.sheet.packet()) {
+            return Asked::Held(Hold::Room {
+                need: self.sheet.need(),
+            });
+        }
+        self.next += 1;
+        self.waiting = None;
+        self.passed = false;
+        Asked::Sent
+    }
+
+    // Sends the next request, which has no answer.
+    fn tell(&mut self) -> Asked
+        requires ready { IsReady self.old.end }
+        requires next { self.old.next < length (T.asks self.old.talk) }
+        requires none { self.old.waiting ≡ None }
+        requires alone { self.old.next ≤ self.old.starts → count_by is_some self.old.table ≡ 0 }
+        requires unseen { self.old.seen ≡ false }
+        requires answers { (a : T.Ask) → slice_get (T.asks self.old.talk) self.old.next ≡ Some a → (T.speech self.old.talk).has_answer a ≡ false }
+        ensures asked { AskedBy (T.speech self.new.talk) (T.asks self.new.talk) result self.new }
+        ensures cause { AsksOne result self.old.end.state.past self.new.end }
+        ensures ready { IsReady self.new.end }
+        ensures on { AsksOn self.old self.new }
+    {
+        let count = self.talk.count();
+        prove!(self.next < count);
+        self.sheet.encode(&self.talk, self.next, 0);
+        if !self.port.send(self.sheet.packet()) {
+            return Asked::Held(Hold::Room {
+                need: self.sheet.need(),
+            });
+        }
+        self.next += 1;
+        self.passed = false;
+        Asked::Sent
+    }
+
+    // Whether there is more to ask.
+    fn has_more(&self) -> bool
+        requires unmarked { self.now.end.state.machine.marked ≡ false }
+        ensures more { result ≡ true → self.now.next < length (T.asks self.now.talk) }
+        ensures done { result ≡ false → self.now.next ≡ length (T.asks self.now.talk) }
+    {
+        self.next < self.talk.count()
+    }
+
+    // Passes the gate before the next request, if it is one of the script and didn't yet.
+    fn pass<G: Gate>(&mut self, gate: &G)
+        ensures { self.new ≡ self.old }
+    {
+        if self.passed || self.next < self.starts {
+            return;
+        }
+        self.passed = true;
+        let number = (self.next - self.starts).wrapping_add(1);
+        gate.pass(self.side, self.relid, number);
+    }
+
+    // Asks the next request. One of the start-up, and the first one of the script, waits while an answer of the start-up is missing.
+    fn ask<G: Gate>(&mut self, gate: &G) -> Asked
+        requires ready { IsReady self.old.end }
+        requires unseen { self.old.seen ≡ false }
+        ensures asked { AskedBy (T.speech self.new.talk) (T.asks self.new.talk) result self.new }
+        ensures cause { AsksOne result self.old.end.state.past self.new.end }
+        ensures ready { IsReady self.new.end }
+        ensures on { AsksOn self.old self.new }
+    {
+        if !self.has_more() {
+            return Asked::Held(Hold::Done);
+        }
+        if let Some(id) = self.waiting {
+            return self.send_waiting(id);
+        }
+        if self.next <= self.starts && self.table.count() > 0 {
+            return Asked::Held(Hold::Answer);
+        }
+        if !self.talk.has_answer(self.next) {
+            self.pass(gate);
+            return self.tell();
+        }
+        if !self.accept() {
+            return Asked::Held(Hold::Place);
+        }
+        self.pass(gate);
+        match self.waiting {
+            Some(id) => self.send_waiting(id),
+            None => unreachable!(),
+        }
+    }
+
+    // Arms for the room that the next packet needs, and sleeps where nothing is to be done.
+    fn rest(&mut self, hold: Hold) -> Turn
+        requires ready { IsReady self.old.end }
+        requires holds { Holds (T.speech self.old.talk) (T.asks self.old.talk) hold self.old }
+        ensures turns { AskTurns (T.speech self.new.talk) (T.asks self.new.talk) result self.new }
+        ensures cause { Arms result self.old.end.state.past self.new.end }
+        ensures on { AsksOn self.old self.new }
+    {
+        self.hold = hold;
+        match self.port.arm(want_for(hold)) {
+            Looked::Nothing => Turn::Idle,
+            Looked::Work => Turn::Moved,
+            Looked::Mark => {
+                self.seen = true;
+                Turn::Moved
+            }
+        }
+    }
+
+    // Whether all was asked and answered.
+    fn is_settled(&self) -> bool
+        ensures { result ≡ true → HasSettled (T.asks self.now.talk) self.now }
+    {
+        self.next == self.talk.count() && self.table.count() == 0
+    }
+
+    // Ends with all settled.
+    fn finish(&mut self)
+        requires ready { IsReady self.old.end }
+        requires settled { HasSettled (T.asks self.old.talk) self.old }
+        requires unseen { self.old.seen ≡ false }
+        ensures ends { AsksBy (T.speech self.new.talk) MarkedEnd (T.asks self.new.talk) self.new.end.state.past self.new.told }
+        ensures none { HasNone self.new.table }
+        ensures sent { SentAtMost (length (T.asks self.new.talk)) self.new.end.state.past }
+        ensures paced { IsPaced (T.speech self.new.talk) self.new.starts (T.asks self.new.talk) self.new.end.state.past }
+        ensures on { AsksOn self.old self.new }
+    {
+        self.port.mark();
+    }
+
+    // Closes what is open, and ends after the other end.
+    fn give_up(&mut self)
+        requires ready { IsReady self.old.end }
+        requires drained { is_drained self.old.end.state.past ≡ true }
+        ensures ends { AsksBy (T.speech self.new.talk) PeerMarkedEnd (T.asks self.new.talk) self.new.end.state.past self.new.told }
+        ensures none { HasNone self.new.table }
+        ensures sent { SentAtMost (length (T.asks self.new.talk)) self.new.end.state.past }
+        ensures paced { IsPaced (T.speech self.new.talk) self.new.starts (T.asks self.new.talk) self.new.end.state.past }
+        ensures on { AsksOn self.old self.new }
+    {
+        self.table.rescind_all(&mut self.rescinded);
+        self.port.mark();
+    }
+
+    // A worker that lacks room gives what it has.
+    fn broken(&self, packets: u64, words: u64) -> Ended
+        requires unmarked { self.now.end.state.machine.marked ≡ false }
+        requires list { got_of self.now.end.state.past ≡ self.now.end.state.got }
+        requires lacks { LacksTake packets words self.now.end }
+        ensures room { result ≡ RoomEnd packets words 0 }
+        ensures breaks { AskerBreaks (T.speech self.now.talk) (T.asks self.now.talk) self.now.end.state.past self.now.told }
+        ensures reserved { HasReserved (length (T.asks self.now.talk)) self.now.end }
+        ensures over { CameOver (length (T.asks self.now.talk)) self.now.end.state.past }
+        ensures sent { SentAtMost (length (T.asks self.now.talk)) self.now.end.state.past }
+        ensures paced { IsPaced (T.speech self.now.talk) self.now.starts (T.asks self.now.talk) self.now.end.state.past }
+    {
+        let _ = &self.next;
+        Ended::Room {
+            packets,
+            words,
+            left: 0,
+        }
+    }
+
+    // Asks, or rests.
+    fn ask_or_rest<G: Gate>(&mut self, gate: &G) -> Turn
+        requires ready { IsReady self.old.end }
+        requires unseen { self.old.seen ≡ false }
+        ensures turns { AskTurns (T.speech self.new.talk) (T.asks self.new.talk) result self.new }
+        ensures cause { AsksOrArms result self.old.end.state.past self.new.end }
+        ensures on { AsksOn self.old self.new }
+    {
+        match self.ask(gate) {
+            Asked::Sent => Turn::Moved,
+            Asked::Held(hold) => self.rest(hold),
+        }
+    }
+
+    // A turn of an end that is awake: it takes what comes. Where nothing comes once the other end's mark was seen it gives up, with all settled it
+    // ends, and else it asks the next request or rests.
+    fn work<G: Gate>(&mut self, gate: &G) -> Turn
+        requires ready { IsReady self.old.end }
+        ensures turns { AskTurns (T.speech self.new.talk) (T.asks self.new.talk) result self.new }
+        ensures cause { AskerActs result self.old.end.state.past self.new.end }
+        ensures on { AsksOn self.old self.new }
+    {
+        if let Some(room) = self.port.lacks_take() {
+            return Turn::Ended(self.broken(room.packets, room.words));
+        }
+        let seen = self.seen;
+        if self.take_one() {
+            return Turn::Moved;
+        }
+        if seen {
+            self.give_up();
+            return Turn::Ended(Ended::PeerMarked);
+        }
+        if self.is_settled() {
+            self.finish();
+            return Turn::Ended(Ended::Marked);
+        }
+        self.ask_or_rest(gate)
+    }
+
+    // A turn of an end that is asleep.
+    fn doze(&mut self) -> Turn
+        requires asleep { self.old.end.state.machine.asleep ≡ true }
+        requires unmarked { self.old.end.state.machine.marked ≡ false }
+        ensures turns { AskTurns (T.speech self.new.talk) (T.asks self.new.talk) result self.new }
+        ensures cause { Polls result self.old.end self.new.end }
+        ensures on { AsksOn self.old self.new }
+    {
+        if self.port.poll() {
+            return Turn::Moved;
+        }
+        Turn::Idle
+    }
+
+    /// A worker over a new end, that has at most `window` requests open. It takes all its memory here.
+    pub fn make(
+        alloc: Global,
+        talk: T,
+        end: End<TableSeat>,
+        side: Side,
+        relid: u32,
+        window: u32,
+    ) -> Result<Requester<T>, AllocError>
+        requires window { (1 ≤ window) × (window ≤ 64) }
+        requires fresh { end.state ≡ new_end end.state.machine.cells end.state.machine.side }
+        requires size { (512 ≤ end.state.machine.cells) × (end.state.machine.cells ≤ 8192) }
+        requires side { side ≡ end.state.machine.side }
+        ensures talk { IfOk result (λ w. w.talk ≡ talk) }
+        ensures relid { IfOk result (λ w. w.relid ≡ relid) }
+        ensures starts { IfOk result (λ w. w.starts ≡ T.starts talk) }
+        ensures window { IfOk result (λ w. length w.table ≡ window) }
+        ensures end { IfOk result (λ w. (w.end.state ≡ end.state) × (w.end.seat ≡ end.seat)) }
+    {
+        let mut port = Port::over(end);
+        let count = talk.count() as u64;
+        let cells = port.cells() as u64;
+        port.reserve(
+            Room {
+                packets: count,
+                words: 384 * count,
+            },
+            Room {
+                packets: count + 1,
+                words: 384 * count + cells,
+            },
+        )?;
+        let table = TxnTable::make(alloc, window)?;
+        let replies = Vec::with_capacity(alloc, count as usize)?;
+        let rescinded = Vec::with_capacity(alloc, 64)?;
+        let sheet = Sheet::make(alloc)?;
+        let starts = talk.starts();
+        Ok(Requester {
+            talk,
+            port,
+            table,
+            next: 0,
+            waiting: None,
+            replies,
+            starts,
+            seen: false,
+            hold: Hold::Done,
+            sheet,
+            rescinded,
+            passed: false,
+            side,
+            relid,
+        })
+    }
+
+    /// A turn: an end that is asleep polls its signal. Otherwise the worker takes a packet, asks the next request, ends, or rests.
+    pub fn turn<R: Wait, G: Gate>(&mut self, _rt: &R, gate: &G) -> Turn
+        requires unmarked { self.old.end.state.machine.marked ≡ false }
+        ensures turns { AskTurns (T.speech self.new.talk) (T.asks self.new.talk) result self.new }
+        ensures cause { AskCause result self.old.end self.new.end }
+        ensures room { AskEnds (T.speech self.new.talk) self.new.starts (T.asks self.new.talk) result self.new.end.state.past }
+        ensures on { AsksOn self.old self.new }
+    {
+        if self.port.is_asleep() {
+            return self.doze();
+        }
+        self.work(gate)
+    }
+
+    // Sleeps until the signal was up.
+    fn sleep<R: Wait>(&mut self, rt: &R)
+        requires asleep { self.old.end.state.machine.asleep ≡ true }
+        requires unmarked { self.old.end.state.machine.marked ≡ false }
+        ensures unmarked { self.new.end.state.machine.marked ≡ false }
+        ensures on { AsksOn self.old self.new }
+    {
+        self.port.sleep(rt);
+    }
+
+    /// Gives what it did, once it has ended.
+    pub fn done(self, ended: Ended) -> RequesterDone<T>
+        requires { AsksBy (T.speech self.talk) ended (T.asks self.talk) self.end.state.past self.told }
+        ensures ends { AsksBy (T.speech self.talk) result.ended (T.asks self.talk) result.end.state.past result.replies.items }
+        ensures same { (result.ended ≡ ended) × (result.end ≡ self.end) }
+    {
+        let Requester {
+            talk,
+            port,
+            table,
+            next: _,
+            waiting: _,
+            replies,
+            starts: _,
+            seen: _,
+            hold: _,
+            sheet,
+            rescinded,
+            passed: _,
+            side: _,
+            relid: _,
+        } = self;
+        drop(talk);
+        drop(table);
+        drop(sheet);
+        drop(rescinded);
+        RequesterDone {
+            end: port.into_end(),
+            ended,
+            replies,
+        }
+    }
+
+    /// Takes turns, and sleeps after a turn that found nothing to do, until the worker has ended.
+    pub fn run<R: Wait, G: Gate>(mut self, rt: &R, gate: &G) -> RequesterDone<T>
+        requires unmarked { self.end.state.machine.marked ≡ false }
+        ensures ends { AsksBy (T.speech self.talk) result.ended (T.asks self.talk) result.end.state.past result.replies.items }
+        ensures end { IsSameEnd self.end result.end }
+        ensures sent { SentAtMost (length (T.asks self.talk)) result.end.state.past }
+        ensures room { LacksFor (length (T.asks self.talk)) result.ended result.end.state.past }
+        ensures paced { IsPaced (T.speech self.talk) self.starts (T.asks self.talk) result.end.state.past }
+    {
+        for _ in rt.forever() {
+            match self.turn(rt, gate) {
+                Turn::Moved => {}
+                Turn::Idle => self.sleep(rt),
+                Turn::Ended(ended) => return self.done(ended),
+            }
+        }
+        unreachable!()
+    }
+}
+
+// Whether the next request waits under this id.
+fn is_waiting_under(waiting: Option<u64>, id: u64) -> bool
+    ensures { result ≡ waits_under waiting id }
+{
+    match waiting {
+        None => false,
+        Some(w) => w == id,
+    }
+}
+
+// The room in bytes for which an arm waits.
+fn want_for(hold: Hold) -> Option<u32>
+    ensures { result ≡ want_by hold }
+{
+    match hold {
+        Hold::Room { need } => Some(need),
+        Hold::Done | Hold::Place | Hold::Answer => None,
+    }
+}

@@ -1,0 +1,394 @@
+-- The serving worker's steps keep what it keeps.
+use Rattle.std.proofs.Common.{◌≡◌, ℕ, ◌+◌, ◌≤◌, List, [], ◌∷◌, ◌++◌, length, filter, drop, refl, sym, ap, ◌∙◌, subst, arith, Option, Some, None, is_some, Bool, true, false, inl, inr, ◌⊎◌, length-append}
+use Rattle.std.specs.Prelude.{◌&&◌, ◌||◌, ◌<◌, ◌==◌, not, zero, suc, take, if◌then◌else◌, slice_get}
+use Rattle.std.specs.Option.{option_map_or}
+use Rattle.std.proofs.lemmas.List.{append-nil, drop-append-le, drop_all, drop_more, take-append-le, take-append-drop, take_all, take_more}
+use Rattle.std.proofs.lemmas.List.Elements.{filter-append}
+use Rattle.std.proofs.lemmas.Option.{get_or_from_slice_get, slice_get_within}
+use Rattle.std.proofs.lemmas.Bool.Decides.{nat_tests}
+use Rattle.chan_run.specs.declared.event.Event.{Event}
+use Rattle.chan_run.specs.declared.event.Event.TheVariants.{Sent, Got, Empty, Marked}
+use Rattle.chan_run.specs.Runs.{sent_of, got_of, has_marked, has_seen, is_drained}
+use Rattle.chan_run.specs.Laws.{Follows}
+use Rattle.chan_run.proofs.Pasts.{drained_seen, follows_unmarked}
+use Rattle.hist_lock.specs.Seat.{Call}
+use Rattle.ring_core.specs.Seen.{Seen}
+use Rattle.ring_seat.specs.declared.table_seat.TableSeat.{TableSeat}
+use Rattle.work_model.specs.Speech.{Speech, Keeps}
+use Rattle.work_model.specs.Server.{Serves, ServesOne, ServesAsk}
+use Rattle.work_model.specs.Channel.{Plan, count_of, held_of, ServerStops, ServerEnds, ServerBreaks}
+use Rattle.work_model.specs.Workers.{ServerKept}
+use Rattle.work_model.proofs.Opens.{by_test, filter_yes, filter_no}
+use Rattle.work_model.proofs.Counts.{calls_left}
+use Rattle.work_model.proofs.Serving.{server_took, server_served, server_passed, server_gave, server_quiet, server_new, server_ends, server_follows, server_breaks}
+use Rattle.channel_port.specs.Line.{SleepsFor}
+use Rattle.channel_port.specs.Owed.{is_nil, need_of, MetFull}
+use Rattle.channel_port.specs.Rooms.{SentAtMost, AskedOver, ServeLacksFor}
+use Rattle.server.specs.Serving.{Desk, Serving, IsServing, Rests, ServesPacket, Orders, EndsAll, BreaksOff, CallsEach, AnswersAll, LetsGo, EndsBy, LeavesOff, LacksRoom, ServesOn, has_served, is_asked, lacks_call, marked_by}
+use Rattle.channel_port.specs.declared.ended.Ended.{Ended}
+use Rattle.channel_port.specs.declared.ended.Ended.TheVariants.{Marked as EndedMarked, PeerMarked, Room}
+
+not_both : {X : Type 0} (b : Bool) → b ≡ false → b ≡ true → X
+not_both b e f = absurd (cc)
+
+pub on_either : {X Y Z W : Type 0} → (X → Z) → (Y → W) → X ⊎ Y → Z ⊎ W
+on_either f g (inl x) = inl (f x)
+on_either f g (inr y) = inr (g y)
+
+-- the end that met Full has done nothing since of which the room that it found tells
+pub full_still : (owed : List (List ℕ)) (old new : Seen TableSeat) → (new.state.machine.room ≡ old.state.machine.room) × (new.state.machine.words ≡ old.state.machine.words) → MetFull owed old → MetFull owed new
+full_still owed old new same full = record { packet = full.packet; rest = full.rest; first = full.first; room = omega (arith, full.room, same.0); words = same.1 ∙ full.words }
+
+module _ {T S A Q R : Type 0} (s : Speech (List ℕ) A Q R) (keeps : Keeps s) (w : Serving T S Q R) where
+  waited_more : (p : List ℕ) (got : List (List ℕ)) → length (filter s.waits (filter s.is_request (got ++ p ∷ []))) ≡ length (filter s.waits (filter s.is_request got)) + (if s.is_request p && s.waits p then 1 else 0)
+  waited_more p got =
+      by_test (s.is_request p)
+      (λ e. ap (λ l. length (filter s.waits l)) (filter_yes s.is_request got p e)
+      ∙ by_test (s.waits p)
+      (λ f. ap length (filter_yes s.waits (filter s.is_request got) p f) ∙ (length-append (filter s.waits (filter s.is_request got)) (p ∷ [])
+      ∙ (ap (λ b. length (filter s.waits (filter s.is_request got)) + (if b && true then 1 else 0)) (sym e)
+      ∙ ap (λ b. length (filter s.waits (filter s.is_request got)) + (if s.is_request p && b then 1 else 0)) (sym f))))
+      (λ f. ap length (filter_no s.waits (filter s.is_request got) p f) ∙ (omega arith
+      ∙ (ap (λ b. length (filter s.waits (filter s.is_request got)) + (if b && false then 1 else 0)) (sym e)
+      ∙ ap (λ b. length (filter s.waits (filter s.is_request got)) + (if s.is_request p && b then 1 else 0)) (sym f)))))
+      (λ e. ap (λ l. length (filter s.waits l)) (filter_no s.is_request got p e) ∙ (omega arith ∙ ap (λ b. length (filter s.waits (filter s.is_request got)) + (if b && s.waits p then 1 else 0)) (sym e)))
+
+  -- a packet was taken
+  pub took_kept : (end' : Seen TableSeat) (missing' : ℕ) (p : List ℕ) → end'.state.past ≡ Got p ∷ w.end.state.past → end'.state.got ≡ w.end.state.got ++ p ∷ [] → end'.state.machine.asleep ≡ false
+      → w.missing ≤ missing' + (if s.is_request p && s.waits p then 1 else 0) → IsServing s w → IsServing s (record w { end = end'; missing = missing' })
+  took_kept end' missing' p is more awake less h =
+      let got = w.end.state.got in
+      let rest : drop w.served end'.state.got ≡ drop w.served got ++ p ∷ [] = ap (drop w.served) more ∙ drop-append-le w.served got (p ∷ []) h.within in
+      let k = server_took s keeps w.desk.held w.serve w.end.state.past w.desk.calls w.desk.owed w.desk.left (drop w.served got) p h.kept in
+      record {
+        kept = subst (λ l. ServerKept s w.desk.held w.serve l w.desk.calls w.desk.owed w.desk.left (drop w.served end'.state.got)) (sym is)
+            (subst (λ l. ServerKept s w.desk.held w.serve (Got p ∷ w.end.state.past) w.desk.calls w.desk.owed w.desk.left l) (sym rest) k);
+        within = omega (arith, h.within, ap length more, length-append got (p ∷ []));
+        started = omega (arith, h.started, less, waited_more p (got_of w.end.state.past), ap (λ l. length (filter s.waits (filter s.is_request (got_of l)))) is);
+        saw = ap has_seen is ∙ h.saw;
+        rests = λ e. not_both end'.state.machine.asleep awake e;
+        each = λ go. ap (λ l. length (filter (is_asked s) l)) (ap (take w.served) more ∙ take-append-le w.served got (p ∷ []) h.within) ∙ h.each go;
+      }
+
+  -- nothing was sent or got
+  pub quiet_kept : (end' : Seen TableSeat) (seen' : Bool) (want' : Option ℕ) (e : Event (List ℕ)) → end'.state.past ≡ e ∷ w.end.state.past → sent_of (e ∷ w.end.state.past) ≡ sent_of w.end.state.past
+      → got_of (e ∷ w.end.state.past) ≡ got_of w.end.state.past → end'.state.got ≡ w.end.state.got → end'.state.machine.asleep ≡ false → has_seen (e ∷ w.end.state.past) ≡ seen'
+      → IsServing s w → IsServing s (record w { end = end'; seen = seen'; want = want' })
+  quiet_kept end' seen' want' e is same same' got awake saw h =
+      let k = server_quiet s keeps w.desk.held w.serve w.end.state.past e w.desk.calls w.desk.owed w.desk.left (drop w.served w.end.state.got) same same' h.kept in
+      record {
+        kept = subst (λ l. ServerKept s w.desk.held w.serve l w.desk.calls w.desk.owed w.desk.left (drop w.served end'.state.got)) (sym is)
+            (subst (λ l. ServerKept s w.desk.held w.serve (e ∷ w.end.state.past) w.desk.calls w.desk.owed w.desk.left (drop w.served l)) (sym got) k);
+        within = omega (arith, h.within, ap length got);
+        started = omega (arith, h.started, ap (λ l. length (filter s.waits (filter s.is_request (got_of l)))) is, ap (λ l. length (filter s.waits (filter s.is_request l))) same');
+        saw = ap has_seen is ∙ saw;
+        rests = λ b. not_both end'.state.machine.asleep awake b;
+        each = λ go. ap (λ l. length (filter (is_asked s) (take w.served l))) got ∙ h.each go;
+      }
+
+  -- nothing was done that the peer sees
+  pub still_kept : (end' : Seen TableSeat) (want' : Option ℕ) → end'.state.past ≡ w.end.state.past → end'.state.got ≡ w.end.state.got
+      → (end'.state.machine.asleep ≡ true → Rests (record w { end = end'; want = want' })) → IsServing s w → IsServing s (record w { end = end'; want = want' })
+  still_kept end' want' is got rests h =
+      record {
+        kept = subst (λ l. ServerKept s w.desk.held w.serve l w.desk.calls w.desk.owed w.desk.left (drop w.served end'.state.got)) (sym is)
+            (subst (λ l. ServerKept s w.desk.held w.serve w.end.state.past w.desk.calls w.desk.owed w.desk.left (drop w.served l)) (sym got) h.kept);
+        within = omega (arith, h.within, ap length got);
+        started = omega (arith, h.started, ap (λ l. length (filter s.waits (filter s.is_request (got_of l)))) is);
+        saw = ap has_seen is ∙ h.saw;
+        rests = rests;
+        each = λ go. ap (λ l. length (filter (is_asked s) (take w.served l))) got ∙ h.each go;
+      }
+
+  -- a packet that was owed was sent
+  pub gave_kept : (end' : Seen TableSeat) (desk' : Desk T S Q R) (p : List ℕ) → end'.state.past ≡ Sent p ∷ w.end.state.past → w.desk.owed ≡ p ∷ drop 1 w.desk.owed
+      → desk' ≡ record w.desk { owed = drop 1 w.desk.owed } → end'.state.got ≡ w.end.state.got → end'.state.machine.asleep ≡ false
+      → IsServing s w → IsServing s (record w { end = end'; desk = desk' })
+  gave_kept end' desk' p is first desk got awake h =
+      let k = server_gave s keeps w.desk.held w.serve w.end.state.past w.desk.calls p (drop 1 w.desk.owed) w.desk.left (drop w.served w.end.state.got)
+      (subst (λ l. ServerKept s w.desk.held w.serve w.end.state.past w.desk.calls l w.desk.left (drop w.served w.end.state.got)) first h.kept) in
+      subst (λ d. IsServing s (record w { end = end'; desk = d })) (sym desk) (record {
+        kept = subst (λ l. ServerKept s w.desk.held w.serve l w.desk.calls (drop 1 w.desk.owed) w.desk.left (drop w.served end'.state.got)) (sym is)
+            (subst (λ l. ServerKept s w.desk.held w.serve (Sent p ∷ w.end.state.past) w.desk.calls (drop 1 w.desk.owed) w.desk.left (drop w.served l)) (sym got) k);
+        within = omega (arith, h.within, ap length got);
+        started = omega (arith, h.started, ap (λ l. length (filter s.waits (filter s.is_request (got_of l)))) is);
+        saw = ap has_seen is ∙ h.saw;
+        rests = λ b. not_both end'.state.machine.asleep awake b;
+        each = λ go. ap (λ l. length (filter (is_asked s) (take w.served l))) got ∙ h.each go;
+      })
+
+  -- a packet that came was served
+  served_left : (past : List (Event (List ℕ))) (calls calls' : List (Call Q R)) (owed : List (List ℕ)) (left left' : Option ℕ) (p : List ℕ) (rest : List (List ℕ)) → ServesPacket s w.desk.held p left calls calls' owed left'
+      → ServerKept s w.desk.held w.serve past calls [] left (p ∷ rest) → ServerKept s w.desk.held w.serve past calls' owed left' rest
+  served_left past calls calls' owed None left' p rest one h = rw (one.0, one.1, one.2) (server_passed s keeps w.desk.held w.serve past calls [] p rest h)
+  served_left past calls calls' owed (Some m) left' p rest one h = rw (one.2, one.3) (server_served s keeps w.desk.held w.serve past calls one.0 [] owed m p rest one.1 h)
+
+  -- it makes a call exactly where it asks the device
+  ask_calls : (o : Option Q) (m : ℕ) (p : List ℕ) (cs : List (Call Q R)) (owed : List (List ℕ)) → (is_some o ≡ true → (m == 0) ≡ false) → ServesOne s w.desk.held p o m cs owed (λ k later rest. Serves s w.desk.held [] k later rest)
+      → length cs ≡ (if is_some o then 1 else 0)
+  ask_calls None m p cs owed go h = ap length h.2.0
+  ask_calls (Some q) zero p cs owed go h = let bad : true ≡ false = go refl in absurd (cc)
+  ask_calls (Some q) (suc n) p [] owed go h = absurd h
+  ask_calls (Some q) (suc n) p (c ∷ cs) owed go h = one (w.desk.held && n == 0) h.1
+    where
+      one : (b : Bool) → ServesAsk s b p n c cs owed (λ k later rest. Serves s w.desk.held [] k later rest) → suc (length cs) ≡ 1
+      one true asks = ap (λ l. suc (length l)) asks.0
+      one false asks = ap (λ l. suc (length l)) asks.3.0
+
+  calls_one : (p : List ℕ) (calls calls' : List (Call Q R)) (owed : List (List ℕ)) (left left' : Option ℕ) → (is_asked s p ≡ true → has_served left ≡ false) → ServesPacket s w.desk.held p left calls calls' owed left'
+      → length calls' ≡ length calls + (if is_asked s p then 1 else 0)
+  calls_one p calls calls' owed None left' go h =
+      by_test (is_asked s p)
+      (λ e. let bad : true ≡ false = go e in absurd (cc))
+      (λ e. ap length h.0 ∙ (omega arith ∙ ap (λ b. length calls + (if b then 1 else 0)) (sym e)))
+  calls_one p calls calls' owed (Some m) left' go h = omega (arith, ap length h.2, length-append calls h.0, ask_calls (s.read p) m p h.0 owed go h.1)
+
+  asked_more : (p : List ℕ) (ps : List (List ℕ)) → length (filter (is_asked s) (ps ++ p ∷ [])) ≡ length (filter (is_asked s) ps) + (if is_asked s p then 1 else 0)
+  asked_more p ps =
+      by_test (is_asked s p)
+      (λ e. ap length (filter_yes (is_asked s) ps p e) ∙ (length-append (filter (is_asked s) ps) (p ∷ []) ∙ ap (λ b. length (filter (is_asked s) ps) + (if b then 1 else 0)) (sym e)))
+      (λ e. ap length (filter_no (is_asked s) ps p e) ∙ (omega arith ∙ ap (λ b. length (filter (is_asked s) ps) + (if b then 1 else 0)) (sym e)))
+
+  has_call : (p : List ℕ) → slice_get w.end.state.got w.served ≡ Some p → lacks_call s w ≡ false → w.stops ≡ false → is_asked s p ≡ true → has_served w.desk.left ≡ false
+  has_call p at not_lacks go asks =
+      by_test (has_served w.desk.left)
+      (λ all.
+      let lacks : lacks_call s w ≡ true = ap (λ b. not b && (has_served w.desk.left && option_map_or (is_asked s) (slice_get w.end.state.got w.served) false)) go ∙ (ap (λ b. b && option_map_or (is_asked s) (slice_get w.end.state.got w.served) false) all
+      ∙ (ap (λ o. option_map_or (is_asked s) o false) at ∙ asks)) in
+      let bad : true ≡ false = sym lacks ∙ not_lacks in absurd (cc))
+      (λ some. some)
+
+  each_served : (p : List ℕ) (calls' : List (Call Q R)) (owed' : List (List ℕ)) (left' : Option ℕ) → w.served + 1 ≤ length w.end.state.got → slice_get w.end.state.got w.served ≡ Some p → lacks_call s w ≡ false
+      → ServesPacket s w.desk.held p w.desk.left w.desk.calls calls' owed' left' → IsServing s w → w.stops ≡ false → length (filter (is_asked s) (take (w.served + 1) w.end.state.got)) ≡ length calls'
+  each_served p calls' owed' left' less at not_lacks one h go =
+      let got = w.end.state.got in
+      let grown : take (w.served + 1) got ≡ take w.served got ++ p ∷ [] = take_more got w.served [] (omega (arith, less)) ∙ ap (λ x. take w.served got ++ x ∷ []) (get_or_from_slice_get got w.served p [] at) in
+      omega (arith, ap (λ l. length (filter (is_asked s) l)) grown, asked_more p (take w.served got), h.each go, calls_one p w.desk.calls calls' owed' w.desk.left left' (has_call p at not_lacks go) one)
+
+  pub served_kept : (desk' : Desk T S Q R) (p : List ℕ) → w.served + 1 ≤ length w.end.state.got → slice_get w.end.state.got w.served ≡ Some p → w.desk.owed ≡ [] → lacks_call s w ≡ false → desk'.held ≡ w.desk.held
+      → ServesPacket s desk'.held p w.desk.left w.desk.calls desk'.calls desk'.owed desk'.left → w.end.state.machine.asleep ≡ false
+      → IsServing s w → IsServing s (record w { desk = desk'; served = w.served + 1 })
+  served_kept desk' p less at none not_lacks held one awake h =
+      let got = w.end.state.got in
+      let first : drop w.served got ≡ p ∷ drop (w.served + 1) got = drop_more got w.served [] (omega (arith, less)) ∙ ap (λ x. x ∷ drop (w.served + 1) got) (get_or_from_slice_get got w.served p [] at) in
+      let k : ServerKept s w.desk.held w.serve w.end.state.past w.desk.calls [] w.desk.left (p ∷ drop (w.served + 1) got) =
+      subst (λ l. ServerKept s w.desk.held w.serve w.end.state.past w.desk.calls [] w.desk.left l) first
+      (subst (λ l. ServerKept s w.desk.held w.serve w.end.state.past w.desk.calls l w.desk.left (drop w.served got)) none h.kept) in
+      let one' : ServesPacket s w.desk.held p w.desk.left w.desk.calls desk'.calls desk'.owed desk'.left = subst (λ b. ServesPacket s b p w.desk.left w.desk.calls desk'.calls desk'.owed desk'.left) held one in
+      record {
+        kept = subst (λ b. ServerKept s b w.serve w.end.state.past desk'.calls desk'.owed desk'.left (drop (w.served + 1) got)) (sym held)
+            (served_left w.end.state.past w.desk.calls desk'.calls desk'.owed w.desk.left desk'.left p (drop (w.served + 1) got) one' k);
+        within = omega (arith, less);
+        started = h.started;
+        saw = h.saw;
+        rests = λ b. not_both w.end.state.machine.asleep awake b;
+        each = each_served p desk'.calls desk'.owed desk'.left less at not_lacks one' h;
+      }
+
+  -- a worker that ended gives what the plan asks for
+  kept_plan : (plan : Plan A) → Orders s plan w → IsServing s w
+      → ServerKept s (held_of plan.stop (length plan.script)) (count_of plan.stop (length plan.script)) w.end.state.past w.desk.calls w.desk.owed w.desk.left (drop w.served w.end.state.got)
+  kept_plan plan is h =
+      subst (λ b. ServerKept s b (count_of plan.stop (length plan.script)) w.end.state.past w.desk.calls w.desk.owed w.desk.left (drop w.served w.end.state.got)) is.held
+      (subst (λ n. ServerKept s w.desk.held n w.end.state.past w.desk.calls w.desk.owed w.desk.left (drop w.served w.end.state.got)) is.serve h.kept)
+
+  ends_plan : (plan : Plan A) → Orders s plan w → IsServing s w → w.desk.owed ≡ [] → w.served ≡ length w.end.state.got → ServerStops s plan w.end.state.past w.desk.calls → ServerEnds s plan w.end.state.past w.desk.calls
+  ends_plan plan is h none all end =
+      let nothing : drop w.served w.end.state.got ≡ [] = drop_all w.served w.end.state.got (omega (arith, all)) in
+      let k : ServerKept s (held_of plan.stop (length plan.script)) (count_of plan.stop (length plan.script)) w.end.state.past w.desk.calls [] w.desk.left [] =
+      subst (λ l. ServerKept s (held_of plan.stop (length plan.script)) (count_of plan.stop (length plan.script)) w.end.state.past w.desk.calls [] w.desk.left l) nothing
+      (subst (λ l. ServerKept s (held_of plan.stop (length plan.script)) (count_of plan.stop (length plan.script)) w.end.state.past w.desk.calls l w.desk.left (drop w.served w.end.state.got)) none (kept_plan plan is h)) in
+      server_ends s plan w.end.state.past w.desk.calls w.desk.left k (inl end)
+
+  served_all : (left : Option ℕ) (rest : List (List ℕ)) → has_served left ≡ true → ServerKept s w.desk.held w.serve w.end.state.past w.desk.calls w.desk.owed left rest → length w.desk.calls ≡ w.serve
+  served_all None rest e h = (calls_left s keeps w.desk.held h.served w.serve w.desk.calls (sent_of w.end.state.past ++ w.desk.owed) h.serves).1 h.stands
+  served_all (Some m) rest e h =
+      let none : m ≡ 0 = grind (arith, nat_tests, e) in
+      omega (arith, none, (calls_left s keeps w.desk.held h.served w.serve w.desk.calls (sent_of w.end.state.past ++ w.desk.owed) h.serves).0 m h.stands)
+
+  -- each packet that came and asks the device was a call, once all that came is served
+  pub calls_each : (past : List (Event (List ℕ))) → got_of past ≡ w.end.state.got → w.served ≡ length w.end.state.got → IsServing s w → CallsEach s w past w.desk.calls
+  calls_each past is all h go = ap (λ l. length (filter (is_asked s) l)) (is ∙ sym (take_all w.served w.end.state.got (omega (arith, all)))) ∙ h.each go
+
+  -- no call is left for what is served next: more asked the device than there were calls for
+  parts : (b : Bool) (o : Option (List ℕ)) → (not w.stops && (b && option_map_or (is_asked s) o false)) ≡ true → (w.stops ≡ false) × (b ≡ true) × ((p : List ℕ) × (o ≡ Some p) × (is_asked s p ≡ true))
+  parts b o e =
+      by_test w.stops
+      (λ yes. let bad : false ≡ true = sym (ap (λ x. not x && (b && option_map_or (is_asked s) o false)) yes) ∙ e in absurd (cc))
+      (λ go. let rest : (b && option_map_or (is_asked s) o false) ≡ true = sym (ap (λ x. not x && (b && option_map_or (is_asked s) o false)) go) ∙ e in let more = next b o rest in (go, more.0, more.1))
+    where
+      next : (b : Bool) (o : Option (List ℕ)) → (b && option_map_or (is_asked s) o false) ≡ true → (b ≡ true) × ((p : List ℕ) × (o ≡ Some p) × (is_asked s p ≡ true))
+      next false o e = let bad : false ≡ true = e in absurd (cc)
+      next true None e = let bad : false ≡ true = e in absurd (cc)
+      next true (Some p) e = (refl, (p, refl, e))
+
+  pub asked_over : got_of w.end.state.past ≡ w.end.state.got → IsServing s w → lacks_call s w ≡ true → (w.stops ≡ false) × AskedOver (is_asked s) w.serve w.end.state.past
+  asked_over is h lacks =
+      let got = w.end.state.got in
+      let part = parts (has_served w.desk.left) (slice_get got w.served) lacks in
+      let p = part.2.0 in
+      let less : w.served < length got = slice_get_within got w.served p part.2.1 in
+      let grown : take (w.served + 1) got ≡ take w.served got ++ p ∷ [] = take_more got w.served [] less ∙ ap (λ x. take w.served got ++ x ∷ []) (get_or_from_slice_get got w.served p [] part.2.1) in
+      let whole : got ≡ take (w.served + 1) got ++ drop (w.served + 1) got = sym (take-append-drop (w.served + 1) got) in
+      let count = length (filter (is_asked s) (take (w.served + 1) got)) in
+      let front : count ≤ length (filter (is_asked s) got) =
+      omega (arith, ap (λ l. length (filter (is_asked s) l)) whole, ap length (filter-append (is_asked s) (take (w.served + 1) got) (drop (w.served + 1) got)), length-append (filter (is_asked s) (take (w.served + 1) got)) (filter (is_asked s) (drop (w.served + 1) got))) in
+      let more : count ≡ length w.desk.calls + 1 = ap (λ l. length (filter (is_asked s) l)) grown ∙ (asked_more p (take w.served got) ∙ (ap (λ b. length (filter (is_asked s) (take w.served got)) + (if b then 1 else 0)) part.2.2 ∙ ap (λ n. n + 1) (h.each part.0))) in
+      let calls : length w.desk.calls ≡ w.serve = served_all w.desk.left (drop w.served got) part.1 h.kept in
+      (part.0, omega (arith, front, more, calls, ap (λ l. length (filter (is_asked s) l)) is))
+
+  -- with nothing owed and all served, all is answered
+  pub answers_all : w.desk.owed ≡ [] → got_of w.end.state.past ≡ w.end.state.got → w.served ≡ length w.end.state.got → IsServing s w → AnswersAll s w w.end.state.past w.desk.calls
+  answers_all none is all h =
+      let nothing : drop w.served w.end.state.got ≡ [] = drop_all w.served w.end.state.got (omega (arith, all)) in
+      let whole : got_of w.end.state.past ≡ h.kept.served = h.kept.got_is ∙ (ap (λ l. h.kept.served ++ l) nothing ∙ append-nil h.kept.served) in
+      let back : sent_of w.end.state.past ++ w.desk.owed ≡ sent_of w.end.state.past = ap (λ l. sent_of w.end.state.past ++ l) none ∙ append-nil (sent_of w.end.state.past) in
+      record {
+        serves = subst (λ l. Serves s w.desk.held l w.serve w.desk.calls (sent_of w.end.state.past)) (sym whole) (subst (λ l. Serves s w.desk.held h.kept.served w.serve w.desk.calls l) back h.kept.serves);
+        each = calls_each w.end.state.past is all h;
+      }
+
+  -- what is owed is let go
+  pub lets_go : MetFull w.desk.owed w.end → IsServing s w → LetsGo s w w.end w.desk.calls
+  lets_go full h = record { served = h.kept.served; first = (drop w.served w.end.state.got, h.kept.got_is); missing = w.desk.owed; serves = h.kept.serves; full = full }
+
+  the_stop : (o : Option (ℕ × Bool)) → true ≡ is_some o → (after : ℕ × Bool) × (o ≡ Some after)
+  the_stop None e = absurd (cc)
+  the_stop (Some after) e = (after, refl)
+
+  -- it stopped
+  ends_stopped : w.stops ≡ true → w.desk.owed ≡ [] → w.served ≡ length w.end.state.got → has_served w.desk.left ≡ true → w.missing ≡ 0 → IsServing s w → EndsAll s w w.end.state.past w.desk.calls
+  ends_stopped stops none all served started h plan is =
+      let after = the_stop plan.stop (sym stops ∙ is.stops) in
+      ends_plan plan is h none all (record {
+        after = after.0;
+        stop = after.1;
+        count = served_all w.desk.left (drop w.served w.end.state.got) served h.kept ∙ is.serve;
+        started = omega (arith, h.started, started, is.starts);
+      })
+
+  -- the other end had ended
+  ends_drained : is_drained w.end.state.past ≡ true → Follows w.end.state.past → IsServing s w → EndsAll s w w.end.state.past w.desk.calls
+  ends_drained drained follows h plan is = server_follows s plan w.end.state.past w.desk.calls w.desk.left w.desk.owed (drop w.served w.end.state.got) (kept_plan plan is h) drained follows
+
+module _ {T S A Q R : Type 0} (s : Speech (List ℕ) A Q R) (keeps : Keeps s) (w : Serving T S Q R) where
+  marked_kept : (end' : Seen TableSeat) → end'.state.past ≡ Marked ∷ w.end.state.past → end'.state.got ≡ w.end.state.got → end'.state.machine.asleep ≡ false → IsServing s w → IsServing s (record w { end = end' })
+  marked_kept end' is got awake h = quiet_kept s keeps w end' w.seen w.want Marked is refl refl got awake h.saw h
+
+  -- a mark is an end
+  pub marks_stopped : (end' : Seen TableSeat) → end'.state.past ≡ Marked ∷ w.end.state.past → end'.state.got ≡ w.end.state.got → end'.state.machine.asleep ≡ false
+      → w.stops ≡ true → w.desk.owed ≡ [] → w.served ≡ length w.end.state.got → has_served w.desk.left ≡ true → w.missing ≡ 0 → IsServing s w → EndsAll s (record w { end = end' }) end'.state.past w.desk.calls
+  marks_stopped end' is got awake stops none all served started h =
+      ends_stopped s keeps (record w { end = end' }) stops none (all ∙ ap length (sym got)) served started (marked_kept end' is got awake h)
+
+  pub marks_answered : (end' : Seen TableSeat) → end'.state.past ≡ Marked ∷ w.end.state.past → end'.state.got ≡ w.end.state.got → end'.state.machine.asleep ≡ false → got_of end'.state.past ≡ end'.state.got
+      → w.desk.owed ≡ [] → w.served ≡ length w.end.state.got → IsServing s w → AnswersAll s (record w { end = end' }) end'.state.past w.desk.calls
+  marks_answered end' is got awake list none all h = answers_all s keeps (record w { end = end' }) none list (all ∙ ap length (sym got)) (marked_kept end' is got awake h)
+
+  pub marks_gone : (end' : Seen TableSeat) → end'.state.past ≡ Marked ∷ w.end.state.past → end'.state.got ≡ w.end.state.got → end'.state.machine.asleep ≡ false
+      → MetFull w.desk.owed end' → IsServing s w → LetsGo s (record w { end = end' }) end' w.desk.calls
+  marks_gone end' is got awake full h = lets_go s keeps (record w { end = end' }) full (marked_kept end' is got awake h)
+
+  pub marks_drained : (end' : Seen TableSeat) → end'.state.past ≡ Marked ∷ w.end.state.past → end'.state.got ≡ w.end.state.got → end'.state.machine.asleep ≡ false
+      → is_drained w.end.state.past ≡ true → has_marked w.end.state.past ≡ false → IsServing s w → EndsAll s (record w { end = end' }) end'.state.past w.desk.calls
+  marks_drained end' is got awake drained unmarked h =
+      ends_drained s keeps (record w { end = end' }) (ap is_drained is ∙ drained) (subst Follows (sym is) (drained_seen w.end.state.past drained, follows_unmarked w.end.state.past unmarked))
+      (marked_kept end' is got awake h)
+
+  -- none waited after the mark was seen
+  pub drains : (end' : Seen TableSeat) → end'.state.past ≡ Empty ∷ w.end.state.past → IsServing s w → w.seen ≡ true → is_drained end'.state.past ≡ true
+  drains end' is h seen = ap is_drained is ∙ ap (λ b. b || is_drained w.end.state.past) (h.saw ∙ seen)
+
+  -- it sleeps
+  pub rests_at : (end' : Seen TableSeat) (want' : Option ℕ) → want' ≡ need_of w.desk.owed → SleepsFor want' end' → end'.state.got ≡ w.end.state.got → (is_nil w.desk.owed ≡ true → w.served ≡ length w.end.state.got)
+      → Rests (record w { end = end'; want = want' })
+  rests_at end' want' want armed got all = record { want = want; armed = armed; served = λ e. all e ∙ ap length (sym got) }
+
+  -- a mark ends it, whether the other end's mark was seen or not
+  pub ends_by : (seen : Bool) → EndsAll s w w.end.state.past w.desk.calls → AnswersAll s w w.end.state.past w.desk.calls → has_marked w.end.state.past ≡ true → has_seen w.end.state.past ≡ seen → EndsBy s (marked_by seen) w w.end w.desk.calls
+  ends_by true all answers marked saw = (all, inl answers, marked, saw)
+  ends_by false all answers marked saw = (all, answers, marked, saw)
+
+  pub lacks_none : (left_at : S → ℕ) (seen : Bool) → SentAtMost (length (got_of w.end.state.past)) w.end.state.past → LeavesOff s w → LacksRoom left_at s (marked_by seen) w
+  lacks_none left_at true sent leaves = (sent, leaves)
+  lacks_none left_at false sent leaves = sent
+
+  pub breaks : IsServing s w → BreaksOff s w w.end.state.past w.desk.calls
+  breaks h = server_breaks s w.desk.held w.serve w.end.state.past w.desk.calls w.desk.owed w.desk.left (drop w.served w.end.state.got) h.kept
+
+  -- a new worker
+  pub new_kept : w.end.state.past ≡ [] → w.end.state.got ≡ [] → w.desk.calls ≡ [] → w.desk.owed ≡ [] → w.desk.left ≡ Some w.serve → w.served ≡ 0 → w.missing ≡ w.starts → w.seen ≡ false → w.end.state.machine.asleep ≡ false → IsServing s w
+  new_kept past got calls owed left served missing seen awake = record {
+    kept = rw (past, got, calls, owed, left, served) (server_new s keeps w.desk.held w.serve);
+    within = omega (arith, served);
+    started = omega (arith, missing);
+    saw = ap has_seen past ∙ sym seen;
+    rests = λ e. not_both w.end.state.machine.asleep awake e;
+    each = λ go. ap (λ n. length (filter (is_asked s) (take n w.end.state.got))) served ∙ ap length (sym calls);
+  }
+
+module _ {T S A Q R : Type 0} (sp : T → Speech (List ℕ) A Q R) (keeps : (t : T) → Keeps (sp t)) (w : Serving T S Q R) where
+  pub gave_by : (end' : Seen TableSeat) (desk' : Desk T S Q R) (p : List ℕ) → end'.state.past ≡ Sent p ∷ w.end.state.past → w.desk.owed ≡ p ∷ drop 1 w.desk.owed
+      → desk' ≡ record w.desk { owed = drop 1 w.desk.owed } → end'.state.got ≡ w.end.state.got → end'.state.machine.asleep ≡ false
+      → IsServing (sp w.desk.talk) w → IsServing (sp desk'.talk) (record w { end = end'; desk = desk' })
+  gave_by end' desk' p is first desk got awake h =
+      subst (λ t. IsServing (sp t) (record w { end = end'; desk = desk' })) (sym (ap (λ (d : Desk T S Q R). d.talk) desk)) (gave_kept (sp w.desk.talk) (keeps w.desk.talk) w end' desk' p is first desk got awake h)
+
+  pub served_by : (desk' : Desk T S Q R) (p : List ℕ) → w.served + 1 ≤ length w.end.state.got → slice_get w.end.state.got w.served ≡ Some p → w.desk.owed ≡ [] → lacks_call (sp w.desk.talk) w ≡ false → desk'.held ≡ w.desk.held → desk'.talk ≡ w.desk.talk
+      → ServesPacket (sp desk'.talk) desk'.held p w.desk.left w.desk.calls desk'.calls desk'.owed desk'.left → w.end.state.machine.asleep ≡ false
+      → IsServing (sp w.desk.talk) w → IsServing (sp desk'.talk) (record w { desk = desk'; served = w.served + 1 })
+  served_by desk' p less at none not_lacks held talk one awake h =
+      subst (λ t. IsServing (sp t) (record w { desk = desk'; served = w.served + 1 })) (sym talk)
+      (served_kept (sp w.desk.talk) (keeps w.desk.talk) w desk' p less at none not_lacks held (subst (λ t. ServesPacket (sp t) desk'.held p w.desk.left w.desk.calls desk'.calls desk'.owed desk'.left) talk one) awake h)
+
+module _ {T S Q R : Type 0} (same : S → S → Type 0) where
+  -- the same worker still
+  pub on_trans : ((a b c : S) → same a b → same b c → same a c) → (u v w : Serving T S Q R) → ServesOn same u v → ServesOn same v w → ServesOn same u w
+  on_trans trans u v w a b = record {
+    talk = b.talk ∙ a.talk;
+    relid = b.relid ∙ a.relid;
+    held = b.held ∙ a.held;
+    serve = b.serve ∙ a.serve;
+    stops = b.stops ∙ a.stops;
+    starts = b.starts ∙ a.starts;
+    come = b.come ∙ a.come;
+    before = b.before ∙ a.before;
+    end = record { seat = b.end.seat ∙ a.end.seat; side = b.end.side ∙ a.end.side };
+    seat = trans u.desk.seat v.desk.seat w.desk.seat a.seat b.seat;
+  }
+
+  pub on_refl : ((a : S) → same a a) → (w : Serving T S Q R) → ServesOn same w w
+  on_refl r w = record { talk = refl; relid = refl; held = refl; serve = refl; stops = refl; starts = refl; come = refl; before = refl; end = record { seat = refl; side = refl }; seat = r w.desk.seat }
+
+  orders_on : {A : Type 0} (s : Speech (List ℕ) A Q R) (plan : Plan A) (u w : Serving T S Q R) → ServesOn same u w → Orders s plan u → Orders s plan w
+  orders_on s plan u w on is = record { serve = on.serve ∙ is.serve; held = on.held ∙ is.held; stops = on.stops ∙ is.stops; starts = on.starts ∙ is.starts }
+
+  serves_on : {A : Type 0} (s : Speech (List ℕ) A Q R) (u w : Serving T S Q R) (got sent : List (List ℕ)) (calls : List (Call Q R)) → ServesOn same u w → Serves s w.desk.held got w.serve calls sent → Serves s u.desk.held got u.serve calls sent
+  serves_on s u w got sent calls on h = subst (λ b. Serves s b got u.serve calls sent) on.held (subst (λ n. Serves s w.desk.held got n calls sent) on.serve h)
+
+  answers_on : {A : Type 0} (s : Speech (List ℕ) A Q R) (u w : Serving T S Q R) (past : List (Event (List ℕ))) (calls : List (Call Q R)) → ServesOn same u w → AnswersAll s w past calls → AnswersAll s u past calls
+  answers_on s u w past calls on h = record { serves = serves_on s u w (got_of past) (sent_of past) calls on h.serves; each = λ go. h.each (on.stops ∙ go) }
+
+  gone_on : {A : Type 0} (s : Speech (List ℕ) A Q R) (u w : Serving T S Q R) (e : Seen TableSeat) (calls : List (Call Q R)) → ServesOn same u w → LetsGo s w e calls → LetsGo s u e calls
+  gone_on s u w e calls on h = record { served = h.served; first = h.first; missing = h.missing; serves = serves_on s u w h.served (sent_of e.state.past ++ h.missing) calls on h.serves; full = h.full }
+
+  -- what it gives at its end is what was asked of it at its beginning
+  pub ends_on : {A : Type 0} (sp : T → Speech (List ℕ) A Q R) (how : Ended) (u w : Serving T S Q R) (e : Seen TableSeat) (calls : List (Call Q R)) → ServesOn same u w
+      → EndsBy (sp w.desk.talk) how w e calls → EndsBy (sp u.desk.talk) how u e calls
+  ends_on {A = A} sp how u w e calls on h = by how (subst (λ t. EndsBy (sp t) how w e calls) on.talk h)
+    where
+      by : (how : Ended) → EndsBy (sp u.desk.talk) how w e calls → EndsBy (sp u.desk.talk) how u e calls
+      by EndedMarked h = (λ plan is. h.0 plan (orders_on (sp u.desk.talk) plan u w on is), answers_on (sp u.desk.talk) u w e.state.past calls on h.1, h.2, h.3)
+      by PeerMarked h = (λ plan is. h.0 plan (orders_on (sp u.desk.talk) plan u w on is), on_either (answers_on (sp u.desk.talk) u w e.state.past calls on) (gone_on (sp u.desk.talk) u w e calls on) h.1, h.2, h.3)
+      by (Room packets words left) h =
+          subst (λ b. ServerBreaks (sp u.desk.talk) b u.serve e.state.past calls) on.held (subst (λ n. ServerBreaks (sp u.desk.talk) w.desk.held n e.state.past calls) on.serve h)
+
+  -- and so is what it lacked
+  pub lacks_on : {A : Type 0} (sp : T → Speech (List ℕ) A Q R) (how : Ended) (u w : Serving T S Q R) (past : List (Event (List ℕ))) → ServesOn same u w
+      → ServeLacksFor (is_asked (sp w.desk.talk)) (w.starts + w.come) w.serve w.stops how past → ServeLacksFor (is_asked (sp u.desk.talk)) (u.starts + u.come) u.serve u.stops how past
+  lacks_on sp how u w past on h =
+      let room : w.starts + w.come ≡ u.starts + u.come = omega (arith, on.starts, on.come) in
+      subst (λ n. ServeLacksFor (is_asked (sp u.desk.talk)) n u.serve u.stops how past) room
+      (subst (λ b. ServeLacksFor (is_asked (sp u.desk.talk)) (w.starts + w.come) u.serve b how past) on.stops
+      (subst (λ n. ServeLacksFor (is_asked (sp u.desk.talk)) (w.starts + w.come) n w.stops how past) on.serve
+      (subst (λ t. ServeLacksFor (is_asked (sp t)) (w.starts + w.come) w.serve w.stops how past) on.talk h)))

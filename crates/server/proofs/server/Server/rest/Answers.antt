@@ -1,0 +1,56 @@
+use Rattle.std.proofs.Common.{refl, ap, sym, ◌∙◌, length, ◌+◌, true}
+use Rattle.chan_run.specs.declared.event.Event.TheVariants.{Saw}
+use Rattle.chan_run.specs.Runs.{sent_of}
+use Rattle.channel_port.specs.Owed.{is_nil}
+use Rattle.server.proofs.ServeSteps.{quiet_kept, still_kept, rests_at}
+use Rattle.channel_port.proofs.RoomLaws.{serve_quiet, got_same}
+use Rattle.server.proofs.server.Server.rest.Goals as goal
+
+pub invariant_of-self : goal.invariant_of-self
+invariant_of-self g c =
+    let v = c.self.view_is in
+    record {
+      live = still_kept (g.T.Talk.speech c.self.inside.desk.talk) (g.T.Talk.keeps c.self.inside.desk.talk) _ _ c.need-want.result c.in-Nothing.ensures.past c.arm.ensures.lists.0 (λ _. rests_at (g.T.Talk.speech c.self.inside.desk.talk) (g.T.Talk.keeps c.self.inside.desk.talk) (record {
+        desk = c.self.inside.desk;
+        end = c.self.inside.port;
+        serve = c.self.inside.serve;
+        stops = c.self.inside.stops;
+        starts = c.self.inside.starts;
+        come = c.self.inside.come;
+        missing = c.self.inside.missing;
+        served = c.self.inside.served;
+        seen = c.self.inside.seen;
+        want = c.self.inside.want;
+      }) _ c.need-want.result c.need-want.ensures.value (record { asleep = c.in-Nothing.ensures.asleep; want_is = c.arm.ensures.want c.in-Nothing.ensures.asleep }) c.arm.ensures.lists.0
+          (λ e. ap (λ w. w.served) v ∙ (c.requires.served (sym (ap (λ w. is_nil w.desk.owed) v) ∙ e) ∙ ap (λ w. length w.end.state.got) (sym v)))) c.self.invariant.live;
+      room = serve_quiet (c.self.inside.starts + c.self.inside.come) c.self.inside.served (length c.self.inside.desk.owed) _ _ (got_same _ _ c.arm.ensures.lists.0 c.arm.ensures.lists.1) c.arm.ensures.stays.cells c.arm.ensures.lists.2 (ap sent_of c.in-Nothing.ensures.past) c.self.invariant.room;
+      side = c.self.invariant.side ∙ sym c.arm.ensures.stays.same.side;
+    }
+
+pub invariant_of-self-in-Mark : goal.invariant_of-self-in-Mark
+invariant_of-self-in-Mark g c =
+    record {
+      live = quiet_kept (g.T.Talk.speech c.self.inside.desk.talk) (g.T.Talk.keeps c.self.inside.desk.talk) _ _ true c.need-want.result Saw c.in-Mark.ensures.past refl refl c.arm.ensures.lists.0 c.in-Mark.ensures.asleep refl c.self.invariant.live;
+      room = serve_quiet (c.self.inside.starts + c.self.inside.come) c.self.inside.served (length c.self.inside.desk.owed) _ _ (got_same _ _ c.arm.ensures.lists.0 c.arm.ensures.lists.1) c.arm.ensures.stays.cells c.arm.ensures.lists.2 (ap sent_of c.in-Mark.ensures.past) c.self.invariant.room;
+      side = c.self.invariant.side ∙ sym c.arm.ensures.stays.same.side;
+    }
+
+pub returns-in-Nothing-clause-turns : goal.returns-in-Nothing-clause-turns
+returns-in-Nothing-clause-turns g c =
+    let v = c.self.view_is in (
+      c.arm.ensures.unmarked,
+      c.in-Nothing.ensures.asleep,
+      rests_at (g.T.Talk.speech c.self.inside.desk.talk) (g.T.Talk.keeps c.self.inside.desk.talk) (record {
+        desk = c.self.inside.desk;
+        end = c.self.inside.port;
+        serve = c.self.inside.serve;
+        stops = c.self.inside.stops;
+        starts = c.self.inside.starts;
+        come = c.self.inside.come;
+        missing = c.self.inside.missing;
+        served = c.self.inside.served;
+        seen = c.self.inside.seen;
+        want = c.self.inside.want;
+      }) _ c.need-want.result c.need-want.ensures.value (record { asleep = c.in-Nothing.ensures.asleep; want_is = c.arm.ensures.want c.in-Nothing.ensures.asleep }) c.arm.ensures.lists.0
+          (λ e. ap (λ w. w.served) v ∙ (c.requires.served (sym (ap (λ w. is_nil w.desk.owed) v) ∙ e) ∙ ap (λ w. length w.end.state.got) (sym v))),
+    )

@@ -1,0 +1,9 @@
+//! The worker of the end of a channel that serves, for every kind of device.
+#![tactic(auto)]
+
+mod desk;
+mod owed;
+mod put;
+mod server;
+
+pub use server::{Server, ServerDone};

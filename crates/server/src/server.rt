@@ -1,0 +1,489 @@
+//! The worker of the end that serves.
+ghost use Rattle.std.specs.Prelude.{◌≡◌, ◌<◌, ◌≤◌, ◌+◌, ◌*◌, [], ◌∷◌, ◌++◌, length, take, drop, map, Some, None, true, false, IfOk, ℕ};
+ghost use Rattle.chan_run.specs.Runs.{got_of, is_drained};
+ghost use Rattle.ring_seat.specs.Seats.{new_end};
+ghost use Rattle.ring_seat.specs.Settling.{IsSameEnd};
+ghost use Rattle.channel_port.specs.Causes.{Arms, Polls};
+ghost use Rattle.server.specs.Causes.{GivesOne, GivesOrTakes, ServeCause, TakesOrArms};
+ghost use Rattle.channel_port.specs.Line.{IsReady, HasTakeRoom, LacksTake, TookOne};
+ghost use Rattle.channel_port.specs.Owed.{is_nil, LacksSend, MetFull};
+ghost use Rattle.channel_port.specs.Rooms.{SentAtMost, ServeLacksFor, ServesInRoom};
+ghost use Rattle.server.specs.Serving.{EndsBy, Lacks, LacksRoom, Turns, GaveOne, ServeEnds, ServesOn, BreaksOff, calls_behind, has_served, is_asked, lacks_call, marked_by};
+ghost use Rattle.channel_port.specs.declared.ended.Ended.TheVariants.{PeerMarked as PeerMarkedEnd, Room as RoomEnd};
+
+use crate::desk::Desk;
+use crate::put::Given;
+use chan_talk::{Seat, Talk};
+use channel_port::{Ended, Looked, Port, Turn};
+use io_edge::{Gate, Side};
+use ring_core::{End, Room};
+use ring_seat::TableSeat;
+use std::alloc::{AllocError, Global};
+use std::marker::{Model, PhantomData};
+use std::sync::Wait;
+
+/// The worker of the end that serves: it answers what comes, in order, as its plan says.
+#[derive(Drop)]
+pub struct Server<T: Talk, S: Seat<T>> {
+    desk: Desk<T, S>,
+    port: Port,
+    serve: u32,
+    stops: bool,
+    starts: u32,
+    come: u32,
+    missing: u32,
+    served: usize,
+    seen: bool,
+    want: Option<u32>,
+}
+
+impl<T: Talk, S: Seat<T>> Model for Server<T, S> {
+    ghost use Rattle.std.specs.Prelude.{◌≡◌, ◌+◌, length};
+    ghost use Rattle.channel_port.specs.Rooms.{ServesInRoom};
+    ghost use Rattle.server.specs.Serving.{Serving, IsServing};
+
+    ghost Value = { Serving T S T.Request T.Reply };
+
+    ghost view = { λ w. record { desk = w.desk; end = w.port; serve = w.serve; stops = w.stops; starts = w.starts; come = w.come; missing = w.missing; served = w.served; seen = w.seen; want = w.want } };
+
+    ghost invariant = { λ w. record { live : IsServing (T.speech w.desk.talk) (record { desk = w.desk; end = w.port; serve = w.serve; stops = w.stops; starts = w.starts; come = w.come; missing = w.missing; served = w.served; seen = w.seen; want = w.want }); room : ServesInRoom (w.starts + w.come) w.served (length w.desk.owed) w.port; side : w.desk.side ≡ w.port.state.machine.side } };
+}
+
+/// What a serving worker gives once it has ended.
+#[derive(Drop)]
+pub struct ServerDone<T: Talk, S: Seat<T>> {
+    pub end: End<TableSeat>,
+    pub seat: S,
+    pub ended: Ended,
+    /// The serials of the requests that were served, in order.
+    pub serials: Vec<u32>,
+    of: PhantomData<T>,
+}
+
+impl<T: Talk, S: Seat<T>> Server<T, S> {
+    // Sends what is owed first, if there is room.
+    fn give(&mut self) -> Given
+        requires ready { IsReady self.old.end }
+        requires owed { is_nil self.old.desk.owed ≡ false }
+        ensures gave { GaveOne result self.old self.new }
+        ensures cause { GivesOne result self.old.end.state.past self.new.end }
+        ensures ready { IsReady self.new.end }
+        ensures on { ServesOn S.same self.old self.new }
+    {
+        let packet = self.desk.first();
+        let room = self.port.spare_sent();
+        if room.packets == 0 || room.words < packet.len() as u64 {
+            return Given::Lacks {
+                packets: room.packets,
+                words: room.words,
+            };
+        }
+        if self.port.send(packet) {
+            self.desk.pop();
+            Given::Sent
+        } else {
+            Given::Full
+        }
+    }
+
+    // Serves the next packet of those that came.
+    fn serve_next<R: Wait, G: Gate>(&mut self, rt: &R, gate: &G)
+        requires ready { IsReady self.old.end }
+        requires owed { self.old.desk.owed ≡ [] }
+        requires some { self.old.served < length self.old.end.state.got }
+        requires call { lacks_call (T.speech self.old.desk.talk) self.old ≡ false }
+        ensures end { self.new.end ≡ self.old.end }
+        ensures served { self.new.served ≡ self.old.served + 1 }
+        ensures on { ServesOn S.same self.old self.new }
+    {
+        let came = self.port.got_len();
+        let place = self.served as u64 + 1;
+        prove!(self.served < came);
+        self.desk.serve(rt, gate, self.port.got(self.served), place);
+        self.served += 1;
+    }
+
+    // Takes a packet, if one waits.
+    fn take_one(&mut self) -> bool
+        requires ready { IsReady self.old.end }
+        requires room { HasTakeRoom self.old.end }
+        ensures took { TookOne result self.old.end.state self.new.end.state }
+        ensures drained { result ≡ false → self.old.seen ≡ true → is_drained self.new.end.state.past ≡ true }
+        ensures kept { (self.new.desk ≡ self.old.desk) × (self.new.served ≡ self.old.served) × (self.new.seen ≡ self.old.seen) }
+        ensures ready { IsReady self.new.end }
+        ensures on { ServesOn S.same self.old self.new }
+    {
+        if !self.port.take() {
+            return false;
+        }
+        self.missing = self.desk.missing_after(self.missing, self.port.last());
+        true
+    }
+
+    // Ends here, since the plan says so.
+    fn stop(&mut self) -> Ended
+        requires ready { IsReady self.old.end }
+        requires stops { self.old.stops ≡ true }
+        requires owed { self.old.desk.owed ≡ [] }
+        requires served { self.old.served ≡ length self.old.end.state.got }
+        requires all { has_served self.old.desk.left ≡ true }
+        requires started { self.old.missing ≡ 0 }
+        ensures ends { EndsBy (T.speech self.new.desk.talk) result self.new self.new.end self.new.desk.calls }
+        ensures room { LacksRoom S.left (T.speech self.new.desk.talk) result self.new }
+        ensures on { ServesOn S.same self.old self.new }
+    {
+        self.port.mark();
+        marked_by(self.seen)
+    }
+
+    // Ends after the other end.
+    fn follow(&mut self)
+        requires ready { IsReady self.old.end }
+        requires owed { self.old.desk.owed ≡ [] }
+        requires served { self.old.served ≡ length self.old.end.state.got }
+        requires drained { is_drained self.old.end.state.past ≡ true }
+        ensures ends { EndsBy (T.speech self.new.desk.talk) PeerMarkedEnd self.new self.new.end self.new.desk.calls }
+        ensures room { LacksRoom S.left (T.speech self.new.desk.talk) PeerMarkedEnd self.new }
+        ensures on { ServesOn S.same self.old self.new }
+    {
+        self.port.mark();
+    }
+
+    // Ends after the other end, and lets go what it owes, for which there is no room: the other end, which has marked itself, makes no more.
+    fn let_go(&mut self)
+        requires ready { IsReady self.old.end }
+        requires full { MetFull self.old.desk.owed self.old.end }
+        requires drained { is_drained self.old.end.state.past ≡ true }
+        ensures ends { EndsBy (T.speech self.new.desk.talk) PeerMarkedEnd self.new self.new.end self.new.desk.calls }
+        ensures room { LacksRoom S.left (T.speech self.new.desk.talk) PeerMarkedEnd self.new }
+        ensures on { ServesOn S.same self.old self.new }
+    {
+        self.port.mark();
+    }
+
+    // Arms for the room that the packet needs that is owed, and sleeps where nothing is to be done.
+    fn rest(&mut self) -> Turn
+        requires ready { IsReady self.old.end }
+        requires served { is_nil self.old.desk.owed ≡ true → self.old.served ≡ length self.old.end.state.got }
+        ensures turns { Turns S.left (T.speech self.new.desk.talk) result self.new }
+        ensures cause { Arms result self.old.end.state.past self.new.end }
+        ensures on { ServesOn S.same self.old self.new }
+    {
+        let want = self.desk.need();
+        self.want = want;
+        match self.port.arm(want) {
+            Looked::Nothing => Turn::Idle,
+            Looked::Work => Turn::Moved,
+            Looked::Mark => {
+                self.seen = true;
+                Turn::Moved
+            }
+        }
+    }
+
+    // A worker that lacks room or a call gives what it has.
+    fn broken(&self, packets: u64, words: u64) -> Ended
+        requires list { got_of self.now.end.state.past ≡ self.now.end.state.got }
+        requires lacks { Lacks (T.speech self.now.desk.talk) packets words self.now }
+        ensures room { result ≡ RoomEnd packets words (S.left self.now.desk.seat) }
+        ensures breaks { BreaksOff (T.speech self.now.desk.talk) self.now self.now.end.state.past self.now.desk.calls }
+        ensures reserved { ServesInRoom (self.now.starts + self.now.come) self.now.served (length self.now.desk.owed) self.now.end }
+        ensures over { ServeLacksFor (is_asked (T.speech self.now.desk.talk)) (self.now.starts + self.now.come) self.now.serve self.now.stops (RoomEnd packets words (S.left self.now.desk.seat)) self.now.end.state.past }
+        ensures sent { SentAtMost (length (got_of self.now.end.state.past)) self.now.end.state.past }
+    {
+        Ended::Room {
+            packets,
+            words,
+            left: self.desk.left(),
+        }
+    }
+
+    // Whether the packet that is served next asks the device and no call is left for it: a worker that stops behind its last call lets go what comes
+    // then, and any other one breaks off.
+    fn lacks_call(&self) -> bool
+        ensures { result ≡ lacks_call (T.speech self.now.desk.talk) self.now }
+    {
+        !self.stops
+            && self.desk.has_served()
+            && self.has_unserved()
+            && self.desk.is_asked(self.port.got(self.served))
+    }
+
+    fn has_unserved(&self) -> bool
+        ensures more { result ≡ true → self.now.served < length self.now.end.state.got }
+        ensures none { result ≡ false → self.now.served ≡ length self.now.end.state.got }
+    {
+        self.served < self.port.got_len()
+    }
+
+    // Takes a packet. Where none waits once the other end's mark was seen, and nothing is owed, this end follows; else it rests.
+    fn take_or_rest(&mut self) -> Turn
+        requires ready { IsReady self.old.end }
+        requires served { is_nil self.old.desk.owed ≡ true → self.old.served ≡ length self.old.end.state.got }
+        ensures turns { Turns S.left (T.speech self.new.desk.talk) result self.new }
+        ensures cause { TakesOrArms result self.old.end.state.past self.new.end }
+        ensures on { ServesOn S.same self.old self.new }
+    {
+        if let Some(room) = self.port.lacks_take() {
+            return Turn::Ended(self.broken(room.packets, room.words));
+        }
+        let seen = self.seen;
+        if self.take_one() {
+            return Turn::Moved;
+        }
+        if seen && self.desk.is_clear() {
+            self.follow();
+            return Turn::Ended(Ended::PeerMarked);
+        }
+        self.rest()
+    }
+
+    // After the other end's mark: takes what it had sent first, and then sends what is owed. Where that finds no room it is let go, and this end follows.
+    fn take_or_give(&mut self) -> Turn
+        requires ready { IsReady self.old.end }
+        requires owed { is_nil self.old.desk.owed ≡ false }
+        requires seen { self.old.seen ≡ true }
+        ensures turns { Turns S.left (T.speech self.new.desk.talk) result self.new }
+        ensures cause { GivesOrTakes result self.old.end.state.past self.new.end }
+        ensures on { ServesOn S.same self.old self.new }
+    {
+        if let Some(room) = self.port.lacks_take() {
+            return Turn::Ended(self.broken(room.packets, room.words));
+        }
+        if self.take_one() {
+            return Turn::Moved;
+        }
+        match self.give() {
+            Given::Sent => Turn::Moved,
+            Given::Lacks { packets, words } => Turn::Ended(self.broken(packets, words)),
+            Given::Full => {
+                self.let_go();
+                Turn::Ended(Ended::PeerMarked)
+            }
+        }
+    }
+
+    // Sends what is owed. An end that waits for room goes on taking.
+    fn give_or_take(&mut self) -> Turn
+        requires ready { IsReady self.old.end }
+        requires owed { is_nil self.old.desk.owed ≡ false }
+        ensures turns { Turns S.left (T.speech self.new.desk.talk) result self.new }
+        ensures cause { GivesOrTakes result self.old.end.state.past self.new.end }
+        ensures on { ServesOn S.same self.old self.new }
+    {
+        if self.seen {
+            return self.take_or_give();
+        }
+        match self.give() {
+            Given::Sent => Turn::Moved,
+            Given::Lacks { packets, words } => Turn::Ended(self.broken(packets, words)),
+            Given::Full => self.take_or_rest(),
+        }
+    }
+
+    // Stops where the plan says so, with nothing owed and all served.
+    fn stop_or_take(&mut self) -> Turn
+        requires ready { IsReady self.old.end }
+        requires owed { self.old.desk.owed ≡ [] }
+        requires served { self.old.served ≡ length self.old.end.state.got }
+        ensures turns { Turns S.left (T.speech self.new.desk.talk) result self.new }
+        ensures cause { TakesOrArms result self.old.end.state.past self.new.end }
+        ensures on { ServesOn S.same self.old self.new }
+    {
+        if self.stops && self.missing == 0 && self.desk.has_served() {
+            return Turn::Ended(self.stop());
+        }
+        self.take_or_rest()
+    }
+
+    // Serves what came, until something is owed for it or no call is left.
+    fn serve_on<R: Wait, G: Gate>(&mut self, rt: &R, gate: &G)
+        requires ready { IsReady self.old.end }
+        requires owed { self.old.desk.owed ≡ [] }
+        ensures end { self.new.end ≡ self.old.end }
+        ensures served { is_nil self.new.desk.owed ≡ true → lacks_call (T.speech self.new.desk.talk) self.new ≡ false → self.new.served ≡ length self.new.end.state.got }
+        ensures on { ServesOn S.same self.old self.new }
+    {
+        while self.has_unserved() && !self.lacks_call() {
+            self.serve_next(rt, gate);
+            if !self.desk.is_clear() {
+                return;
+            }
+        }
+    }
+
+    // A turn of an end that is awake: what is owed is sent first, and where nothing is what came is served.
+    fn work<R: Wait, G: Gate>(&mut self, rt: &R, gate: &G) -> Turn
+        requires ready { IsReady self.old.end }
+        ensures turns { Turns S.left (T.speech self.new.desk.talk) result self.new }
+        ensures cause { GivesOrTakes result self.old.end.state.past self.new.end }
+        ensures on { ServesOn S.same self.old self.new }
+    {
+        if !self.desk.is_clear() {
+            return self.give_or_take();
+        }
+        self.serve_on(rt, gate);
+        if !self.desk.is_clear() {
+            return self.give_or_take();
+        }
+        if self.lacks_call() {
+            let room = self.port.spare_got();
+            return Turn::Ended(self.broken(room.packets, room.words));
+        }
+        self.stop_or_take()
+    }
+
+    // A turn of an end that is asleep.
+    fn doze(&mut self) -> Turn
+        requires asleep { self.old.end.state.machine.asleep ≡ true }
+        requires unmarked { self.old.end.state.machine.marked ≡ false }
+        ensures turns { Turns S.left (T.speech self.new.desk.talk) result self.new }
+        ensures cause { Polls result self.old.end self.new.end }
+        ensures on { ServesOn S.same self.old self.new }
+    {
+        if self.port.poll() {
+            return Turn::Moved;
+        }
+        Turn::Idle
+    }
+
+    /// A worker over a new end and a seat that has as many calls left as it serves. `starts` is how many requests of the start-up have answers, `serve` how many requests of the
+    /// device it serves, the answer to the last one being kept where `held`; `stops` says whether it ends then. It makes room for `starts` and `come`
+    /// packets that come. It takes all its memory here.
+    pub fn make(
+        alloc: Global,
+        talk: T,
+        end: End<TableSeat>,
+        seat: S,
+        side: Side,
+        relid: u32,
+        starts: u32,
+        serve: u32,
+        held: bool,
+        stops: bool,
+        come: u32,
+    ) -> Result<Server<T, S>, AllocError>
+        requires serves { S.serves seat talk }
+        requires calls { serve ≤ S.left seat }
+        requires fresh { end.state ≡ new_end end.state.machine.cells end.state.machine.side }
+        requires size { (512 ≤ end.state.machine.cells) × (end.state.machine.cells ≤ 8192) }
+        requires side { side ≡ end.state.machine.side }
+        ensures talk { IfOk result (λ w. (w.desk.talk ≡ talk) × (w.desk.seat ≡ seat) × (w.desk.before ≡ S.calls seat)) }
+        ensures relid { IfOk result (λ w. w.desk.relid ≡ relid) }
+        ensures orders { IfOk result (λ w. (w.serve ≡ serve) × (w.desk.held ≡ held) × (w.stops ≡ stops) × (w.starts ≡ starts) × (w.come ≡ come)) }
+        ensures end { IfOk result (λ w. (w.end.state ≡ end.state) × (w.end.seat ≡ end.seat)) }
+    {
+        let mut port = Port::over(end);
+        let packets = starts as u64 + come as u64;
+        let cells = port.cells() as u64;
+        port.reserve(
+            Room {
+                packets: 2 * packets,
+                words: 768 * packets,
+            },
+            Room {
+                packets: packets + 1,
+                words: 384 * packets + cells,
+            },
+        )?;
+        let desk = Desk::make(alloc, talk, seat, side, relid, serve, held)?;
+        Ok(Server {
+            desk,
+            port,
+            serve,
+            stops,
+            starts,
+            come,
+            missing: starts,
+            served: 0,
+            seen: false,
+            want: None,
+        })
+    }
+
+    /// A turn: an end that is asleep polls its signal. Otherwise the worker sends what it owes, serves what came, takes a packet, ends, or rests.
+    pub fn turn<R: Wait, G: Gate>(&mut self, rt: &R, gate: &G) -> Turn
+        requires unmarked { self.old.end.state.machine.marked ≡ false }
+        ensures turns { Turns S.left (T.speech self.new.desk.talk) result self.new }
+        ensures cause { ServeCause result self.old.end self.new.end }
+        ensures room { ServeEnds (T.speech self.new.desk.talk) result self.new }
+        ensures on { ServesOn S.same self.old self.new }
+    {
+        if self.port.is_asleep() {
+            return self.doze();
+        }
+        self.work(rt, gate)
+    }
+
+    // Sleeps until the signal was up.
+    fn sleep<R: Wait>(&mut self, rt: &R)
+        requires asleep { self.old.end.state.machine.asleep ≡ true }
+        requires unmarked { self.old.end.state.machine.marked ≡ false }
+        ensures unmarked { self.new.end.state.machine.marked ≡ false }
+        ensures on { ServesOn S.same self.old self.new }
+    {
+        self.port.sleep(rt);
+    }
+
+    /// Gives what it did, once it has ended.
+    pub fn done(self, ended: Ended) -> ServerDone<T, S>
+        requires { EndsBy (T.speech self.desk.talk) ended self self.end self.desk.calls }
+        ensures ends { (result.ended ≡ ended) × EndsBy (T.speech self.desk.talk) result.ended self result.end self.desk.calls }
+        ensures calls { S.calls result.seat ≡ self.desk.before ++ self.desk.calls }
+        ensures serials { result.serials.items ≡ map (λ c. c.serial) self.desk.calls }
+        ensures same { (result.end ≡ self.end) × (result.seat ≡ self.desk.seat) }
+    {
+        let Server {
+            desk,
+            port,
+            serve: _,
+            stops: _,
+            starts: _,
+            come: _,
+            missing: _,
+            served: _,
+            seen: _,
+            want: _,
+        } = self;
+        let (seat, serials) = desk.into_seat();
+        ServerDone {
+            end: port.into_end(),
+            seat,
+            ended,
+            serials,
+            of: PhantomData,
+        }
+    }
+
+    /// Takes turns, and sleeps after a turn that found nothing to do, until the worker has ended.
+    pub fn run<R: Wait, G: Gate>(mut self, rt: &R, gate: &G) -> ServerDone<T, S>
+        requires unmarked { self.end.state.machine.marked ≡ false }
+        ensures ends { EndsBy (T.speech self.desk.talk) result.ended self result.end (calls_behind self.desk.before (S.calls result.seat)) }
+        ensures before { take (length self.desk.before) (S.calls result.seat) ≡ self.desk.before }
+        ensures serials { result.serials.items ≡ map (λ c. c.serial) (calls_behind self.desk.before (S.calls result.seat)) }
+        ensures end { IsSameEnd self.end result.end }
+        ensures seat { S.same self.desk.seat result.seat }
+        ensures sent { SentAtMost (length (got_of result.end.state.past)) result.end.state.past }
+        ensures room { ServeLacksFor (is_asked (T.speech self.desk.talk)) (self.starts + self.come) self.serve self.stops result.ended result.end.state.past }
+    {
+        for _ in rt.forever() {
+            match self.turn(rt, gate) {
+                Turn::Moved => {}
+                Turn::Idle => self.sleep(rt),
+                Turn::Ended(ended) => return self.done(ended),
+            }
+        }
+        unreachable!()
+    }
+}
+
+/// How a worker has ended that marked its end, by whether it had seen the other end's mark.
+fn marked_by(seen: bool) -> Ended
+    ensures { result ≡ marked_by seen }
+{
+    if seen {
+        Ended::PeerMarked
+    } else {
+        Ended::Marked
+    }
+}

@@ -1,6 +1,0 @@
-pub mod RoomLaws
-pub mod PortLaws
-pub mod DeskLaws
-pub mod ServeSteps
-pub mod Tables
-pub mod AskSteps

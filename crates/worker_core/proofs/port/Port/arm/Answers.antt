@@ -1,8 +1,0 @@
-use Rattle.std.proofs.Common.{◌∙◌, ap, arith}
-use Rattle.worker_core.proofs.PortLaws.{arm_waits}
-use Rattle.worker_core.proofs.port.Port.arm.Goals as goal
-
-pub returns-clause-want : goal.returns-clause-want
-returns-clause-want c =
-    let idle = c.arm-found.ensures.after.idle (λ e. omega (arith, e)) (λ e. omega (arith, e)) in
-    arm_waits c.args.want c.self.inside.end.state c.arm-found.new.self.state _ _ _ _ (ap (λ e. e.state.machine.asleep) c.self.view_is ∙ c.requires.ready.awake) c.arm-found.ensures.ran idle

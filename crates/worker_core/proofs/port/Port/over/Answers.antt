@@ -1,5 +1,0 @@
-use Rattle.worker_core.proofs.PortLaws.{new_line}
-use Rattle.worker_core.proofs.port.Port.over.Goals as goal
-
-pub invariant_of-result : goal.invariant_of-result
-invariant_of-result c = new_line c.args.end c.requires.fresh c.requires.size

@@ -1,9 +1,0 @@
-use Rattle.std.proofs.Common.{◌≡◌, ◌-◌, [], length}
-use Rattle.worker_core.specs.Serving.{ServesOn}
-use Rattle.worker_core.proofs.server.Server.serve_on.Given as goal
-
-abbrev pub invariant-loop-self : goal.invariant-loop-self
-invariant-loop-self g l = record { end : l.self.end ≡ l.fn.self.end; owed : l.self.desk.owed ≡ []; on : ServesOn g.S.Seat.same l.fn.self l.self }
-
-abbrev pub decreases-loop-self : goal.decreases-loop-self
-decreases-loop-self g l = length l.self.end.state.got - l.self.served
