@@ -13,7 +13,7 @@ use Rattle.bus_speech.specs.declared.want.Want.{Want}
 use Rattle.bus_speech.specs.declared.want.Want.TheVariants.{Script}
 use Rattle.bus_speech.specs.Wants.{IsAskable}
 use Rattle.bus_speech.specs.Speeches.{speech_of, read_on}
-use Rattle.bus_speech.proofs.SpeechLaws.{asked_is}
+use Rattle.bus_speech.proofs.SpeechLaws.{all_ask, asked_is}
 use Rattle.work_model.specs.Asker.{Encoded}
 use Rattle.work_model.specs.Channel.{AllFixed, count_of, IsChannelRun as IsTalkRun}
 use Rattle.work_model.specs.Outcome.{Outcome, Unserved, done_of, served_of, outcomes_of as work_outcomes}
@@ -33,9 +33,9 @@ map_first f x xs y e = grind (arith, e)
 map_past : {A B : Type 0} (f : A → Option B) (x : A) (xs : List A) → f x ≡ None → filter_map f (x ∷ xs) ≡ filter_map f xs
 map_past f x xs e = grind (arith, e)
 
-all_requests : (ps : List (List ℕ)) → filter (λ p. true) ps ≡ ps
-all_requests [] = refl
-all_requests (p ∷ ps) = ap (λ l. p ∷ l) (all_requests ps)
+all_requests : (kind : Kind) (ps : List (List ℕ)) → filter (speech_of kind).is_request ps ≡ ps
+all_requests kind [] = refl
+all_requests kind (p ∷ ps) = rw (all_ask kind p) (ap (λ l. p ∷ l) (all_requests kind ps))
 
 script_front : (kind : Kind) (asks : List Ask) (ps : List (List ℕ)) → AllByRecursion (IsAskable kind) asks → Encoded (speech_of kind) (map Script asks) ps → IsFront (filter_map (read_on kind) ps) asks
 script_front kind asks [] can encoded = (asks, refl)
@@ -67,7 +67,7 @@ take_front (x ∷ xs) rest (suc n) e = ap (λ l. x ∷ l) (take_front xs rest n 
 first_asked : (order : Order) (sent got server_sent server_got : List (List ℕ)) (served : List Served) (told : List Reply) → AllByRecursion (IsAskable order.kind) order.asks
     → IsTalkRun (speech_of order.kind) (plan_of order) sent got server_sent server_got served told → map (λ s. s.request) served ≡ take (served_count order) order.asks
 first_asked order sent got server_sent server_got served told can run =
-    let asked = subst (Encoded (speech_of order.kind) (startup_of order ++ map Script order.asks)) (all_requests sent) run.requests in
+    let asked = subst (Encoded (speech_of order.kind) (startup_of order ++ map Script order.asks)) (all_requests order.kind sent) run.requests in
     let front = plan_front order.kind (startup_of order) order.asks sent (fixed_if order.kind _) can asked in
     let whole : order.asks ≡ map (λ (s : Served). s.request) served ++ (run.asked.0 ++ front.0) =
     front.1 ∙ (ap (λ l. l ++ front.0) run.asked.1 ∙ append_assoc (map (λ (s : Served). s.request) served) run.asked.0 front.0) in

@@ -4,5 +4,7 @@ pub mod VstorLaws
 pub mod DiskLaws
 pub mod DoneLaws
 pub mod ServiceLaws
+pub mod CodecLaws
+pub mod KindLaws
 pub mod SpeechLaws
 pub mod TalkLaws

@@ -1,190 +1,137 @@
 -- Each kind of channel keeps to the laws of a speech.
-use Rattle.std.proofs.Common.{◌≡◌, ◌≢◌, ℕ, true, false, List, [], ◌∷◌, ◌++◌, Option, Some, None, refl, sym, ap, ◌∙◌}
-use Rattle.std.specs.Prelude.{map, is_some}
+use Rattle.std.proofs.Common.{◌≡◌, ◌≢◌, ℕ, Bool, true, List, [], ◌∷◌, Option, Some, None, ◌⊎◌, inl, inr, refl, sym, ap, subst, ◌∙◌}
+use Rattle.std.specs.Prelude.{map}
 use Rattle.std.specs.List.{AllByRecursion}
 use Rattle.contact.specs.declared.kind.Kind.{Kind}
 use Rattle.contact.specs.declared.kind.Kind.TheVariants.{Beat, Down, Disk, Net}
 use Rattle.util_ic.specs.declared.ic.IcAsk.{IcAsk}
 use Rattle.util_ic.specs.declared.ic.IcAsk.TheVariants.{Beat as AskBeat, Down as AskDown}
 use Rattle.util_ic.specs.declared.ic.IcAnswer.{IcAnswer}
-use Rattle.util_ic.specs.Messages.{ask_bytes, negotiate_bytes}
 use Rattle.util_ic.specs.Asks.{reply_of}
 use Rattle.scsi_disk.specs.DiskModel.{IsSized}
 use Rattle.scsi_disk.specs.declared.request.DiskRequest.{DiskRequest}
 use Rattle.scsi_disk.specs.declared.reply.DiskReply.{DiskReply}
-use Rattle.stor_proto.specs.Packets.{vstor_bytes}
-use Rattle.stor_proto.specs.Srbs.{ask_of}
 use Rattle.script_lines.specs.declared.line.Ask.{Ask}
 use Rattle.script_lines.specs.declared.line.Ask.TheVariants.{Ic as AskIc, Disk as AskDisk}
 use Rattle.bus_script.specs.declared.outcome.Reply.{Reply}
 use Rattle.bus_script.specs.declared.outcome.Reply.TheVariants.{Ic as ReplyIc, Disk as ReplyDisk}
-use Rattle.pkt_desc.specs.Packets.{id_of, inband_packet}
-use Rattle.work_model.specs.Speech.{Keeps, Answers}
+use Rattle.pkt_desc.specs.Packets.{id_of}
+use Rattle.work_model.specs.Speech.{Keeps}
 use Rattle.work_model.specs.Channel.{AllFixed, AllAsk}
-use Rattle.bus_speech.specs.declared.want.Want.{Want}
+use Rattle.work_model.specs.Lift.{IsAmong, mapped, or_else, both_hold}
+use Rattle.work_model.proofs.Lifting.{lifts}
 use Rattle.bus_speech.specs.declared.want.Want.TheVariants.{Starts, Script}
-use Rattle.bus_speech.specs.Packets.{bare_packet}
-use Rattle.bus_speech.specs.Services.{service_read, service_fixed, service_answer}
-use Rattle.bus_speech.specs.Disks.{sent_packet, done_packet, disk_read, disk_fixed, disk_answer, disk_start, disk_ask, start_vstor}
-use Rattle.bus_speech.specs.Wants.{startup, IsBeatAsk, IsDownAsk, IsAskable}
-use Rattle.bus_speech.specs.Speeches.{ic_ask, disk_asks, ic_reply, disk_replies, encode_on, waits_on, read_on, fixed_on, fits_on, answer_on, said_on, asks_device, has_answer_on, fixed_back, result_on, speech_of}
-use Rattle.bus_speech.proofs.DiskLaws.{by_test, waits_any, read_any, start_waits as disk_start_waits, start_read as disk_start_read, ask_waits as disk_ask_waits, ask_read as disk_ask_read}
-use Rattle.bus_speech.proofs.DoneLaws.{reply_read as disk_reply_read, sized_fits}
-use Rattle.bus_speech.proofs.ServiceLaws.{served_answers, inband_any, service_any, ask_waits, ask_read, start_waits, start_read, reply_fits, reply_read}
+use Rattle.bus_speech.specs.Packets.{is_inband, bare_packet}
+use Rattle.bus_speech.specs.Codecs.{WantOf, Step, Request, Codec, speech_by}
+use Rattle.bus_speech.specs.Services.{service_read, service_fixed, service_answer, service_fits, service_encode, service_codec}
+use Rattle.bus_speech.specs.Disks.{disk_codec, IsDiskAsk}
+use Rattle.bus_speech.specs.Kinds.{ic_request, disk_request, ic_reply, disk_reply, services, disks}
+use Rattle.bus_speech.specs.Wants.{startup, CanBe, IsBeatAsk, IsDownAsk, IsAskable}
+use Rattle.bus_speech.specs.Speeches.{encode_on, waits_on, read_on, fits_on, answer_on, has_answer_on, silent_speech, speech_of}
+use Rattle.bus_speech.proofs.DiskLaws.{by_test, start_waits as disk_start_waits, start_read as disk_start_read, ask_read as disk_ask_read}
+use Rattle.bus_speech.proofs.DoneLaws.{sized_fits}
+use Rattle.bus_speech.proofs.ServiceLaws.{served_answers, ask_read, start_waits, start_read, reply_fits}
+use Rattle.bus_speech.proofs.KindLaws.{service_keeps, disk_keeps}
 
--- the packet of an ask has these flags and bytes, under whatever id
-pub record Encoding (kind : Kind) (a : Want) : Type 0 where
-  pub flags : ℕ
-  pub bytes : List ℕ
-  pub is : (id : ℕ) → encode_on kind id a ≡ inband_packet id flags bytes
+-- each kind's requests and replies are among all
 
-encoding : (kind : Kind) (a : Want) → Encoding kind a
-unfolding bare_packet disk_start disk_ask sent_packet
-encoding Beat (Starts k) = record { flags = 0; bytes = negotiate_bytes; is = λ id. refl }
-encoding Beat (Script (AskIc ask)) = record { flags = 0; bytes = ask_bytes ask; is = λ id. refl }
-encoding Beat (Script (AskDisk q)) = record { flags = 0; bytes = []; is = λ id. refl }
-encoding Down (Starts k) = record { flags = 0; bytes = negotiate_bytes; is = λ id. refl }
-encoding Down (Script (AskIc ask)) = record { flags = 0; bytes = ask_bytes ask; is = λ id. refl }
-encoding Down (Script (AskDisk q)) = record { flags = 0; bytes = []; is = λ id. refl }
-encoding Disk (Starts k) = record { flags = 1; bytes = vstor_bytes (start_vstor k) ++ []; is = λ id. refl }
-encoding Disk (Script (AskIc ask)) = record { flags = 0; bytes = []; is = λ id. refl }
-encoding Disk (Script (AskDisk q)) = record { flags = 1; bytes = vstor_bytes (ask_of q) ++ q.out; is = λ id. refl }
-encoding Net a = record { flags = 0; bytes = []; is = λ id. refl }
+service_whole : (ask : Ask) (q : IcAsk) → ic_request ask ≡ Some q → AskIc q ≡ ask
+service_whole (AskIc x) q h = let same : x ≡ q = cc in ap AskIc (sym same)
+service_whole (AskDisk x) q h = cc
 
-waits_same : (kind : Kind) (id flags : ℕ) (bs : List ℕ) → waits_on kind (inband_packet id flags bs) ≡ waits_on kind (inband_packet 0 flags bs)
-waits_same Beat id flags bs = inband_any id flags bs
-waits_same Down id flags bs = inband_any id flags bs
-waits_same Disk id flags bs = waits_any id flags bs
-waits_same Net id flags bs = refl
+disk_whole : (ask : Ask) (q : DiskRequest) → disk_request ask ≡ Some q → AskDisk q ≡ ask
+disk_whole (AskIc x) q h = cc
+disk_whole (AskDisk x) q h = let same : x ≡ q = cc in ap AskDisk (sym same)
 
-read_same : (kind : Kind) (id flags : ℕ) (bs : List ℕ) → read_on kind (inband_packet id flags bs) ≡ read_on kind (inband_packet 0 flags bs)
-read_same Beat id flags bs = ap ic_ask (service_any Beat id flags bs)
-read_same Down id flags bs = ap ic_ask (service_any Down id flags bs)
-read_same Disk id flags bs = ap disk_asks (read_any id flags bs)
-read_same Net id flags bs = refl
+service_replied : (reply : Reply) (r : IcAnswer) → ic_reply reply ≡ Some r → ReplyIc r ≡ reply
+service_replied (ReplyIc x) r h = let same : x ≡ r = cc in ap ReplyIc (sym same)
+service_replied (ReplyDisk x) r h = cc
 
-pub waits_alike : (kind : Kind) (id : ℕ) (a : Want) → waits_on kind (encode_on kind id a) ≡ waits_on kind (encode_on kind 0 a)
-waits_alike kind id a = let e = encoding kind a in ap (waits_on kind) (e.is id) ∙ (waits_same kind id e.flags e.bytes ∙ ap (waits_on kind) (sym (e.is 0)))
+disk_replied : (reply : Reply) (r : DiskReply) → disk_reply reply ≡ Some r → ReplyDisk r ≡ reply
+disk_replied (ReplyIc x) r h = cc
+disk_replied (ReplyDisk x) r h = let same : x ≡ r = cc in ap ReplyDisk (sym same)
 
-pub read_alike : (kind : Kind) (id : ℕ) (a : Want) → read_on kind (encode_on kind id a) ≡ read_on kind (encode_on kind 0 a)
-read_alike kind id a = let e = encoding kind a in ap (read_on kind) (e.is id) ∙ (read_same kind id e.flags e.bytes ∙ ap (read_on kind) (sym (e.is 0)))
+among_services : IsAmong services
+among_services = record { found = λ q. refl; whole = service_replied }
 
-id_encode : (kind : Kind) (id : ℕ) (a : Want) → id_of (encode_on kind id a) ≡ id
-id_encode kind id a = ap id_of ((encoding kind a).is id)
+among_disks : IsAmong disks
+among_disks = record { found = λ q. refl; whole = disk_replied }
 
-id_answer : (kind : Kind) (p : List ℕ) (r : Reply) → id_of (answer_on kind p r) ≡ id_of p
-unfolding bare_packet service_answer disk_answer done_packet
-id_answer Beat p (ReplyIc r) = refl
-id_answer Beat p (ReplyDisk r) = refl
-id_answer Down p (ReplyIc r) = refl
-id_answer Down p (ReplyDisk r) = refl
-id_answer Disk p (ReplyIc r) = refl
-id_answer Disk p (ReplyDisk r) = refl
-id_answer Net p r = refl
-
-id_fixed : (kind : Kind) (p : List ℕ) → id_of (fixed_on kind p) ≡ id_of p
-unfolding bare_packet service_fixed disk_fixed done_packet
-id_fixed Beat p = refl
-id_fixed Down p = refl
-id_fixed Disk p = refl
-id_fixed Net p = refl
-
-one_answer : (kind : Kind) (id : ℕ) (p : List ℕ) → id_of p ≡ id → Answers (speech_of kind) id (p ∷ [])
-one_answer kind id p same = record { before = []; answer = p; is = refl; none = refl; one = refl; same = same }
-
-fixes : (kind : Kind) (p : List ℕ) → waits_on kind p ≡ true → read_on kind p ≡ None → Answers (speech_of kind) (id_of p) (fixed_back kind p)
-fixes kind p waits none = rw (waits, none) (one_answer kind (id_of p) (fixed_on kind p) (id_fixed kind p))
-
-unread : (kind : Kind) (p : List ℕ) → waits_on kind p ≡ false → read_on kind p ≡ None
-unfolding service_read disk_read
-unread Beat p not = rw not refl
-unread Down p not = rw not refl
-unread Disk p not = rw not refl
-unread Net p not = refl
-
-silent : (kind : Kind) (p : List ℕ) → waits_on kind p ≡ false → fixed_back kind p ≡ []
-silent kind p not = rw not refl
-
-ic_some : (o : Option IcAsk) (q : IcAsk) → ic_ask o ≡ Some (AskIc q) → o ≡ Some q
-ic_some None q h = cc
-ic_some (Some x) q h = let same : x ≡ q = cc in ap Some same
-
-ic_not_disk : {P : Type 0} (o : Option IcAsk) (q : DiskRequest) → ic_ask o ≡ Some (AskDisk q) → P
-ic_not_disk None q h = cc
-ic_not_disk (Some x) q h = cc
-
-disk_some : (o : Option DiskRequest) (q : DiskRequest) → disk_asks o ≡ Some (AskDisk q) → o ≡ Some q
-disk_some None q h = cc
-disk_some (Some x) q h = let same : x ≡ q = cc in ap Some same
-
-disk_not_ic : {P : Type 0} (o : Option DiskRequest) (q : IcAsk) → disk_asks o ≡ Some (AskIc q) → P
-disk_not_ic None q h = cc
-disk_not_ic (Some x) q h = cc
-
--- the answer to a packet under an id says the reply
-said : (kind : Kind) (id flags : ℕ) (bs : List ℕ) (q : Ask) (r : Reply) → read_on kind (inband_packet id flags bs) ≡ Some q → fits_on kind q r ≡ true → said_on kind (answer_on kind (inband_packet id flags bs) r) ≡ Some r
-said Beat id flags bs (AskIc q) (ReplyIc r) h fits = ap ic_reply (reply_read Beat id flags bs q r (ic_some (service_read Beat (inband_packet id flags bs)) q h) fits)
-said Beat id flags bs (AskIc q) (ReplyDisk r) h fits = cc
-said Beat id flags bs (AskDisk q) r h fits = cc
-said Down id flags bs (AskIc q) (ReplyIc r) h fits = ap ic_reply (reply_read Down id flags bs q r (ic_some (service_read Down (inband_packet id flags bs)) q h) fits)
-said Down id flags bs (AskIc q) (ReplyDisk r) h fits = cc
-said Down id flags bs (AskDisk q) r h fits = cc
-said Disk id flags bs (AskIc q) r h fits = cc
-said Disk id flags bs (AskDisk q) (ReplyIc r) h fits = cc
-said Disk id flags bs (AskDisk q) (ReplyDisk r) h fits = ap disk_replies (disk_reply_read (inband_packet id flags bs) q r (disk_some (disk_read (inband_packet id flags bs)) q h) fits)
-said Net id flags bs q r h fits = cc
-
-reads : (kind : Kind) (id : ℕ) (a : Want) (q : Ask) (r : Reply) → read_on kind (encode_on kind id a) ≡ Some q → fits_on kind q r ≡ true → result_on kind a (answer_on kind (encode_on kind id a) r ∷ []) ≡ Some r
-reads kind id a q r h fits =
-    let e = encoding kind a in
-    let device : asks_device kind a ≡ true = ap is_some (sym (read_alike kind id a) ∙ h) in
-    rw device (ap (λ p. said_on kind (answer_on kind p r)) (e.is id) ∙ said kind id e.flags e.bytes q r (ap (read_on kind) (sym (e.is id)) ∙ h) fits)
-
-no_result : (kind : Kind) (id : ℕ) (a : Want) (part : List (List ℕ)) → read_on kind (encode_on kind id a) ≡ None → result_on kind a part ≡ None
-no_result kind id a [] h = refl
-no_result kind id a (p ∷ ps) h =
-    let device : asks_device kind a ≡ false = ap is_some (sym (read_alike kind id a) ∙ h) in
-    rw device refl
-
-pub keeps : (kind : Kind) → Keeps (speech_of kind)
-keeps kind = record {
-  given = λ p r back waits. one_answer kind (id_of p) (answer_on kind p r) (id_answer kind p r);
-  fixes = fixes kind;
-  unread = unread kind;
-  silent = silent kind;
+silent_keeps : Keeps silent_speech
+unfolding bare_packet
+silent_keeps = record {
+  given = λ p r back waits. cc;
+  fixes = λ p waits none. cc;
+  unread = λ p not. refl;
+  silent = λ p not. refl;
   asks = λ p not. cc;
   encodes = λ id a. refl;
-  id_kept = λ id a fits. id_encode kind id a;
-  waits_ask = waits_alike kind;
-  reads = λ id a q r back h fits. reads kind id a q r h fits;
-  no_result = no_result kind;
+  id_kept = λ id a fits. refl;
+  waits_ask = λ id a. refl;
+  reads = λ id a q r back h fits. cc;
+  no_result = λ id a part h. refl;
 }
+
+pub keeps : (kind : Kind) → Keeps (speech_of kind)
+keeps Beat = lifts (speech_by (service_codec Beat)) services among_services (service_keeps Beat)
+keeps Down = lifts (speech_by (service_codec Down)) services among_services (service_keeps Down)
+keeps Disk = lifts (speech_by disk_codec) disks among_disks disk_keeps
+keeps Net = silent_keeps
+
+-- on each kind of channel all packets are requests or answers, and say their ids alike
+pub all_ask : (kind : Kind) (p : List ℕ) → (speech_of kind).is_request p ≡ true
+all_ask Beat p = refl
+all_ask Down p = refl
+all_ask Disk p = refl
+all_ask Net p = refl
+
+pub all_answer : (kind : Kind) (p : List ℕ) → (speech_of kind).is_answer p ≡ true
+all_answer Beat p = refl
+all_answer Down p = refl
+all_answer Disk p = refl
+all_answer Net p = refl
+
+pub id_is : (kind : Kind) (p : List ℕ) → (speech_of kind).id_of p ≡ id_of p
+id_is Beat p = refl
+id_is Down p = refl
+id_is Disk p = refl
+id_is Net p = refl
 
 -- plans
 
+-- the start-up asks nothing of the device
+pub step_read : (kind : Kind) (id k : ℕ) → read_on kind (encode_on kind id (Starts k)) ≡ None
+step_read Beat id k = ap (mapped AskIc) (start_read Beat id)
+step_read Down id k = ap (mapped AskIc) (start_read Down id)
+step_read Disk id k = ap (mapped AskDisk) (disk_start_read id k)
+step_read Net id k = refl
+
 -- what goes back for the start-up is fixed
 pub start_is_fixed : (kind : Kind) → AllFixed (speech_of kind) (startup kind)
-start_is_fixed Beat = (λ id. ap ic_ask (start_read Beat id), tt)
-start_is_fixed Down = (λ id. ap ic_ask (start_read Down id), tt)
-start_is_fixed Disk = (λ id. ap disk_asks (disk_start_read id 0), (λ id. ap disk_asks (disk_start_read id 1), (λ id. ap disk_asks (disk_start_read id 2), (λ id. ap disk_asks (disk_start_read id 3), tt))))
+start_is_fixed Beat = (λ id. step_read Beat id 0, tt)
+start_is_fixed Down = (λ id. step_read Down id 0, tt)
+start_is_fixed Disk = (λ id. step_read Disk id 0, (λ id. step_read Disk id 1, (λ id. step_read Disk id 2, (λ id. step_read Disk id 3, tt))))
 start_is_fixed Net = tt
 
-beat_read : (id : ℕ) (ask : IcAsk) → IsBeatAsk ask → read_on Beat (encode_on Beat id (Script (AskIc ask))) ≡ Some (AskIc ask)
-beat_read id (AskBeat seq) can = ap ic_ask (ask_read id (AskBeat seq) can)
+-- a request of this kind that can be asked is what is read
+asked_so : {Q R : Type 0} (x : Codec (WantOf Q) Q R) (request : Q → Ask) (Can : Q → Type 0) (id : ℕ) → ((q : Q) → Can q → x.read (x.encode id (Request q)) ≡ Some q) → (ask : Ask) (o : Option Q) → ((q : Q) → o ≡ Some q → request q ≡ ask)
+    → CanBe Can o → mapped request (x.read (x.encode id (or_else (Step 0) (mapped Request o)))) ≡ Some ask
+asked_so x request Can id asked ask None whole can = absurd can
+asked_so x request Can id asked ask (Some q) whole can = ap (mapped request) (asked q can) ∙ ap Some (whole q refl)
+
+beat_read : (id : ℕ) (ask : IcAsk) → IsBeatAsk ask → service_read Beat (service_encode id (Request ask)) ≡ Some ask
+beat_read id (AskBeat seq) can = ask_read id (AskBeat seq) can
 beat_read id (AskDown reason timeout flags) can = absurd can
 
-down_read : (id : ℕ) (ask : IcAsk) → IsDownAsk ask → read_on Down (encode_on Down id (Script (AskIc ask))) ≡ Some (AskIc ask)
+down_read : (id : ℕ) (ask : IcAsk) → IsDownAsk ask → service_read Down (service_encode id (Request ask)) ≡ Some ask
 down_read id (AskBeat seq) can = absurd can
-down_read id (AskDown reason timeout flags) can = ap ic_ask (ask_read id (AskDown reason timeout flags) can)
+down_read id (AskDown reason timeout flags) can = ask_read id (AskDown reason timeout flags) can
 
 -- the device is asked what the script asked
 pub asked_is : (kind : Kind) (id : ℕ) (ask : Ask) → IsAskable kind ask → read_on kind (encode_on kind id (Script ask)) ≡ Some ask
-asked_is Beat id (AskIc ask) can = beat_read id ask can
-asked_is Beat id (AskDisk q) can = absurd can
-asked_is Down id (AskIc ask) can = down_read id ask can
-asked_is Down id (AskDisk q) can = absurd can
-asked_is Disk id (AskIc ask) can = absurd can
-asked_is Disk id (AskDisk q) can = ap disk_asks (disk_ask_read id q can)
+asked_is Beat id ask can = asked_so (service_codec Beat) AskIc IsBeatAsk id (beat_read id) ask (ic_request ask) (service_whole ask) can
+asked_is Down id ask can = asked_so (service_codec Down) AskIc IsDownAsk id (down_read id) ask (ic_request ask) (service_whole ask) can
+asked_is Disk id ask can = asked_so disk_codec AskDisk IsDiskAsk id (disk_ask_read id) ask (disk_request ask) (disk_whole ask) can
 asked_is Net id ask can = absurd can
 
 -- the script asks the device
@@ -192,23 +139,13 @@ pub script_asks : (kind : Kind) (asks : List Ask) → AllByRecursion (IsAskable 
 script_asks kind [] all = tt
 script_asks kind (ask ∷ asks) all = (λ id. (ask, asked_is kind id ask all.0), script_asks kind asks all.1)
 
--- each has an answer
-beat_waits : (id : ℕ) (ask : IcAsk) → IsBeatAsk ask → waits_on Beat (encode_on Beat id (Script (AskIc ask))) ≡ true
-beat_waits id (AskBeat seq) can = ask_waits id (AskBeat seq) can
-beat_waits id (AskDown reason timeout flags) can = absurd can
-
-down_waits : (id : ℕ) (ask : IcAsk) → IsDownAsk ask → waits_on Down (encode_on Down id (Script (AskIc ask))) ≡ true
-down_waits id (AskBeat seq) can = absurd can
-down_waits id (AskDown reason timeout flags) can = ask_waits id (AskDown reason timeout flags) can
+-- what asks the device has an answer
+pub read_waits : (kind : Kind) (p : List ℕ) (q : Ask) → read_on kind p ≡ Some q → waits_on kind p ≡ true
+read_waits kind p q h =
+    by_test (waits_on kind p) (λ is. is) (λ not. let none : read_on kind p ≡ None = (keeps kind).unread p not in cc)
 
 pub script_waits : (kind : Kind) (ask : Ask) → IsAskable kind ask → has_answer_on kind (Script ask) ≡ true
-script_waits Beat (AskIc ask) can = beat_waits 0 ask can
-script_waits Beat (AskDisk q) can = absurd can
-script_waits Down (AskIc ask) can = down_waits 0 ask can
-script_waits Down (AskDisk q) can = absurd can
-script_waits Disk (AskIc ask) can = absurd can
-script_waits Disk (AskDisk q) can = disk_ask_waits 0 q can
-script_waits Net ask can = absurd can
+script_waits kind ask can = sym ((keeps kind).waits_ask 0 (Script ask)) ∙ read_waits kind (encode_on kind 0 (Script ask)) ask (asked_is kind 0 ask can)
 
 pub start_has_answer : (kind : Kind) (k : ℕ) → kind ≢ Net → has_answer_on kind (Starts k) ≡ true
 start_has_answer Beat k other = start_waits 0
@@ -226,16 +163,36 @@ down_fits q r is = reply_fits Down q r is
 pub disk_reply_fits : (q : DiskRequest) (r : DiskReply) → IsSized q r → fits_on Disk (AskDisk q) (ReplyDisk r) ≡ true
 disk_reply_fits q r sized = sized_fits q r sized
 
--- what asks the device has an answer
-pub read_waits : (kind : Kind) (p : List ℕ) (q : Ask) → read_on kind p ≡ Some q → waits_on kind p ≡ true
-read_waits kind p q h =
-    by_test (waits_on kind p) (λ is. is) (λ not. let none = unread kind p not in cc)
+-- a fitting reply is one of the device's kind
+pub record Replied {Q R : Type 0} (read : Option Q) (fits : Q → R → Bool) (reply : Option R) : Type 0 where
+  pub asked : Q
+  pub replied : R
+  pub reads : read ≡ Some asked
+  pub is : reply ≡ Some replied
+  pub holds : fits asked replied ≡ true
+
+replied_so : {Q R : Type 0} (fits : Q → R → Bool) (request : Q → Ask) (own : Ask → Option Q) → ((q : Q) → own (request q) ≡ Some q) → (read : Option Q) (ask : Ask) (q : Option Q) (reply : Option R) → own ask ≡ q
+    → mapped request read ≡ Some ask → both_hold fits q reply ≡ true → Replied read fits reply
+replied_so fits request own found None ask q reply is h holds = cc
+replied_so fits request own found (Some x) ask None reply is h holds = cc
+replied_so fits request own found (Some x) ask (Some y) None is h holds = cc
+replied_so fits request own found (Some x) ask (Some y) (Some r) is h holds =
+    let asked : request x ≡ ask = cc in
+    let same_some : Some x ≡ Some y = sym (found x) ∙ (ap own asked ∙ is) in
+    let same : x ≡ y = cc in
+    record { asked = y; replied = r; reads = ap Some same; is = refl; holds = holds }
+
+pub service_replies : (kind : Kind) (p : List ℕ) (q : Ask) (r : Reply) → mapped AskIc (service_read kind p) ≡ Some q → both_hold (service_fits kind) (ic_request q) (ic_reply r) ≡ true → Replied (service_read kind p) (service_fits kind) (ic_reply r)
+service_replies kind p q r h fits = replied_so (service_fits kind) AskIc ic_request (λ x. refl) (service_read kind p) q (ic_request q) (ic_reply r) refl h fits
 
 -- the service's own answer carries its reply
-pub beat_answers : (p : List ℕ) (q : Ask) (r : IcAnswer) → read_on Beat p ≡ Some q → fits_on Beat q (ReplyIc r) ≡ true → service_fixed Beat p ≡ answer_on Beat p (ReplyIc r)
-beat_answers p (AskIc q) r h fits = served_answers Beat p q r (ic_some (service_read Beat p) q h) fits
-beat_answers p (AskDisk q) r h fits = cc
+answers_so : (kind : Kind) (p : List ℕ) (r : Reply) → Replied (service_read kind p) (service_fits kind) (ic_reply r) → service_fixed kind p ≡ service_answer p (or_else services.other (ic_reply r))
+answers_so kind p r own = served_answers kind p own.asked own.replied own.reads own.holds ∙ ap (λ o. service_answer p (or_else services.other o)) (sym own.is)
 
-pub down_answers : (p : List ℕ) (q : Ask) (r : IcAnswer) → read_on Down p ≡ Some q → fits_on Down q (ReplyIc r) ≡ true → service_fixed Down p ≡ answer_on Down p (ReplyIc r)
-down_answers p (AskIc q) r h fits = served_answers Down p q r (ic_some (service_read Down p) q h) fits
-down_answers p (AskDisk q) r h fits = cc
+-- what asks a service is in-band, and its own answer is the answer with its reply
+abbrev AnswersOn : Kind → List ℕ → Ask → Reply → Type 0
+AnswersOn kind p q r = read_on kind p ≡ Some q → fits_on kind q r ≡ true → (is_inband p ≡ true) × (service_fixed kind p ≡ answer_on kind p r)
+
+pub service_answers : (kind : Kind) → (kind ≡ Beat) ⊎ (kind ≡ Down) → (p : List ℕ) (q : Ask) (r : Reply) → AnswersOn kind p q r
+service_answers kind (inl is) p q r = subst (λ k. AnswersOn k p q r) (sym is) (λ h fits. (read_waits Beat p q h, answers_so Beat p r (service_replies Beat p q r h fits)))
+service_answers kind (inr is) p q r = subst (λ k. AnswersOn k p q r) (sym is) (λ h fits. (read_waits Down p q h, answers_so Down p r (service_replies Down p q r h fits)))

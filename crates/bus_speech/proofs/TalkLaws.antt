@@ -1,5 +1,5 @@
 -- What the end that asks has to ask, one by one.
-use Rattle.std.proofs.Common.{◌≡◌, ◌≢◌, ℕ, zero, suc, ◌+◌, ◌-◌, ◌<◌, ◌≤◌, true, false, List, [], ◌∷◌, ◌++◌, length, Some, slice_get, length-append, ⊎_elim, refl, sym, ap, subst, ◌∙◌, arith}
+use Rattle.std.proofs.Common.{◌≡◌, ◌≢◌, ℕ, zero, suc, ◌+◌, ◌-◌, ◌<◌, ◌≤◌, true, List, [], ◌∷◌, ◌++◌, length, Option, Some, None, slice_get, length-append, ⊎_elim, refl, sym, ap, subst, ◌∙◌, arith}
 use Rattle.std.proofs.lemmas.Bool.{cases_lt}
 use Rattle.std.specs.Prelude.{map, is_some}
 use Rattle.std.specs.List.{AllByRecursion}
@@ -8,32 +8,18 @@ use Rattle.contact.specs.declared.kind.Kind.{Kind}
 use Rattle.contact.specs.declared.kind.Kind.TheVariants.{Beat, Down, Disk, Net}
 use Rattle.script_lines.specs.declared.line.Ask.{Ask}
 use Rattle.bus_script.specs.declared.outcome.Reply.{Reply}
-use Rattle.bus_script.specs.declared.outcome.Reply.TheVariants.{Ic as ReplyIc, Disk as ReplyDisk}
 use Rattle.chan_talk.specs.Listed.{listed_packet}
 use Rattle.bus_speech.specs.declared.want.Want.{Want}
 use Rattle.bus_speech.specs.declared.want.Want.TheVariants.{Starts, Script}
-use Rattle.bus_speech.specs.Packets.{bare_packet}
-use Rattle.bus_speech.specs.Services.{service_fixed, service_answer}
-use Rattle.bus_speech.specs.Disks.{done_packet, disk_fixed, disk_answer}
+use Rattle.work_model.specs.Lift.{mapped}
+use Rattle.bus_speech.specs.Codecs.{Codec, result_in}
+use Rattle.bus_speech.specs.Services.{service_fixed, service_answer, service_codec}
+use Rattle.bus_speech.specs.Disks.{done_packet, disk_fixed, disk_answer, disk_codec}
+use Rattle.bus_speech.specs.Kinds.{services, disks}
 use Rattle.bus_speech.specs.Wants.{startup, IsAskable}
-use Rattle.bus_speech.specs.Speeches.{ic_ask, disk_asks, fixed_on, answer_on, asks_device, has_answer_on}
+use Rattle.bus_speech.specs.Speeches.{said_on, answer_on, has_answer_on, speech_of}
 use Rattle.bus_speech.specs.Talks.{Talked, asks_of, CanAsk}
-use Rattle.bus_speech.proofs.DiskLaws.{start_read as disk_start_read}
-use Rattle.bus_speech.proofs.ServiceLaws.{start_read}
-use Rattle.bus_speech.proofs.SpeechLaws.{asked_is, script_waits, start_has_answer}
-
--- the start-up asks nothing of the device
-start_asks : (kind : Kind) (k : ℕ) → k < length (startup kind) → asks_device kind (Starts k) ≡ false
-start_asks Beat zero lt = ap is_some (ap ic_ask (start_read Beat 0))
-start_asks Beat (suc k) lt = absurd (omega arith)
-start_asks Down zero lt = ap is_some (ap ic_ask (start_read Down 0))
-start_asks Down (suc k) lt = absurd (omega arith)
-start_asks Disk zero lt = ap is_some (ap disk_asks (disk_start_read 0 0))
-start_asks Disk (suc zero) lt = ap is_some (ap disk_asks (disk_start_read 0 1))
-start_asks Disk (suc (suc zero)) lt = ap is_some (ap disk_asks (disk_start_read 0 2))
-start_asks Disk (suc (suc (suc zero))) lt = ap is_some (ap disk_asks (disk_start_read 0 3))
-start_asks Disk (suc (suc (suc (suc k)))) lt = absurd (omega arith)
-start_asks Net k lt = absurd (omega arith)
+use Rattle.bus_speech.proofs.SpeechLaws.{keeps, step_read, asked_is, script_waits, start_has_answer}
 
 -- the start-up is part of what is asked
 pub starts_within : (kind : Kind) (asks : List Want) → length (startup kind) ≤ length (startup kind ++ asks)
@@ -58,11 +44,6 @@ behind (x ∷ xs) ys j =
     let e : length (x ∷ xs) + j ≡ suc (length xs + j) = omega arith in
     ap (slice_get (x ∷ (xs ++ ys))) e ∙ behind xs ys j
 
-mapped : (asks : List Ask) (j : ℕ) (ask : Ask) → slice_get asks j ≡ Some ask → slice_get (map Script asks) j ≡ Some (Script ask)
-mapped [] j ask h = cc
-mapped (x ∷ asks) zero ask h = let same : x ≡ ask = cc in ap (λ y. Some (Script y)) same
-mapped (x ∷ asks) (suc j) ask h = mapped asks j ask h
-
 found : (asks : List Ask) (j : ℕ) (a : Want) → slice_get (map Script asks) j ≡ Some a → (ask : Ask) × (slice_get asks j ≡ Some ask) × (a ≡ Script ask)
 found [] j a h = cc
 found (x ∷ asks) zero a h = let same : Script x ≡ a = cc in (x, refl, sym same)
@@ -72,6 +53,20 @@ all_at : (P : Ask → Type 0) (asks : List Ask) (j : ℕ) (ask : Ask) → AllByR
 all_at P [] j ask all h = cc
 all_at P (x ∷ asks) zero ask all h = let same : x ≡ ask = cc in subst P same all.0
 all_at P (x ∷ asks) (suc j) ask all h = all_at P asks j ask all.1 h
+
+-- what an answer says to a request
+some_mapped : {X Y : Type 0} (f : X → Y) (o : Option X) (y : Y) → mapped f o ≡ Some y → is_some o ≡ true
+some_mapped f None y h = cc
+some_mapped f (Some x) y h = refl
+
+says_so : {A Q R : Type 0} (x : Codec A Q R) (request : Q → Ask) (reply : R → Reply) (a : A) (p : List ℕ) (ask : Ask) → mapped request (x.read (x.encode 0 a)) ≡ Some ask → mapped reply (result_in x a (p ∷ [])) ≡ mapped reply (x.said p)
+says_so x request reply a p ask h = rw (some_mapped request (x.read (x.encode 0 a)) ask h) refl
+
+answer_says : (kind : Kind) (ask : Ask) (p : List ℕ) → IsAskable kind ask → (speech_of kind).result (Script ask) (p ∷ []) ≡ said_on kind p
+answer_says Beat ask p can = says_so (service_codec Beat) services.request services.reply (services.ask (Script ask)) p ask (asked_is Beat 0 ask can)
+answer_says Down ask p can = says_so (service_codec Down) services.request services.reply (services.ask (Script ask)) p ask (asked_is Down 0 ask can)
+answer_says Disk ask p can = says_so disk_codec disks.request disks.reply (disks.ask (Script ask)) p ask (asked_is Disk 0 ask can)
+answer_says Net ask p can = absurd can
 
 module _ (t : Talked) (can : CanAsk t.kind t.asks) where
   pub length-asks : length (asks_of t) ≡ length (startup t.kind) + length t.asks
@@ -90,13 +85,16 @@ module _ (t : Talked) (can : CanAsk t.kind t.asks) where
   pub can_at : (j : ℕ) (ask : Ask) → slice_get t.asks j ≡ Some ask → IsAskable t.kind ask
   can_at j ask h = all_at (IsAskable t.kind) t.asks j ask can.can h
 
-  pub start_says_nothing : (k : ℕ) (a : Want) → k < length (startup t.kind) → slice_get (asks_of t) k ≡ Some a → asks_device t.kind a ≡ false
-  start_says_nothing k a lt h = ap (asks_device t.kind) (at_start k a lt h) ∙ start_asks t.kind k lt
+  -- what came back says nothing to a request of the start-up
+  pub start_says_nothing : (k : ℕ) (a : Want) (part : List (List ℕ)) → k < length (startup t.kind) → slice_get (asks_of t) k ≡ Some a → (speech_of t.kind).result a part ≡ None
+  start_says_nothing k a part lt h =
+      ap (λ x. (speech_of t.kind).result x part) (at_start k a lt h) ∙ (keeps t.kind).no_result 0 (Starts k) part (step_read t.kind 0 k)
 
-  pub script_says : (k : ℕ) (a : Want) → length (startup t.kind) ≤ k → slice_get (asks_of t) k ≡ Some a → asks_device t.kind a ≡ true
-  script_says k a le h =
+  -- to one of the script it says what the answer says
+  pub script_says : (k : ℕ) (a : Want) (p : List ℕ) → length (startup t.kind) ≤ k → slice_get (asks_of t) k ≡ Some a → (speech_of t.kind).result a (p ∷ []) ≡ said_on t.kind p
+  script_says k a p le h =
       let at = at_script k a le h in
-      ap (asks_device t.kind) at.2 ∙ ap is_some (asked_is t.kind 0 at.0 (can_at (k - length (startup t.kind)) at.0 at.1))
+      ap (λ x. (speech_of t.kind).result x (p ∷ [])) at.2 ∙ answer_says t.kind at.0 p (can_at (k - length (startup t.kind)) at.0 at.1)
 
   -- each has an answer
   pub all_wait : (k : ℕ) (a : Want) → slice_get (asks_of t) k ≡ Some a → has_answer_on t.kind a ≡ true
@@ -113,19 +111,17 @@ module _ (t : Talked) (can : CanAsk t.kind t.asks) where
 
 -- packets have words
 
-pub listed_answer : (kind : Kind) (p : List ℕ) (r : Reply) → answer_on kind p r ∷ [] ≡ listed_packet (answer_on kind p r)
-unfolding bare_packet service_answer disk_answer done_packet
-listed_answer Beat p (ReplyIc r) = refl
-listed_answer Beat p (ReplyDisk r) = refl
-listed_answer Down p (ReplyIc r) = refl
-listed_answer Down p (ReplyDisk r) = refl
-listed_answer Disk p (ReplyIc r) = refl
-listed_answer Disk p (ReplyDisk r) = refl
-listed_answer Net p r = refl
+pub listed_answer : (kind : Kind) (p : List ℕ) (r : Reply) (back : ℕ) → (speech_of kind).gives p r back ≡ listed_packet (answer_on kind p r)
+unfolding service_answer disk_answer done_packet
+listed_answer Beat p r back = refl
+listed_answer Down p r back = refl
+listed_answer Disk p r back = refl
+listed_answer Net p r back = refl
 
-pub listed_fixed : (kind : Kind) (p : List ℕ) → listed_packet (fixed_on kind p) ≡ fixed_on kind p ∷ []
-unfolding bare_packet service_fixed disk_fixed done_packet
-listed_fixed Beat p = refl
-listed_fixed Down p = refl
-listed_fixed Disk p = refl
-listed_fixed Net p = refl
+pub listed_service : (kind : Kind) (p : List ℕ) → listed_packet (service_fixed kind p) ≡ service_fixed kind p ∷ []
+unfolding service_fixed
+listed_service kind p = refl
+
+pub listed_disk : (p : List ℕ) → listed_packet (disk_fixed p) ≡ disk_fixed p ∷ []
+unfolding disk_fixed done_packet
+listed_disk p = refl

@@ -14,6 +14,7 @@ use Rattle.stor_proto.specs.declared.stop.SrbStop.{SrbStop}
 use Rattle.stor_proto.specs.declared.vstor.Vstor.{Vstor}
 use Rattle.pkt_desc.specs.Packets.{id_of, inband_packet, completion_packet}
 use Rattle.bus_speech.specs.Packets.{is_inband, is_completion, content_of}
+use Rattle.bus_speech.specs.Codecs.{WantOf, Step, Request, Codec}
 
 -- the storage packet with which a packet's bytes begin, and the data behind it
 unfoldable pub vstor_of : List ℕ → Vstor
@@ -93,6 +94,22 @@ disk_start id k = sent_packet id (start_vstor k) []
 -- the packet that asks the disk: a write's data follows the storage packet
 unfoldable pub disk_ask : ℕ → DiskRequest → List ℕ
 disk_ask id q = sent_packet id (ask_of q) q.out
+
+abbrev pub disk_encode : ℕ → WantOf DiskRequest → List ℕ
+disk_encode id (Step k) = disk_start id k
+disk_encode id (Request q) = disk_ask id q
+
+-- the channel of a disk
+abbrev pub disk_codec : Codec (WantOf DiskRequest) DiskRequest DiskReply
+disk_codec = record {
+  encode = disk_encode;
+  waits = disk_waits;
+  read = disk_read;
+  fixed = disk_fixed;
+  fits = disk_fits;
+  answer = disk_answer;
+  said = disk_result;
+}
 
 -- a request that can be asked: of a built command that moves at most 2,048 bytes, and with data exactly where it is a write
 pub record IsDiskAsk (q : DiskRequest) : Type 0 where

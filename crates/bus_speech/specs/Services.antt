@@ -5,8 +5,9 @@ use Rattle.util_ic.specs.declared.ic.IcAsk.{IcAsk}
 use Rattle.util_ic.specs.declared.ic.IcAnswer.{IcAnswer}
 use Rattle.util_ic.specs.Asks.{ask_of, answer_of, reply_of}
 use Rattle.pkt_desc.specs.Packets.{id_of}
-use Rattle.util_ic.specs.Packets.{served_packet, answer_packet}
+use Rattle.util_ic.specs.Packets.{ask_packet, negotiate_packet, served_packet, answer_packet}
 use Rattle.bus_speech.specs.Packets.{is_inband, content_of}
+use Rattle.bus_speech.specs.Codecs.{WantOf, Step, Request, Codec}
 
 -- what a packet asks of the service of this kind
 unfoldable pub service_read : Kind → List ℕ → Option IcAsk
@@ -27,3 +28,20 @@ service_result kind p = if is_inband p then Some (answer_of kind (content_of p))
 -- the service replies so
 unfoldable pub service_fits : Kind → IcAsk → IcAnswer → Bool
 service_fits kind q r = (r.status == (reply_of kind q).status) && (r.seq == (reply_of kind q).seq)
+
+-- the packet that asks a service: of its versions in the start-up
+abbrev pub service_encode : ℕ → WantOf IcAsk → List ℕ
+service_encode id (Step k) = negotiate_packet id
+service_encode id (Request ask) = ask_packet id ask
+
+-- the channel of a service of this kind: each in-band packet has an answer
+abbrev pub service_codec : Kind → Codec (WantOf IcAsk) IcAsk IcAnswer
+service_codec kind = record {
+  encode = service_encode;
+  waits = is_inband;
+  read = service_read kind;
+  fixed = service_fixed kind;
+  fits = service_fits kind;
+  answer = service_answer;
+  said = service_result kind;
+}

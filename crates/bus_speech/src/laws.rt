@@ -5,11 +5,20 @@ ghost use Rattle.contact.specs.declared.kind.Kind.{Kind};
 ghost use Rattle.script_lines.specs.declared.line.Ask.{Ask};
 ghost use Rattle.work_model.specs.Speech.{Keeps};
 ghost use Rattle.work_model.specs.Channel.{AllFixed, AllAsk};
+ghost use Rattle.bus_speech.specs.Codecs.{speech_by};
+ghost use Rattle.bus_speech.specs.Disks.{disk_codec};
+ghost use Rattle.bus_speech.specs.Services.{service_codec};
 ghost use Rattle.bus_speech.specs.declared.want.Want.TheVariants.{Script};
 ghost use Rattle.bus_speech.specs.Wants.{startup, IsAskable};
 ghost use Rattle.bus_speech.specs.Speeches.{encode_on, read_on, speech_of};
 
-/// The packets of each kind of channel keep to the laws of a speech: each request that has an answer is answered once, under its id, and the reply is
+/// The packets of a service's channel keep to the laws of a speech in the service's own requests and replies, and those of a disk's in the disk's.
+pub fn kinds_keep()
+    ensures service { (kind : Kind) → Keeps (speech_by (service_codec kind)) }
+    ensures disk { Keeps (speech_by disk_codec) }
+{}
+
+/// The packets of each kind of channel, in the requests and replies of all kinds, keep to the laws of a speech: each request that has an answer is answered once, under its id, and the reply is
 /// read in the answer.
 pub fn keeps_to_its_laws()
     ensures { (kind : Kind) → Keeps (speech_of kind) }

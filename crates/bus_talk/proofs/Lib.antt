@@ -1,1 +1,2 @@
 pub mod AskableLaws
+pub mod FrontLaws

@@ -9,17 +9,20 @@ ghost use Rattle.scsi_disk.specs.Commands.{command_of};
 ghost use Rattle.scsi_disk.specs.DiskModel.{most_back};
 ghost use Rattle.stor_proto.specs.Packets.{IsAllowed, vstor_bytes, vstor_in, vstor_fault};
 ghost use Rattle.stor_proto.specs.Srbs.{done_of};
+ghost use Rattle.chan_talk.specs.Listed.{listed_packet};
 ghost use Rattle.bus_speech.specs.Packets.{content_of};
+ghost use Rattle.bus_speech.specs.Codecs.{fixed_back};
 ghost use Rattle.bus_speech.specs.Disks.{vstor_of, data_of, has_vstor, sent_packet, done_packet, disk_waits as waits, disk_asked as asked_of, disk_read, fixed_vstor as fixed_of};
-ghost use Rattle.bus_speech.specs.Disks.{disk_fixed, back_of, disk_answer, disk_result, disk_fits, start_vstor as start_of, disk_start, disk_ask, IsDiskAsk};
+ghost use Rattle.bus_speech.specs.Disks.{disk_codec, back_of, disk_answer, disk_result, disk_fits, start_vstor as start_of, disk_start, disk_ask, IsDiskAsk};
 
-use crate::packets::{MOST_BYTES, content, is_completion, is_inband};
+use crate::packets::{MOST_BYTES, content, is_completion, is_inband, payload};
 use pkt_desc::{build_comp, build_inband};
 use scsi_disk::{Chunk, Command, DiskReply, DiskRequest};
 use stor_proto::{
     Operation, Vstor, answer, decode_vstor, encode_vstor, srb_ask, srb_done, srb_reply,
     srb_request, srb_stop, start_up,
 };
+use vm_page::bytes_of;
 
 /// The most bytes of data behind a storage packet.
 const MOST_DATA: usize = 2_048;
@@ -105,30 +108,22 @@ pub(crate) fn write_disk_ask(request: &DiskRequest, id: u64, out: &mut [u64]) ->
     write_sent(id, &srb_ask(request), request.out.bytes(), out)
 }
 
-/// The storage packet with which bytes begin, if they do.
-fn first_vstor(bytes: &[u8]) -> Option<Vstor>
-    ensures seen { MatchOption result (is_none (vstor_fault bytes.now) ≡ false)
-        (λ v. (is_none (vstor_fault bytes.now) ≡ true) × (v ≡ vstor_in bytes.now) × IsAllowed v) }
+/// The storage packet with which a packet's payload begins, if it does. No more than its 64 bytes are read.
+fn front(packet: &[u64]) -> Option<Vstor>
+    requires { IsPacket packet.now }
+    ensures { MatchOption result (has_vstor packet.now ≡ false)
+        (λ v. (has_vstor packet.now ≡ true) × (v ≡ vstor_of packet.now) × IsAllowed v) }
 {
-    match decode_vstor(bytes) {
+    let payload = payload(packet);
+    if payload.len() < 8 {
+        return None;
+    }
+    let mut bytes = [0; 64];
+    bytes_of(payload, &mut bytes);
+    match decode_vstor(&bytes) {
         Ok(v) => Some(v),
         Err(_) => None,
     }
-}
-
-/// The storage packet with which a packet's payload begins, if it does. The bytes of the payload are put at the front of `bytes`, with their number.
-#[tactic(auto, unfolding(bus_speech::specs::Disks::has_vstor, bus_speech::specs::Disks::vstor_of))]
-fn seen(packet: &[u64], bytes: &mut [u8]) -> (Option<Vstor>, usize)
-    requires packet { IsPacket packet.now }
-    requires short { length packet.now ≤ 384 }
-    requires room { length bytes.old ≡ 3056 }
-    ensures vstor { MatchOption result.0 (has_vstor packet.now ≡ false)
-        (λ v. (has_vstor packet.now ≡ true) × (v ≡ vstor_of packet.now) × IsAllowed v) }
-    ensures len { result.1 ≤ 3056 }
-    ensures bytes { take result.1 bytes.new ≡ content_of packet.now }
-{
-    let len = content(packet, bytes);
-    (first_vstor(&bytes[..len]), len)
 }
 
 /// The bytes behind the first 64.
@@ -152,9 +147,7 @@ pub(crate) fn is_disk_request(packet: &[u64]) -> bool
     if !is_inband(packet) {
         return false;
     }
-    let mut bytes = [0; MOST_BYTES];
-    let (v, _) = seen(packet, &mut bytes);
-    v.is_some()
+    front(packet).is_some()
 }
 
 /// Whether the reply to a request fits a packet: at most 2,048 bytes come back.
@@ -167,15 +160,13 @@ fn reply_fits(request: &DiskRequest) -> bool
     }
 }
 
-/// What a storage packet with data asks of the disk: an srb does, if its reply fits a packet.
+/// What an srb with data asks of the disk, if its reply fits a packet.
 #[tactic(auto, unfolding(bus_speech::specs::Disks::disk_asked))]
 fn asked(v: &Vstor, more: &[u8]) -> Option<DiskRequest>
-    requires { length more.now ≤ 4096 }
+    requires srb { v.now.operation ≡ 3 }
+    requires few { length more.now ≤ 4096 }
     ensures value { result ≡ asked_of v.now more.now }
 {
-    if v.operation != 3 {
-        return None;
-    }
     match srb_request(v, Chunk::of(more)) {
         Ok(request) => {
             if reply_fits(&request) {
@@ -197,46 +188,59 @@ pub(crate) fn read_disk(packet: &[u64]) -> Option<DiskRequest>
     if !is_inband(packet) {
         return None;
     }
-    let mut bytes = [0; MOST_BYTES];
-    let (v, len) = seen(packet, &mut bytes);
-    match v {
-        Some(v) => asked(&v, behind(&bytes[..len])),
-        None => None,
-    }
-}
-
-/// The answer to a storage packet that asks nothing of the disk. An srb for another device or with a command that is too long is stopped, and with
-/// status 4, an error, one whose reply fits no packet.
-#[tactic(auto, unfolding(bus_speech::specs::Disks::fixed_vstor))]
-fn fixed(v: &Vstor, more: &[u8]) -> Vstor
-    requires allowed { IsAllowed v.now }
-    requires few { length more.now ≤ 4096 }
-    ensures value { result ≡ fixed_of v.now more.now }
-    ensures allowed { IsAllowed result }
-{
+    let Some(v) = front(packet) else { return None };
     if v.operation != 3 {
-        return answer(v);
+        return None;
     }
+    let mut bytes = [0; MOST_BYTES];
+    let len = content(packet, &mut bytes);
+    asked(&v, behind(&bytes[..len]))
+}
+
+/// The answer to an srb that asks nothing of the disk, and none where it asks it. An srb for another device or with a command that is too long is
+/// stopped, and with status 4, an error, one whose reply fits no packet.
+#[tactic(auto, unfolding(bus_speech::specs::Disks::disk_asked, bus_speech::specs::Disks::fixed_vstor))]
+fn stopped(v: &Vstor, more: &[u8]) -> Option<Vstor>
+    requires allowed { IsAllowed v.now }
+    requires srb { v.now.operation ≡ 3 }
+    requires few { length more.now ≤ 4096 }
+    ensures { MatchOption result (is_none (asked_of v.now more.now) ≡ false)
+        (λ w. (is_none (asked_of v.now more.now) ≡ true) × (w ≡ fixed_of v.now more.now) × IsAllowed w) }
+{
     match srb_request(v, Chunk::of(more)) {
-        Ok(_) => srb_stop(v, 4),
-        Err(stop) => srb_stop(v, stop.status),
+        Ok(request) => {
+            if reply_fits(&request) {
+                None
+            } else {
+                Some(srb_stop(v, 4))
+            }
+        }
+        Err(stop) => Some(srb_stop(v, stop.status)),
     }
 }
 
-/// Writes the answer to a request that asks nothing of the disk: its words.
-#[tactic(auto, unfolding(bus_speech::specs::Disks::disk_fixed, bus_speech::specs::Disks::disk_waits, bus_speech::specs::Disks::data_of, bus_speech::specs::Packets::is_inband))]
+/// Writes the answer to a request that asks nothing of the disk: its words. The packet is decoded once.
+#[tactic(auto, unfolding(bus_speech::specs::Disks::disk_read, bus_speech::specs::Disks::disk_fixed, bus_speech::specs::Disks::disk_waits, bus_speech::specs::Disks::data_of, bus_speech::specs::Packets::is_inband), using(bus_speech::proofs::TalkLaws::listed_disk))]
 pub(crate) fn write_disk_fixed(packet: &[u64], out: &mut [u64]) -> usize
     requires packet { IsPacket packet.now }
-    requires waits { waits packet.now ≡ true }
     requires out { length out.old ≡ 384 }
-    ensures packet { take result out.new ≡ disk_fixed packet.now }
-    ensures is_packet { IsPacket (take result out.new) }
+    ensures value { listed_packet (take result out.new) ≡ fixed_back disk_codec packet.now }
+    ensures written { 0 < result → IsPacket (take result out.new) }
     ensures most { result ≤ 384 }
 {
+    if !is_inband(packet) {
+        return 0;
+    }
+    let Some(v) = front(packet) else { return 0 };
+    if v.operation != 3 {
+        return write_done(packet[1], &answer(&v), &[], out);
+    }
     let mut bytes = [0; MOST_BYTES];
-    let (v, len) = seen(packet, &mut bytes);
-    let Some(v) = v else { unreachable!() };
-    write_done(packet[1], &fixed(&v, behind(&bytes[..len])), &[], out)
+    let len = content(packet, &mut bytes);
+    match stopped(&v, behind(&bytes[..len])) {
+        Some(stopped) => write_done(packet[1], &stopped, &[], out),
+        None => 0,
+    }
 }
 
 /// The bytes of a reply that come back.
@@ -259,9 +263,9 @@ pub(crate) fn write_disk_answer(packet: &[u64], reply: &DiskReply, out: &mut [u6
     ensures is_packet { IsPacket (take result out.new) }
     ensures most { result ≤ 384 }
 {
-    let mut bytes = [0; MOST_BYTES];
-    let (v, _) = seen(packet, &mut bytes);
-    let Some(v) = v else { unreachable!() };
+    let Some(v) = front(packet) else {
+        unreachable!()
+    };
     write_done(packet[1], &srb_reply(&v, reply), back(reply), out)
 }
 
@@ -274,12 +278,10 @@ pub(crate) fn read_disk_said(packet: &[u64]) -> Option<DiskReply>
     if !is_completion(packet) {
         return None;
     }
+    let Some(v) = front(packet) else { return None };
     let mut bytes = [0; MOST_BYTES];
-    let (v, len) = seen(packet, &mut bytes);
-    match v {
-        Some(v) => done(&v, behind(&bytes[..len])),
-        None => None,
-    }
+    let len = content(packet, &mut bytes);
+    done(&v, behind(&bytes[..len]))
 }
 
 /// The reply in the storage packet of a completion, with the bytes that came back.

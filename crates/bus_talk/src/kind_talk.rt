@@ -1,5 +1,5 @@
 //! The talk of a channel of any kind.
-ghost use Rattle.std.specs.Prelude.{◌≡◌, ◌≤◌, ◌<◌, ◌^◌, ◌&&◌, ◌∷◌, [], length, take, true, Some};
+ghost use Rattle.std.specs.Prelude.{◌≡◌, ◌≤◌, ◌<◌, ◌^◌, ◌&&◌, ◌∷◌, [], length, take, true, Some, is_some};
 ghost use Rattle.std.specs.List.{AllByRecursion};
 ghost use Rattle.ring_machine.specs.States.{IsPacket};
 ghost use Rattle.chan_talk.specs.Listed.{listed_packet};
@@ -7,21 +7,26 @@ ghost use Rattle.pkt_desc.specs.Packets.{id_of};
 ghost use Rattle.script_lines.specs.declared.line.Ask.{Ask as OneAsk};
 ghost use Rattle.bus_speech.specs.declared.want.Want.{Want as OneWant};
 ghost use Rattle.bus_speech.specs.declared.want.Want.TheVariants.{Starts, Script};
+ghost use Rattle.bus_speech.specs.Kinds.{ic_request as ic_of, disk_request as disk_of, disk_reply as disk_reply_of};
 ghost use Rattle.bus_speech.specs.Wants.{startup, IsAskable};
-ghost use Rattle.bus_speech.specs.Speeches.{encode_on, waits_on, read_on, fixed_on, fits_on, answer_on, said_on, speech_of};
+ghost use Rattle.bus_speech.specs.Speeches.{encode_on, waits_on, read_on, fits_on, answer_on, said_on, speech_of};
 ghost use Rattle.bus_speech.specs.Talks.{asks_of};
 
 use crate::disks::{
     is_disk_request, read_disk, read_disk_said, write_disk_answer, write_disk_ask,
     write_disk_fixed, write_start,
 };
-use crate::packets::{is_inband, write_bare};
-use crate::services::{read_said, read_service, write_ask, write_negotiate, write_served};
+use crate::packets::is_inband;
+use crate::services::{
+    read_said, read_service, write_ask, write_negotiate, write_service_answer, write_service_fixed,
+};
 use bus_script::{Ask, Reply};
 use bus_speech::Want;
 use chan_talk::Talk;
 use contact::Kind;
+use scsi_disk::{DiskReply, DiskRequest};
 use std::marker::Model;
+use util_ic::IcAsk;
 
 /// The part of an end in the talk of a channel: the kind of the channel, and what the script asks on it. The end that serves asks nothing.
 ///
@@ -76,7 +81,8 @@ fn count_starts(kind: Kind) -> u32
 
 /// Writes the k-th packet of the start-up under an id: its words.
 fn encode_start(kind: Kind, k: u32, id: u64, out: &mut [u64]) -> usize
-    requires { length out.old ≡ 384 }
+    requires some { k < length (startup kind) }
+    requires out { length out.old ≡ 384 }
     ensures packet { take result out.new ≡ encode_on kind id (Starts k) }
     ensures is_packet { IsPacket (take result out.new) }
     ensures most { result ≤ 384 }
@@ -84,8 +90,41 @@ fn encode_start(kind: Kind, k: u32, id: u64, out: &mut [u64]) -> usize
     match kind {
         Kind::Beat | Kind::Down => write_negotiate(kind, id, out),
         Kind::Disk => write_start(k, id, out),
-        Kind::Net => write_bare(id, out),
+        Kind::Net => unreachable!(),
     }
+}
+
+/// The request of a service.
+fn ic_request(ask: &Ask) -> &IcAsk
+    requires { is_some (ic_of ask.now) ≡ true }
+    ensures { ic_of ask.now ≡ Some result.now }
+{
+    let Ask::Ic(request) = ask else {
+        unreachable!()
+    };
+    request
+}
+
+/// The request of a disk.
+fn disk_request(ask: &Ask) -> &DiskRequest
+    requires { is_some (disk_of ask.now) ≡ true }
+    ensures { disk_of ask.now ≡ Some result.now }
+{
+    let Ask::Disk(request) = ask else {
+        unreachable!()
+    };
+    request
+}
+
+/// The reply of a disk.
+fn disk_reply(reply: &Reply) -> &DiskReply
+    requires { is_some (disk_reply_of reply.now) ≡ true }
+    ensures { disk_reply_of reply.now ≡ Some result.now }
+{
+    let Reply::Disk(reply) = reply else {
+        unreachable!()
+    };
+    reply
 }
 
 /// Writes the packet that asks this under an id: its words.
@@ -96,18 +135,17 @@ fn encode_ask(kind: Kind, ask: &Ask, id: u64, out: &mut [u64]) -> usize
     ensures is_packet { IsPacket (take result out.new) }
     ensures most { result ≤ 384 }
 {
-    match (kind, ask) {
-        (Kind::Beat, Ask::Ic(ask)) => write_ask(ask, id, out),
-        (Kind::Down, Ask::Ic(ask)) => write_ask(ask, id, out),
-        (Kind::Disk, Ask::Disk(request)) => write_disk_ask(request, id, out),
-        _ => write_bare(id, out),
+    match kind {
+        Kind::Beat | Kind::Down => write_ask(ic_request(ask), id, out),
+        Kind::Disk => write_disk_ask(disk_request(ask), id, out),
+        Kind::Net => unreachable!(),
     }
 }
 
 /// Whether a packet is a request that has an answer.
 fn waits(kind: Kind, packet: &[u64]) -> bool
     requires { IsPacket packet.now }
-    ensures { result ≡ waits_on kind packet.now }
+    ensures { result ≡ ((speech_of kind).is_request packet.now && waits_on kind packet.now) }
 {
     match kind {
         Kind::Beat | Kind::Down => is_inband(packet),
@@ -123,7 +161,7 @@ fn read(kind: Kind, packet: &[u64]) -> Option<Ask>
 {
     match kind {
         Kind::Beat | Kind::Down => match read_service(kind, packet) {
-            Some(ask) => Some(Ask::Ic(ask)),
+            Some(request) => Some(Ask::Ic(request)),
             None => None,
         },
         Kind::Disk => match read_disk(packet) {
@@ -134,19 +172,18 @@ fn read(kind: Kind, packet: &[u64]) -> Option<Ask>
     }
 }
 
-/// Writes the answer to a request that asks nothing of the device: its words.
+/// Writes the answer to a request that asks nothing of the device, if the packet is one: its words.
 fn write_fixed_on(kind: Kind, packet: &[u64], out: &mut [u64]) -> usize
     requires packet { IsPacket packet.now }
-    requires waits { waits_on kind packet.now ≡ true }
     requires out { length out.old ≡ 384 }
-    ensures packet { take result out.new ≡ fixed_on kind packet.now }
-    ensures is_packet { IsPacket (take result out.new) }
+    ensures value { listed_packet (take result out.new) ≡ (speech_of kind).fixed packet.now }
+    ensures written { 0 < result → IsPacket (take result out.new) }
     ensures most { result ≤ 384 }
 {
     match kind {
-        Kind::Beat | Kind::Down => write_served(kind, packet, out),
+        Kind::Beat | Kind::Down => write_service_fixed(kind, packet, out),
         Kind::Disk => write_disk_fixed(packet, out),
-        Kind::Net => write_bare(packet[1], out),
+        Kind::Net => 0,
     }
 }
 
@@ -159,11 +196,10 @@ fn write_answer_on(kind: Kind, packet: &[u64], reply: &Reply, out: &mut [u64]) -
     ensures is_packet { IsPacket (take result out.new) }
     ensures most { result ≤ 384 }
 {
-    match (kind, reply) {
-        (Kind::Beat, Reply::Ic(_)) => write_served(kind, packet, out),
-        (Kind::Down, Reply::Ic(_)) => write_served(kind, packet, out),
-        (Kind::Disk, Reply::Disk(reply)) => write_disk_answer(packet, reply, out),
-        _ => write_bare(packet[1], out),
+    match kind {
+        Kind::Beat | Kind::Down => write_service_answer(kind, packet, out),
+        Kind::Disk => write_disk_answer(packet, disk_reply(reply), out),
+        Kind::Net => unreachable!(),
     }
 }
 
@@ -186,12 +222,12 @@ fn said(kind: Kind, packet: &[u64]) -> Option<Reply>
 }
 
 impl Talk for KindTalk {
-    ghost use Rattle.std.specs.Prelude.{refl, [], length, map};
+    ghost use Rattle.std.specs.Prelude.{[], length, map};
     ghost use Rattle.bus_speech.specs.Speeches.{answer_on, speech_of};
     ghost use Rattle.bus_speech.specs.Talks.{asks_of};
     ghost use Rattle.bus_speech.specs.Wants.{startup};
     ghost use Rattle.bus_speech.specs.declared.want.Want.TheVariants.{Script};
-    ghost use Rattle.bus_speech.proofs.SpeechLaws.{keeps};
+    ghost use Rattle.bus_speech.proofs.SpeechLaws.{all_answer, keeps};
     ghost use Rattle.bus_speech.proofs.TalkLaws.{listed_answer, starts_within};
 
     type Ask = Want;
@@ -204,9 +240,9 @@ impl Talk for KindTalk {
 
     ghost keeps = { λ s. keeps s.kind };
 
-    ghost answers = { λ s p. refl };
+    ghost answers = { λ s p. all_answer s.kind p };
 
-    ghost gives = { λ s p r back. listed_answer s.kind p r };
+    ghost gives = { λ s p r back. listed_answer s.kind p r back };
 
     ghost asks = { asks_of };
 
@@ -239,6 +275,7 @@ impl Talk for KindTalk {
         encode_ask(self.kind, &self.asks[(k - starts) as usize], id, out)
     }
 
+    #[tactic(auto, using(bus_speech::proofs::SpeechLaws::id_is))]
     fn id(&self, packet: &[u64]) -> u64 {
         packet[1]
     }
@@ -252,9 +289,6 @@ impl Talk for KindTalk {
     }
 
     fn write_fixed(&self, packet: &[u64], out: &mut [u64]) -> usize {
-        if !waits(self.kind, packet) || read(self.kind, packet).is_some() {
-            return 0;
-        }
         write_fixed_on(self.kind, packet, out)
     }
 

@@ -1,9 +1,9 @@
 //! The bytes of a packet.
-ghost use Rattle.std.specs.Prelude.{◌≡◌, ◌≤◌, ◌<◌, ◌^◌, length, take};
+ghost use Rattle.std.specs.Prelude.{◌≡◌, ◌≤◌, ◌+◌, length, take};
 ghost use Rattle.ring_machine.specs.States.{IsPacket};
-ghost use Rattle.bus_speech.specs.Packets.{is_of, is_inband as inband, is_completion as completion, content_of, bare_packet};
+ghost use Rattle.pkt_desc.specs.Packets.{payload_of};
+ghost use Rattle.bus_speech.specs.Packets.{is_of, is_inband as inband, is_completion as completion, content_of};
 
-use pkt_desc::build_inband;
 use vm_page::bytes_of;
 
 /// The most bytes of a payload: a packet has at most 384 words, two of them before its payload.
@@ -35,6 +35,17 @@ pub(crate) fn is_completion(packet: &[u64]) -> bool
     is_of_type(packet, 11)
 }
 
+/// The words of a packet's payload.
+pub(crate) fn payload(packet: &[u64]) -> &[u64]
+    requires { IsPacket packet.now }
+    ensures value { result.now ≡ payload_of packet.now }
+    ensures within { length result.now + 2 ≤ length packet.now }
+{
+    let offset = packet[0] / 0x1_0000 % 0x1_0000;
+    let (_, payload) = packet.split_at(offset as usize);
+    payload
+}
+
 /// The bytes of a packet's payload, put at the front of `bytes`: how many they are.
 #[tactic(auto, unfolding(bus_speech::specs::Packets::content_of))]
 pub(crate) fn content(packet: &[u64], bytes: &mut [u8]) -> usize
@@ -44,20 +55,8 @@ pub(crate) fn content(packet: &[u64], bytes: &mut [u8]) -> usize
     ensures len { result ≤ 3056 }
     ensures bytes { take result bytes.new ≡ content_of packet.now }
 {
-    let offset = packet[0] / 0x1_0000 % 0x1_0000;
-    let (_, payload) = packet.split_at(offset as usize);
+    let payload = payload(packet);
     let len = 8 * payload.len();
     bytes_of(payload, &mut bytes[..len]);
     len
-}
-
-/// Writes an in-band packet without payload: its words.
-#[tactic(auto, unfolding(bus_speech::specs::Packets::bare_packet))]
-pub(crate) fn write_bare(id: u64, out: &mut [u64]) -> usize
-    requires { length out.old ≡ 384 }
-    ensures packet { take result out.new ≡ bare_packet id }
-    ensures is_packet { IsPacket (take result out.new) }
-    ensures most { result ≤ 384 }
-{
-    build_inband(out, id, 0, &[])
 }

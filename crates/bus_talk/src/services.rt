@@ -1,12 +1,14 @@
 //! Packets of a utility channel. The host asks with in-band packets, and the guest answers each with one.
 //!
 //! Source: Linux 6.12, `drivers/hv/hv_util.c` and `drivers/hv/channel_mgmt.c`.
-ghost use Rattle.std.specs.Prelude.{◌≡◌, ◌≤◌, length, take, true};
+ghost use Rattle.std.specs.Prelude.{◌≡◌, ◌≤◌, ◌<◌, length, take, true};
 ghost use Rattle.ring_machine.specs.States.{IsPacket};
 ghost use Rattle.util_ic.specs.Messages.{IsUtility};
-ghost use Rattle.util_ic.specs.Packets.{ask_packet, negotiate_packet};
+ghost use Rattle.util_ic.specs.Packets.{ask_packet, negotiate_packet, served_packet};
+ghost use Rattle.chan_talk.specs.Listed.{listed_packet};
+ghost use Rattle.bus_speech.specs.Codecs.{fixed_back};
 ghost use Rattle.bus_speech.specs.Packets.{is_inband as inband};
-ghost use Rattle.bus_speech.specs.Services.{service_read, service_fixed, service_result};
+ghost use Rattle.bus_speech.specs.Services.{service_read, service_fixed, service_result, service_codec};
 
 use crate::packets::{MOST_BYTES, content, is_inband};
 use contact::Kind;
@@ -53,10 +55,44 @@ pub(crate) fn read_service(kind: Kind, packet: &[u64]) -> Option<IcAsk>
     read_ask(&bytes[..len], kind)
 }
 
-/// Writes the answer of the service to an in-band packet: its words. A request of the service is answered with the service's reply, since that is what
-/// the service's table of answers says.
+/// Writes the service's answer to a request of these bytes under an id: its words.
+fn write_served(kind: Kind, id: u64, request: &[u8], out: &mut [u64]) -> usize
+    requires kind { IsUtility kind }
+    requires few { length request.now ≤ 3056 }
+    requires out { length out.old ≡ 384 }
+    ensures packet { take result out.new ≡ served_packet id kind request.now }
+    ensures is_packet { IsPacket (take result out.new) }
+    ensures most { result ≤ 384 }
+{
+    let mut reply = [0; MOST_BYTES];
+    let count = serve(request, kind, &mut reply);
+    build_inband(out, id, 0, &reply[..count])
+}
+
+/// Writes the answer to an in-band packet that asks nothing of the service: its words.
+#[tactic(auto, unfolding(bus_speech::specs::Services::service_read, bus_speech::specs::Services::service_fixed, bus_speech::specs::Packets::is_inband), using(bus_speech::proofs::TalkLaws::listed_service))]
+pub(crate) fn write_service_fixed(kind: Kind, packet: &[u64], out: &mut [u64]) -> usize
+    requires kind { IsUtility kind }
+    requires packet { IsPacket packet.now }
+    requires out { length out.old ≡ 384 }
+    ensures value { listed_packet (take result out.new) ≡ fixed_back (service_codec kind) packet.now }
+    ensures written { 0 < result → IsPacket (take result out.new) }
+    ensures most { result ≤ 384 }
+{
+    if !is_inband(packet) {
+        return 0;
+    }
+    let mut bytes = [0; MOST_BYTES];
+    let len = content(packet, &mut bytes);
+    if read_ask(&bytes[..len], kind).is_some() {
+        return 0;
+    }
+    write_served(kind, packet[1], &bytes[..len], out)
+}
+
+/// Writes the answer to a request of the service, with the service's reply: its words. The reply is what the service's table of answers says.
 #[tactic(auto, unfolding(bus_speech::specs::Services::service_fixed, bus_speech::specs::Packets::is_inband))]
-pub(crate) fn write_served(kind: Kind, packet: &[u64], out: &mut [u64]) -> usize
+pub(crate) fn write_service_answer(kind: Kind, packet: &[u64], out: &mut [u64]) -> usize
     requires kind { IsUtility kind }
     requires packet { IsPacket packet.now }
     requires inband { inband packet.now ≡ true }
@@ -67,9 +103,7 @@ pub(crate) fn write_served(kind: Kind, packet: &[u64], out: &mut [u64]) -> usize
 {
     let mut bytes = [0; MOST_BYTES];
     let len = content(packet, &mut bytes);
-    let mut reply = [0; MOST_BYTES];
-    let count = serve(&bytes[..len], kind, &mut reply);
-    build_inband(out, packet[1], 0, &reply[..count])
+    write_served(kind, packet[1], &bytes[..len], out)
 }
 
 /// What an answer says, where it is in-band.

@@ -10,3 +10,4 @@ pub mod Serving
 pub mod Asking
 pub mod Ends
 pub mod Example
+pub mod Lifting

@@ -6,3 +6,4 @@ pub mod Channel
 pub mod Outcome
 pub mod Roles
 pub mod Workers
+pub mod Lift

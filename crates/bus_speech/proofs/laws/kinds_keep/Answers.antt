@@ -1,0 +1,8 @@
+use Rattle.bus_speech.proofs.KindLaws as laws
+use Rattle.bus_speech.proofs.laws.kinds_keep.Goals as goal
+
+pub returns-clause-service : goal.returns-clause-service
+returns-clause-service c = laws.service_keeps
+
+pub returns-clause-disk : goal.returns-clause-disk
+returns-clause-disk c = laws.disk_keeps
