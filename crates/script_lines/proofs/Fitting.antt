@@ -3,6 +3,7 @@ use Rattle.std.proofs.Common.{◌≡◌, ℕ, ◌+◌, ◌<◌, ◌≤◌, Bool,
 use Rattle.std.specs.Prelude.{◌||◌, ◌&&◌, ◌==◌, not, nat_le, Option, Some, None, slice_get, unwrap_or, option_map}
 use Rattle.std.specs.List.{list_all}
 use Rattle.std.specs.Option.{option_or, option_map_or}
+use Rattle.std.proofs.lemmas.Bool.{false≢true}
 use Rattle.std.proofs.lemmas.Bool.Decides.{nat_tests}
 use Rattle.std.proofs.lemmas.List.{append-nil}
 use Rattle.contact.specs.declared.version.Version.{Version}
@@ -187,6 +188,13 @@ first_end : (kind : ℕ → What → Bool) (before : List Line) (device : Option
 first_end kind before None there over earlier here d is = absurd (cc)
 first_end kind before (Some e) there over earlier here d is = subst (λ x. phase_from (kind x) 0 before ≡ None) (eq_is e d is) (first_of (kind e) before (over e earlier) here)
 
+-- nothing is not something
+none_in : {A : Type 0} {P : Type 0} {x : A} → [] ≡ x ∷ [] → P
+none_in is = absurd (cc)
+
+is_short : (n number : ℕ) → number ≤ 20000 → n < number → n < 20000
+is_short n number line behind = omega arith
+
 module _ (number : ℕ) (before : List Line) (behind : length before < number) where
   pub fits_contact : (guest host : Option Version) (device : Option ℕ) → row_fault number before device (Contact guest host) ≡ None → InRange (Contact guest host)
       → Fits before (IsContact (or_zero guest) (or_zero host))
@@ -199,12 +207,12 @@ module _ (number : ℕ) (before : List Line) (behind : length before < number) w
         fresh = refl;
         contact = λ is. first_is before (unless_none _ _ (own_free before device (Contact guest host) s.order));
         settings = λ is. settings_stand before _ _ _ s.order;
-        few = λ one is. absurd (cc);
-        new = λ name is. absurd (cc);
-        asks = λ is. absurd (cc);
-        rescinded = λ d is. absurd (cc);
-        closed = λ d is. absurd (cc);
-        short = omega (arith, s.line, behind);
+        few = λ one is. none_in is;
+        new = λ name is. none_in is;
+        asks = λ is. absurd (false≢true is);
+        rescinded = λ d is. absurd (false≢true is);
+        closed = λ d is. absurd (false≢true is);
+        short = is_short (length before) number s.line behind;
       }
     where
       version_is : (v : Option Version) → is_some v ≡ true → IfSome v (λ u. IsVersion u.0) → IsVersion ((or_zero v).0)
@@ -220,14 +228,14 @@ module _ (number : ℕ) (before : List Line) (behind : length before < number) w
         right = device_right offering (unless_none _ _ s.range) range;
         goes = tt;
         fresh = refl;
-        contact = λ is. absurd (cc);
+        contact = λ is. absurd (false≢true is);
         settings = λ is. settings_stand before _ _ _ s.order;
         few = λ one is. let same : spec_of offering ≡ one = cc (is) in subst (λ d. channels before + channels_of d ≤ 16) same room;
         new = λ other is. let same : name ≡ other = cc (is) in ap (λ n. device_of n before) (sym same) ∙ sym said ∙ none_is device (not_true _ (unless_none _ _ s.repeat));
-        asks = λ is. absurd (cc);
-        rescinded = λ d is. absurd (cc);
-        closed = λ d is. absurd (cc);
-        short = omega (arith, s.line, behind);
+        asks = λ is. absurd (false≢true is);
+        rescinded = λ d is. absurd (false≢true is);
+        closed = λ d is. absurd (false≢true is);
+        short = is_short (length before) number s.line behind;
       }
     where
       none_is : (o : Option ℕ) → is_some o ≡ false → o ≡ None
@@ -242,14 +250,14 @@ module _ (number : ℕ) (before : List Line) (behind : length before < number) w
         right = subst (λ (specs : List DeviceSpec). unwrap_or lba 0 < blocks_at (unwrap_or device 0) specs) (sym (append-nil (offered before))) (block_is before device lba block);
         goes = tt;
         fresh = fresh_is before device lba block (not_true _ (unless_none _ _ s.repeat));
-        contact = λ is. absurd (cc);
+        contact = λ is. absurd (false≢true is);
         settings = λ is. settings_stand before _ _ _ s.order;
-        few = λ one is. absurd (cc);
-        new = λ other is. absurd (cc);
-        asks = λ is. absurd (cc);
-        rescinded = λ d is. absurd (cc);
-        closed = λ d is. absurd (cc);
-        short = omega (arith, s.line, behind);
+        few = λ one is. none_in is;
+        new = λ other is. none_in is;
+        asks = λ is. absurd (false≢true is);
+        rescinded = λ d is. absurd (false≢true is);
+        closed = λ d is. absurd (false≢true is);
+        short = is_short (length before) number s.line behind;
       }
 
   pub fits_ring : (name : List ℕ) (pages device : Option ℕ) → row_fault number before device (Ring name pages) ≡ None → InRange (Ring name pages) → IfSome device (λ d. d < length (offered before))
@@ -260,14 +268,14 @@ module _ (number : ℕ) (before : List Line) (behind : length before < number) w
         right = (within_offered before device (unless_none _ _ s.name) within, (in_range pages (unless_none _ _ s.range) range).0, (in_range pages (unless_none _ _ s.range) range).1);
         goes = tt;
         fresh = refl;
-        contact = λ is. absurd (cc);
+        contact = λ is. absurd (false≢true is);
         settings = λ is. settings_stand before _ _ _ s.order;
-        few = λ one is. absurd (cc);
-        new = λ other is. absurd (cc);
-        asks = λ is. absurd (cc);
-        rescinded = λ d is. absurd (cc);
-        closed = λ d is. absurd (cc);
-        short = omega (arith, s.line, behind);
+        few = λ one is. none_in is;
+        new = λ other is. none_in is;
+        asks = λ is. absurd (false≢true is);
+        rescinded = λ d is. absurd (false≢true is);
+        closed = λ d is. absurd (false≢true is);
+        short = is_short (length before) number s.line behind;
       }
     where
       in_range : (o : Option ℕ) → is_some o ≡ true → IfSome o (λ n. (1 ≤ n) × (n ≤ 16)) → (1 ≤ unwrap_or o 0) × (unwrap_or o 0 ≤ 16)
@@ -282,14 +290,14 @@ module _ (number : ℕ) (before : List Line) (behind : length before < number) w
         right = (within_offered before device (unless_none _ _ s.name) within, (in_range size (unless_none _ _ s.range) range).0, (in_range size (unless_none _ _ s.range) range).1);
         goes = tt;
         fresh = refl;
-        contact = λ is. absurd (cc);
+        contact = λ is. absurd (false≢true is);
         settings = λ is. settings_stand before _ _ _ s.order;
-        few = λ one is. absurd (cc);
-        new = λ other is. absurd (cc);
-        asks = λ is. absurd (cc);
-        rescinded = λ d is. absurd (cc);
-        closed = λ d is. absurd (cc);
-        short = omega (arith, s.line, behind);
+        few = λ one is. none_in is;
+        new = λ other is. none_in is;
+        asks = λ is. absurd (false≢true is);
+        rescinded = λ d is. absurd (false≢true is);
+        closed = λ d is. absurd (false≢true is);
+        short = is_short (length before) number s.line behind;
       }
     where
       in_range : (o : Option ℕ) → is_some o ≡ true → IfSome o (λ n. (1 ≤ n) × (n ≤ 64)) → (1 ≤ unwrap_or o 0) × (unwrap_or o 0 ≤ 64)
@@ -304,14 +312,14 @@ module _ (number : ℕ) (before : List Line) (behind : length before < number) w
         right = right_kind before device spec at ∙ ap Some kind;
         goes = goes;
         fresh = refl;
-        contact = λ is. absurd (cc);
-        settings = λ is. absurd (cc);
-        few = λ one is. absurd (cc);
-        new = λ other is. absurd (cc);
+        contact = λ is. absurd (false≢true is);
+        settings = λ is. absurd (false≢true is);
+        few = λ one is. none_in is;
+        new = λ other is. none_in is;
         asks = λ is. grind (arith, nat_tests, less);
-        rescinded = λ d is. absurd (cc);
-        closed = λ d is. absurd (cc);
-        short = omega (arith, line, behind);
+        rescinded = λ d is. absurd (false≢true is);
+        closed = λ d is. absurd (false≢true is);
+        short = is_short (length before) number line behind;
       }
 
   pub fits_beat : (name : List ℕ) (seq device : Option ℕ) → row_fault number before device (Beat name seq) ≡ None → Fits before (IsAsk (unwrap_or device 0) (Ic (AskBeat (unwrap_or seq 0))))
@@ -343,15 +351,15 @@ module _ (number : ℕ) (before : List Line) (behind : length before < number) w
         right = (right_kind before device found.0 found.1 ∙ ap Some (disk_kind found.0 found.2), served.0, served.1);
         goes = tt;
         fresh = refl;
-        contact = λ is. absurd (cc);
-        settings = λ is. absurd (cc);
-        few = λ one is. absurd (cc);
-        new = λ other is. absurd (cc);
-        asks = λ is. absurd (cc);
+        contact = λ is. absurd (false≢true is);
+        settings = λ is. absurd (false≢true is);
+        few = λ one is. none_in is;
+        new = λ other is. none_in is;
+        asks = λ is. absurd (false≢true is);
         rescinded = first_end rescinds before device (some_offered is_disk before device (unless_none _ _ s.name)) (λ d not. (neither _ _ not).0)
             (not_true _ (unless_none _ _ (own_free before device (Rescind name after held) s.order))) (not_true _ (unless_none _ _ s.repeat));
-        closed = λ d is. absurd (cc);
-        short = omega (arith, s.line, behind);
+        closed = λ d is. absurd (false≢true is);
+        short = is_short (length before) number s.line behind;
       }
     where
       in_range : (o : Option ℕ) → is_some o ≡ true → IfSome o (λ n. (n ≤ 4096) × (held ≡ true → 1 ≤ n)) → (unwrap_or o 0 ≤ 4096) × (held ≡ true → 1 ≤ unwrap_or o 0)
@@ -370,15 +378,15 @@ module _ (number : ℕ) (before : List Line) (behind : length before < number) w
         right = within_offered before device named within;
         goes = tt;
         fresh = refl;
-        contact = λ is. absurd (cc);
-        settings = λ is. absurd (cc);
-        few = λ one is. absurd (cc);
-        new = λ other is. absurd (cc);
-        asks = λ is. absurd (cc);
-        rescinded = λ d is. absurd (cc);
+        contact = λ is. absurd (false≢true is);
+        settings = λ is. absurd (false≢true is);
+        few = λ one is. none_in is;
+        new = λ other is. none_in is;
+        asks = λ is. absurd (false≢true is);
+        rescinded = λ d is. absurd (false≢true is);
         closed = first_end shuts before device named (λ d not. (neither _ _ not).1)
             (not_true _ (unless_none _ _ (own_free before device (Close name) s.order))) (not_true _ (unless_none _ _ s.repeat));
-        short = omega (arith, s.line, behind);
+        short = is_short (length before) number s.line behind;
       }
 
   pub fits_phase : (device : Option ℕ) → row_fault number before device Phase ≡ None → Fits before IsPhase
@@ -388,14 +396,14 @@ module _ (number : ℕ) (before : List Line) (behind : length before < number) w
         right = tt;
         goes = tt;
         fresh = refl;
-        contact = λ is. absurd (cc);
-        settings = λ is. absurd (cc);
-        few = λ one is. absurd (cc);
-        new = λ other is. absurd (cc);
-        asks = λ is. absurd (cc);
-        rescinded = λ d is. absurd (cc);
-        closed = λ d is. absurd (cc);
-        short = omega (arith, s.line, behind);
+        contact = λ is. absurd (false≢true is);
+        settings = λ is. absurd (false≢true is);
+        few = λ one is. none_in is;
+        new = λ other is. none_in is;
+        asks = λ is. absurd (false≢true is);
+        rescinded = λ d is. absurd (false≢true is);
+        closed = λ d is. absurd (false≢true is);
+        short = is_short (length before) number s.line behind;
       }
 
   pub line_is : (device : Option ℕ) (said : Said) → row_fault number before device said ≡ None → number ≤ 20000

@@ -1,5 +1,5 @@
 //! The rows of the table of lines.
-ghost use Rattle.std.specs.Prelude.{◌≡◌, ◌<◌, ◌≤◌, true, [], List, length, Option, Some, None, IfSome};
+ghost use Rattle.std.specs.Prelude.{◌≡◌, ◌<◌, ◌≤◌, true, [], ◌∷◌, List, length, Option, Some, None, IfSome};
 ghost use Rattle.std.specs.List.{list_all};
 ghost use Rattle.std.specs.Option.{option_map};
 ghost use Rattle.script_text.specs.Words.{words};
@@ -147,6 +147,17 @@ fn name_and_two(rest: &[u8]) -> Option<(Name, Option<u64>, Option<u64>)>
     }
 }
 
+fn contact_of(guest: &[u8], host: &[u8]) -> Option<Said>
+    ensures said { result ≡ contact_row (guest.now ∷ host.now ∷ []) }
+    ensures range { IfSome result InRange }
+{
+    if is_version(guest) && is_version(host) {
+        Some(Said::Contact(version_of(guest), version_of(host)))
+    } else {
+        None
+    }
+}
+
 fn contact_row(rest: &[u8]) -> Option<Said>
     ensures said { result ≡ contact_row (words rest.now) }
     ensures range { IfSome result InRange }
@@ -154,10 +165,7 @@ fn contact_row(rest: &[u8]) -> Option<Said>
     let (guest, rest) = first_word(rest)?;
     let (host, rest) = first_word(rest)?;
     match first_word(rest) {
-        None if is_version(guest) && is_version(host) => {
-            Some(Said::Contact(version_of(guest), version_of(host)))
-        }
-        None => None,
+        None => contact_of(guest, host),
         Some(_) => None,
     }
 }
@@ -262,6 +270,22 @@ fn read_row(rest: &[u8]) -> Option<Said>
     Some(Said::Command(name, ask))
 }
 
+fn write_of(name: &[u8], lba: &[u8], count: &[u8], byte: &[u8]) -> Option<Said>
+    ensures said { result ≡ write_row (name.now ∷ lba.now ∷ count.now ∷ byte.now ∷ []) }
+    ensures range { IfSome result InRange }
+{
+    if is_name(name) && is_decimal(lba) && is_decimal(count) && is_byte(byte) {
+        let ask = DiskAsk::Write {
+            lba: within(0, u32::MAX, number_of(lba)),
+            count: within(0, 4, number_of(count)),
+            byte: byte_of(byte),
+        };
+        Some(Said::Command(Name::of(name), ask))
+    } else {
+        None
+    }
+}
+
 fn write_row(rest: &[u8]) -> Option<Said>
     ensures said { result ≡ write_row (words rest.now) }
     ensures range { IfSome result InRange }
@@ -271,15 +295,7 @@ fn write_row(rest: &[u8]) -> Option<Said>
     let (count, rest) = first_word(rest)?;
     let (byte, rest) = first_word(rest)?;
     match first_word(rest) {
-        None if is_name(name) && is_decimal(lba) && is_decimal(count) && is_byte(byte) => {
-            let ask = DiskAsk::Write {
-                lba: within(0, u32::MAX, number_of(lba)),
-                count: within(0, 4, number_of(count)),
-                byte: byte_of(byte),
-            };
-            Some(Said::Command(Name::of(name), ask))
-        }
-        None => None,
+        None => write_of(name, lba, count, byte),
         Some(_) => None,
     }
 }
