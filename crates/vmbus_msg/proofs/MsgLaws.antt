@@ -211,3 +211,7 @@ front_as m n w is h = subst (λ k. take (length_of k) w ≡ bytes_of_message k) 
 -- and its fields fit where those of its variant do
 pub fit_as : (m n : Msg) → m ≡ n → AllFit (kinds_of (type_of n)) (fields_of n) → AllFit (kinds_of (type_of m)) (fields_of m)
 fit_as m n is h = subst (λ k. AllFit (kinds_of (type_of k)) (fields_of k)) (sym is) h
+
+-- and its frames
+pub frames_as : (m n : Msg) → m ≡ n → AllByRecursion (λ f. f < 256 ^ 8) (frames_of n) → AllByRecursion (λ f. f < 256 ^ 8) (frames_of m)
+frames_as m n is h = subst (λ k. AllByRecursion (λ f. f < 256 ^ 8) (frames_of k)) (sym is) h

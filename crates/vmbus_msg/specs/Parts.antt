@@ -1,5 +1,5 @@
 -- The rows of fields as they are handed on to be written.
-use Rattle.std.specs.Prelude.{List, [], ◌∷◌, length}
+use Rattle.std.specs.Prelude.{ℕ, List, [], ◌∷◌, length}
 use Rattle.wire_table.specs.Rows.{Row, num, raw, Kind, nums, raws}
 use Rattle.vmbus_msg.specs.declared.part.Part.{Part}
 use Rattle.vmbus_msg.specs.declared.part.Part.TheVariants.{U8, U16, U32, U64, Raw}
@@ -29,3 +29,13 @@ rows_in (p ∷ ps) = row_in p ∷ rows_in ps
 abbrev pub kinds_in : List Part → List Kind
 kinds_in [] = []
 kinds_in (p ∷ ps) = kind_in p ∷ kinds_in ps
+
+-- the rows of fields of 32 bits in order
+abbrev pub word_rows : List ℕ → List Row
+word_rows [] = []
+word_rows (v ∷ vs) = num 4 v ∷ word_rows vs
+
+-- and what they are
+abbrev pub word_kinds : List ℕ → List Kind
+word_kinds [] = []
+word_kinds (v ∷ vs) = nums 4 ∷ word_kinds vs

@@ -4,9 +4,12 @@ ghost use Rattle.std.specs.Prelude.{◌≡◌, ◌+◌, ◌*◌, ◌^◌, ◌<�
 ghost use Rattle.std.specs.List.{flat_map, AllByRecursion};
 ghost use Rattle.wire_table.specs.Little.{bytes_of};
 ghost use Rattle.wire_table.specs.Rows.{bytes_in, size_of, spelled_after, total};
-ghost use Rattle.vmbus_msg.specs.Parts.{kind_in, kinds_in, row_in, rows_in};
+ghost use Rattle.vmbus_msg.specs.Parts.{kind_in, kinds_in, row_in, rows_in, word_kinds, word_rows};
+ghost use Rattle.vmbus_msg.specs.declared.msg.Msg.{Msg};
 ghost use Rattle.vmbus_msg.specs.Grammar.{Fits, AllFit, bytes_of_message, length_of, type_of, kinds_of, fields_of, frames_of, IsMessage};
 
+use crate::gpadl_body::GpadlBody;
+use crate::gpadl_header::GpadlHeader;
 use crate::msg::Msg;
 use crate::part::Part;
 use wire_table::{put_at, put_bytes};
@@ -63,6 +66,18 @@ fn put_parts(out: &mut [u8], parts: &[Part<'_>])
     }
 }
 
+// Writes fields of 32 bits in order, from the front on.
+fn put_words(out: &mut [u8], words: &[u32])
+    requires { total (word_kinds words.now) ≤ length out.old }
+    ensures front { take (total (word_kinds words.now)) out.new ≡ spelled_after [] (word_rows words.now) }
+    ensures fit { AllFit (word_kinds words.now) (word_rows words.now) }
+{
+    let mut at = 0;
+    for word in words {
+        at = put_part(out, at, Part::U32(*word));
+    }
+}
+
 // How many bytes a message has.
 fn length(m: &Msg) -> usize
     ensures value { result ≡ length_of m.now }
@@ -85,6 +100,50 @@ fn length(m: &Msg) -> usize
         | Msg::Unload { .. }
         | Msg::UnloadResponse { .. } => 8,
     }
+}
+
+// Writes the header of a page list into as many bytes as it has.
+#[tactic(auto, unfolding(crate::specs::Grammar::bytes_of_message))]
+fn write_header(h: &GpadlHeader, out: &mut [u8])
+    requires { length out.old ≡ length_of (Msg.GpadlHeader h.now) }
+    ensures bytes { take (length_of (Msg.GpadlHeader h.now)) out.new ≡ bytes_of_message (Msg.GpadlHeader h.now) }
+    ensures fields { AllFit (kinds_of (type_of (Msg.GpadlHeader h.now))) (fields_of (Msg.GpadlHeader h.now)) }
+    ensures frames { AllByRecursion (λ f. f < 256 ^ 8) (frames_of (Msg.GpadlHeader h.now)) }
+{
+    put_parts(
+        out,
+        &[
+            Part::U32(8),
+            Part::U32(h.padding),
+            Part::U32(h.relid),
+            Part::U32(h.gpadl),
+            Part::U16(h.range_buflen),
+            Part::U16(h.rangecount),
+            Part::U32(h.byte_count),
+            Part::U32(h.byte_offset),
+        ],
+    );
+    put_frames(out, 28, h.frames.as_slice());
+}
+
+// Writes a body of a page list into as many bytes as it has.
+#[tactic(auto, unfolding(crate::specs::Grammar::bytes_of_message))]
+fn write_body(h: &GpadlBody, out: &mut [u8])
+    requires { length out.old ≡ length_of (Msg.GpadlBody h.now) }
+    ensures bytes { take (length_of (Msg.GpadlBody h.now)) out.new ≡ bytes_of_message (Msg.GpadlBody h.now) }
+    ensures fields { AllFit (kinds_of (type_of (Msg.GpadlBody h.now))) (fields_of (Msg.GpadlBody h.now)) }
+    ensures frames { AllByRecursion (λ f. f < 256 ^ 8) (frames_of (Msg.GpadlBody h.now)) }
+{
+    put_parts(
+        out,
+        &[
+            Part::U32(9),
+            Part::U32(h.padding),
+            Part::U32(h.msgnumber),
+            Part::U32(h.gpadl),
+        ],
+    );
+    put_frames(out, 16, h.frames.as_slice());
 }
 
 // Writes a message into as many bytes as it has.
@@ -136,13 +195,13 @@ fn write(m: &Msg, out: &mut [u8])
             );
         }
         Msg::RescindChannelOffer { padding, relid } => {
-            put_parts(out, &[Part::U32(2), Part::U32(*padding), Part::U32(*relid)]);
+            put_words(out, &[2, *padding, *relid]);
         }
         Msg::RequestOffers { padding } => {
-            put_parts(out, &[Part::U32(3), Part::U32(*padding)]);
+            put_words(out, &[3, *padding]);
         }
         Msg::AllOffersDelivered { padding } => {
-            put_parts(out, &[Part::U32(4), Part::U32(*padding)]);
+            put_words(out, &[4, *padding]);
         }
         Msg::OpenChannel {
             padding,
@@ -173,91 +232,33 @@ fn write(m: &Msg, out: &mut [u8])
             openid,
             status,
         } => {
-            put_parts(
-                out,
-                &[
-                    Part::U32(6),
-                    Part::U32(*padding),
-                    Part::U32(*relid),
-                    Part::U32(*openid),
-                    Part::U32(*status),
-                ],
-            );
+            put_words(out, &[6, *padding, *relid, *openid, *status]);
         }
         Msg::CloseChannel { padding, relid } => {
-            put_parts(out, &[Part::U32(7), Part::U32(*padding), Part::U32(*relid)]);
+            put_words(out, &[7, *padding, *relid]);
         }
-        Msg::GpadlHeader(h) => {
-            put_parts(
-                out,
-                &[
-                    Part::U32(8),
-                    Part::U32(h.padding),
-                    Part::U32(h.relid),
-                    Part::U32(h.gpadl),
-                    Part::U16(h.range_buflen),
-                    Part::U16(h.rangecount),
-                    Part::U32(h.byte_count),
-                    Part::U32(h.byte_offset),
-                ],
-            );
-            put_frames(out, 28, h.frames.as_slice());
-        }
-        Msg::GpadlBody(h) => {
-            put_parts(
-                out,
-                &[
-                    Part::U32(9),
-                    Part::U32(h.padding),
-                    Part::U32(h.msgnumber),
-                    Part::U32(h.gpadl),
-                ],
-            );
-            put_frames(out, 16, h.frames.as_slice());
-        }
+        Msg::GpadlHeader(h) => write_header(h, out),
+        Msg::GpadlBody(h) => write_body(h, out),
         Msg::GpadlCreated {
             padding,
             relid,
             gpadl,
             status,
         } => {
-            put_parts(
-                out,
-                &[
-                    Part::U32(10),
-                    Part::U32(*padding),
-                    Part::U32(*relid),
-                    Part::U32(*gpadl),
-                    Part::U32(*status),
-                ],
-            );
+            put_words(out, &[10, *padding, *relid, *gpadl, *status]);
         }
         Msg::GpadlTeardown {
             padding,
             relid,
             gpadl,
         } => {
-            put_parts(
-                out,
-                &[
-                    Part::U32(11),
-                    Part::U32(*padding),
-                    Part::U32(*relid),
-                    Part::U32(*gpadl),
-                ],
-            );
+            put_words(out, &[11, *padding, *relid, *gpadl]);
         }
         Msg::GpadlTorndown { padding, gpadl } => {
-            put_parts(
-                out,
-                &[Part::U32(12), Part::U32(*padding), Part::U32(*gpadl)],
-            );
+            put_words(out, &[12, *padding, *gpadl]);
         }
         Msg::RelidReleased { padding, relid } => {
-            put_parts(
-                out,
-                &[Part::U32(13), Part::U32(*padding), Part::U32(*relid)],
-            );
+            put_words(out, &[13, *padding, *relid]);
         }
         Msg::InitiateContact {
             padding,
@@ -300,10 +301,10 @@ fn write(m: &Msg, out: &mut [u8])
             );
         }
         Msg::Unload { padding } => {
-            put_parts(out, &[Part::U32(16), Part::U32(*padding)]);
+            put_words(out, &[16, *padding]);
         }
         Msg::UnloadResponse { padding } => {
-            put_parts(out, &[Part::U32(17), Part::U32(*padding)]);
+            put_words(out, &[17, *padding]);
         }
     }
 }
