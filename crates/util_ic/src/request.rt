@@ -1,13 +1,14 @@
 //! The requests of the host.
 
-ghost use Rattle.std.specs.Prelude.{◌≡◌, ℕ, ◌+◌, ◌<◌, ◌≤◌, ◌++◌, length, take, drop, List, Some};
-ghost use Rattle.util_ic.specs.Messages.{beat_bytes, down_bytes, ask_bytes, negotiate_bytes, zeros};
+ghost use Rattle.std.specs.Prelude.{◌≡◌, ℕ, ◌+◌, ◌<◌, ◌≤◌, ◌++◌, [], length, take, drop, List, Some};
+ghost use Rattle.wire_table.specs.Rows.{spelled_after};
+ghost use Rattle.util_ic.specs.Messages.{beat_bytes, down_bytes, ask_bytes, negotiate_bytes, request_rows, zeros};
 ghost use Rattle.pkt_desc.specs.Packets.{Carries};
 ghost use Rattle.util_ic.specs.Packets.{ask_packet, negotiate_packet};
 ghost use Rattle.util_ic.specs.Asks.{ask_of, kind_for};
 
 use crate::IcAsk;
-use crate::tables::{heartbeat_table, offered_table, shutdown_table};
+use crate::tables::{header_table, heartbeat_table, offered_table, shutdown_table};
 use contact::Kind;
 use wire_table::fields;
 
@@ -26,13 +27,23 @@ fn put_zeros(message: &mut [u8], at: usize, len: usize)
     clear(&mut message[at..]);
 }
 
+// Writes the headers of a request: of this version and type, and with so many bytes of content.
+fn write_headers(message: &mut [u8], major: u16, kind: u16, len: u16)
+    requires { 28 ≤ length message.old }
+    ensures { take 28 message.new ≡ spelled_after [] (request_rows major kind len []) }
+{
+    let table = header_table();
+    fields!(put table in message: num 0 = 0u32, num 1 = 20 + u32::from(len), num 2 = major, num 3 = 0u16, num 4 = kind, num 5 = major, num 6 = 0u16, num 7 = len, num 8 = 0u32, num 9 = 0u8, num 10 = 3u8, num 11 = 0u16);
+}
+
 // Writes a heartbeat.
 fn write_beat(message: &mut [u8], seq: u64)
     requires { length message.old ≡ 68 }
     ensures { message.new ≡ beat_bytes seq }
 {
+    write_headers(message, 3, 1, 40);
     let table = heartbeat_table();
-    fields!(put table in message: num 0 = 0u32, num 1 = 60u32, num 2 = 3u16, num 3 = 0u16, num 4 = 1u16, num 5 = 3u16, num 6 = 0u16, num 7 = 40u16, num 8 = 0u32, num 9 = 0u8, num 10 = 3u8, num 11 = 0u16, num 12 = seq);
+    fields!(put table in message: num 12 = seq);
     put_zeros(message, 36, 32);
 }
 
@@ -41,8 +52,9 @@ fn write_down(message: &mut [u8], reason: u32, timeout: u32, flags: u32)
     requires { length message.old ≡ 2088 }
     ensures { message.new ≡ down_bytes reason timeout flags }
 {
+    write_headers(message, 3, 3, 2060);
     let table = shutdown_table();
-    fields!(put table in message: num 0 = 0u32, num 1 = 2080u32, num 2 = 3u16, num 3 = 0u16, num 4 = 3u16, num 5 = 3u16, num 6 = 0u16, num 7 = 2060u16, num 8 = 0u32, num 9 = 0u8, num 10 = 3u8, num 11 = 0u16, num 12 = reason, num 13 = timeout, num 14 = flags);
+    fields!(put table in message: num 12 = reason, num 13 = timeout, num 14 = flags);
     put_zeros(message, 40, 2048);
 }
 
@@ -51,8 +63,9 @@ fn write_negotiate(message: &mut [u8])
     requires { length message.old ≡ 52 }
     ensures { take 52 message.new ≡ negotiate_bytes }
 {
+    write_headers(message, 0, 0, 24);
     let table = offered_table();
-    fields!(put table in message: num 0 = 0u32, num 1 = 44u32, num 2 = 0u16, num 3 = 0u16, num 4 = 0u16, num 5 = 0u16, num 6 = 0u16, num 7 = 24u16, num 8 = 0u32, num 9 = 0u8, num 10 = 3u8, num 11 = 0u16, num 12 = 2u16, num 13 = 2u16, num 14 = 0u32, num 15 = 3u16, num 16 = 0u16, num 17 = 1u16, num 18 = 0u16, num 19 = 3u16, num 20 = 0u16, num 21 = 1u16, num 22 = 0u16);
+    fields!(put table in message: num 12 = 2u16, num 13 = 2u16, num 14 = 0u32, num 15 = 3u16, num 16 = 0u16, num 17 = 1u16, num 18 = 0u16, num 19 = 3u16, num 20 = 0u16, num 21 = 1u16, num 22 = 0u16);
 }
 
 /// Writes a request at the front of `out`, and answers its length: 68 bytes for a heartbeat, 2,088 for a shutdown. The rest of
