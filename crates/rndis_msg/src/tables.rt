@@ -4,32 +4,6 @@ ghost use Rattle.std.specs.Prelude.{◌≡◌};
 
 use wire_table::{Checked, Field, Layout};
 
-/// A packet: data offset, data length, out-of-band offset, length and count, per-packet information offset and
-/// length, handle and a reserved field.
-pub const PACKET: Layout<11> = Layout {
-    size: 44,
-    fields: [
-        Field { at: 0, width: 4 },
-        Field { at: 4, width: 4 },
-        Field { at: 8, width: 4 },
-        Field { at: 12, width: 4 },
-        Field { at: 16, width: 4 },
-        Field { at: 20, width: 4 },
-        Field { at: 24, width: 4 },
-        Field { at: 28, width: 4 },
-        Field { at: 32, width: 4 },
-        Field { at: 36, width: 4 },
-        Field { at: 40, width: 4 },
-    ],
-};
-
-/// The layout of a packet, whose fields lie apart and within its size.
-pub fn packet_table() -> Checked<11>
-    ensures { result.layout ≡ PACKET }
-{
-    Checked { layout: PACKET }
-}
-
 /// An initialize: request id, major, minor and the greatest transfer.
 pub const INITIALIZE: Layout<6> = Layout {
     size: 24,

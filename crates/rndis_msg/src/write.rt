@@ -1,9 +1,11 @@
 //! Messages written as bytes.
-ghost use Rattle.std.specs.Prelude.{◌≡◌, ℕ, ◌≤◌, ◌++◌, List, length, take, drop};
-ghost use Rattle.rndis_msg.specs.Grammar.{IsRndis, BeginsWith, InForm, length_of, offset_of, rndis_bytes};
+ghost use Rattle.std.specs.Prelude.{◌≡◌, ℕ, ◌+◌, ◌*◌, ◌≤◌, ◌++◌, [], List, length, take, drop};
+ghost use Rattle.wire_table.specs.Little.{bytes_of};
+ghost use Rattle.wire_table.specs.Rows.{spelled_after};
+ghost use Rattle.rndis_msg.specs.Grammar.{IsRndis, BeginsWith, InForm, length_of, offset_of, rndis_bytes, rows_of};
 
-use crate::{Rndis, tables};
-use wire_table::{fields, put_bytes};
+use crate::Rndis;
+use wire_table::{put_at, put_bytes};
 
 /// How many bytes a message has.
 fn length(m: &Rndis) -> usize
@@ -29,6 +31,36 @@ fn offset(at: u32, body: &[u8]) -> u32
     if body.is_empty() { 0 } else { at }
 }
 
+/// Writes a number of 4 bytes at a place, with nothing changed before it, and answers where it ends.
+fn put_word(out: &mut [u8], at: usize, word: u32) -> usize
+    requires { at + 4 ≤ length out.old }
+    ensures end { result ≡ at + 4 }
+    ensures front { take result out.new ≡ take at out.old ++ bytes_of 4 word }
+{
+    put_at(out, at, 4, u64::from(word));
+    at + 4
+}
+
+/// Writes numbers of 4 bytes in order, from the front on.
+fn put_words(out: &mut [u8], words: &[u32])
+    requires { 4 * length words.now ≤ length out.old }
+    ensures { take (4 * length words.now) out.new ≡ spelled_after [] (rows_of words.now) }
+{
+    let mut at = 0;
+    for word in words {
+        at = put_word(out, at, *word);
+    }
+}
+
+/// Writes the numbers of a fixed part, and right behind it a buffer.
+fn put_both(out: &mut [u8], words: &[u32], buffer: &[u8])
+    requires { 4 * length words.now + length buffer.now ≤ length out.old }
+    ensures { take (4 * length words.now + length buffer.now) out.new ≡ spelled_after [] (rows_of words.now) ++ buffer.now }
+{
+    put_words(out, words);
+    put_bytes(out, 4 * words.len(), buffer);
+}
+
 /// Writes a message into as many bytes as it has. A buffer follows the fixed part, and what isn't looked
 /// at is 0.
 #[tactic(auto, unfolding(crate::specs::Grammar::rndis_bytes))]
@@ -42,19 +74,15 @@ fn write(m: &Rndis, out: &mut [u8])
     match m {
         Rndis::Packet { body } => {
             let bytes = body.bytes();
-            let table = tables::packet_table();
-            fields!(put table in out: num 0 = 1u32, num 1 = len, num 2 = 36u32, num 3 = bytes.len() as u32, num 4 = 0u32, num 5 = 0u32, num 6 = 0u32, num 7 = 0u32, num 8 = 0u32, num 9 = 0u32, num 10 = 0u32);
-            put_bytes(out, 44, bytes);
+            let count = bytes.len() as u32;
+            put_both(out, &[1, len, 36, count, 0, 0, 0, 0, 0, 0, 0], bytes);
         }
         Rndis::Initialize {
             request_id,
             major,
             minor,
             max_transfer,
-        } => {
-            let table = tables::initialize_table();
-            fields!(put table in out: num 0 = 2u32, num 1 = len, num 2 = *request_id, num 3 = *major, num 4 = *minor, num 5 = *max_transfer);
-        }
+        } => put_words(out, &[2, len, *request_id, *major, *minor, *max_transfer]),
         Rndis::InitializeComplete {
             request_id,
             status,
@@ -65,23 +93,37 @@ fn write(m: &Rndis, out: &mut [u8])
             max_packets,
             max_transfer,
             alignment,
-        } => {
-            let table = tables::initialize_complete_table();
-            fields!(put table in out: num 0 = 0x8000_0002u32, num 1 = len, num 2 = *request_id, num 3 = *status, num 4 = *major, num 5 = *minor, num 6 = *device_flags, num 7 = *medium, num 8 = *max_packets, num 9 = *max_transfer, num 10 = *alignment, num 11 = 0u32, num 12 = 0u32);
-        }
-        Rndis::Halt { request_id } => {
-            let table = tables::plain_table();
-            fields!(put table in out: num 0 = 3u32, num 1 = len, num 2 = *request_id);
-        }
+        } => put_words(
+            out,
+            &[
+                0x8000_0002,
+                len,
+                *request_id,
+                *status,
+                *major,
+                *minor,
+                *device_flags,
+                *medium,
+                *max_packets,
+                *max_transfer,
+                *alignment,
+                0,
+                0,
+            ],
+        ),
+        Rndis::Halt { request_id } => put_words(out, &[3, len, *request_id]),
         Rndis::Query {
             request_id,
             oid,
             body,
         } => {
             let bytes = body.bytes();
-            let table = tables::query_table();
-            fields!(put table in out: num 0 = 4u32, num 1 = len, num 2 = *request_id, num 3 = *oid, num 4 = bytes.len() as u32, num 5 = offset(20, bytes), num 6 = 0u32);
-            put_bytes(out, 28, bytes);
+            let count = bytes.len() as u32;
+            put_both(
+                out,
+                &[4, len, *request_id, *oid, count, offset(20, bytes), 0],
+                bytes,
+            );
         }
         Rndis::QueryComplete {
             request_id,
@@ -89,9 +131,19 @@ fn write(m: &Rndis, out: &mut [u8])
             body,
         } => {
             let bytes = body.bytes();
-            let table = tables::query_complete_table();
-            fields!(put table in out: num 0 = 0x8000_0004u32, num 1 = len, num 2 = *request_id, num 3 = *status, num 4 = bytes.len() as u32, num 5 = offset(16, bytes));
-            put_bytes(out, 24, bytes);
+            let count = bytes.len() as u32;
+            put_both(
+                out,
+                &[
+                    0x8000_0004,
+                    len,
+                    *request_id,
+                    *status,
+                    count,
+                    offset(16, bytes),
+                ],
+                bytes,
+            );
         }
         Rndis::Set {
             request_id,
@@ -99,33 +151,27 @@ fn write(m: &Rndis, out: &mut [u8])
             body,
         } => {
             let bytes = body.bytes();
-            let table = tables::query_table();
-            fields!(put table in out: num 0 = 5u32, num 1 = len, num 2 = *request_id, num 3 = *oid, num 4 = bytes.len() as u32, num 5 = offset(20, bytes), num 6 = 0u32);
-            put_bytes(out, 28, bytes);
+            let count = bytes.len() as u32;
+            put_both(
+                out,
+                &[5, len, *request_id, *oid, count, offset(20, bytes), 0],
+                bytes,
+            );
         }
-        Rndis::SetComplete { request_id, status } => {
-            let table = tables::status_table();
-            fields!(put table in out: num 0 = 0x8000_0005u32, num 1 = len, num 2 = *request_id, num 3 = *status);
-        }
-        Rndis::Reset => {
-            let table = tables::plain_table();
-            fields!(put table in out: num 0 = 6u32, num 1 = len, num 2 = 0u32);
-        }
+        Rndis::SetComplete { request_id, status } => put_words(
+            out,
+            &[0x8000_0005, len, *request_id, *status],
+        ),
+        Rndis::Reset => put_words(out, &[6, len, 0]),
         Rndis::ResetComplete {
             status,
             addressing_reset,
-        } => {
-            let table = tables::status_table();
-            fields!(put table in out: num 0 = 0x8000_0006u32, num 1 = len, num 2 = *status, num 3 = *addressing_reset);
-        }
-        Rndis::Keepalive { request_id } => {
-            let table = tables::plain_table();
-            fields!(put table in out: num 0 = 8u32, num 1 = len, num 2 = *request_id);
-        }
-        Rndis::KeepaliveComplete { request_id, status } => {
-            let table = tables::status_table();
-            fields!(put table in out: num 0 = 0x8000_0008u32, num 1 = len, num 2 = *request_id, num 3 = *status);
-        }
+        } => put_words(out, &[0x8000_0006, len, *status, *addressing_reset]),
+        Rndis::Keepalive { request_id } => put_words(out, &[8, len, *request_id]),
+        Rndis::KeepaliveComplete { request_id, status } => put_words(
+            out,
+            &[0x8000_0008, len, *request_id, *status],
+        ),
     }
 }
 
