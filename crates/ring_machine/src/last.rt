@@ -3,7 +3,7 @@
 use thiserror::Error;
 
 /// Whether a call raised the peer's signal.
-#[derive(Clone, Copy, Debug, PartialEq, Eq)]
+#[derive(Clone, Copy, PartialEq, Eq)]
 pub enum Signalled {
     /// The signal was raised.
     Raised,
@@ -12,7 +12,7 @@ pub enum Signalled {
 }
 
 /// How an `arm` ended.
-#[derive(Clone, Copy, Debug, PartialEq, Eq)]
+#[derive(Clone, Copy, PartialEq, Eq)]
 pub enum Armed {
     /// Each look found nothing: the end is asleep.
     Asleep,
@@ -46,7 +46,7 @@ pub enum Why {
 }
 
 /// Whether an end can make calls.
-#[derive(Clone, Copy, Debug, PartialEq, Eq)]
+#[derive(Clone, Copy, PartialEq, Eq)]
 pub enum Mode {
     /// It can begin a call.
     Awake,
@@ -59,7 +59,7 @@ pub enum Mode {
 }
 
 /// The private indices of an end in bytes, and the read index that it last committed.
-#[derive(Clone, Copy, Debug, PartialEq, Eq)]
+#[derive(Clone, Copy, PartialEq, Eq)]
 pub struct Indices {
     /// The write index of the ring that it fills.
     pub write: u32,
@@ -70,7 +70,7 @@ pub struct Indices {
 }
 
 /// How the last command of an end ended.
-#[derive(Clone, Copy, Debug, PartialEq, Eq)]
+#[derive(Clone, Copy, PartialEq, Eq)]
 pub enum Last {
     /// There was none.
     Fresh,
