@@ -31,7 +31,9 @@ fn is_part(bytes: u32) -> bool
 fn span_lent(words: &[u64]) -> Option<Lent>
     requires some { 3 ≤ length words.now }
     requires fit { 3 + spans_words (range_count words.now) (drop 3 words.now) ≤ length words.now }
-    ensures { result ≡ span_lent words.now }
+    ensures lent { result ≡ span_lent words.now }
+    ensures page { IfSome result (λ l. l.page < 128) }
+    ensures bytes { IfSome result (λ l. (1 ≤ l.bytes) × (l.bytes ≤ 4096)) }
 {
     if high_32(words[2]) != 1 {
         return None;
@@ -55,7 +57,9 @@ fn span_lent(words: &[u64]) -> Option<Lent>
 fn buffer_lent(words: &[u64]) -> Option<Lent>
     requires some { 3 ≤ length words.now }
     requires fit { 3 + range_count words.now ≤ length words.now }
-    ensures { result ≡ buffer_lent words.now }
+    ensures lent { result ≡ buffer_lent words.now }
+    ensures page { IfSome result (λ l. l.page < 128) }
+    ensures bytes { IfSome result (λ l. (1 ≤ l.bytes) × (l.bytes ≤ 4096)) }
 {
     if low_16(words[2]) != RECEIVE_BUFFER || high_32(words[2]) != 1 {
         return None;
@@ -74,7 +78,9 @@ fn buffer_lent(words: &[u64]) -> Option<Lent>
 
 // The page of a packet of type 6 with this payload: an RNDIS packet that stands in a section of the send buffer.
 fn section_lent(payload: &[u64]) -> Option<Lent>
-    ensures { result ≡ section_lent payload.now }
+    ensures lent { result ≡ section_lent payload.now }
+    ensures page { IfSome result (λ l. l.page < 128) }
+    ensures bytes { IfSome result (λ l. (1 ≤ l.bytes) × (l.bytes ≤ 4096)) }
 {
     if payload.len() < 5 || low_32(payload[0]) != RNDIS_PACKET {
         return None;

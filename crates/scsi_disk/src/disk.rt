@@ -2,7 +2,7 @@
 ghost use Rattle.std.specs.Prelude.{◌≡◌, ℕ, ◌+◌, ◌<◌, ◌≤◌, ◌^◌, List, IfOk, All, None, Some, nat_lt, length};
 ghost use Rattle.std.specs.List.{list_any, range_with_len};
 ghost use Rattle.scsi_disk.specs.DiskModel.{new_disk, refusal_of, good_bytes, disk_reply, disk_after, most_back, IsSized};
-ghost use Rattle.scsi_disk.specs.FiniteMap.{stands_for, made, is_among, with_written, written_after, kept_after};
+ghost use Rattle.scsi_disk.specs.FiniteMap.{stands_for, made, distinct, is_among, with_written, written_after, kept_after};
 
 use crate::command::Command;
 use crate::inquiry::inquiry;
@@ -25,6 +25,17 @@ fn has_bad(bad: &IndexSet<u64>, lba: u64, count: u64) -> bool
         }
     }
     false
+}
+
+/// These places, each once.
+fn distinct(alloc: Global, places: &[u64]) -> Result<IndexSet<u64>, AllocError>
+    ensures { IfOk result (λ set. set.keys ≡ distinct places.now) }
+{
+    let mut set = IndexSet::with_capacity(alloc, places.len())?;
+    for place in places {
+        set.insert(*place)?;
+    }
+    Ok(set)
 }
 
 /// A disk of blocks of 512 bytes, of which some places may be bad.
@@ -54,10 +65,7 @@ impl Disk {
         ensures kept { IfOk result (λ d. d ≡ made blocks bad.now) }
         ensures model { IfOk result (λ d. stands_for d ≡ new_disk blocks bad.now) }
     {
-        let mut places = IndexSet::with_capacity(alloc, bad.len())?;
-        for place in bad {
-            places.insert(*place)?;
-        }
+        let places = distinct(alloc, bad)?;
         let store = Store::make(alloc, blocks)?;
         Ok(Disk { store, bad: places })
     }
