@@ -6,6 +6,7 @@ ghost use Rattle.ring_machine.specs.Places.{IsRingSize};
 ghost use Rattle.ring_machine.specs.States.{IsPacket, entered, resting};
 ghost use Rattle.ring_machine.specs.Steps.{machine_new, send_begun, take_begun, commit_begun, arm_begun, poll_begun, mark_begun, peer_mark_begun};
 ghost use Rattle.ring_core.specs.Told.{Ran};
+ghost use Rattle.ring_machine.specs.declared.last.Why.{Why as WhyOne};
 ghost use Rattle.ring_core.specs.declared.told.Told.{Told};
 ghost use Rattle.ring_driver.specs.Driven.{broken, IsAwakeEnd, sent_by_answer, found_by_send, left_by_send, LacksRoom, got_by_answer, found_by_take, left_by_take};
 
@@ -116,7 +117,7 @@ impl<S: Seatlike> DriverEnd<S> {
         ensures got { (self.new.state.got ≡ self.old.state.got) × (self.new.taken ≡ self.old.taken) }
         ensures room { LacksRoom (length p.now) result }
         ensures broken { (broken self.old.state ≡ found_by_send result) × (broken self.new.state ≡ left_by_send result) }
-        ensures ran { broken self.old.state ≡ None → Ran (entered self.old.state (send_begun self.old.state.machine (length p.now)) p.now) self.new.state (S.told self.old.seat) (S.told self.new.seat) (S.memory self.old.seat) (S.memory self.new.seat) }
+        ensures ran { (broken self.old.state ≡ None → Ran (entered self.old.state (send_begun self.old.state.machine (length p.now)) p.now) self.new.state (S.told self.old.seat) (S.told self.new.seat) (S.memory self.old.seat) (S.memory self.new.seat)) × ((why : WhyOne) → broken self.old.state ≡ Some why → self.new ≡ self.old) }
         ensures same { S.same self.old.seat self.new.seat × IsAwakeEnd self.new.state × (self.new.state.machine.cells ≡ self.old.state.machine.cells) × (self.new.state.machine.start ≡ self.old.state.machine.start) × (self.new.state.machine.read ≡ self.old.state.machine.read) }
     {
         if self.parts.core.is_stopped() {
@@ -136,7 +137,7 @@ impl<S: Seatlike> DriverEnd<S> {
         ensures got { (self.new.state.got ≡ got_by_answer (refused result) self.new.taken self.old.state.got) × (refused result ≡ None → IsPacket self.new.taken) }
         ensures sent { self.new.state.sent ≡ self.old.state.sent }
         ensures broken { (broken self.old.state ≡ found_by_take (refused result)) × (broken self.new.state ≡ left_by_take (refused result)) }
-        ensures ran { broken self.old.state ≡ None → Ran (entered self.old.state (take_begun self.old.state.machine) []) self.new.state (S.told self.old.seat) (S.told self.new.seat) (S.memory self.old.seat) (S.memory self.new.seat) }
+        ensures ran { (broken self.old.state ≡ None → Ran (entered self.old.state (take_begun self.old.state.machine) []) self.new.state (S.told self.old.seat) (S.told self.new.seat) (S.memory self.old.seat) (S.memory self.new.seat)) × ((why : WhyOne) → broken self.old.state ≡ Some why → self.new ≡ self.old) }
         ensures same { S.same self.old.seat self.new.seat × IsAwakeEnd self.new.state × (self.new.state.machine.cells ≡ self.old.state.machine.cells) }
     {
         if self.parts.core.is_stopped() {

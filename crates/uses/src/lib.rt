@@ -3,6 +3,9 @@
 
 mod driver;
 mod pages;
+mod register;
+mod register_seat;
+mod register_talk;
 mod requests;
 mod rescind;
 mod ring;
@@ -14,6 +17,9 @@ mod tests;
 
 pub use driver::{is_free, pass_one};
 pub use pages::{share, take_piece};
+pub use register::Register;
+pub use register_seat::RegisterSeat;
+pub use register_talk::RegisterTalk;
 pub use requests::settle;
 pub use rescind::release;
 pub use ring::{send_one, take_one};

@@ -2,10 +2,11 @@
 ghost use Rattle.std.specs.Prelude.{◌≡◌, true};
 
 use crate::{
-    SharedSeat, answer_keepalive, pass_one, release, send_one, serve_srb, settle, share, take_one,
-    take_piece,
+    Register, SharedSeat, answer_keepalive, pass_one, release, send_one, serve_srb, settle, share,
+    take_one, take_piece,
 };
 use gpadl::Assembler;
+use hist_lock::HistLock;
 use ring_core::{End, Room, Side, Signalled, opening_words};
 use ring_driver::DriverEnd;
 use scsi_disk::Disk;
@@ -136,5 +137,16 @@ fn a_packet_goes_through_ends_that_keep_none(rt: HostRuntime) {
             &rt,
             pass_one(&mut guest, &mut host, &[0x0000_0003_0002_0006, i, 9]),
         );
+    }
+}
+
+#[test]
+fn a_register_gives_what_it_held(rt: HostRuntime) {
+    let mut seats = HistLock::make(rt.alloc(), Register::make(), &[2]).expect(&rt, "memory");
+    for seat in seats.iter_mut() {
+        check(&rt, seat.left() == 2);
+        check(&rt, seat.with(&rt, 5).reply == 0);
+        check(&rt, seat.left() == 1);
+        check(&rt, seat.with(&rt, 6).reply == 5);
     }
 }

@@ -1,0 +1,4 @@
+pub mod Messages
+pub mod Network
+pub mod Packets
+pub mod Storage

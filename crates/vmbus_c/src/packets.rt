@@ -1,0 +1,73 @@
+//! Packets of a ring.
+ghost use Rattle.std.specs.Prelude.{◌≡◌, ◌≢◌, ◌≤◌, ◌<◌, length, Some};
+ghost use Rattle.pkt_desc.specs.Packets.{IsPacket, desc_of};
+ghost use Rattle.pkt_desc.specs.Ranges.{RangesFit};
+ghost use Rattle.pkt_desc.specs.Faults.{fault_of};
+ghost use Rattle.pkt_desc.specs.declared.desc.PacketFault.{PacketFault as Fault};
+ghost use Rattle.vmbus_c.specs.Packets.{fields_of, number_of};
+
+use pkt_desc::{Desc, PacketFault, parse};
+
+/// A packet's descriptor (Linux `include/linux/hyperv.h`, struct vmpacket_descriptor).
+#[repr(C)]
+#[derive(Clone, Copy)]
+pub struct VmbusPacket {
+    /// The type: 6 is in-band data, 7 data using transfer pages, 9 data using GPA direct, 11 a completion.
+    pub kind: u32,
+    /// Where the payload begins, in words.
+    pub offset8: u32,
+    /// The length of the packet without its trailer, in words.
+    pub len8: u32,
+    /// Bit 0 asks for a completion.
+    pub flags: u32,
+    /// The transaction's id.
+    pub tid: u64,
+}
+
+// The numbers of a descriptor.
+fn fields(d: &Desc) -> VmbusPacket
+    ensures { result ≡ fields_of d.now }
+{
+    VmbusPacket {
+        kind: u32::from(d.kind),
+        offset8: u32::from(d.offset8),
+        len8: u32::from(d.len8),
+        flags: u32::from(d.flags),
+        tid: d.tid,
+    }
+}
+
+// The number of a refusal.
+fn number(fault: &PacketFault) -> u32
+    ensures value { result ≡ number_of fault.now }
+    ensures some { 1 < result }
+{
+    match fault {
+        PacketFault::Length { .. } => 2,
+        PacketFault::Offset { .. } => 3,
+        PacketFault::Ranges { .. } => 4,
+    }
+}
+
+/// Reads the descriptor of the packet that the words are, all of them without the trailer, and answers 0. Otherwise it answers the number of the first fault: 1
+/// fewer than two words, 2 a length that isn't the number of words, 3 a payload that begins in the descriptor or past the end, 4 ranges that go past the
+/// payload's beginning.
+#[unsafe(no_mangle)]
+pub extern "C" fn vmbus_packet_read(words: &[u64], packet: &mut VmbusPacket) -> u32
+    ensures read { result ≡ 0 → IsPacket words.now × RangesFit words.now × (packet.new ≡ fields_of (desc_of words.now)) }
+    ensures every { 2 ≤ length words.now → IsPacket words.now → RangesFit words.now → result ≡ 0 }
+    ensures short { length words.now < 2 → result ≡ 1 }
+    ensures fault { 1 < result → (e : Fault) × ((fault_of words.now ≡ Some e) × (result ≡ number_of e)) }
+    ensures kept { result ≢ 0 → packet.new ≡ packet.old }
+{
+    if words.len() < 2 {
+        return 1;
+    }
+    match parse(words) {
+        Ok(d) => {
+            *packet = fields(&d);
+            0
+        }
+        Err(e) => number(&e),
+    }
+}
