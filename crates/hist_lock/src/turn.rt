@@ -1,0 +1,103 @@
+//! The steps of one call, each on its own.
+ghost use Rattle.std.specs.Prelude.{◌≡◌, ℕ, ◌+◌, ◌^◌, ◌<◌, List, [], ◌∷◌, ◌++◌, length, Some, None, vec_len, vec_capacity};
+ghost use Rattle.hist_lock.specs.declared.view.Line.{Line};
+ghost use Rattle.hist_lock.specs.declared.view.Stage.TheVariants.{Idle, Waits, Turn, Holds, Gave};
+ghost use Rattle.hist_lock.specs.declared.history.Entry.{Entry};
+ghost use Rattle.hist_lock.specs.Rule.{view};
+ghost use Rattle.hist_lock.specs.Plays.{begun, made, ticket_of, log_of, staged, Took, IsTurn};
+ghost use Rattle.hist_lock.specs.Sitting.{IsAt, terms_of, Sits, MayGive};
+
+use crate::rule::{Draw, Give, LockSeat, LockShared, Look, Serve, Take};
+use crate::view::Kept;
+use crate::{Entry, Machine};
+use std::sync::Wait;
+
+/// The word with the next ticket.
+const TICKET: usize = 0;
+
+/// The word with the ticket that is served.
+pub const SERVING: usize = 1;
+
+/// Draws the next ticket.
+pub fn draw<M: Machine>(shared: &LockShared<M>, seat: &mut LockSeat<M>) -> u64
+    requires table { IsAt shared.now.table_id seat.old.table_id }
+    requires sits { (l : Line M M.Request M.Reply) × (0 < l.left) × (seat.old.me ≡ (view (terms_of M.first shared.now.key) (l ∷ []) Idle, [])) }
+    ensures same { seat.new.table_id ≡ seat.old.table_id }
+    ensures small { result < 2 ^ 32 }
+    ensures drawn { seat.new.me ≡ (record { terms = seat.old.me.0.terms; lines = begun seat.old.me.0.lines; stage = Waits result }, seat.old.me.1) }
+{
+    shared.fetch_add::<Draw>(seat, TICKET, 1)
+}
+
+/// Sleeps until the ticket is served.
+pub fn wait_for<M: Machine, R: Wait>(
+    rt: &R,
+    shared: &LockShared<M>,
+    seat: &mut LockSeat<M>,
+    ticket: u64,
+)
+    requires table { IsAt shared.now.table_id seat.old.table_id }
+    requires sits { Sits (terms_of M.first shared.now.key) (Waits ticket) [] seat.old.me }
+    ensures same { seat.new.table_id ≡ seat.old.table_id }
+    ensures turn { seat.new.me ≡ (staged seat.old.me.0 (Turn ticket), seat.old.me.1) }
+{
+    for _ in rt.forever() {
+        let serving = shared.load::<Look>(seat, SERVING);
+        if serving == ticket {
+            return;
+        }
+        shared.park(rt, SERVING, serving as u32);
+    }
+    unreachable!()
+}
+
+/// Takes the slot, and out of it the state with its history.
+pub fn take<M: Machine>(shared: &LockShared<M>, seat: &mut LockSeat<M>, ticket: u64) -> Kept<M>
+    requires table { IsAt shared.now.table_id seat.old.table_id }
+    requires sits { Sits (terms_of M.first shared.now.key) (Turn ticket) [] seat.old.me }
+    ensures same { seat.new.table_id ≡ seat.old.table_id }
+    ensures took { let t = terms_of M.first shared.now.key in (since : List (Entry M M.Request M.Reply)) × Took M.after M.reply_to t since result seat.old.me.0.lines × IsTurn t since ticket × (seat.new.me ≡ (staged seat.old.me.0 (Holds ticket (t.past ++ since)), (0, None) ∷ [])) }
+{
+    shared.load::<Take>(seat, SERVING);
+    shared.exchange(seat, 0, None).unwrap()
+}
+
+/// Puts the state and its history into the slot, and gives it back.
+pub fn give<M: Machine>(shared: &LockShared<M>, seat: &mut LockSeat<M>, kept: Kept<M>)
+    requires table { IsAt shared.now.table_id seat.old.table_id }
+    requires may { MayGive M.after M.reply_to (terms_of M.first shared.now.key) kept seat.old.me }
+    ensures same { seat.new.table_id ≡ seat.old.table_id }
+    ensures gave { (e : Entry M M.Request M.Reply) → kept.entries.items ≡ log_of seat.old.me.0.stage ++ e ∷ [] → seat.new.me ≡ (staged seat.old.me.0 (Gave (ticket_of seat.old.me.0.stage) e), []) }
+{
+    drop(shared.exchange(seat, 0, Some(kept)));
+    shared.load::<Give>(seat, SERVING);
+}
+
+/// Serves the next ticket.
+pub fn serve<M: Machine>(shared: &LockShared<M>, seat: &mut LockSeat<M>, ticket: u64)
+    requires table { IsAt shared.now.table_id seat.old.table_id }
+    requires few { ticket < 2 ^ 32 }
+    requires sits { (e : Entry M M.Request M.Reply) × Sits (terms_of M.first shared.now.key) (Gave ticket e) [] seat.old.me }
+    ensures same { seat.new.table_id ≡ seat.old.table_id }
+    ensures served { seat.new.me ≡ (record { terms = seat.old.me.0.terms; lines = made seat.old.me.0.stage seat.old.me.0.lines; stage = Idle }, seat.old.me.1) }
+{
+    shared.store::<Serve>(seat, SERVING, ticket + 1);
+    shared.wake_all(SERVING);
+}
+
+/// Applies the request. The entry is for the history, and the reply for the caller.
+pub fn answer<M: Machine>(state: &mut M, number: u32, request: M::Request) -> (Entry<M>, M::Reply)
+    ensures state { state.new ≡ M.after state.old request }
+    ensures reply { result.1 ≡ M.reply_to state.old request }
+    ensures fits { M.fits request result.1 }
+    ensures entry { result.0 ≡ record { seat = number; request = request; reply = result.1 } }
+{
+    let reply = state.apply(&request);
+    let kept = M::copy(&reply);
+    let entry = Entry {
+        seat: number,
+        request,
+        reply: kept,
+    };
+    (entry, reply)
+}
