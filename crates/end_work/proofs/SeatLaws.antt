@@ -3,7 +3,7 @@ use Rattle.std.proofs.Common.{◌≡◌, ◌≤◌, ◌<◌, ℕ, ◌==◌, Bool
 use Rattle.std.specs.Prelude.{nat_le, nat_lt, ◌&&◌}
 use Rattle.std.specs.List.{AllByRecursion, list_all}
 use Rattle.std.proofs.lemmas.Bool.Decides.{nat_tests}
-use Rattle.hist_lock.specs.Seat.{Seat}
+use Rattle.hist_lock.specs.Seat.{Seat, IsSame}
 use Rattle.bus_speech.specs.Services.{service_fits}
 use Rattle.bus_speech.specs.Disks.{disk_fits}
 use Rattle.bus_speech.specs.Speeches.{fits_on}
@@ -25,7 +25,7 @@ use Rattle.util_ic.specs.declared.ic.IcAnswer.{IcAnswer}
 use Rattle.util_ic.specs.Asks.{reply_of}
 use Rattle.util_ic.specs.declared.beat.BeatMachine.{BeatMachine}
 use Rattle.util_ic.specs.declared.down.DownMachine.{DownMachine}
-use Rattle.end_work.specs.Seats.{IsSame, IsSameSeat, Place, place_of, DevicePlace, BeatPlace, DownPlace, DiskPlace, device_place, kind_at}
+use Rattle.end_work.specs.Seats.{IsSameSeat, Place, place_of, DevicePlace, BeatPlace, DownPlace, DiskPlace, device_place, kind_at}
 use Rattle.end_work.specs.declared.device_seat.DeviceSeat.{DeviceSeat}
 use Rattle.end_work.specs.declared.device_seat.DeviceSeat.TheVariants.{Beat, Down, Disk}
 
@@ -45,7 +45,7 @@ disk_in d (DownPlace p) = d
 disk_in d (DiskPlace p) = p
 
 same : {S Q A : Type 0} (s t : Seat S Q A) → place_of t ≡ place_of s → IsSame s t
-same s t is = record { number = ap (λ p. p.number) is; first = ap (λ p. p.first) is; past = ap (λ p. p.past) is }
+same s t is = record { lock = ap (λ p. p.lock) is; number = ap (λ p. p.number) is }
 
 -- a seat that keeps its place is the same one
 pub same_place : (s t : DeviceSeat) → device_place t ≡ device_place s → IsSameSeat s t

@@ -5,8 +5,7 @@ use Rattle.script_lines.specs.declared.line.Ask.TheVariants.{Ic as AskIc, Disk a
 use Rattle.bus_script.specs.declared.outcome.Reply.TheVariants.{Ic as ReplyIc, Disk as ReplyDisk}
 use Rattle.contact.specs.declared.kind.Kind.{Kind}
 use Rattle.contact.specs.declared.kind.Kind.TheVariants.{Beat as KindBeat, Down as KindDown, Disk as KindDisk}
-use Rattle.hist_lock.specs.Seat.{Call, Seat}
-use Rattle.hist_lock.specs.declared.history.Entry.{Entry}
+use Rattle.hist_lock.specs.Seat.{Call, Lock, Seat, IsSame}
 use Rattle.scsi_disk.specs.FiniteMap.{Kept}
 use Rattle.util_ic.specs.declared.beat.BeatMachine.{BeatMachine}
 use Rattle.util_ic.specs.declared.down.DownMachine.{DownMachine}
@@ -47,12 +46,7 @@ left_at (Beat s) = s.left
 left_at (Down s) = s.left
 left_at (Disk s) = s.left
 
--- a later state of a seat of one lock
-pub record IsSame {S Q A : Type 0} (old new : Seat S Q A) : Type 0 where
-  pub number : new.number ≡ old.number
-  pub first : new.first ≡ old.first
-  pub past : new.past ≡ old.past
-
+-- a later state of the same seat
 abbrev pub IsSameSeat : DeviceSeat → DeviceSeat → Type 0
 IsSameSeat (Beat s) (Beat t) = IsSame s t
 IsSameSeat (Beat s) (Down t) = ⊥
@@ -66,12 +60,11 @@ IsSameSeat (Disk s) (Disk t) = IsSame s t
 
 -- what a seat of a lock keeps
 pub record Place (S Q A : Type 0) : Type 0 where
+  pub lock : Lock S Q A
   pub number : ℕ
-  pub first : S
-  pub past : List (Entry S Q A)
 
 abbrev pub place_of : {S Q A : Type 0} → Seat S Q A → Place S Q A
-place_of s = record { number = s.number; first = s.first; past = s.past }
+place_of s = record { lock = s.lock; number = s.number }
 
 -- and by the kind of the device
 pub data DevicePlace : Type 0 where
