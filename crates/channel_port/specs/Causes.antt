@@ -1,7 +1,7 @@
 -- Why a worker's turn moved, or left its end asleep: what the turn itself did.
 use Rattle.std.specs.Prelude.{ℕ, ◌≡◌, ◌⊎◌, true, false, List, ◌∷◌}
 use Rattle.chan_run.specs.declared.event.Event.{Event}
-use Rattle.chan_run.specs.declared.event.Event.TheVariants.{Sent, Got, Empty, Saw}
+use Rattle.chan_run.specs.declared.event.Event.TheVariants.{Sent, Got, Saw}
 use Rattle.ring_machine.specs.declared.machine.Ending.{Ending}
 use Rattle.ring_machine.specs.declared.machine.Ending.TheVariants.{FellAsleep as ArmFellAsleep, FoundWork as ArmFoundWork, NoSignal, Woke}
 use Rattle.ring_machine.specs.Endings.{is_dozed}

@@ -1,4 +1,4 @@
-use Rattle.std.proofs.Common.{◌≡◌, ◌∙◌, ap, sym, subst}
+use Rattle.std.proofs.Common.{◌∙◌, ap, sym, subst}
 use Rattle.end_work.specs.Plans.{IsMade, host_planned}
 use Rattle.end_work.specs.Seats.{at_host}
 use Rattle.end_work.specs.Workers.{end_at}
