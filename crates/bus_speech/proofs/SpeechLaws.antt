@@ -37,19 +37,19 @@ use Rattle.bus_speech.proofs.KindLaws.{service_keeps, disk_keeps}
 
 service_whole : (ask : Ask) (q : IcAsk) → ic_request ask ≡ Some q → AskIc q ≡ ask
 service_whole (AskIc x) q h = let same : x ≡ q = cc in ap AskIc (sym same)
-service_whole (AskDisk x) q h = cc
+service_whole _ q h = cc
 
 disk_whole : (ask : Ask) (q : DiskRequest) → disk_request ask ≡ Some q → AskDisk q ≡ ask
-disk_whole (AskIc x) q h = cc
 disk_whole (AskDisk x) q h = let same : x ≡ q = cc in ap AskDisk (sym same)
+disk_whole _ q h = cc
 
 service_replied : (reply : Reply) (r : IcAnswer) → ic_reply reply ≡ Some r → ReplyIc r ≡ reply
 service_replied (ReplyIc x) r h = let same : x ≡ r = cc in ap ReplyIc (sym same)
-service_replied (ReplyDisk x) r h = cc
+service_replied _ r h = cc
 
 disk_replied : (reply : Reply) (r : DiskReply) → disk_reply reply ≡ Some r → ReplyDisk r ≡ reply
-disk_replied (ReplyIc x) r h = cc
 disk_replied (ReplyDisk x) r h = let same : x ≡ r = cc in ap ReplyDisk (sym same)
+disk_replied _ r h = cc
 
 among_services : IsAmong services
 among_services = record { found = λ q. refl; whole = service_replied }
