@@ -1,8 +1,9 @@
 -- Few runs come back.
-use Rattle.std.proofs.Common.{◌≡◌, ℕ, zero, suc, ◌+◌, ◌-◌, ◌*◌, ◌≤◌, ◌<◌, Bool, true, false, cond, List, [], ◌∷◌, ◌++◌, length, nat_eq, sym, ap, ◌∙◌, subst, arith}
-use Rattle.std.specs.Prelude.{map, filter, take, drop, replicate, min, nat_le, Option, Some, None, Ok, if◌then◌else◌}
-use Rattle.std.specs.List.{AllByRecursion, list_any}
+use Rattle.std.proofs.Common.{◌≡◌, ℕ, zero, suc, ◌+◌, ◌-◌, ◌*◌, ◌≤◌, ◌<◌, ◌%◌, ◌/◌, ◌==◌, Bool, true, false, cond, List, [], ◌∷◌, ◌++◌, length, nat_eq, refl, not, sym, ap, ◌∙◌, subst, arith}
+use Rattle.std.specs.Prelude.{map, filter, take, drop, replicate, min, nat_le, Option, Some, None, Ok, slice_index_or, if◌then◌else◌}
+use Rattle.std.specs.List.{AllByRecursion, flat_map}
 use Rattle.std.proofs.lemmas.Bool.Decides.{nat_tests}
+use Rattle.std.proofs.lemmas.Grind.{flat_map-append}
 use Rattle.std.proofs.lemmas.List.{length-map}
 use Rattle.std.proofs.lemmas.List.Sums.{sum_by-cons, count_by-le-length}
 use Rattle.hist_lock.specs.declared.history.Entry.{Entry}
@@ -21,26 +22,26 @@ use Rattle.script_lines.specs.declared.line.What.TheVariants.{Contact as IsConta
 use Rattle.script_lines.specs.declared.line.Ask.{Ask}
 use Rattle.script_lines.specs.declared.line.DeviceSpec.{DeviceSpec}
 use Rattle.script_lines.specs.declared.line.DeviceSpec.TheVariants.{Beat, Down, Disk}
+use Rattle.script_lines.specs.Parts.{ends_part, parts, offered, bads_of, channels_of}
+use Rattle.script_phases.specs.Says.{Says, Asks, Rescinds, Shuts, said, heard_by, said_to, asked, asks_of, is_rescinded, is_shut}
+use Rattle.script_phases.specs.Openings.{Opening, Phase, subs_of, is_opened, subs_from, channels_from, opened_from, firsts, others, is_first, by_relid, phases_from}
+use Rattle.script_phases.specs.Shares.{share}
 use Rattle.bus_script.specs.declared.outcome.Reply.{Reply}
 use Rattle.bus_script.specs.declared.outcome.LineResult.{LineResult}
 use Rattle.bus_script.specs.declared.outcome.LineResult.TheVariants.{Unserved, Gone, Closed}
-use Rattle.script_lines.specs.Parts.{ends_part, parts, rescinds, shuts, offered, bads_of}
 use Rattle.bus_script.specs.Report.{prints, disk_runs, reply_runs, result_runs, runs_back}
 use Rattle.script_lines.proofs.Plain.{PlainAsk, PlainWhat, PlainLine, script_plain}
 use Rattle.bus_model.specs.Served.{Served, done_of}
-use Rattle.bus_model.specs.Orders.{Order}
-use Rattle.bus_model.specs.Channel.{served_count, rescinded_of, outcomes_by}
-use Rattle.bus_model.specs.Dests.{Dest, ToChannel, Known, dest_of, dest_in, dests, asked_in, asks_to, Address, At, Fixed, address_of, addresses_from}
+use Rattle.bus_model.specs.Orders.{Order, order_of}
+use Rattle.bus_model.specs.Channel.{served_count, rescinded_of, outcomes_by, outcomes_of}
 use Rattle.bus_model.specs.Logs.{Recorded, ic_log, disk_log, log_of, IsHistory, EachHistory}
-use Rattle.bus_model.specs.ByDevice.{IsBusRun as RunsByDevice, ChannelPhase, CarriesIfOpened, EachChannel, DevicePhase, served_by, EachDevice, device_order, outcome_at, PhaseRuns, RunFrom}
+use Rattle.bus_model.specs.Run.{Carried, IsCarried, seats_of, EachGrows, Source, Known, AskedOf, known_or, source_said, source_of, sources_from, nth_of, told_by, outcome_at, PhaseRuns, RunsOf, over, then_on}
 use Rattle.bus_model.specs.declared.channel_run.ChannelRun.{ChannelRun}
 use Rattle.bus_model.specs.declared.history.DeviceHistory.{DeviceHistory}
 use Rattle.bus_model.specs.declared.history.DeviceHistory.TheVariants.{Beat as BeatHistory, Down as DownHistory, Disk as DiskHistory}
 use Rattle.bus_model.specs.Laws.{FewRunsBack, ReportFits}
 use Rattle.bus_model.proofs.Counting.{one_each_lem}
-use Rattle.bus_model.proofs.NoSubs.{script_no_subs}
-use Rattle.bus_model.proofs.ToByDevice.{says_no_less_lem}
-use Rattle.bus_model.proofs.Lists.{each_append, each_map, each_unmap, each_filter, each_unfilter, each_split, each_swap, at_index, at_get, IfThere}
+use Rattle.bus_model.proofs.Lists.{each_append, each_map, each_unmap, each_if, each_filter, each_unfilter, each_split, each_swap, at_index, at_get, IfThere}
 use Rattle.bus_model.proofs.OneByte.{entries_few}
 use Rattle.bus_model.proofs.SeatLogs.{grows_with, replies_with}
 
@@ -64,64 +65,62 @@ FewServed served = AllByRecursion (λ s. FewReply s.reply) served
 abbrev FewLog : List Recorded → Type 0
 FewLog log = AllByRecursion (λ e. FewReply e.reply) log
 
--- what the lines ask, and the outcomes that they know
+-- what the lines ask
 
-abbrev FineDest : Dest → Type 0
-FineDest (ToChannel channel ask) = PlainAsk ask
-FineDest (Known result) = FewResult result
+heard_ask : (b : Bool) (ask : Ask) → PlainAsk ask → AllByRecursion PlainAsk (flat_map asked (cond b (Asks ask ∷ []) []))
+heard_ask true ask plain = (plain, tt)
+heard_ask false ask plain = tt
 
-ended_fine : (r s : Bool) (device : ℕ) (ask : Ask) → PlainAsk ask → FineDest (dest_of (if r then Some Gone else if s then Some Closed else None) device ask)
-ended_fine true s device ask plain = omega arith
-ended_fine false true device ask plain = omega arith
-ended_fine false false device ask plain = plain
+heard_no_ask : (b : Bool) (s : Says) → asked s ≡ [] → AllByRecursion PlainAsk (flat_map asked (cond b (s ∷ []) []))
+heard_no_ask true s none = subst (λ l. AllByRecursion PlainAsk (l ++ [])) (sym none) tt
+heard_no_ask false s none = tt
 
-dest_fine : (earlier : List Line) (w : What) → PlainWhat w → AllByRecursion FineDest (dest_in earlier w)
-dest_fine earlier (IsContact guest host) plain = (omega arith, tt)
-dest_fine earlier (IsOffer name spec) plain = tt
-dest_fine earlier (IsRingSize device pages) plain = tt
-dest_fine earlier (IsWindow device size) plain = tt
-dest_fine earlier (IsBad device lba) plain = tt
-dest_fine earlier (IsAsk device ask) plain = (ended_fine (list_any (λ l. rescinds device l.what) earlier) (list_any (λ l. shuts device l.what) earlier) device ask plain, tt)
-dest_fine earlier (IsRescind device after held) plain = tt
-dest_fine earlier (IsShut device) plain = tt
-dest_fine earlier IsPhase plain = tt
+heard_plain : (device : ℕ) (w : What) → PlainWhat w → AllByRecursion PlainAsk (flat_map asked (heard_by device (said w)))
+heard_plain device (IsContact guest host) plain = tt
+heard_plain device (IsOffer name spec) plain = tt
+heard_plain device (IsBad d lba) plain = tt
+heard_plain device (IsRingSize d pages) plain = tt
+heard_plain device (IsWindow d size) plain = tt
+heard_plain device (IsAsk d ask) plain = heard_ask (nat_eq d device) ask plain
+heard_plain device (IsRescind d after held) plain = heard_no_ask (nat_eq d device) (Rescinds after held) refl
+heard_plain device (IsShut d) plain = heard_no_ask (nat_eq d device) Shuts refl
+heard_plain device IsPhase plain = tt
 
-dests_fine : (earlier part : List Line) → AllByRecursion PlainLine part → AllByRecursion FineDest (dests earlier part)
-dests_fine earlier [] plain = tt
-dests_fine earlier (l ∷ part) plain = each_append FineDest (dest_in earlier l.what) (dests earlier part) (dest_fine earlier l.what plain.0) (dests_fine earlier part plain.1)
+asks_plain : (device : ℕ) (part : List Line) → AllByRecursion PlainLine part → AllByRecursion PlainAsk (asks_of device part)
+asks_plain device [] plain = tt
+asks_plain device (l ∷ part) plain =
+    subst (AllByRecursion PlainAsk) (sym (flat_map-append asked (heard_by device (said l.what)) (said_to device part)))
+    (each_append PlainAsk (flat_map asked (heard_by device (said l.what))) (asks_of device part) (heard_plain device l.what plain.0) (asks_plain device part plain.1))
 
-one_ask : (b : Bool) (ask : Ask) → PlainAsk ask → AllByRecursion PlainAsk (cond b (ask ∷ []) [])
-one_ask true ask plain = (plain, tt)
-one_ask false ask plain = tt
+each_share : {X : Type 0} (P : X → Type 0) (many channel n : ℕ) (xs : List X) → AllByRecursion P xs → AllByRecursion P (share many channel n xs)
+each_share P many channel n [] all = tt
+each_share P many channel n (x ∷ xs) all = each_if P (n % many == channel) x (share many channel (n + 1) xs) all.0 (each_share P many channel (n + 1) xs all.1)
 
-asked_plain : (channel : ℕ) (d : Dest) → FineDest d → AllByRecursion PlainAsk (asked_in channel d)
-asked_plain channel (ToChannel c ask) fine = one_ask (nat_eq c channel) ask fine
-asked_plain channel (Known result) fine = tt
+-- and the outcomes that they know
 
-asks_plain : (channel : ℕ) (ds : List Dest) → AllByRecursion FineDest ds → AllByRecursion PlainAsk (asks_to channel ds)
-asks_plain channel [] fine = tt
-asks_plain channel (d ∷ ds) fine = each_append PlainAsk (asked_in channel d) (asks_to channel ds) (asked_plain channel d fine.0) (asks_plain channel ds fine.1)
+abbrev FineSource : Source → Type 0
+FineSource (Known result) = FewResult result
+FineSource (AskedOf device n) = Unit {0}
 
-abbrev FineAddress : Address → Type 0
-FineAddress (At channel place) = Unit {0}
-FineAddress (Fixed result) = FewResult result
+ended_fine : (r s : Bool) (device n : ℕ) → FineSource (known_or (if r then Some Gone else if s then Some Closed else None) (AskedOf device n))
+ended_fine true s device n = omega arith
+ended_fine false true device n = omega arith
+ended_fine false false device n = tt
 
-address_fine : (before : List Dest) (d : Dest) → FineDest d → FineAddress (address_of before d)
-address_fine before (ToChannel channel ask) fine = tt
-address_fine before (Known result) fine = fine
+source_fine : (p : Phase) (before : List Line) (w : What) → AllByRecursion FineSource (source_of p before w)
+source_fine p before (IsContact guest host) = (omega arith, tt)
+source_fine p before (IsOffer name spec) = tt
+source_fine p before (IsBad d lba) = tt
+source_fine p before (IsRingSize d pages) = tt
+source_fine p before (IsWindow d size) = tt
+source_fine p before (IsAsk d ask) = (ended_fine (is_rescinded d p.earlier) (is_shut d p.earlier) d (length (asks_of d before)), tt)
+source_fine p before (IsRescind d after held) = tt
+source_fine p before (IsShut d) = tt
+source_fine p before IsPhase = tt
 
-addresses_fine : (before ds : List Dest) → AllByRecursion FineDest ds → AllByRecursion FineAddress (addresses_from before ds)
-addresses_fine before [] fine = tt
-addresses_fine before (d ∷ ds) fine = (address_fine before d fine.0, addresses_fine (before ++ d ∷ []) ds fine.1)
-
-outcome_few : (outcomes : List (List LineResult)) → AllByRecursion (AllByRecursion FewResult) outcomes → (a : Address) → FineAddress a → IfThere FewResult (outcome_at outcomes a)
-outcome_few outcomes few (At channel place) fine = at_get FewResult _ place (at_index (AllByRecursion FewResult) outcomes channel [] few tt)
-outcome_few outcomes few (Fixed result) fine = fine
-
-outcomes_few : (outcomes : List (List LineResult)) → AllByRecursion (AllByRecursion FewResult) outcomes → (addresses : List Address) → AllByRecursion FineAddress addresses
-    → AllByRecursion (IfThere FewResult) (map (outcome_at outcomes) addresses)
-outcomes_few outcomes few [] fine = tt
-outcomes_few outcomes few (a ∷ addresses) fine = (outcome_few outcomes few a fine.0, outcomes_few outcomes few addresses fine.1)
+sources_fine : (p : Phase) (before part : List Line) → AllByRecursion FineSource (sources_from p before part)
+sources_fine p before [] = tt
+sources_fine p before (l ∷ part) = each_append FineSource (source_of p before l.what) (sources_from p (before ++ l ∷ []) part) (source_fine p before l.what) (sources_fine p (before ++ l ∷ []) part)
 
 -- channels serve what the lines ask
 
@@ -139,13 +138,6 @@ each_take P zero (x ∷ xs) all = tt
 each_take P (suc n) [] all = tt
 each_take P (suc n) (x ∷ xs) all = (all.0, each_take P n xs all.1)
 
-carries_plain : (opened : Bool) (phase relid device : ℕ) (order : Order) (runs : List ChannelRun) (served : List Served) (told : List LineResult) → CarriesIfOpened opened phase relid device order runs served told → AllByRecursion PlainAsk order.asks → PlainServed served
-carries_plain false phase relid device order runs served told carries plain = subst PlainServed (sym carries.1) tt
-carries_plain true phase relid device order [] served told carries plain = absurd carries
-carries_plain true phase relid device order (r ∷ []) served told carries plain =
-    each_unmap PlainAsk (λ (s : Served). s.request) served (subst (AllByRecursion PlainAsk) (sym carries.3.serves) (each_take PlainAsk (served_count order) order.asks plain))
-carries_plain true phase relid device order (r ∷ s ∷ runs) served told carries plain = absurd carries
-
 -- an outcome brings back no more than the reply of a call that was served
 outcomes_by_few : (stop : Option (ℕ × Bool)) (m : ℕ) (served : List Served) → FewServed served → AllByRecursion FewResult (outcomes_by stop m served)
 outcomes_by_few None m served few = each_map FewResult done_of served few
@@ -159,40 +151,52 @@ outcomes_by_few (Some (k, true)) m served few = by_flag (nat_le k m)
         (each_append FewResult (map rescinded_of (drop (k - 1) served)) (replicate (m - k) Unserved) (rescinded_few (drop (k - 1) served)) (unserved_few (m - k)))
     by_flag false = each_map FewResult done_of served few
 
-carries_few : (opened : Bool) (phase relid device : ℕ) (order : Order) (runs : List ChannelRun) (served : List Served) (told : List LineResult) → CarriesIfOpened opened phase relid device order runs served told → FewServed served → AllByRecursion FewResult told
-carries_few false phase relid device order runs served told carries few = subst (AllByRecursion FewResult) (sym carries.2) tt
-carries_few true phase relid device order [] served told carries few = absurd carries
-carries_few true phase relid device order (r ∷ []) served told carries few = subst (AllByRecursion FewResult) (sym carries.4) (outcomes_by_few order.stop (length order.asks) served few)
-carries_few true phase relid device order (r ∷ s ∷ runs) served told carries few = absurd carries
+told_by_few : (p : Phase) (channels : List Carried) (device : ℕ) → AllByRecursion (λ c. FewServed c.served) channels → AllByRecursion (AllByRecursion FewResult) (told_by p channels device)
+told_by_few p channels device few =
+    each_map (AllByRecursion FewResult) (λ (c : Carried). outcomes_of (order_of p c.opening) c.served) (seats_of device channels)
+    (each_filter (λ (c : Carried). AllByRecursion FewResult (outcomes_of (order_of p c.opening) c.served)) (λ c. nat_eq c.opening.device device) channels (all_few channels few))
+  where
+    all_few : (cs : List Carried) → AllByRecursion (λ c. FewServed c.served) cs → AllByRecursion (λ c. AllByRecursion FewResult (outcomes_of (order_of p c.opening) c.served)) cs
+    all_few [] few = tt
+    all_few (c ∷ cs) few = (outcomes_by_few (order_of p c.opening).stop (length (order_of p c.opening).asks) c.served few.0, all_few cs few.1)
 
-channels_plain : (earlier part : List Line) (phase place : ℕ) (channels : List ChannelPhase) → EachChannel earlier part phase place channels → AllByRecursion PlainLine part → AllByRecursion (λ c. PlainServed c.served) channels
-channels_plain earlier part phase place [] each plain = tt
-channels_plain earlier part phase place (c ∷ channels) each plain = (
-  carries_plain c.opened phase (place + 1) c.device (device_order earlier part place c.kind) c.runs c.served c.told each.0.carries (asks_plain place (dests earlier part) (dests_fine earlier part plain)),
-  channels_plain earlier part phase (place + 1) channels each.1 plain,
+source_few : (p : Phase) (channels : List Carried) → AllByRecursion (λ c. FewServed c.served) channels → (s : Source) → FineSource s → IfThere FewResult (outcome_at p channels s)
+source_few p channels few (Known result) fine = fine
+source_few p channels few (AskedOf device n) fine =
+    let outcomes = told_by p channels device in
+    at_get FewResult (slice_index_or outcomes (n % length outcomes) []) (n / length outcomes) (at_index (AllByRecursion FewResult) outcomes (n % length outcomes) [] (told_by_few p channels device few) tt)
+
+sources_few : (p : Phase) (channels : List Carried) → AllByRecursion (λ c. FewServed c.served) channels → (ss : List Source) → AllByRecursion FineSource ss → AllByRecursion (IfThere FewResult) (map (outcome_at p channels) ss)
+sources_few p channels few [] fine = tt
+sources_few p channels few (s ∷ ss) fine = (source_few p channels few s fine.0, sources_few p channels few ss fine.1)
+
+channels_plain : (p : Phase) (channels : List Carried) → AllByRecursion (IsCarried p) channels → AllByRecursion PlainLine p.part → AllByRecursion (λ c. PlainServed c.served) channels
+channels_plain p [] each plain = tt
+channels_plain p (c ∷ channels) each plain =
+    let order = order_of p c.opening in
+    let asks = each_share PlainAsk (channels_of c.opening.spec) c.opening.sub 0 (asks_of c.opening.device p.part) (asks_plain c.opening.device p.part plain) in (
+      each_unmap PlainAsk (λ (s : Served). s.request) c.served (subst (AllByRecursion PlainAsk) (sym each.0.carried.serves) (each_take PlainAsk (served_count order) order.asks asks)),
+      channels_plain p channels each.1 plain,
+    )
+
+seats_plain : (device : ℕ) (channels : List Carried) → AllByRecursion (λ c. PlainServed c.served) channels → AllByRecursion PlainServed (map (λ c. c.served) (seats_of device channels))
+seats_plain device channels all =
+    each_map PlainServed (λ (c : Carried). c.served) (seats_of device channels) (each_filter (λ (c : Carried). PlainServed c.served) (λ c. nat_eq c.opening.device device) channels all)
+
+grows_plain : (device : ℕ) (channels : List Carried) (before after : List (List Recorded)) → EachGrows device channels before after → AllByRecursion (λ c. PlainServed c.served) channels → AllByRecursion PlainLog before → AllByRecursion PlainLog after
+grows_plain device channels [] [] each all old = tt
+grows_plain device channels [] (a ∷ after) each all old = absurd each
+grows_plain device channels (b ∷ before) [] each all old = absurd each
+grows_plain device channels (b ∷ before) (a ∷ after) each all old = (
+  grows_with PlainAsk b a (map (λ (c : Carried). c.served) (seats_of device channels)) each.0 old.0 (seats_plain device channels all),
+  grows_plain (device + 1) channels before after each.1 all old.1,
 )
 
-served_plain : (device : ℕ) (channels : List ChannelPhase) → AllByRecursion (λ c. PlainServed c.served) channels → AllByRecursion PlainServed (served_by device channels)
-served_plain device channels all =
-    each_map PlainServed (λ (c : ChannelPhase). c.served) (filter (λ c. nat_eq c.device device) channels) (each_filter (λ (c : ChannelPhase). PlainServed c.served) (λ c. nat_eq c.device device) channels all)
-
-devices_plain : (device : ℕ) (channels : List ChannelPhase) (devices : List DevicePhase) → EachDevice device channels devices → AllByRecursion (λ c. PlainServed c.served) channels
-    → AllByRecursion PlainLog (map (λ d. d.before) devices) → AllByRecursion PlainLog (map (λ d. d.after) devices)
-devices_plain device channels [] each all old = tt
-devices_plain device channels (d ∷ devices) each all old =
-    (grows_with PlainAsk d.before d.after (served_by device channels) each.0 old.0 (served_plain device channels all), devices_plain (device + 1) channels devices each.1 all old.1)
-
-phase_plain : (kinds : List DeviceSpec) (phase : ℕ) (earlier part : List Line) (before after : List (List Recorded)) (runs : List ChannelRun) (told : List LineResult) → PhaseRuns kinds phase earlier part before after runs told
-    → AllByRecursion PlainLine part → AllByRecursion PlainLog before → AllByRecursion PlainLog after
-phase_plain kinds phase earlier part before after runs told one plain old =
-    subst (AllByRecursion PlainLog) one.after_is
-    (devices_plain 0 one.channels one.devices one.each_device (channels_plain earlier part phase 0 one.channels one.each_channel plain) (subst (AllByRecursion PlainLog) (sym one.before_is) old))
-
-run_plain : (kinds : List DeviceSpec) (phase : ℕ) (earlier : List Line) (ps : List (List Line)) (before : List (List Recorded)) (settled : List ChannelRun) (after : List (List Recorded)) (results : List LineResult)
-    → RunFrom kinds phase earlier ps before settled after results → AllByRecursion (AllByRecursion PlainLine) ps → AllByRecursion PlainLog before → AllByRecursion PlainLog after
-run_plain kinds phase earlier [] before settled after results run plain old = subst (AllByRecursion PlainLog) (sym run.1) old
-run_plain kinds phase earlier (part ∷ rest) before settled after results run plain old =
-    run_plain kinds (phase + 1) (earlier ++ part) rest run.2 run.3 after run.4 run.6 plain.1 (phase_plain kinds phase earlier part before run.2 run.0 run.1 run.5 plain.0 old)
+run_plain : (specs : List DeviceSpec) (number next : ℕ) (earlier : List Line) (ps : List (List Line)) (before : List (List Recorded)) (settled : List ChannelRun) (after : List (List Recorded)) (results : List LineResult)
+    → RunsOf (phases_from specs number next earlier ps) before settled after results → AllByRecursion (AllByRecursion PlainLine) ps → AllByRecursion PlainLog before → AllByRecursion PlainLog after
+run_plain specs number next earlier [] before settled after results over plain old = old
+run_plain specs number next earlier (part ∷ rest) before settled after results (then_on {p = p} {between = between} {settled = later} {results = more} one on) plain old =
+    run_plain specs (number + 1) _ (earlier ++ part) rest between later after more on plain.1 (grows_plain 0 one.channels before between one.histories (channels_plain p one.channels one.each plain.0) old)
 
 none_before : (kinds : List DeviceSpec) → AllByRecursion PlainLog (map (λ k. []) kinds)
 none_before [] = tt
@@ -232,75 +236,104 @@ histories_few lines device (k ∷ kinds) (h ∷ histories) each plain = (history
 
 -- and so those that the channels gave
 
-served_few : (device : ℕ) (channels : List ChannelPhase) → AllByRecursion FewServed (served_by device channels) → AllByRecursion (λ c. nat_eq c.device device ≡ true → FewServed c.served) channels
-served_few device channels few =
-    each_unfilter (λ (c : ChannelPhase). FewServed c.served) (λ c. nat_eq c.device device) channels (each_unmap FewServed (λ (c : ChannelPhase). c.served) (filter (λ c. nat_eq c.device device) channels) few)
+seats_few : (device : ℕ) (channels : List Carried) → AllByRecursion FewServed (map (λ c. c.served) (seats_of device channels)) → AllByRecursion (λ c. nat_eq c.opening.device device ≡ true → FewServed c.served) channels
+seats_few device channels few = each_unfilter (λ (c : Carried). FewServed c.served) (λ c. nat_eq c.opening.device device) channels (each_unmap FewServed (λ (c : Carried). c.served) (seats_of device channels) few)
 
-devices_few : (device : ℕ) (channels : List ChannelPhase) (devices : List DevicePhase) → EachDevice device channels devices → AllByRecursion FewLog (map (λ d. d.after) devices)
-    → AllByRecursion FewLog (map (λ d. d.before) devices) × ((j : ℕ) → (device ≤ j) × (j < device + length devices) → AllByRecursion (λ c. nat_eq c.device j ≡ true → FewServed c.served) channels)
-devices_few device channels [] each few = (tt, λ j within. absurd (omega (arith, within.0, within.1)))
-devices_few device channels (d ∷ devices) each few =
-    let here = replies_with FewReply d.before d.after (served_by device channels) each.0 few.0 in
-    let rest = devices_few (device + 1) channels devices each.1 few.1 in (
-      (here.0, rest.0),
-      λ j within. by_test (nat_eq device j)
-          (λ is. let same : device ≡ j = grind (arith, nat_tests, is) in subst (λ k. AllByRecursion (λ c. nat_eq c.device k ≡ true → FewServed c.served) channels) same (served_few device channels here.1))
-          (λ is. let low : device + 1 ≤ j = grind (arith, nat_tests, is, within.0) in rest.1 j (low, omega (arith, within.1))),
-    )
+record FewBefore (device : ℕ) (channels : List Carried) (before after : List (List Recorded)) : Type 0 where
+  pub logs : AllByRecursion FewLog before
+  pub long : length after ≡ length before
+  pub served : (j : ℕ) → (device ≤ j) × (j < device + length before) → AllByRecursion (λ c. nat_eq c.opening.device j ≡ true → FewServed c.served) channels
 
-channels_few : (earlier part : List Line) (phase place many : ℕ) (channels : List ChannelPhase) → EachChannel earlier part phase place channels → place + length channels ≤ many
-    → AllByRecursion (λ c. (j : ℕ) → (0 ≤ j) × (j < 0 + many) → nat_eq c.device j ≡ true → FewServed c.served) channels → AllByRecursion (λ c. FewServed c.served) channels
-channels_few earlier part phase place many [] each within few = tt
-channels_few earlier part phase place many (c ∷ channels) each within few =
-    (few.0 place (omega arith, omega (arith, within)) (let same = each.0.device in grind (arith, nat_tests, same)), channels_few earlier part phase (place + 1) many channels each.1 (omega (arith, within)) few.1)
+grows_few : (device : ℕ) (channels : List Carried) (before after : List (List Recorded)) → EachGrows device channels before after → AllByRecursion FewLog after → FewBefore device channels before after
+grows_few device channels [] [] each few = record { logs = tt; long = refl; served = λ j within. absurd (omega (arith, within.0, within.1)) }
+grows_few device channels [] (a ∷ after) each few = absurd each
+grows_few device channels (b ∷ before) [] each few = absurd each
+grows_few device channels (b ∷ before) (a ∷ after) each few =
+    let here = replies_with FewReply b a (map (λ (c : Carried). c.served) (seats_of device channels)) each.0 few.0 in
+    let rest = grows_few (device + 1) channels before after each.1 few.1 in
+    record {
+      logs = (here.0, rest.logs);
+      long = ap suc rest.long;
+      served = λ j within.
+          by_test (nat_eq device j)
+          (λ is. let same : device ≡ j = grind (arith, nat_tests, is) in subst (λ k. AllByRecursion (λ c. nat_eq c.opening.device k ≡ true → FewServed c.served) channels) same (seats_few device channels here.1))
+          (λ is. let low : device + 1 ≤ j = grind (arith, nat_tests, is, within.0) in rest.served j (low, omega (arith, within.1)));
+    }
 
-outcomes_each : (earlier part : List Line) (phase place : ℕ) (channels : List ChannelPhase) → EachChannel earlier part phase place channels → AllByRecursion (λ c. FewServed c.served) channels → AllByRecursion (AllByRecursion FewResult) (map (λ c. c.told) channels)
-outcomes_each earlier part phase place [] each few = tt
-outcomes_each earlier part phase place (c ∷ channels) each few = (
-  carries_few c.opened phase (place + 1) c.device (device_order earlier part place c.kind) c.runs c.served c.told each.0.carries few.0,
-  outcomes_each earlier part phase (place + 1) channels each.1 few.1,
-)
+-- each channel is one of a device that was offered
+
+abbrev Within : ℕ → Opening → Type 0
+Within many o = o.device < many
+
+subs_within : (many device : ℕ) (spec : DeviceSpec) (sub relid n : ℕ) (rest : List Opening) → device < many → AllByRecursion (Within many) rest → AllByRecursion (Within many) (subs_from device spec sub relid n ++ rest)
+subs_within many device spec sub relid zero rest less all = all
+subs_within many device spec sub relid (suc n) rest less all = (less, subs_within many device spec (sub + 1) (relid + 1) n rest less all)
+
+opened_within : (f : ℕ → Bool) (many place next : ℕ) (specs : List DeviceSpec) → place + length specs ≡ many → AllByRecursion (Within many) (opened_from f place next specs)
+opened_within f many place next [] is = tt
+opened_within f many place next (k ∷ specs) is =
+    by_flag (f place) (opened_from f (place + 1) (next + subs_of k) specs) (opened_from f (place + 1) next specs) (opened_within f many (place + 1) (next + subs_of k) specs (omega (arith, is))) (opened_within f many (place + 1) next specs (omega (arith, is)))
+  where
+    by_flag : (b : Bool) (on off : List Opening) → AllByRecursion (Within many) on → AllByRecursion (Within many) off → AllByRecursion (Within many) (if b then channels_from place k next ++ on else off)
+    by_flag true on off e f = (omega (arith, is), subs_within many place k 1 next (subs_of k) on (omega (arith, is)) e)
+    by_flag false on off e f = f
+
+channels_few : (many : ℕ) (channels : List Carried) → AllByRecursion (λ c. Within many c.opening) channels → AllByRecursion (λ c. (j : ℕ) → (0 ≤ j) × (j < 0 + many) → nat_eq c.opening.device j ≡ true → FewServed c.served) channels
+    → AllByRecursion (λ c. FewServed c.served) channels
+channels_few many [] within few = tt
+channels_few many (c ∷ channels) within few =
+    let here : nat_eq c.opening.device c.opening.device ≡ true = grind (arith, nat_tests) in
+    (few.0 c.opening.device (omega arith, omega (arith, within.0)) here, channels_few many channels within.1 few.1)
 
 told_few : (told : List LineResult) → AllByRecursion (IfThere FewResult) (map (λ r. Some r) told) → AllByRecursion FewResult told
 told_few [] few = tt
 told_few (r ∷ told) few = (few.0, told_few told few.1)
 
-phase_few : (kinds : List DeviceSpec) (phase : ℕ) (earlier part : List Line) (before after : List (List Recorded)) (runs : List ChannelRun) (told : List LineResult) → PhaseRuns kinds phase earlier part before after runs told
-    → AllByRecursion PlainLine part → AllByRecursion FewLog after → AllByRecursion FewLog before × AllByRecursion FewResult told
-phase_few kinds phase earlier part before after runs told one plain few =
-    let channels = one.channels in
-    let devices = one.devices in
-    let back = devices_few 0 channels devices one.each_device (subst (AllByRecursion FewLog) (sym one.after_is) few) in
-    let as_many : length channels ≡ length devices = sym (length-map channels (λ c. c.kind)) ∙ ap length one.channel_kinds ∙ sym (ap length one.device_kinds) ∙ length-map devices (λ d. d.kind) in
-    let all = each_swap (λ (j : ℕ) (c : ChannelPhase). nat_eq c.device j ≡ true → FewServed c.served) (λ j. (0 ≤ j) × (j < 0 + length devices)) channels back.1 in
-    let served = channels_few earlier part phase 0 (length devices) channels one.each_channel (omega (arith, as_many)) all in
-    let outcomes = outcomes_few (map (λ c. c.told) channels) (outcomes_each earlier part phase 0 channels one.each_channel served) (addresses_from [] (dests earlier part)) (addresses_fine [] (dests earlier part) (dests_fine earlier part plain)) in
-    (subst (AllByRecursion FewLog) one.before_is back.0, told_few told (subst (AllByRecursion (IfThere FewResult)) (sym one.outcomes) outcomes))
+record FewPhase (before : List (List Recorded)) (after : List (List Recorded)) (told : List LineResult) : Type 0 where
+  pub logs : AllByRecursion FewLog before
+  pub long : length after ≡ length before
+  pub told_few : AllByRecursion FewResult told
 
-run_few : (kinds : List DeviceSpec) (phase : ℕ) (earlier : List Line) (ps : List (List Line)) (before : List (List Recorded)) (settled : List ChannelRun) (after : List (List Recorded)) (results : List LineResult)
-    → RunFrom kinds phase earlier ps before settled after results → AllByRecursion (AllByRecursion PlainLine) ps → AllByRecursion FewLog after → AllByRecursion FewLog before × AllByRecursion FewResult results
-run_few kinds phase earlier [] before settled after results run plain few = (subst (AllByRecursion FewLog) run.1 few, subst (AllByRecursion FewResult) (sym run.2) tt)
-run_few kinds phase earlier (part ∷ rest) before settled after results run plain few =
-    let later = run_few kinds (phase + 1) (earlier ++ part) rest run.2 run.3 after run.4 run.6 plain.1 few in
-    let here = phase_few kinds phase earlier part before run.2 run.0 run.1 run.5 plain.0 later.0 in
-    (here.0, subst (AllByRecursion FewResult) (sym run.8) (each_append FewResult run.1 run.4 here.1 later.1))
+phase_few : (p : Phase) (before after : List (List Recorded)) (runs : List ChannelRun) (told : List LineResult) → PhaseRuns p before after runs told → AllByRecursion (Within (length before)) p.opened → AllByRecursion FewLog after → FewPhase before after told
+phase_few p before after runs told one within few =
+    let channels = one.channels in
+    let back = grows_few 0 channels before after one.histories few in
+    let relids : AllByRecursion (Within (length before)) (by_relid p.opened) =
+    each_append (Within (length before)) (firsts p.opened) (others p.opened) (each_filter (Within (length before)) is_first p.opened within) (each_filter (Within (length before)) (λ o. not (is_first o)) p.opened within) in
+    let inside = each_unmap (Within (length before)) (λ (c : Carried). c.opening) channels (subst (AllByRecursion (Within (length before))) (sym one.opened) relids) in
+    let served = channels_few (length before) channels inside (each_swap (λ (j : ℕ) (c : Carried). nat_eq c.opening.device j ≡ true → FewServed c.served) (λ j. (0 ≤ j) × (j < 0 + length before)) channels back.served) in
+    record {
+      logs = back.logs;
+      long = back.long;
+      told_few = told_few told (subst (AllByRecursion (IfThere FewResult)) (sym one.outcomes) (sources_few p channels served (sources_from p [] p.part) (sources_fine p [] p.part)));
+    }
+
+-- how many histories there are
+grows_long : (device : ℕ) (channels : List Carried) (before after : List (List Recorded)) → EachGrows device channels before after → length after ≡ length before
+grows_long device channels [] [] each = refl
+grows_long device channels [] (a ∷ after) each = absurd each
+grows_long device channels (b ∷ before) [] each = absurd each
+grows_long device channels (b ∷ before) (a ∷ after) each = ap suc (grows_long (device + 1) channels before after each.1)
+
+run_few : (specs : List DeviceSpec) (number next : ℕ) (earlier : List Line) (ps : List (List Line)) (before : List (List Recorded)) (settled : List ChannelRun) (after : List (List Recorded)) (results : List LineResult)
+    → length before ≡ length specs → RunsOf (phases_from specs number next earlier ps) before settled after results → AllByRecursion FewLog after → AllByRecursion FewLog before × AllByRecursion FewResult results
+run_few specs number next earlier [] before settled after results many over few = (few, tt)
+run_few specs number next earlier (part ∷ rest) before settled after results many (then_on {p = p} {between = between} {runs = runs} {settled = later} {told = told} {results = more} one on) few =
+    let behind = run_few specs (number + 1) _ (earlier ++ part) rest between later after more (grows_long 0 one.channels before between one.histories ∙ many) on few in
+    let here = phase_few p before between runs told one (opened_within (is_opened earlier part) (length before) 0 next specs (omega (arith, many))) behind.0 in
+    (here.logs, each_append FewResult told more here.told_few behind.1)
 
 sum_few : (results : List LineResult) → AllByRecursion FewResult results → runs_back results ≤ 36 * length results
 sum_few [] few = omega arith
 sum_few (r ∷ results) few = omega (arith, sum_by-cons result_runs r results, few.0, sum_few results few.1)
 
-few_by_device : (bytes : List ℕ) (lines : List Line) (settled : List ChannelRun) (histories : List DeviceHistory) (results : List LineResult) → script_of bytes ≡ Ok lines → RunsByDevice lines settled histories results
-    → runs_back results ≤ 36 * length results
-few_by_device bytes lines settled histories results reads run =
-    let plain = each_split PlainLine ends_part lines (script_plain bytes lines reads) in
-    let logs = run_plain (offered lines) 0 [] (parts lines) _ settled _ results run.phases plain (none_before (offered lines)) in
-    let few = histories_few lines 0 (offered lines) histories run.legal logs in
-    sum_few results (run_few (offered lines) 0 [] (parts lines) _ settled _ results run.phases plain few).1
-
--- no script has sub-channels yet
 pub few_runs_back_lem : FewRunsBack
 few_runs_back_lem bytes lines settled histories results reads run =
-    few_by_device bytes lines settled histories results reads (says_no_less_lem lines settled histories results (script_no_subs bytes lines reads) run)
+    let specs = offered lines in
+    let plain = each_split PlainLine ends_part lines (script_plain bytes lines reads) in
+    let logs = run_plain specs 0 (length specs + 1) [] (parts lines) _ settled _ results run.phases_run plain (none_before specs) in
+    let few = histories_few lines 0 specs histories run.legal logs in
+    sum_few results (run_few specs 0 (length specs + 1) [] (parts lines) _ settled _ results (length-map specs (λ k. [])) run.phases_run few).1
 
 pub report_fits_lem : ReportFits
 report_fits_lem bytes lines settled histories results reads script run =
