@@ -1,10 +1,10 @@
 //! One end of a channel that keeps no packet.
-ghost use Rattle.std.specs.Prelude.{◌≡◌, ◌≢◌, ℕ, ◌+◌, ◌*◌, ◌/◌, ◌<◌, ◌≤◌, true, false, not, [], length, Some, None, IfOk, IsTrue, ◌↔◌};
+ghost use Rattle.std.specs.Prelude.{◌≡◌, ◌≢◌, ℕ, ◌+◌, ◌*◌, ◌/◌, ◌<◌, ◌≤◌, cond, true, false, not, [], length, Some, None, IfOk, IsTrue, ◌↔◌};
 ghost use Rattle.chan_run.specs.Runs.{sent_of, got_of};
-ghost use Rattle.ring_machine.specs.Endings.{refused, why_of, commit_answer, is_asleep, peer_mark_answer, want_of, IsWant};
+ghost use Rattle.ring_machine.specs.Endings.{refused, send_answer, take_refusal, commit_answer, is_asleep, want_of, IsWant};
 ghost use Rattle.ring_machine.specs.Places.{IsRingSize};
 ghost use Rattle.ring_machine.specs.States.{IsPacket, entered, resting};
-ghost use Rattle.ring_machine.specs.Steps.{machine_new, send_begun, take_begun, commit_begun, arm_begun, poll_begun, mark_begun, peer_mark_begun};
+ghost use Rattle.ring_machine.specs.Steps.{is_took, machine_new, send_begun, take_begun, commit_begun, arm_begun, poll_begun, mark_begun, peer_mark_begun};
 ghost use Rattle.ring_core.specs.Told.{Ran};
 ghost use Rattle.ring_machine.specs.declared.last.Why.{Why as WhyOne};
 ghost use Rattle.ring_core.specs.declared.told.Told.{Told};
@@ -117,7 +117,7 @@ impl<S: Seatlike> DriverEnd<S> {
         ensures got { (self.new.state.got ≡ self.old.state.got) × (self.new.taken ≡ self.old.taken) }
         ensures room { LacksRoom (length p.now) result }
         ensures broken { (broken self.old.state ≡ found_by_send result) × (broken self.new.state ≡ left_by_send result) }
-        ensures ran { (broken self.old.state ≡ None → Ran (entered self.old.state (send_begun self.old.state.machine (length p.now)) p.now) self.new.state (S.told self.old.seat) (S.told self.new.seat) (S.memory self.old.seat) (S.memory self.new.seat)) × ((why : WhyOne) → broken self.old.state ≡ Some why → self.new ≡ self.old) }
+        ensures ran { (broken self.old.state ≡ None → (result ≡ send_answer self.new.state.machine.ended self.new.state.machine) × Ran (entered self.old.state (send_begun self.old.state.machine (length p.now)) p.now) self.new.state (S.told self.old.seat) (S.told self.new.seat) (S.memory self.old.seat) (S.memory self.new.seat)) × ((why : WhyOne) → broken self.old.state ≡ Some why → self.new ≡ self.old) }
         ensures same { S.same self.old.seat self.new.seat × IsAwakeEnd self.new.state × (self.new.state.machine.cells ≡ self.old.state.machine.cells) × (self.new.state.machine.start ≡ self.old.state.machine.start) × (self.new.state.machine.read ≡ self.old.state.machine.read) }
     {
         if self.parts.core.is_stopped() {
@@ -137,7 +137,7 @@ impl<S: Seatlike> DriverEnd<S> {
         ensures got { (self.new.state.got ≡ got_by_answer (refused result) self.new.taken self.old.state.got) × (refused result ≡ None → IsPacket self.new.taken) }
         ensures sent { self.new.state.sent ≡ self.old.state.sent }
         ensures broken { (broken self.old.state ≡ found_by_take (refused result)) × (broken self.new.state ≡ left_by_take (refused result)) }
-        ensures ran { (broken self.old.state ≡ None → Ran (entered self.old.state (take_begun self.old.state.machine) []) self.new.state (S.told self.old.seat) (S.told self.new.seat) (S.memory self.old.seat) (S.memory self.new.seat)) × ((why : WhyOne) → broken self.old.state ≡ Some why → self.new ≡ self.old) }
+        ensures ran { (broken self.old.state ≡ None → (refused result ≡ cond (is_took self.new.state.machine.ended) None (Some (take_refusal self.new.state.machine.ended self.new.state.machine))) × Ran (entered self.old.state (take_begun self.old.state.machine) []) self.new.state (S.told self.old.seat) (S.told self.new.seat) (S.memory self.old.seat) (S.memory self.new.seat)) × ((why : WhyOne) → broken self.old.state ≡ Some why → self.new ≡ self.old) }
         ensures same { S.same self.old.seat self.new.seat × IsAwakeEnd self.new.state × (self.new.state.machine.cells ≡ self.old.state.machine.cells) }
     {
         if self.parts.core.is_stopped() {
@@ -163,7 +163,7 @@ impl<S: Seatlike> DriverEnd<S> {
         ensures sent { self.new.state.sent ≡ self.old.state.sent }
         ensures got { (self.new.state.got ≡ self.old.state.got) × (self.new.taken ≡ self.old.taken) }
         ensures broken { broken self.new.state ≡ None }
-        ensures ran { Ran (entered self.old.state (commit_begun self.old.state.machine) []) self.new.state (S.told self.old.seat) (S.told self.new.seat) (S.memory self.old.seat) (S.memory self.new.seat) }
+        ensures ran { (result ≡ commit_answer self.new.state.machine.ended) × Ran (entered self.old.state (commit_begun self.old.state.machine) []) self.new.state (S.told self.old.seat) (S.told self.new.seat) (S.memory self.old.seat) (S.memory self.new.seat) }
         ensures same { S.same self.old.seat self.new.seat × IsAwakeEnd self.new.state × (self.new.state.machine.cells ≡ self.old.state.machine.cells) }
     {
         self.parts.core.begin_commit();
