@@ -5,7 +5,7 @@ use Rattle.std.proofs.lemmas.List.{length-map, map-append, nil_from_length}
 use Rattle.script_lines.specs.declared.line.Ask.{Ask}
 use Rattle.bus_script.specs.declared.outcome.Reply.{Reply}
 use Rattle.bus_model.specs.Logs.{Grows, served_from}
-use Rattle.hist_lock.specs.Seat.{Seat, seats_from}
+use Rattle.hist_lock.specs.Seat.{Seat, AreNew}
 use Rattle.hist_lock.specs.Legal.{Leaves, state_after}
 use Rattle.hist_lock.specs.Calls.{IsSeatOf, Closes, calls_from}
 use Rattle.hist_lock.specs.declared.history.Entry.{Entry}
@@ -24,7 +24,7 @@ module _ {S Q A : Type 0} (seat : Seat S Q A) where
   all_own entries first others k d lt = numbered (get_or entries k d).seat first (others k d lt)
 
 pub grows_one : {S Q A : Type 0} (asked : Q → Ask) (replied : A → Reply) (after : S → Q → S) (reply_to : S → Q → A) (seat : Seat S Q A) (old new : List (Entry S Q A))
-    → Closes after reply_to (seat ∷ []) new → seat.number ≡ 0 → seat.past ≡ old → Grows (log_by asked replied old) (log_by asked replied new) (served_by asked replied seat.calls ∷ [])
+    → Closes after reply_to (seat ∷ []) new → seat.number ≡ 0 → seat.lock.past ≡ old → Grows (log_by asked replied old) (log_by asked replied new) (served_by asked replied seat.calls ∷ [])
 grows_one {S} {Q} {A} asked replied after reply_to seat old new closes first past =
     let since : List (Entry S Q A) = closes.since in
     let grown : new ≡ old ++ since = closes.begins 0 seat refl ∙ ap (λ l. l ++ since) past in
@@ -39,16 +39,16 @@ grows_one {S} {Q} {A} asked replied after reply_to seat old new closes first pas
     }
 
 -- a lock whose one seat may make no call leaves no history
-pub none_served : {S Q A : Type 0} (after : S → Q → S) (reply_to : S → Q → A) (machine : S) (seats : List (Seat S Q A)) (entries : List (Entry S Q A)) → seats ≡ seats_from machine [] 0 (0 ∷ []) → Closes after reply_to seats entries → entries ≡ []
-none_served {S} {Q} {A} after reply_to machine seats entries are closes =
-    let seat : Seat S Q A = record { number = 0; first = machine; left = 0; past = []; calls = [] } in
-    let shut : Closes after reply_to (seat ∷ []) entries = subst (λ l. Closes after reply_to l entries) are closes in
-    let none : length shut.since ≡ 0 = sym (log_long 0 shut.since (all_own seat shut.since refl shut.others)) ∙ ap length (shut.calls 0 seat refl) in
-    shut.begins 0 seat refl ∙ nil_from_length shut.since none
+pub none_served : {S Q A : Type 0} (after : S → Q → S) (reply_to : S → Q → A) (machine : S) (seats : List (Seat S Q A)) (entries : List (Entry S Q A)) → AreNew machine [] (0 ∷ []) seats → Closes after reply_to seats entries → entries ≡ []
+none_served {S} {Q} {A} after reply_to machine seats entries new closes =
+    let seat : Seat S Q A = record { lock = new.lock; number = 0; left = 0; calls = [] } in
+    let shut : Closes after reply_to (seat ∷ []) entries = subst (λ l. Closes after reply_to l entries) new.seats_are closes in
+    let none : length shut.since ≡ 0 = sym (log_long (length new.lock.past) shut.since (all_own seat shut.since refl shut.others)) ∙ ap length (shut.calls 0 seat refl) in
+    shut.begins 0 seat refl ∙ ap (λ l. l ++ shut.since) new.past_is ∙ nil_from_length shut.since none
 
-pub first_state : {S Q A : Type 0} (first : S → S) (after : S → Q → S) (reply_to : S → Q → A) (machine state : S) (seats : List (Seat S Q A)) (entries : List (Entry S Q A)) → seats ≡ seats_from machine [] 0 (0 ∷ []) → entries ≡ []
-    → ((k : ℕ) (s : Seat S Q A) → slice_get seats k ≡ Some s → first state ≡ s.first) → Leaves first after reply_to entries state → state ≡ machine
-first_state {S} {Q} {A} first after reply_to machine state seats entries are none firsts leaves =
-    let seat : Seat S Q A = record { number = 0; first = machine; left = 0; past = []; calls = [] } in
-    let here : slice_get seats 0 ≡ Some seat = ap (λ l. slice_get l 0) are in
-    leaves.left_by ∙ ap (λ es. state_after after (first state) es) none ∙ firsts 0 seat here
+pub first_state : {S Q A : Type 0} (first : S → S) (after : S → Q → S) (reply_to : S → Q → A) (machine state : S) (seats : List (Seat S Q A)) (entries : List (Entry S Q A)) → AreNew machine [] (0 ∷ []) seats → entries ≡ []
+    → ((k : ℕ) (s : Seat S Q A) → slice_get seats k ≡ Some s → first state ≡ s.lock.first) → Leaves first after reply_to entries state → state ≡ machine
+first_state {S} {Q} {A} first after reply_to machine state seats entries new none firsts leaves =
+    let seat : Seat S Q A = record { lock = new.lock; number = 0; left = 0; calls = [] } in
+    let here : slice_get seats 0 ≡ Some seat = ap (λ l. slice_get l 0) new.seats_are in
+    leaves.left_by ∙ ap (λ es. state_after after (first state) es) none ∙ firsts 0 seat here ∙ new.first_is

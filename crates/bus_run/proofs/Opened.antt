@@ -10,7 +10,7 @@ use Rattle.script_lines.specs.Parts.{kind_of}
 use Rattle.script_lines.specs.declared.line.Ask.{Ask}
 use Rattle.end_work.specs.Plans.{AllCarried, CanStop}
 use Rattle.phase_run.specs.Pairs.{Pairing, EachRuns, RunsPair}
-use Rattle.end_work.specs.Seats.{kind_at, served_at, left_at}
+use Rattle.end_work.specs.Seats.{kind_at, served_at, left_at, ic_served, disk_served}
 use Rattle.phase_run.specs.declared.pair.PairDone.{PairDone}
 use Rattle.end_work.specs.declared.device_seat.DeviceSeat.{DeviceSeat}
 use Rattle.end_work.specs.declared.device_seat.DeviceSeat.TheVariants.{Beat as BeatSeat, Down as DownSeat, Disk as DiskSeat}
@@ -24,15 +24,15 @@ use Rattle.bus_run.specs.declared.desk.Desk.TheVariants.{Out, Beat as BeatDesk, 
 -- a new seat of a device is one of its kind, and has made no call
 pub seat_is : (desk : Desk) (quota : ℕ) (seat : DeviceSeat) → IsSeatFor desk quota seat → (kind_at seat ≡ kind_of (spec_of desk)) × (served_at seat ≡ []) × (left_at seat ≡ quota)
 seat_is (Out subs) quota seat is = absurd is
-seat_is (BeatDesk state history) quota (BeatSeat s) is = (refl, ap (λ x. served_at (BeatSeat x)) is, ap (λ x. left_at (BeatSeat x)) is)
+seat_is (BeatDesk state history) quota (BeatSeat s) is = (refl, ap ic_served is.calls, is.left)
 seat_is (BeatDesk state history) quota (DownSeat s) is = absurd is
 seat_is (BeatDesk state history) quota (DiskSeat s) is = absurd is
 seat_is (DownDesk state history) quota (BeatSeat s) is = absurd is
-seat_is (DownDesk state history) quota (DownSeat s) is = (refl, ap (λ x. served_at (DownSeat x)) is, ap (λ x. left_at (DownSeat x)) is)
+seat_is (DownDesk state history) quota (DownSeat s) is = (refl, ap ic_served is.calls, is.left)
 seat_is (DownDesk state history) quota (DiskSeat s) is = absurd is
 seat_is (DiskDesk subs state history) quota (BeatSeat s) is = absurd is
 seat_is (DiskDesk subs state history) quota (DownSeat s) is = absurd is
-seat_is (DiskDesk subs state history) quota (DiskSeat s) is = (refl, ap (λ x. served_at (DiskSeat x)) is, ap (λ x. left_at (DiskSeat x)) is)
+seat_is (DiskDesk subs state history) quota (DiskSeat s) is = (refl, ap disk_served is.calls, is.left)
 
 -- one for each opened device, in order
 

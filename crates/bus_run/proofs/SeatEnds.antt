@@ -6,10 +6,10 @@ use Rattle.bus_script.specs.declared.outcome.Reply.TheVariants.{Ic as ReplyIc, D
 use Rattle.hist_lock.specs.Calls.{Closes}
 use Rattle.hist_lock.specs.History.{entries_of}
 use Rattle.hist_lock.specs.Legal.{Leaves}
-use Rattle.hist_lock.specs.Seat.{Seat}
+use Rattle.hist_lock.specs.Seat.{Seat, IsSame, IsOnly}
 use Rattle.hist_lock.specs.declared.history.Entry.{Entry}
 use Rattle.hist_lock.specs.declared.history.History.{History}
-use Rattle.end_work.specs.Seats.{IsSame, IsSameSeat, ic_served, disk_served}
+use Rattle.end_work.specs.Seats.{IsSameSeat, ic_served, disk_served}
 use Rattle.end_work.specs.declared.device_seat.DeviceSeat.{DeviceSeat}
 use Rattle.end_work.specs.declared.device_seat.DeviceSeat.TheVariants.{Beat as BeatSeat, Down as DownSeat, Disk as DiskSeat}
 use Rattle.scsi_disk.specs.DiskModel.{disk_reply}
@@ -22,22 +22,22 @@ use Rattle.util_ic.specs.declared.down.DownMachine.{DownMachine}
 use Rattle.util_ic.specs.declared.ic.IcAsk.{IcAsk}
 use Rattle.util_ic.specs.declared.ic.IcAnswer.{IcAnswer}
 use Rattle.bus_run.specs.Desk.{GoesOn, subs_of}
-use Rattle.bus_run.specs.Opening.{IsSeatFor, new_seat}
+use Rattle.bus_run.specs.Opening.{IsSeatFor, IsAlone}
 use Rattle.bus_run.specs.declared.desk.Desk.{Desk}
 use Rattle.bus_run.specs.declared.desk.Desk.TheVariants.{Out, Beat as BeatDesk, Down as DownDesk, Disk as DiskDesk}
 use Rattle.bus_run.proofs.Growing.{grows_one}
 
 -- what a seat keeps of the new one that it was
 
-module _ {S Q A : Type 0} (start : S) (past : List (Entry S Q A)) (quota : ℕ) (first later : Seat S Q A) (new : first ≡ new_seat start past quota) (same : IsSame first later) where
+module _ {S Q A : Type 0} (start : S) (past : List (Entry S Q A)) (quota : ℕ) (first later : Seat S Q A) (new : IsOnly start past quota first) (same : IsSame first later) where
   number_kept : later.number ≡ 0
-  number_kept = same.number ∙ ap (λ (s : Seat S Q A). s.number) new
+  number_kept = same.number ∙ new.number
 
-  past_kept : later.past ≡ past
-  past_kept = same.past ∙ ap (λ (s : Seat S Q A). s.past) new
+  past_kept : later.lock.past ≡ past
+  past_kept = ap (λ l. l.past) same.lock ∙ new.past_is
 
-  first_kept : later.first ≡ start
-  first_kept = same.first ∙ ap (λ (s : Seat S Q A). s.first) new
+  first_kept : later.lock.first ≡ start
+  first_kept = ap (λ l. l.first) same.lock ∙ new.first_is
 
 pub beat_goes_on : (old : Desk) (quota : ℕ) (first : DeviceSeat) (seat : Seat BeatMachine IcAsk IcAnswer) (state : BeatMachine) (history : History BeatMachine IcAsk IcAnswer) → IsSeatFor old quota first → IsSameSeat first (BeatSeat seat)
     → Closes (λ s q. s) (λ s q. beat_reply q) (seat ∷ []) (entries_of history) → Leaves (λ s. beat_start) (λ s q. s) (λ s q. beat_reply q) (entries_of history) state → GoesOn old (BeatDesk state history) (ic_served seat.calls)
@@ -77,7 +77,7 @@ down_goes_on (DiskDesk subs state' history') quota (DiskSeat f) seat state histo
 
 -- no request changes how many blocks a disk has and which places are bad
 pub disk_goes_on : (old : Desk) (subs quota : ℕ) (first : DeviceSeat) (seat : Seat Kept DiskRequest DiskReply) (state : Kept) (history : History Kept DiskRequest DiskReply) → subs_of old ≡ subs → IsSeatFor old quota first → IsSameSeat first (DiskSeat seat)
-    → Closes kept_after (λ s q. disk_reply (stands_for s) q) (seat ∷ []) (entries_of history) → Leaves unwritten kept_after (λ s q. disk_reply (stands_for s) q) (entries_of history) state → unwritten state ≡ seat.first
+    → Closes kept_after (λ s q. disk_reply (stands_for s) q) (seat ∷ []) (entries_of history) → Leaves unwritten kept_after (λ s q. disk_reply (stands_for s) q) (entries_of history) state → unwritten state ≡ seat.lock.first
     → GoesOn old (DiskDesk subs state history) (disk_served seat.calls)
 disk_goes_on (Out subs') subs quota first seat state history with_subs is same closes leaves begins = absurd is
 disk_goes_on (BeatDesk state' history') subs quota (BeatSeat f) seat state history with_subs is same closes leaves begins = absurd same
@@ -97,3 +97,27 @@ disk_goes_on (DiskDesk subs' state' history') subs quota (DiskSeat f) seat state
       setup = ap (λ k. Some (stands_for k)) setup;
       kept = leaves;
     }
+
+-- a new seat is alone, and stays so
+pub new_alone : (desk : Desk) (quota : ℕ) (seat : DeviceSeat) → IsSeatFor desk quota seat → IsAlone seat
+new_alone (Out subs) quota seat is = absurd is
+new_alone (BeatDesk state history) quota (BeatSeat s) is = (is.number, is.seats)
+new_alone (BeatDesk state history) quota (DownSeat s) is = absurd is
+new_alone (BeatDesk state history) quota (DiskSeat s) is = absurd is
+new_alone (DownDesk state history) quota (BeatSeat s) is = absurd is
+new_alone (DownDesk state history) quota (DownSeat s) is = (is.number, is.seats)
+new_alone (DownDesk state history) quota (DiskSeat s) is = absurd is
+new_alone (DiskDesk subs state history) quota (BeatSeat s) is = absurd is
+new_alone (DiskDesk subs state history) quota (DownSeat s) is = absurd is
+new_alone (DiskDesk subs state history) quota (DiskSeat s) is = (is.number, is.seats)
+
+pub same_alone : (first seat : DeviceSeat) → IsSameSeat first seat → IsAlone first → IsAlone seat
+same_alone (BeatSeat f) (BeatSeat s) same alone = (same.number ∙ alone.0, ap (λ l. l.seats) same.lock ∙ alone.1)
+same_alone (BeatSeat f) (DownSeat s) same alone = absurd same
+same_alone (BeatSeat f) (DiskSeat s) same alone = absurd same
+same_alone (DownSeat f) (BeatSeat s) same alone = absurd same
+same_alone (DownSeat f) (DownSeat s) same alone = (same.number ∙ alone.0, ap (λ l. l.seats) same.lock ∙ alone.1)
+same_alone (DownSeat f) (DiskSeat s) same alone = absurd same
+same_alone (DiskSeat f) (BeatSeat s) same alone = absurd same
+same_alone (DiskSeat f) (DownSeat s) same alone = absurd same
+same_alone (DiskSeat f) (DiskSeat s) same alone = (same.number ∙ alone.0, ap (λ l. l.seats) same.lock ∙ alone.1)

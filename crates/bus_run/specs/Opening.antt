@@ -5,8 +5,7 @@ use Rattle.bus_model.specs.Orders.{Order}
 use Rattle.script_lines.specs.declared.line.DeviceSpec.{DeviceSpec}
 use Rattle.script_lines.specs.declared.line.Ask.{Ask}
 use Rattle.hist_lock.specs.History.{entries_of}
-use Rattle.hist_lock.specs.Seat.{Seat}
-use Rattle.hist_lock.specs.declared.history.Entry.{Entry}
+use Rattle.hist_lock.specs.Seat.{IsOnly}
 use Rattle.phase_run.specs.Pairs.{Pairing, AreOnChannel, Opens, Ran}
 use Rattle.phase_run.specs.declared.pair.PairDone.{PairDone}
 use Rattle.end_work.specs.declared.device_seat.DeviceSeat.{DeviceSeat}
@@ -19,22 +18,24 @@ use Rattle.bus_run.specs.declared.desk.Desk.{Desk}
 use Rattle.bus_run.specs.declared.settings.Settings.{Settings}
 use Rattle.bus_run.specs.declared.desk.Desk.TheVariants.{Out, Beat as BeatDesk, Down as DownDesk, Disk as DiskDesk}
 
--- the only seat of a history that goes on behind these entries, for so many calls
-abbrev pub new_seat : {S Q A : Type 0} → S → List (Entry S Q A) → ℕ → Seat S Q A
-new_seat first past quota = record { number = 0; first = first; left = quota; past = past; calls = [] }
-
--- a new seat of this device
+-- a new seat of this device, the only one of its history
 abbrev pub IsSeatFor : Desk → ℕ → DeviceSeat → Type 0
 IsSeatFor (Out subs) quota seat = ⊥
-IsSeatFor (BeatDesk state history) quota (BeatSeat s) = s ≡ new_seat beat_start (entries_of history) quota
+IsSeatFor (BeatDesk state history) quota (BeatSeat s) = IsOnly beat_start (entries_of history) quota s
 IsSeatFor (BeatDesk state history) quota (DownSeat s) = ⊥
 IsSeatFor (BeatDesk state history) quota (DiskSeat s) = ⊥
 IsSeatFor (DownDesk state history) quota (BeatSeat s) = ⊥
-IsSeatFor (DownDesk state history) quota (DownSeat s) = s ≡ new_seat down_start (entries_of history) quota
+IsSeatFor (DownDesk state history) quota (DownSeat s) = IsOnly down_start (entries_of history) quota s
 IsSeatFor (DownDesk state history) quota (DiskSeat s) = ⊥
 IsSeatFor (DiskDesk subs state history) quota (BeatSeat s) = ⊥
 IsSeatFor (DiskDesk subs state history) quota (DownSeat s) = ⊥
-IsSeatFor (DiskDesk subs state history) quota (DiskSeat s) = s ≡ new_seat (unwritten state) (entries_of history) quota
+IsSeatFor (DiskDesk subs state history) quota (DiskSeat s) = IsOnly (unwritten state) (entries_of history) quota s
+
+-- the seat is the only one of its device's history
+abbrev pub IsAlone : DeviceSeat → Type 0
+IsAlone (BeatSeat s) = (s.number ≡ 0) × (s.lock.seats ≡ 1)
+IsAlone (DownSeat s) = (s.number ≡ 0) × (s.lock.seats ≡ 1)
+IsAlone (DiskSeat s) = (s.number ≡ 0) × (s.lock.seats ≡ 1)
 
 -- what stays of a device while its channel is open, or the device
 abbrev pub held_of : Bool → Desk → Desk

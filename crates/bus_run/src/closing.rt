@@ -10,7 +10,7 @@ ghost use Rattle.phase_run.specs.declared.pair.PairDone.{PairDone as OneDone};
 ghost use Rattle.end_work.specs.declared.device_seat.DeviceSeat.{DeviceSeat as OneSeat};
 ghost use Rattle.bus_run.specs.declared.desk.Desk.{Desk as OneDesk};
 ghost use Rattle.bus_run.specs.Desk.{subs_of, GoesOn, OpenRan, DeviceRan};
-ghost use Rattle.bus_run.specs.Opening.{IsSeatFor, DeskRan, ComesBack};
+ghost use Rattle.bus_run.specs.Opening.{IsSeatFor, IsAlone, DeskRan, ComesBack};
 ghost use Rattle.bus_run.specs.Outcomes.{served_line, served_lines};
 
 use crate::desk::Desk;
@@ -25,6 +25,7 @@ use std::vec::IntoIter;
 
 /// The device of a seat that made its calls, behind its history.
 fn desk_of(alloc: Global, subs: u32, seat: DeviceSeat) -> Result<Desk, AllocError>
+    requires { IsAlone seat }
     ensures { IfOk result (λ new. (old : OneDesk) (quota : ℕ) (first : OneSeat) → subs_of old ≡ subs → IsSeatFor old quota first → IsSameSeat first seat → GoesOn old new (served_at seat)) }
 {
     match seat {

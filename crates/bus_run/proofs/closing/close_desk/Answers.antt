@@ -4,8 +4,15 @@ use Rattle.work_model.specs.Outcome.{lines_of}
 use Rattle.bus_model.specs.Laws.{line_of}
 use Rattle.end_work.specs.Seats.{served_at, IsSameSeat}
 use Rattle.bus_run.specs.Desk.{GoesOn}
+use Rattle.bus_run.proofs.SeatEnds.{new_alone, same_alone}
 use Rattle.bus_run.proofs.ServedLines.{outcomes_told}
 use Rattle.bus_run.proofs.closing.close_desk.Goals as goal
+
+pub desk_of-requires : goal.desk_of-requires
+desk_of-requires c =
+    let ran = c.requires.3 in
+    let same : c.in-Some.seat ≡ ran.ran.back = ap (λ o. unwrap_or o c.in-Some.seat) (sym c.in-Some.is ∙ c.serving_seat.ensures ∙ ran.ran.serving) in
+    same_alone ran.seat c.in-Some.seat (subst (IsSameSeat ran.seat) (sym same) ran.ran.same) (new_alone c.requires.1 (length c.requires.0.asks) ran.seat ran.is_for)
 
 pub returns : goal.returns
 returns c order old subs many ran =

@@ -1,5 +1,10 @@
+use Rattle.std.proofs.Common.{[], ◌∷◌, arith}
 use Rattle.bus_run.proofs.Growing.{none_served, first_state}
+use Rattle.hist_lock.proofs.Rows.{new_all}
 use Rattle.bus_run.proofs.desk.fresh.Goals as goal
+
+pub close-requires : goal.close-requires
+close-requires g c = new_all c.args.machine [] (0 ∷ []) c.in_ok-seats.seats.items (omega arith) c.in_ok-seats.ensures
 
 pub returns-clause-history : goal.returns-clause-history
 returns-clause-history g c =
