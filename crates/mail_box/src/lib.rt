@@ -1,8 +1,12 @@
-//! The queue of control messages between the two sides.
+//! The queue of control messages between the two sides, in one thread or between two.
 #![tactic(auto)]
 
+mod ends;
 mod full;
 mod mail_box;
+mod rule;
 
+pub use ends::{FetchEnd, PostEnd};
 pub use full::MailFull;
 pub use mail_box::MailBox;
+pub use rule::{Log, Mailing, Named, Nothing};

@@ -1,10 +1,14 @@
 //! A box of control messages: first in, first out.
-ghost use Rattle.std.specs.Prelude.{◌≡◌, ◌<◌, ◌≤◌, [], ◌∷◌, ◌++◌, length, IfOk, IfErr, OnOk, MatchOption};
+ghost use Rattle.std.specs.Prelude.{◌≡◌, List, ◌<◌, ◌≤◌, [], ◌∷◌, ◌++◌, length, IfOk, IfErr, OnOk, MatchOption};
+ghost use Rattle.vmbus_msg.specs.declared.msg.Msg.{Msg};
 
-use crate::MailFull;
+use crate::ends::{FetchEnd, PostEnd};
+use crate::full::MailFull;
+use crate::rule::{Both, Named, Queue, Rest, Roles, Token};
 use std::alloc::{AllocError, Global};
 use std::collections::VecDeque;
 use std::marker::Model;
+use std::sync::{Arc, Wait};
 use vmbus_msg::Msg;
 
 /// Control messages that one side has sent and the other has not taken yet.
@@ -15,18 +19,25 @@ use vmbus_msg::Msg;
 pub struct MailBox {
     size: u32,
     mail: VecDeque<Msg>,
+    // The queue of a split box has two owners from the start, so that splitting takes no memory.
+    post: Arc<Queue>,
+    fetch: Arc<Queue>,
+    pass: Token,
 }
 
 impl Model for MailBox {
-    ghost use Rattle.std.specs.Prelude.{◌≤◌, length};
+    ghost use Rattle.std.specs.Prelude.{◌≡◌, ◌≤◌, length, true, []};
+    ghost use Rattle.std.specs.Arc.{arc_value};
     ghost use Rattle.std.specs.VecDeque.{deque_capacity};
+    ghost use Rattle.crossbeam_queue.specs.Passes.{IsPassOf, ruled_capacity};
     ghost use Rattle.mail_box.specs.Mail.{Mail};
+    ghost use Rattle.mail_box.specs.Letters.{log, no_last, known};
 
     ghost Value = { Mail };
 
     ghost view = { λ b. record { size = b.size; queue = b.mail.items } };
 
-    ghost invariant = { λ b. (length b.mail.items ≤ b.size) × (b.size ≤ deque_capacity b.mail) };
+    ghost invariant = { λ b. (length b.mail.items ≤ b.size) × (b.size ≤ deque_capacity b.mail) × (ruled_capacity (arc_value b.post) ≡ b.size) × IsPassOf (arc_value b.post) b.pass × (arc_value b.fetch ≡ arc_value b.post) × (known b.pass ≡ log true true [] no_last [] []) };
 }
 
 impl MailBox {
@@ -36,7 +47,16 @@ impl MailBox {
         ensures { IfOk result (λ b. b ≡ record { size = size; queue = [] }) }
     {
         let mail = VecDeque::with_capacity(alloc, size as usize)?;
-        Ok(MailBox { size, mail })
+        let (queue, pass) = Queue::ruled(alloc, size as usize)?;
+        let post = Arc::new(alloc, queue)?;
+        let fetch = Arc::try_clone(&post)?;
+        Ok(MailBox {
+            size,
+            mail,
+            post,
+            fetch,
+            pass,
+        })
     }
 
     /// Puts a message behind the others.
@@ -59,5 +79,45 @@ impl MailBox {
         ensures size { self.new.size ≡ self.old.size }
     {
         self.mail.pop_front()
+    }
+
+    /// Two ends, for a thread each, over a queue that `make` has made. The box is empty. The caller
+    /// names the messages that may be put, in order, and one that may end them early.
+    pub fn split<N: Named>(self) -> (PostEnd, FetchEnd)
+        requires empty { self.queue ≡ [] }
+        ensures post { result.0 ≡ record { queue = result.0.queue; size = self.size; named = N.named; last = N.last; put = [] } }
+        ensures fetch { result.1 ≡ record { queue = result.0.queue; size = self.size; named = N.named; last = N.last; taken = [] } }
+    {
+        let MailBox {
+            size: _,
+            mail: _,
+            post,
+            fetch,
+            mut pass,
+        } = self;
+        let other = post.another::<Roles<N>>(&mut pass);
+        (
+            PostEnd { queue: post, pass },
+            FetchEnd {
+                queue: fetch,
+                pass: other,
+            },
+        )
+    }
+
+    /// Ends both ends of one queue, and answers how many messages were put and not taken. What was
+    /// taken is a front of what was put, which is longer by that number. The call may wait for another
+    /// thread.
+    pub fn unite<R: Wait>(rt: &R, post: PostEnd, fetch: FetchEnd) -> u32
+        requires one { post.queue ≡ fetch.queue }
+        ensures { (rest : List Msg) × (post.put ≡ fetch.taken ++ rest) × (length rest ≡ result) }
+    {
+        let PostEnd { queue, mut pass } = post;
+        let FetchEnd {
+            queue: _,
+            pass: other,
+        } = fetch;
+        queue.absorb::<Both>(&mut pass, other);
+        queue.len_as::<Rest, R>(rt, &mut pass) as u32
     }
 }
