@@ -5,11 +5,11 @@ ghost use Rattle.io_edge.specs.declared.side.Side.TheVariants.{Guest as GuestSid
 ghost use Rattle.ring_seat.specs.Seats.{new_end};
 
 use crate::check::check;
+use crate::only_seat::only_seat;
 use bus_script::Reply;
 use channel_port::{Ended, Turn};
 use contact::Kind;
 use end_work::{GuestPlan, GuestSeat, GuestWorker, HostPlan, HostSeat, HostWorker};
-use hist_lock::HistLock;
 use io_edge::NoGate;
 use ring_seat::{ChannelMem, GuestEnd, HostEnd};
 use std::alloc::AllocGlobal;
@@ -24,10 +24,7 @@ fn guest_of(rt: &(impl Abort + AllocGlobal), end: GuestEnd) -> GuestWorker
     ensures { IsLive result }
 {
     let alloc = rt.alloc();
-    let mut seats = HistLock::make(alloc, BeatMachine::make(), &[2]).expect(rt, "memory");
-    let Some(seat) = seats.pop() else {
-        unreachable!()
-    };
+    let seat = only_seat(alloc, BeatMachine::make(), 2).expect(rt, "memory");
     let plan = GuestPlan {
         relid: 1,
         kind: Kind::Beat,

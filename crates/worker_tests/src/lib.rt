@@ -10,6 +10,8 @@ mod echo;
 #[cfg(test)]
 mod end_work_tests;
 #[cfg(test)]
+mod only_seat;
+#[cfg(test)]
 mod phase_run_tests;
 #[cfg(test)]
 mod work_model_tests;

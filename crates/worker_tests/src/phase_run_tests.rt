@@ -7,11 +7,11 @@ ghost use Rattle.script_lines.specs.WellFormed.{CanGo};
 ghost use Rattle.end_work.specs.Plans.{CanStop, stop_of};
 
 use crate::check::check;
+use crate::only_seat::only_seat;
 use bus_script::{Ask, Reply};
 use chan_state::Stop;
 use contact::Kind;
 use end_work::DeviceSeat;
-use hist_lock::HistLock;
 use io_edge::NoGate;
 use phase_run::{Pair, PairDone, open_pair, run_pair, run_phase};
 use ring_core::Packets;
@@ -29,10 +29,7 @@ fn beats(rt: &(impl Abort + AllocGlobal)) -> Pair {
         Ask::Ic(IcAsk::Beat { seq: 8 }),
         Ask::Ic(IcAsk::Beat { seq: 9 }),
     ];
-    let mut seats = HistLock::make(alloc, BeatMachine::make(), &[3]).expect(rt, "memory");
-    let Some(seat) = seats.pop() else {
-        unreachable!()
-    };
+    let seat = only_seat(alloc, BeatMachine::make(), 3).expect(rt, "memory");
     open_pair(
         alloc,
         Kind::Beat,
@@ -62,10 +59,7 @@ fn down(flags: u32) -> Ask
 fn downs(rt: &(impl Abort + AllocGlobal)) -> Pair {
     let alloc = rt.alloc();
     let asks = [down(0), down(4), down(1)];
-    let mut seats = HistLock::make(alloc, DownMachine::make(), &[3]).expect(rt, "memory");
-    let Some(seat) = seats.pop() else {
-        unreachable!()
-    };
+    let seat = only_seat(alloc, DownMachine::make(), 3).expect(rt, "memory");
     open_pair(
         alloc,
         Kind::Down,
@@ -118,10 +112,7 @@ fn blocks(rt: &(impl Abort + AllocGlobal), stop: Option<Stop>) -> Pair
         command(rt, [0x28, 0, 0, 0, 0, 5, 0, 0, 1, 0], &[]),
     ];
     let disk = Disk::make(alloc, 64, &[5]).expect(rt, "memory");
-    let mut seats = HistLock::make(alloc, disk, &[3]).expect(rt, "memory");
-    let Some(seat) = seats.pop() else {
-        unreachable!()
-    };
+    let seat = only_seat(alloc, disk, 3).expect(rt, "memory");
     open_pair(
         alloc,
         Kind::Disk,
