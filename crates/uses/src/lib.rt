@@ -1,4 +1,4 @@
-//! Parts of programs that call this library, as their authors write them. docs/CALLING.md shows each file.
+//! Parts of programs that call this library, as their authors write them. CALLING.md beside them shows each file.
 #![tactic(auto)]
 
 mod driver;
