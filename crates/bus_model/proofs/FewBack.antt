@@ -1,6 +1,6 @@
 -- Few runs come back.
 use Rattle.std.proofs.Common.{◌≡◌, ℕ, zero, suc, ◌+◌, ◌-◌, ◌*◌, ◌≤◌, ◌<◌, ◌%◌, ◌/◌, ◌==◌, Bool, true, false, cond, List, [], ◌∷◌, ◌++◌, length, nat_eq, refl, not, sym, ap, ◌∙◌, subst, arith}
-use Rattle.std.specs.Prelude.{map, filter, take, drop, replicate, min, nat_le, Option, Some, None, Ok, slice_index_or, if◌then◌else◌}
+use Rattle.std.specs.Prelude.{map, take, drop, replicate, min, nat_le, Option, Some, None, slice_index_or, if◌then◌else◌}
 use Rattle.std.specs.List.{AllByRecursion, flat_map}
 use Rattle.std.proofs.lemmas.Bool.Decides.{nat_tests}
 use Rattle.std.proofs.lemmas.Grind.{flat_map-append}
@@ -15,7 +15,6 @@ use Rattle.scsi_disk.proofs.OneByteLaws.{IsOneByte, new_plain}
 use Rattle.scsi_disk.proofs.RoomLaws.{by_test}
 use Rattle.util_ic.specs.declared.ic.IcAsk.{IcAsk}
 use Rattle.util_ic.specs.declared.ic.IcAnswer.{IcAnswer}
-use Rattle.script_lines.specs.Grammar.{script_of}
 use Rattle.script_lines.specs.declared.line.Line.{Line}
 use Rattle.script_lines.specs.declared.line.What.{What}
 use Rattle.script_lines.specs.declared.line.What.TheVariants.{Contact as IsContact, Offer as IsOffer, Bad as IsBad, RingSize as IsRingSize, Window as IsWindow, Ask as IsAsk, Rescind as IsRescind, Shut as IsShut, Phase as IsPhase}
@@ -32,10 +31,10 @@ use Rattle.bus_script.specs.declared.outcome.LineResult.TheVariants.{Unserved, G
 use Rattle.bus_script.specs.Report.{prints, disk_runs, reply_runs, result_runs, runs_back}
 use Rattle.script_lines.proofs.Plain.{PlainAsk, PlainWhat, PlainLine, script_plain}
 use Rattle.bus_model.specs.Served.{Served, done_of}
-use Rattle.bus_model.specs.Orders.{Order, order_of}
+use Rattle.bus_model.specs.Orders.{order_of}
 use Rattle.bus_model.specs.Channel.{served_count, rescinded_of, outcomes_by, outcomes_of}
 use Rattle.bus_model.specs.Logs.{Recorded, ic_log, disk_log, log_of, IsHistory, EachHistory}
-use Rattle.bus_model.specs.Run.{Carried, IsCarried, seats_of, EachGrows, Source, Known, AskedOf, known_or, source_said, source_of, sources_from, nth_of, told_by, outcome_at, PhaseRuns, RunsOf, over, then_on}
+use Rattle.bus_model.specs.Run.{Carried, IsCarried, seats_of, EachGrows, Source, Known, AskedOf, known_or, source_of, sources_from, told_by, outcome_at, PhaseRuns, RunsOf, over, then_on}
 use Rattle.bus_model.specs.declared.channel_run.ChannelRun.{ChannelRun}
 use Rattle.bus_model.specs.declared.history.DeviceHistory.{DeviceHistory}
 use Rattle.bus_model.specs.declared.history.DeviceHistory.TheVariants.{Beat as BeatHistory, Down as DownHistory, Disk as DiskHistory}

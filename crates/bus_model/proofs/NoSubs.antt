@@ -1,9 +1,10 @@
--- No device of a script that was read has a sub-channel.
-use Rattle.std.proofs.Common.{◌≡◌, ℕ, ◌+◌, Bool, true, false, ◌&&◌, List, [], ◌∷◌, ◌++◌, refl, subst, arith}
+-- No device of a script that was read has a sub-channel, so that each channel is a first one.
+use Rattle.std.proofs.Common.{◌≡◌, ℕ, ◌+◌, Bool, true, false, ◌&&◌, cond, List, [], ◌∷◌, ◌++◌, nat_eq, not, refl, sym, ap, ◌∙◌, subst, arith}
 use Rattle.std.specs.Prelude.{Option, Some, None, Result, Ok, Err, nat_le, unwrap_or, if◌then◌else◌}
 use Rattle.std.specs.List.{AllByRecursion}
 use Rattle.std.specs.Str.Lines.{lines}
 use Rattle.std.proofs.lemmas.Bool.Decides.{nat_tests}
+use Rattle.std.proofs.lemmas.List.{append-nil}
 use Rattle.script_text.specs.Forms.{within}
 use Rattle.script_text.specs.declared.fault.Why6.{Why6}
 use Rattle.script_text.specs.declared.fault.ScriptFault.{ScriptFault}
@@ -18,9 +19,12 @@ use Rattle.script_lines.specs.Parts.{offered, offered_by}
 use Rattle.script_lines.specs.Rows.{said_in}
 use Rattle.script_lines.specs.Faults.{device_said, fault_at}
 use Rattle.script_lines.specs.Grammar.{spec_of, what_of, numbered, said_lines, lines_at, or_fault, read_from, script_of}
-use Rattle.script_phases.specs.Openings.{subs_of}
-use Rattle.bus_model.specs.ByDeviceLaws.{NoSubs}
+use Rattle.script_phases.specs.Openings.{Opening, subs_of, subs_from, channels_from, opened_from, firsts, others, by_relid}
 use Rattle.bus_model.proofs.Lists.{each_append}
+
+-- no device of these lines has a sub-channel
+abbrev pub NoSubs : List Line → Type 0
+NoSubs lines = AllByRecursion (λ k. subs_of k ≡ 0) (offered lines)
 
 abbrev Single : DeviceSpec → Type 0
 Single spec = subs_of spec ≡ 0
@@ -92,3 +96,25 @@ read_single (line ∷ rest) number before single =
 
 pub script_no_subs : (bytes : List ℕ) (said : List Line) → script_of bytes ≡ Ok said → NoSubs said
 script_no_subs bytes said is = all_single said (subst SingleRead is (read_single (lines bytes) 1 [] tt))
+
+-- all channels are first ones
+
+pub all_first : (f : ℕ → Bool) (place next : ℕ) (kinds : List DeviceSpec) → AllByRecursion (λ k. subs_of k ≡ 0) kinds → AllByRecursion (λ (o : Opening). o.sub ≡ 0) (opened_from f place next kinds)
+all_first f place next [] none = tt
+all_first f place next (k ∷ kinds) none =
+    by_flag (f place) (opened_from f (place + 1) (next + subs_of k) kinds) (opened_from f (place + 1) next kinds) (all_first f (place + 1) (next + subs_of k) kinds none.1) (all_first f (place + 1) next kinds none.1)
+  where
+    by_flag : (b : Bool) (on off : List Opening) → AllByRecursion (λ (o : Opening). o.sub ≡ 0) on → AllByRecursion (λ (o : Opening). o.sub ≡ 0) off
+        → AllByRecursion (λ (o : Opening). o.sub ≡ 0) (if b then channels_from place k next ++ on else off)
+    by_flag true on off e f = (refl, subst (λ n. AllByRecursion (λ (o : Opening). o.sub ≡ 0) (subs_from place k 1 next n ++ on)) (sym none.0) e)
+    by_flag false on off e f = f
+
+sorted : (os : List Opening) → AllByRecursion (λ (o : Opening). o.sub ≡ 0) os → (firsts os ≡ os) × (others os ≡ [])
+sorted [] zeros = (refl, refl)
+sorted (o ∷ os) zeros =
+    let more = sorted os zeros.1 in
+    let yes_first : nat_eq o.sub 0 ≡ true = (let z = zeros.0 in grind (arith, nat_tests, z)) in
+    (ap (λ b. cond b (o ∷ firsts os) (firsts os)) yes_first ∙ ap (λ l. o ∷ l) more.0, ap (λ b. cond (not b) (o ∷ others os) (others os)) yes_first ∙ more.1)
+
+pub by_relid_same : (os : List Opening) → AllByRecursion (λ (o : Opening). o.sub ≡ 0) os → by_relid os ≡ os
+by_relid_same os zeros = let s = sorted os zeros in ap (λ l. firsts os ++ l) s.1 ∙ (append-nil (firsts os) ∙ s.0)

@@ -1,7 +1,7 @@
 -- The worked examples have runs.
 use Rattle.std.proofs.Common.{ℕ, List, [], ◌∷◌, Bool, true, false, refl, arith}
 use Rattle.script_lines.specs.declared.line.Line.{Line}
-use Rattle.script_lines.specs.declared.line.What.TheVariants.{Offer as IsOffer, Ask as IsAsk, Rescind as IsRescind, Shut as IsShut}
+use Rattle.script_lines.specs.declared.line.What.TheVariants.{Offer as IsOffer, Ask as IsAsk, Shut as IsShut}
 use Rattle.script_lines.specs.declared.line.DeviceSpec.TheVariants.{Disk}
 use Rattle.script_phases.specs.Openings.{Phase, Opening}
 use Rattle.bus_script.specs.declared.outcome.LineResult.TheVariants.{Done, Closed}

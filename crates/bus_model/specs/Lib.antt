@@ -5,6 +5,3 @@ pub mod Logs
 pub mod Run
 pub mod Laws
 pub mod Worked
-pub mod Dests
-pub mod ByDevice
-pub mod ByDeviceLaws

@@ -3,7 +3,7 @@ use Rattle.std.specs.Prelude.{ℕ, ◌≡◌, Bool, true, false, List, [], ◌�
 use Rattle.contact.specs.declared.kind.Kind.TheVariants.{Disk as DiskKind}
 use Rattle.script_lines.specs.declared.line.Line.{Line}
 use Rattle.script_lines.specs.declared.line.What.{What}
-use Rattle.script_lines.specs.declared.line.What.TheVariants.{Offer as IsOffer, Ask as IsAsk, Rescind as IsRescind, Shut as IsShut, Phase as IsPhase}
+use Rattle.script_lines.specs.declared.line.What.TheVariants.{Offer as IsOffer, Ask as IsAsk, Shut as IsShut, Phase as IsPhase}
 use Rattle.script_lines.specs.declared.line.Ask.{Ask}
 use Rattle.script_lines.specs.declared.line.DeviceSpec.TheVariants.{Disk}
 use Rattle.script_phases.specs.Openings.{phases}

@@ -1,7 +1,6 @@
 //! Laws of runs. The functions do nothing: each one's contract is the law.
 ghost use Rattle.bus_model.specs.Laws.{Arrives, ServesEach, ServesFirst, OneEach, CarriesOpened, TableOfOutcomes, RowsOfEnded, ListsTell, Rescinds, UnservedNowhere, FewRunsBack, ReportFits, OrdersRun};
 ghost use Rattle.bus_model.specs.Worked.{Shares, SharesOtherwise, Closes, Rescinded, Held};
-ghost use Rattle.bus_model.specs.ByDeviceLaws.{Implies, SaysNoLess};
 
 /// What each end of a channel got is what the other one sent, as it was sent: all of it, unless
 /// the service stopped.
@@ -66,10 +65,4 @@ pub fn worked()
     ensures closes { Closes }
     ensures rescinded { Rescinded }
     ensures held { Held }
-{}
-
-/// Without sub-channels the run by devices and the run of the script say the same.
-pub fn by_device()
-    ensures implies { Implies }
-    ensures no_less { SaysNoLess }
 {}

@@ -1,4 +1,5 @@
 pub mod Cutting
-pub mod Dealing
-pub mod Marking
-mod Noting
+pub mod Hearing
+pub mod Noting
+pub mod Ordering
+pub mod Telling

@@ -1,4 +1,4 @@
-pub mod Flags
+pub mod Heard
 pub mod Endings
-pub mod Stops
 pub mod Plans
+pub mod Outcomes

@@ -1,66 +1,49 @@
--- The plan of a phase.
-use Rattle.std.specs.Prelude.{ℕ, ◌≡◌, ◌<◌, List, [], ◌∷◌, ◌++◌, length, map, Some, slice_index_or}
-use Rattle.std.specs.List.{list_any}
+-- The plan of a phase: what the script orders of each channel that it opens.
+use Rattle.std.specs.Prelude.{ℕ, ◌≡◌, ◌+◌, List, [], ◌∷◌, length, Option, if◌then◌else◌}
+use Rattle.std.specs.List.{AllByRecursion}
 use Rattle.script_lines.specs.declared.line.Line.{Line}
-use Rattle.script_lines.specs.declared.line.Ask.{Ask}
-use Rattle.bus_script.specs.declared.outcome.LineResult.{LineResult}
-use Rattle.bus_script.specs.declared.outcome.LineResult.TheVariants.{Version, Gone, Closed}
-use Rattle.bus_model.specs.Dests.{Dest, ToChannel, Known, Address, At, Fixed, dests, asks_to, addresses_from, addresses, wants_open}
-use Rattle.bus_model.specs.ByDevice.{outcome_at}
-use Rattle.bus_plan.specs.Flags.{AreMarked}
-use Rattle.bus_plan.specs.Stops.{StopsBy}
-use Rattle.bus_plan.specs.declared.address.Address.{Address as Slot}
-use Rattle.bus_plan.specs.declared.address.Address.TheVariants.{At as SlotAt, Tried as SlotTried, Gone as SlotGone, Closed as SlotClosed}
-use Rattle.bus_plan.specs.declared.plan.PartPlan.{PartPlan}
+use Rattle.script_lines.specs.declared.line.DeviceSpec.{DeviceSpec}
+use Rattle.script_lines.specs.Parts.{kind_of}
+use Rattle.script_phases.specs.Openings.{Opening, Phase, subs_of, is_opened, opened_from}
+use Rattle.bus_model.specs.Orders.{Order, order_of}
+use Rattle.bus_plan.specs.Heard.{stop_told}
+use Rattle.bus_plan.specs.Endings.{AreEnded}
+use Rattle.bus_plan.specs.declared.ending.Ending.{Ending}
+use Rattle.bus_plan.specs.declared.opening.ChannelOrder.{ChannelOrder}
 
--- each request goes to one of so many channels
-abbrev pub LeadsBelow : ℕ → Dest → Type 0
-LeadsBelow channels (ToChannel c ask) = c < channels
-LeadsBelow channels (Known result) = Unit {0}
+-- what is ordered of a channel, whose device is this
+abbrev pub order_by : ChannelOrder → DeviceSpec → Order
+order_by x spec = record { kind = kind_of spec; sub = x.opening.sub; subs = subs_of spec; asks = x.asks.items; stop = stop_told x.stop }
 
-abbrev pub AllLeadBelow : ℕ → List Dest → Type 0
-AllLeadBelow channels [] = Unit {0}
-AllLeadBelow channels (d ∷ ds) = LeadsBelow channels d × AllLeadBelow channels ds
+-- it is what the script orders of this channel in the phase
+pub record IsOrdered (p : Phase) (o : Opening) (x : ChannelOrder) : Type 0 where
+  pub relid : x.opening.relid ≡ o.relid
+  pub device : x.opening.device ≡ o.device
+  pub order : order_by x o.spec ≡ order_of p o
 
--- each channel has its requests
-pub record IsDealt (channels : ℕ) (ds : List Dest) (piles : List (List Ask)) : Type 0 where
-  pub count : length piles ≡ channels
-  pub each : (k : ℕ) → k < channels → slice_index_or piles k [] ≡ asks_to k ds
+-- one for each of these channels, in order
+abbrev pub EachOf : {A : Type 0} → (Opening → A → Type 0) → List Opening → List A → Type 0
+EachOf P [] [] = Unit {0}
+EachOf P [] (x ∷ xs) = ⊥
+EachOf P (o ∷ os) [] = ⊥
+EachOf P (o ∷ os) (x ∷ xs) = P o x × EachOf P os xs
 
-abbrev pub place_of : Slot → Address
-place_of (SlotAt channel place) = At channel place
-place_of (SlotTried tried) = Fixed (Version tried)
-place_of SlotGone = Fixed Gone
-place_of SlotClosed = Fixed Closed
+abbrev pub EachOrdered : Phase → List Opening → List ChannelOrder → Type 0
+EachOrdered p os xs = EachOf (IsOrdered p) os xs
 
-abbrev pub places_of : List Slot → List Address
-places_of slots = map place_of slots
+-- the first channel of a device
+abbrev pub first_opening : ℕ → DeviceSpec → Opening
+first_opening device spec = record { relid = device + 1; device = device; spec = spec; sub = 0 }
 
--- the plan of the lines done, before those left
-pub record IsPlanned (channels : ℕ) (all : List Address) (done left : List Dest) (piles : List (List Ask)) (slots : List Slot) : Type 0 where
-  pub dealt : IsDealt channels done piles
-  pub rest : places_of slots ++ addresses_from done left ≡ all
+-- it, if the phase opens the device
+abbrev pub opening_if : Phase → ℕ → DeviceSpec → List Opening
+opening_if p device spec = if is_opened p.earlier p.part device then first_opening device spec ∷ [] else []
 
--- the plan of a phase behind earlier lines, with so many devices
-pub record IsPlan (channels : ℕ) (earlier part : List Line) (plan : PartPlan) : Type 0 where
-  pub asks : IsDealt channels (dests earlier part) plan.asks
-  pub count : length plan.wanted.items ≡ channels
-  pub wanted : AreMarked (λ k. list_any (λ l. wants_open k l.what) part) plan.wanted.items
-  pub stop_count : length plan.stops.items ≡ channels
-  pub stops : StopsBy part plan.stops.items
-  pub places : places_of plan.addresses.items ≡ addresses earlier part
-
--- the outcome stands there
-abbrev pub IsThere : List (List LineResult) → Address → Type 0
-IsThere outcomes (At channel place) = (channel < length outcomes) × (place < length (slice_index_or outcomes channel []))
-IsThere outcomes (Fixed result) = Unit {0}
-
-abbrev pub AllThere : List (List LineResult) → List Address → Type 0
-AllThere outcomes [] = Unit {0}
-AllThere outcomes (a ∷ rest) = IsThere outcomes a × AllThere outcomes rest
-
--- the outcomes at these addresses stand behind the old ones
-pub record Tells (outcomes : List (List LineResult)) (places : List Address) (old new : List LineResult) : Type 0 where
-  pub told : List LineResult
-  pub more : new ≡ old ++ told
-  pub each : map (λ r. Some r) told ≡ map (outcome_at outcomes) places
+-- the phase of these lines, of a script that offers these devices, of which earlier phases ended these; none of them has a sub-channel yet
+pub record IsPhaseOf (part : List Line) (ended : List (Option Ending)) (specs : List DeviceSpec) (p : Phase) : Type 0 where
+  pub part_is : p.part ≡ part
+  pub ended_are : AreEnded p.earlier ended
+  pub devices : length specs ≡ length ended
+  pub single : AllByRecursion (λ k. subs_of k ≡ 0) specs
+  pub next : ℕ
+  pub opened : p.opened ≡ opened_from (is_opened p.earlier p.part) 0 next specs

@@ -1,10 +1,11 @@
 //! Which devices earlier phases ended.
 ghost use Rattle.std.specs.Prelude.{◌≡◌, ◌++◌, List, length, true, false};
 ghost use Rattle.script_lines.specs.declared.line.Line.{Line as OneLine};
-ghost use Rattle.bus_plan.specs.Flags.{IsBelow, AllBelow};
+ghost use Rattle.bus_plan.specs.Heard.{IsBelow, AllBelow};
 ghost use Rattle.bus_plan.specs.Endings.{AreEnded, EndsOn, left_on, outcome_left};
 
 use crate::Ending;
+use crate::heard::{Heard, said};
 use bus_script::{Line, What};
 
 /// Notes that a device is closed, unless it has ended already.
@@ -21,10 +22,11 @@ fn end(ended: &mut [Option<Ending>], what: &What)
     requires { IsBelow (length ended.old) what.now }
     ensures { EndsOn what.now ended.old ended.new }
 {
-    match what {
-        What::Rescind { device, .. } => ended[*device as usize] = Some(Ending::Rescinded),
-        What::Shut { device } => close(&mut ended[*device as usize]),
-        _ => {}
+    match said(what) {
+        Some((device, Heard::Stops(_))) => ended[device as usize] = Some(Ending::Rescinded),
+        Some((device, Heard::Shuts)) => close(&mut ended[device as usize]),
+        Some((_, Heard::Asks(_))) => {}
+        None => {}
     }
 }
 

@@ -1,24 +1,19 @@
-//! The plan of a phase: what each channel is asked, which devices are opened, and where the outcome of each line will stand.
+//! The plan of a phase: which channels its lines open, what each of them is asked and where it stops, which devices it ends, and the outcome of each line.
 #![tactic(auto)]
 
-mod address;
 mod ending;
 mod endings;
-mod flags;
+mod heard;
+mod opening;
 mod outcomes;
 mod piles;
-mod places;
 mod plan;
 mod split;
-mod stops;
 
-pub use address::Address;
 pub use ending::Ending;
 pub use endings::mark_ended;
-pub use flags::mark_wanted;
+pub use opening::{ChannelOrder, Opening};
 pub use outcomes::tell;
 pub use piles::Piles;
-pub use places::blank;
-pub use plan::{PartPlan, plan_part};
+pub use plan::plan_part;
 pub use split::first_part;
-pub use stops::mark_stops;

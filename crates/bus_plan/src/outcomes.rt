@@ -1,35 +1,79 @@
 //! The outcomes of the lines of a phase.
-ghost use Rattle.std.specs.Prelude.{◌≡◌, OnOk, Some};
-ghost use Rattle.bus_model.specs.ByDevice.{outcome_at};
-ghost use Rattle.bus_plan.specs.Plans.{place_of, places_of, IsThere, AllThere, Tells};
+ghost use Rattle.std.specs.Prelude.{◌≡◌, ◌+◌, ◌<◌, List, length, map, None, Some, OnOk, slice_get, slice_index_or};
+ghost use Rattle.script_lines.specs.declared.line.Line.{Line as OneLine};
+ghost use Rattle.script_phases.specs.Openings.{Phase};
+ghost use Rattle.bus_model.specs.Run.{Carried, source_of, outcome_at, outcomes_in};
+ghost use Rattle.bus_plan.specs.Heard.{IsBelow, AllBelow};
+ghost use Rattle.bus_plan.specs.Endings.{AreEnded, outcome_left};
+ghost use Rattle.bus_plan.specs.Outcomes.{AreTold, AreCounted, CountsOn, HasOutcome, HasOutcomes, Tells, left_or};
 
-use crate::{Address, Piles};
-use bus_script::LineResult;
-use std::alloc::AllocError;
+use crate::{Ending, Piles};
+use bus_script::{Line, LineResult, What};
+use contact::tried;
+use std::alloc::{AllocError, Global};
 
-fn told(outcomes: &Piles<LineResult>, address: Address) -> LineResult
-    requires { IsThere outcomes.now (place_of address) }
-    ensures { outcome_at outcomes.now (place_of address) ≡ Some result }
+/// The outcome of the request with this number of a device, of whose requests these are the outcomes.
+fn outcome_of(ended: Option<Ending>, outcomes: &[LineResult], number: usize) -> LineResult
+    requires { ended ≡ None → number < length outcomes.now }
+    ensures { left_or (outcome_left ended) (slice_get outcomes.now number) ≡ Some result }
 {
-    match address {
-        Address::At { channel, place } => outcomes.get(channel)[place].again(),
-        Address::Tried(tried) => LineResult::Version { tried },
-        Address::Gone => LineResult::Gone,
-        Address::Closed => LineResult::Closed,
+    match ended {
+        Some(Ending::Rescinded) => LineResult::Gone,
+        Some(Ending::Closed) => LineResult::Closed,
+        None => outcomes[number].again(),
     }
 }
 
-/// The outcome of each line, from those of its channel where it isn't known without.
-pub fn tell(
+/// The outcome of one more line. `asked` says how many requests of each device stand before it.
+fn tell_line(
+    ended: &[Option<Ending>],
     outcomes: &Piles<LineResult>,
-    addresses: &[Address],
+    what: &What,
+    asked: &mut [usize],
     results: &mut Vec<LineResult>,
 ) -> Result<(), AllocError>
-    requires { AllThere outcomes.now (places_of addresses.now) }
-    ensures { OnOk result (Tells outcomes.now (places_of addresses.now) results.old.items results.new.items) }
+    requires ended { IsBelow (length ended.now) what.now }
+    requires outcomes { IsBelow (length outcomes.now) what.now }
+    requires asked { IsBelow (length asked.old) what.now }
+    requires has { HasOutcome ended.now outcomes.now asked.old what.now }
+    ensures tells { OnOk result ((p : Phase) (channels : List Carried) (before : List OneLine) → AreEnded p.earlier ended.now → AreTold p channels (length ended.now) outcomes.now → AreCounted before asked.old
+        → Tells (map (outcome_at p channels) (source_of p before what.now)) results.old.items results.new.items) }
+    ensures counts { OnOk result (CountsOn what.now asked.old asked.new) }
 {
-    for address in addresses {
-        results.push(told(outcomes, *address))?;
+    match what {
+        What::Contact { guest, host } => {
+            let tried = tried(*guest, *host);
+            results.push(LineResult::Version { tried })?;
+            Ok(())
+        }
+        What::Ask { device, .. } => {
+            let at = *device as usize;
+            let outcome = outcome_of(ended[at], outcomes.get(at), asked[at]);
+            results.push(outcome)?;
+            asked[at] += 1;
+            Ok(())
+        }
+        _ => Ok(()),
+    }
+}
+
+/// The outcome of each line of a phase that has one, behind others. `ended` says how an earlier phase ended each device, and `outcomes` has those of each
+/// device's requests in the phase.
+pub fn tell(
+    alloc: Global,
+    ended: &[Option<Ending>],
+    outcomes: &Piles<LineResult>,
+    part: &[Line],
+    results: &mut Vec<LineResult>,
+) -> Result<(), AllocError>
+    requires below { AllBelow (length ended.now) part.now }
+    requires devices { length outcomes.now ≡ length ended.now }
+    requires has { HasOutcomes part.now ended.now outcomes.now }
+    ensures { OnOk result ((p : Phase) (channels : List Carried) → p.part ≡ part.now → AreEnded p.earlier ended.now → AreTold p channels (length ended.now) outcomes.now → Tells (outcomes_in p channels) results.old.items results.new.items) }
+{
+    let mut asked = vec![in alloc; 0usize; ended.len()]?;
+    for line in part {
+        tell_line(ended, outcomes, &line.what, &mut asked, results)?;
     }
     Ok(())
 }

@@ -1,5 +1,5 @@
-//! Lists that grow side by side.
-ghost use Rattle.std.specs.Prelude.{◌≡◌, ◌<◌, ◌++◌, ◌∷◌, [], length, replicate, slice_set, slice_index_or, IfOk, OnOk};
+//! Lists side by side.
+ghost use Rattle.std.specs.Prelude.{◌≡◌, ◌<◌, [], length, replicate, slice_set, slice_index_or, IfOk};
 
 use std::alloc::{AllocError, Global};
 use std::marker::Model;
@@ -22,48 +22,23 @@ impl<T> Model for Piles<T> {
 }
 
 impl<T: Drop> Piles<T> {
-    /// No lists.
-    pub fn none(alloc: Global) -> Piles<T>
-        ensures { result ≡ [] }
-    {
-        Piles {
-            list: Vec::new(alloc),
-        }
-    }
-
     /// So many empty lists.
     pub fn make(alloc: Global, count: usize) -> Result<Piles<T>, AllocError>
         ensures { IfOk result (λ piles. piles ≡ replicate count []) }
     {
-        let mut piles = Piles::none(alloc);
-        for _i in 0..count {
-            piles.add(Vec::new(alloc))?;
+        let mut list = Vec::new(alloc);
+        for _ in 0..count {
+            list.push(Vec::new(alloc))?;
         }
-        Ok(piles)
+        Ok(Piles { list })
     }
 
-    /// How many lists there are.
-    pub fn count(&self) -> usize
-        ensures { result ≡ length self.now }
-    {
-        self.list.len()
-    }
-
-    /// One more list.
-    pub fn add(&mut self, list: Vec<T>) -> Result<(), AllocError>
-        ensures { OnOk result (self.new ≡ self.old ++ list.items ∷ []) }
-    {
-        self.list.push(list)?;
-        Ok(())
-    }
-
-    /// One more element on a list.
-    pub fn push(&mut self, at: usize, x: T) -> Result<(), AllocError>
+    /// Another list at a number.
+    pub fn put(&mut self, at: usize, list: Vec<T>)
         requires { at < length self.old }
-        ensures { OnOk result (self.new ≡ slice_set self.old at (slice_index_or self.old at [] ++ x ∷ [])) }
+        ensures { self.new ≡ slice_set self.old at list.items }
     {
-        self.list[at].push(x)?;
-        Ok(())
+        self.list[at] = list;
     }
 
     /// The list of a number.

@@ -1,111 +1,78 @@
-//! Which channel each request of a phase goes to.
-ghost use Rattle.std.specs.Prelude.{◌≡◌, ◌<◌, ◌++◌, ◌∷◌, [], ℕ, List, length, IfOk, OnOk};
+//! Which channels a phase opens, and what the script orders of each.
+ghost use Rattle.std.specs.Prelude.{◌≡◌, ◌+◌, ◌<◌, ◌≤◌, ◌^◌, ◌++◌, List, length, IfOk, OnOk};
+ghost use Rattle.script_lines.specs.declared.line.DeviceSpec.{DeviceSpec as OneSpec};
 ghost use Rattle.script_lines.specs.declared.line.Line.{Line as OneLine};
-ghost use Rattle.bus_model.specs.Dests.{Dest, Address as Place, dest_in, dest_of, ended_by};
-ghost use Rattle.bus_plan.specs.Flags.{IsBelow, AllBelow};
+ghost use Rattle.script_phases.specs.Openings.{Opening as OneOpening, Phase, subs_of, by_relid, is_opened};
 ghost use Rattle.bus_plan.specs.Endings.{AreEnded};
-ghost use Rattle.bus_plan.specs.Plans.{IsPlanned, IsPlan};
+ghost use Rattle.bus_plan.specs.Plans.{IsPhaseOf, IsOrdered, EachOrdered, first_opening, opening_if};
 
-use crate::{Address, Ending, Piles, blank, mark_stops, mark_wanted};
-use bus_script::{Ask, Line, What};
-use chan_state::Stop;
-use contact::tried;
+use crate::heard::{asks_of, is_spoken_to, stop_of};
+use crate::{ChannelOrder, Ending, Opening};
+use bus_script::Line;
 use std::alloc::{AllocError, Global};
 
-/// What each channel is asked in a phase, the devices for which its lines open a channel, where each device stops, and where the outcome of each line will stand.
-#[derive(Drop)]
-pub struct PartPlan {
-    pub asks: Piles<Ask>,
-    pub wanted: Vec<bool>,
-    pub stops: Vec<Option<Stop>>,
-    pub addresses: Vec<Address>,
+/// Whether a phase opens a device: a line of the phase speaks to it, and no earlier phase ended it.
+fn is_opened(ended: &[Option<Ending>], device: usize, part: &[Line]) -> bool
+    requires within { device < length ended.now }
+    requires few { length ended.now ≤ 16 }
+    ensures { (earlier : List OneLine) → AreEnded earlier ended.now → result ≡ is_opened earlier part.now device }
+{
+    if ended[device].is_some() {
+        return false;
+    }
+    is_spoken_to(device as u32, part)
 }
 
-/// One request: it goes to its device's channel, or its outcome is known where an earlier phase ended the device.
-fn deal_ask(
-    asks: &mut Piles<Ask>,
-    addresses: &mut Vec<Address>,
+/// The first channel of a device, and what the script orders of it. Relids count from 1, in order of offer.
+fn order_first(alloc: Global, device: u32, part: &[Line]) -> Result<ChannelOrder, AllocError>
+    requires { device + 1 < 2 ^ 32 }
+    ensures { IfOk result (λ order. (p : Phase) (spec : OneSpec) → p.part ≡ part.now → subs_of spec ≡ 0 → IsOrdered p (first_opening device spec) order) }
+{
+    let asks = asks_of(alloc, device, part)?;
+    Ok(ChannelOrder {
+        opening: Opening {
+            relid: device + 1,
+            device,
+            sub: 0,
+        },
+        asks,
+        stop: stop_of(device, part),
+    })
+}
+
+/// The channels of one more device, if the phase opens it.
+fn plan_device(
+    alloc: Global,
     ended: &[Option<Ending>],
     device: usize,
-    ask: &Ask,
+    part: &[Line],
+    plan: &mut Vec<ChannelOrder>,
 ) -> Result<(), AllocError>
-    requires ended { device < length ended.now }
-    requires piles { device < length asks.old }
-    ensures count { OnOk result (length asks.new ≡ length asks.old) }
-    ensures plan { OnOk result ((channels : ℕ) (all : List Place) (done left : List Dest) (earlier : List OneLine) → AreEnded earlier ended.now
-        → IsPlanned channels all done (dest_of (ended_by device earlier) device ask.now ∷ left) asks.old addresses.old.items
-        → IsPlanned channels all (done ++ dest_of (ended_by device earlier) device ask.now ∷ []) left asks.new addresses.new.items) }
+    requires within { device < length ended.now }
+    requires few { length ended.now ≤ 16 }
+    ensures { OnOk result ((p : Phase) (spec : OneSpec) (os : List OneOpening) → p.part ≡ part.now → AreEnded p.earlier ended.now → subs_of spec ≡ 0
+        → EachOrdered p os plan.old.items → EachOrdered p (os ++ opening_if p device spec) plan.new.items) }
 {
-    match ended[device] {
-        Some(Ending::Rescinded) => {
-            addresses.push(Address::Gone)?;
-            Ok(())
-        }
-        Some(Ending::Closed) => {
-            addresses.push(Address::Closed)?;
-            Ok(())
-        }
-        None => {
-            addresses.push(Address::At {
-                channel: device,
-                place: asks.get(device).len(),
-            })?;
-            asks.push(device, ask.again())?;
-            Ok(())
-        }
+    if !is_opened(ended, device, part) {
+        return Ok(());
     }
+    let order = order_first(alloc, device as u32, part)?;
+    plan.push(order)?;
+    Ok(())
 }
 
-/// One more line of a phase.
-fn deal(
-    asks: &mut Piles<Ask>,
-    addresses: &mut Vec<Address>,
-    ended: &[Option<Ending>],
-    what: &What,
-) -> Result<(), AllocError>
-    requires ended { IsBelow (length ended.now) what.now }
-    requires piles { IsBelow (length asks.old) what.now }
-    ensures count { OnOk result (length asks.new ≡ length asks.old) }
-    ensures plan { OnOk result ((channels : ℕ) (all : List Place) (done left : List Dest) (earlier : List OneLine) → AreEnded earlier ended.now
-        → IsPlanned channels all done (dest_in earlier what.now ++ left) asks.old addresses.old.items
-        → IsPlanned channels all (done ++ dest_in earlier what.now) left asks.new addresses.new.items) }
-{
-    match what {
-        What::Ask { device, ask } => {
-            deal_ask(asks, addresses, ended, *device as usize, ask)?;
-            Ok(())
-        }
-        What::Contact { guest, host } => {
-            let tried = tried(*guest, *host);
-            addresses.push(Address::Tried(tried))?;
-            Ok(())
-        }
-        _ => Ok(()),
-    }
-}
-
-/// Plans a phase. `ended` says how an earlier phase ended each device.
+/// Plans a phase: the channels that it opens, in order of their relids, and what the script orders of each. `ended` says how an earlier phase ended each device.
 pub fn plan_part(
     alloc: Global,
     ended: &[Option<Ending>],
     part: &[Line],
-) -> Result<PartPlan, AllocError>
-    requires { AllBelow (length ended.now) part.now }
-    ensures { IfOk result (λ plan. (earlier : List OneLine) → AreEnded earlier ended.now → IsPlan (length ended.now) earlier part.now plan) }
+) -> Result<Vec<ChannelOrder>, AllocError>
+    requires { length ended.now ≤ 16 }
+    ensures { IfOk result (λ plan. (specs : List OneSpec) (p : Phase) → IsPhaseOf part.now ended.now specs p → EachOrdered p (by_relid p.opened) plan.items) }
 {
-    let mut asks = Piles::make(alloc, ended.len())?;
-    let mut addresses = Vec::new(alloc);
-    for line in part {
-        deal(&mut asks, &mut addresses, ended, &line.what)?;
+    let mut plan = Vec::new(alloc);
+    for device in 0..ended.len() {
+        plan_device(alloc, ended, device, part, &mut plan)?;
     }
-    let mut wanted = vec![in alloc; false; ended.len()]?;
-    mark_wanted(&mut wanted, part);
-    let mut stops = blank(alloc, ended.len())?;
-    mark_stops(&mut stops, part);
-    Ok(PartPlan {
-        asks,
-        wanted,
-        stops,
-        addresses,
-    })
+    Ok(plan)
 }

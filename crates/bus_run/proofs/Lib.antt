@@ -1,8 +1,9 @@
 pub mod Histories
 pub mod Growing
 pub mod SeatEnds
+pub mod Places
 pub mod Opened
-pub mod DevicesBack
+pub mod Closed
 pub mod Asking
 pub mod SettingLines
 pub mod BadPlaces

@@ -3,18 +3,21 @@ use Rattle.std.proofs.Common.{◌≡◌, ℕ, zero, suc, ◌+◌, ◌*◌, ◌<�
 use Rattle.std.specs.Prelude.{map, All, MatchOption, ⊤, is_some, IsTrue, ◌↔◌}
 use Rattle.std.proofs.lemmas.Bool.{cases_eq}
 use Rattle.std.proofs.lemmas.Bool.Decides.{nat_tests}
-use Rattle.std.specs.List.{slice_split, onto_first}
+use Rattle.std.specs.List.{slice_split, onto_first, flat_map, AllByRecursion}
 use Rattle.std.proofs.Math.ListN.{length-set}
-use Rattle.std.proofs.lemmas.List.{take_more, drop_more, take_all, append-nil, map-append, length-map, drop-set-lt, drop-drop, drop_all, length-drop, length-replicate, get_or-replicate}
+use Rattle.std.proofs.lemmas.List.{take_more, drop_more, take_all, append-nil, map-append, length-map, drop-set-lt, drop-drop, length-drop, length-replicate, get_or-replicate}
 use Rattle.std.proofs.lemmas.List.Elements.{All-push}
 use Rattle.std.proofs.lemmas.Grind.{flat_map-append}
 use Rattle.script_lines.specs.declared.line.Line.{Line}
 use Rattle.script_lines.specs.declared.line.DeviceSpec.{DeviceSpec}
 use Rattle.bus_script.specs.declared.outcome.LineResult.{LineResult}
 use Rattle.script_lines.specs.Parts.{parts, ends_part, offered, offered_by, bads_of}
-use Rattle.script_lines.specs.WellFormed.{AllRight, AllGo}
+use Rattle.script_lines.specs.WellFormed.{AllRight, AllGo, IsScript}
+use Rattle.script_phases.specs.Openings.{Phase, subs_of, is_opened, opened_from, others, phases_from, phases}
+use Rattle.script_phases.proofs.NoSubs.{is_script_no_subs}
 use Rattle.bus_model.specs.Logs.{EachHistory, IsHistory, log_of}
-use Rattle.bus_model.specs.ByDevice.{PhaseRuns, RunFrom, IsBusRun}
+use Rattle.bus_model.specs.Logs.{Recorded}
+use Rattle.bus_model.specs.Run.{PhaseRuns, RunsOf, over, then_on, IsBusRun}
 use Rattle.bus_model.specs.declared.channel_run.ChannelRun.{ChannelRun}
 use Rattle.bus_model.specs.declared.history.DeviceHistory.{DeviceHistory}
 use Rattle.bus_plan.specs.Endings.{AreEnded, outcome_left}
@@ -24,8 +27,7 @@ use Rattle.bus_run.specs.declared.runner.Runner.{Runner}
 use Rattle.scsi_disk.specs.DiskModel.{DiskState}
 use Rattle.bus_run.specs.Desk.{spec_of, setup_of, setup_for, desk_log, IsFresh, IsReady}
 use Rattle.bus_run.specs.Settings.{SettingsOf}
-use Rattle.bus_run.specs.Whole.{PhaseRan, AreFresh, setups_from, parts_left, NextWithin, behind, RunsOn, RunsSoFar}
-use Rattle.bus_run.proofs.Opened.{desk_there}
+use Rattle.bus_run.specs.Whole.{IsThis, PhaseRan, AreFresh, setups_from, specs_of, parts_left, earlier_lines, NextWithin, behind, RunsSoFar}
 
 -- new devices
 
@@ -51,6 +53,12 @@ offered_taken lines i line less is =
     ∙ ap (λ l. offered (take i lines) ++ l) (append-nil (offered_by line.what))
 
 -- histories at the end
+
+-- a device that was not reached is the old one
+pub rest_there : (old desks : List Desk) (i : ℕ) (desk : Desk) → drop i desks ≡ drop i old → i < length desks → i < length old → desk ≡ get_or desks i desk → desk ≡ get_or old i desk
+rest_there old desks i desk rest less within is =
+    let heads : get_or desks i desk ∷ drop (i + 1) desks ≡ get_or old i desk ∷ drop (i + 1) old = sym (drop_more desks i desk less) ∙ rest ∙ drop_more old i desk within in
+    is ∙ ap (λ (l : List Desk). get_or l 0 desk) heads
 
 -- each history is its device's
 abbrev pub EachTells : List Desk → List DeviceHistory → Type 0
@@ -82,7 +90,7 @@ pub history_more : (i : ℕ) (old desks : List Desk) (histories : List DeviceHis
     → ((bad : List ℕ) → setup_of desk ≡ setup_for (spec_of desk) bad → IsHistory (spec_of desk) bad h) → HistoriesSoFar (i + 1) old (slice_set desks i gone) (histories ++ h ∷ [])
 history_more i old desks histories desk gone h so_far less is log legal =
     let within : i < length old = omega (arith, less, so_far.count) in
-    let here : desk ≡ get_or old i desk = desk_there old desks i desk so_far.rest less within is in
+    let here : desk ≡ get_or old i desk = rest_there old desks i desk so_far.rest less within is in
     let taken : take (i + 1) old ≡ take i old ++ desk ∷ [] = take_more old i desk within ∙ ap (λ (d : Desk). take i old ++ d ∷ []) (sym here) in
     record {
       logs = map-append log_of histories (h ∷ []) ∙ ap (λ l. l ++ log_of h ∷ []) so_far.logs ∙ ap (λ x. map desk_log (take i old) ++ x ∷ []) log ∙ sym (ap (map desk_log) taken ∙ map-append desk_log (take i old) (desk ∷ []));
@@ -93,8 +101,8 @@ history_more i old desks histories desk gone h so_far less is log legal =
 
 pub histories_end : (i : ℕ) (old desks : List Desk) (histories : List DeviceHistory) → HistoriesSoFar i old desks histories → length old ≤ i
     → (map log_of histories ≡ map desk_log old) × ((lines : List Line) → map setup_of old ≡ setups_from lines 0 (map spec_of old) → EachHistory lines 0 (map spec_of old) histories)
-histories_end i old desks histories so_far over =
-    let whole : take i old ≡ old = take_all i old over in (
+histories_end i old desks histories so_far done =
+    let whole : take i old ≡ old = take_all i old done in (
       so_far.logs ∙ ap (map desk_log) whole,
       λ lines are. each_history lines 0 old histories (subst (λ l. EachTells l histories) whole so_far.legal) are,
     )
@@ -176,60 +184,120 @@ pub fits_next : (lines : List Line) (at : ℕ) (next : Option ℕ) → at ≤ le
 fits_next lines at None le few is = is
 fits_next lines at (Some n) le few is = omega (arith, le, few, is, length-drop at lines)
 
-pub runs_on : (kinds : List DeviceSpec) (all : List (List Line)) (phase : ℕ) (earlier part : List Line) (left : List (List Line)) (desks desks' : List Desk) (settled settled' : List ChannelRun) (results results' : List LineResult)
-    → map spec_of desks ≡ kinds → RunsOn kinds all phase earlier (part ∷ left) desks settled results → PhaseRan phase earlier part desks desks' settled settled' results results' → RunsOn kinds all (phase + 1) (earlier ++ part) left desks' settled' results'
-runs_on kinds all phase earlier part left desks desks' settled settled' results results' are on ran s after r run =
-    let first : PhaseRuns kinds phase earlier part (map desk_log desks) (map desk_log desks') ran.runs ran.told = subst (λ k. PhaseRuns k phase earlier part (map desk_log desks) (map desk_log desks') ran.runs ran.told) are ran.phase_runs in
-    let whole = on (ran.runs ++ s) after (ran.told ++ r) (ran.runs, ran.told, map desk_log desks', s, r, first, run, refl, refl) in
-    let settled_are : settled ++ (ran.runs ++ s) ≡ settled' ++ s = sym (append_assoc settled ran.runs s) ∙ ap (λ l. l ++ s) (sym ran.settled_are) in
-    let results_are : results ++ (ran.told ++ r) ≡ results' ++ r = sym (append_assoc results ran.told r) ∙ ap (λ l. l ++ r) (sym ran.results_are) in
-    subst (λ l. RunFrom kinds 0 [] all (map (λ k. []) kinds) l after (results' ++ r)) settled_are (subst (λ l. RunFrom kinds 0 [] all (map (λ k. []) kinds) (settled ++ (ran.runs ++ s)) after l) results_are whole)
+-- a run of some phases goes on with one more
+pub runs_push : (ps : List Phase) (before between after : List (List Recorded)) (settled runs : List ChannelRun) (results told : List LineResult) (p : Phase) → RunsOf ps before settled between results → PhaseRuns p between after runs told
+    → RunsOf (ps ++ p ∷ []) before (settled ++ runs) after (results ++ told)
+runs_push [] before between after settled runs results told p over one =
+    subst (λ l. RunsOf (p ∷ []) between l after told) (append-nil runs) (subst (λ l. RunsOf (p ∷ []) between (runs ++ []) after l) (append-nil told) (then_on one over))
+runs_push (q ∷ ps) before between after settled runs results told p (then_on {between = first} {runs = rs} {settled = ss} {told = ts} {results = rest} here on) one =
+    subst (λ l. RunsOf (q ∷ (ps ++ p ∷ [])) before l after ((ts ++ rest) ++ told)) (sym (append_assoc rs ss runs))
+    (subst (λ l. RunsOf (q ∷ (ps ++ p ∷ [])) before (rs ++ (ss ++ runs)) after l) (sym (append_assoc ts rest told)) (then_on here (runs_push ps first between after ss runs rest told p on one)))
+
+-- each phase of a script
+
+pub no_phase : Phase
+no_phase = record { number = 0; earlier = []; part = []; opened = [] }
+
+record IsAt (specs : List DeviceSpec) (number : ℕ) (earlier : List Line) (ps : List (List Line)) (k : ℕ) (p : Phase) : Type 0 where
+  pub number_is : p.number ≡ number + k
+  pub earlier_is : p.earlier ≡ earlier ++ flat_map (λ part. part) (take k ps)
+  pub part_is : p.part ≡ get_or ps k []
+  pub next : ℕ
+  pub opened : p.opened ≡ opened_from (is_opened p.earlier p.part) 0 next specs
+
+phases_long : (specs : List DeviceSpec) (number next : ℕ) (earlier : List Line) (ps : List (List Line)) → length (phases_from specs number next earlier ps) ≡ length ps
+phases_long specs number next earlier [] = refl
+phases_long specs number next earlier (part ∷ rest) = ap suc (phases_long specs (number + 1) _ (earlier ++ part) rest)
+
+phase_at : (specs : List DeviceSpec) (number next : ℕ) (earlier : List Line) (ps : List (List Line)) (k : ℕ) (d : Phase) → k < length ps → IsAt specs number earlier ps k (get_or (phases_from specs number next earlier ps) k d)
+phase_at specs number next earlier [] k d less = absurd (omega (arith, less))
+phase_at specs number next earlier (part ∷ rest) zero d less =
+    record { number_is = omega arith; earlier_is = sym (append-nil earlier); part_is = refl; next = next; opened = refl }
+phase_at specs number next earlier (part ∷ rest) (suc k) d less =
+    let at = phase_at specs (number + 1) (next + length (others (opened_from (is_opened earlier part) 0 next specs))) (earlier ++ part) rest k d (omega (arith, less)) in
+    record {
+      number_is = omega (arith, at.number_is);
+      earlier_is = at.earlier_is ∙ append_assoc earlier part (flat_map (λ part. part) (take k rest));
+      part_is = at.part_is;
+      next = at.next;
+      opened = at.opened;
+    }
+
+-- the phase of a script with this number
+abbrev pub the_phase : List Line → ℕ → Phase
+the_phase lines k = get_or (phases lines) k no_phase
+
+-- it is the one that runs next
+pub next_phase : (lines : List Line) (r : Runner) (part : List Line) (rest : List (List Line)) → RunsSoFar lines r → IsScript lines → part ∷ rest ≡ drop r.phase (parts lines) → IsThis r.phase part r.ended.items (specs_of r.desks.items) (the_phase lines r.phase)
+next_phase lines r part rest so_far script left =
+    let less : r.phase < length (parts lines) = (this_phase (parts lines) r.phase part rest left).0 in
+    let at = phase_at (offered lines) 0 (length (offered lines) + 1) [] (parts lines) r.phase no_phase less in
+    let head : part ≡ get_or (parts lines) r.phase [] = ap (λ (l : List (List Line)). get_or l 0 []) (left ∙ drop_more (parts lines) r.phase [] less) in
+    let kinds = so_far.kinds in
+    record {
+      number = omega (arith, at.number_is);
+      of = record {
+        part_is = at.part_is ∙ sym head;
+        ended_are = subst (λ l. AreEnded l r.ended.items) (sym at.earlier_is) so_far.ended;
+        devices = length-map r.desks.items spec_of ∙ sym so_far.ended_count;
+        single = subst (AllByRecursion (λ k. subs_of k ≡ 0)) (sym kinds) (is_script_no_subs lines script);
+        next = at.next;
+        opened = at.opened ∙ ap (opened_from (is_opened (the_phase lines r.phase).earlier (the_phase lines r.phase).part) 0 at.next) (sym kinds);
+      };
+    }
 
 -- no phase ran
 pub start : (lines : List Line) (r : Runner) → AreFresh lines (offered lines) r.desks.items → SettingsOf lines (length r.desks.items) r.settings.items → r.ended.items ≡ replicate (length r.desks.items) None → r.phase ≡ 0 → r.next ≡ Some 0 → r.settled.items ≡ [] → r.results.items ≡ []
     → RunsSoFar lines r
-start lines r fresh settings none phase next settled results = record {
-  earlier = [];
-  runs = λ s after told run.
-      subst (λ l. RunFrom (offered lines) 0 [] (parts lines) (map (λ k. []) (offered lines)) (l ++ s) after (r.results.items ++ told)) (sym settled)
-      (subst (λ l. RunFrom (offered lines) 0 [] (parts lines) (map (λ k. []) (offered lines)) s after (l ++ told)) (sym results)
-      (subst (λ l. RunFrom (offered lines) 0 [] (parts lines) l s after told) fresh.logs
-      (subst (λ p. RunFrom (offered lines) p [] (parts lines) (map desk_log r.desks.items) s after told) phase
-      (subst (λ n. RunFrom (offered lines) r.phase [] (parts_left lines n) (map desk_log r.desks.items) s after told) next run))));
-  left = ap (parts_left lines) next ∙ ap (λ p. drop p (parts lines)) (sym phase);
-  within = subst (NextWithin lines) (sym next) (omega arith);
-  counted = omega (arith, phase);
-  kinds = fresh.kinds_are;
-  setups = fresh.setups_are;
-  ready = λ k d less. record { kept = (fresh.ready k d less).kept; few = omega (arith, (fresh.ready k d less).few) };
-  settings = settings;
-  ended = λ k less.
-      let blank : Option Ending = None in
-      let within : k < length r.desks.items = omega (arith, less, ap length none, length-replicate (length r.desks.items) blank) in
-      ap outcome_left (ap (λ l. slice_index_or l k None) none ∙ get_or-replicate (length r.desks.items) k blank None within);
-  ended_count = ap length none ∙ length-replicate (length r.desks.items) None;
-}
+start lines r fresh settings none phase next settled results =
+    let before : List (List Recorded) = map (λ k. []) (offered lines) in
+    record {
+      runs = subst (λ k. RunsOf (take k (phases lines)) before r.settled.items (map desk_log r.desks.items) r.results.items) (sym phase)
+          (subst (λ l. RunsOf [] before r.settled.items l r.results.items) (sym fresh.logs)
+          (subst (λ l. RunsOf [] before l before r.results.items) (sym settled) (subst (λ l. RunsOf [] before [] before l) (sym results) over)));
+      left = ap (parts_left lines) next ∙ ap (λ p. drop p (parts lines)) (sym phase);
+      within = subst (NextWithin lines) (sym next) (omega arith);
+      counted = omega (arith, phase);
+      kinds = fresh.kinds_are;
+      setups = fresh.setups_are;
+      ready = λ k d less. record { kept = (fresh.ready k d less).kept; few = omega (arith, (fresh.ready k d less).few) };
+      settings = settings;
+      ended = subst (λ n. AreEnded (earlier_lines lines n) r.ended.items) (sym phase)
+          (λ k less.
+          let blank : Option Ending = None in
+          let within : k < length r.desks.items = omega (arith, less, ap length none, length-replicate (length r.desks.items) blank) in
+          ap outcome_left (ap (λ l. slice_index_or l k None) none ∙ get_or-replicate (length r.desks.items) k blank None within));
+      ended_count = ap length none ∙ length-replicate (length r.desks.items) None;
+    }
 
 -- one more phase ran
-pub go_on : (lines part : List Line) (old new : Runner) (at : ℕ) (next : Option ℕ) → RunsSoFar lines old → old.next ≡ Some at → length lines ≤ 20000
+pub go_on : (lines part : List Line) (old new : Runner) (at : ℕ) (next : Option ℕ) → RunsSoFar lines old → IsScript lines → old.next ≡ Some at
     → MatchOption next (parts (drop at lines) ≡ part ∷ []) (λ n. parts (drop at lines) ≡ part ∷ parts (drop n (drop at lines))) → MatchOption next ⊤ (λ n. n ≤ length (drop at lines))
-    → ((earlier : List Line) → AreEnded earlier old.ended.items → PhaseRan old.phase earlier part old.desks.items new.desks.items old.settled.items new.settled.items old.results.items new.results.items)
+    → ((p : Phase) → IsThis old.phase part old.ended.items (specs_of old.desks.items) p → PhaseRan p old.desks.items new.desks.items old.settled.items new.settled.items old.results.items new.results.items)
     → ((earlier : List Line) → AreEnded earlier old.ended.items → AreEnded (earlier ++ part) new.ended.items)
     → length new.ended.items ≡ length old.ended.items → All (IsReady (4096 * (old.phase + 1))) new.desks.items → new.phase ≡ old.phase + 1 → new.next ≡ behind at next → new.settings.items ≡ old.settings.items → RunsSoFar lines new
-go_on lines part old new at next so_far here few split within ran ended count ready phase moved settings =
+go_on lines part old new at next so_far script here split within ran ended count ready phase moved settings =
     let cut : parts (drop at lines) ≡ part ∷ parts_left lines (behind at next) = part_next lines part at next split in
     let left : part ∷ parts_left lines (behind at next) ≡ drop old.phase (parts lines) = sym cut ∙ ap (parts_left lines) (sym here) ∙ so_far.left in
-    let one = ran so_far.earlier so_far.ended in
+    let p = the_phase lines old.phase in
+    let one = ran p (next_phase lines old part (parts_left lines (behind at next)) so_far script left) in
     let this = this_phase (parts lines) old.phase part (parts_left lines (behind at next)) left in
     let started : at ≤ length lines = subst (NextWithin lines) here so_far.within in
     let desks : length new.desks.items ≡ length old.desks.items = sym (length-map new.desks.items spec_of) ∙ ap length one.kinds ∙ length-map old.desks.items spec_of in
-    let runs : RunsOn (offered lines) (parts lines) old.phase so_far.earlier (part ∷ parts_left lines (behind at next)) old.desks.items old.settled.items old.results.items =
-    subst (λ ps. RunsOn (offered lines) (parts lines) old.phase so_far.earlier ps old.desks.items old.settled.items old.results.items) (ap (parts_left lines) here ∙ cut) so_far.runs in
-    let on = runs_on (offered lines) (parts lines) old.phase so_far.earlier part (parts_left lines (behind at next)) old.desks.items new.desks.items old.settled.items new.settled.items old.results.items new.results.items so_far.kinds runs one in
+    let less : old.phase < length (phases lines) = omega (arith, this.0, phases_long (offered lines) 0 (length (offered lines) + 1) [] (parts lines)) in
+    let before : List (List Recorded) = map (λ k. []) (offered lines) in
+    let whole : RunsOf (take old.phase (phases lines) ++ p ∷ []) before (old.settled.items ++ one.runs) (map desk_log new.desks.items) (old.results.items ++ one.told) =
+    runs_push (take old.phase (phases lines)) before (map desk_log old.desks.items) (map desk_log new.desks.items) old.settled.items one.runs old.results.items one.told p so_far.runs one.phase_runs in
+    let taken : take new.phase (phases lines) ≡ take old.phase (phases lines) ++ p ∷ [] = ap (λ n. take n (phases lines)) phase ∙ take_more (phases lines) old.phase no_phase less in
+    let head : part ≡ get_or (parts lines) old.phase [] = ap (λ (l : List (List Line)). get_or l 0 []) (left ∙ drop_more (parts lines) old.phase [] this.0) in
+    let lines_behind : earlier_lines lines old.phase ++ part ≡ earlier_lines lines new.phase =
+    ap (λ l. earlier_lines lines old.phase ++ l) (head ∙ sym (append-nil (get_or (parts lines) old.phase [])))
+    ∙ (sym (flat_map-append (λ (part : List Line). part) (take old.phase (parts lines)) (get_or (parts lines) old.phase [] ∷ []))
+    ∙ ap (flat_map (λ part. part)) (sym (ap (λ n. take n (parts lines)) phase ∙ take_more (parts lines) old.phase [] this.0))) in
     record {
-      earlier = so_far.earlier ++ part;
-      runs = subst (λ p. RunsOn (offered lines) (parts lines) p (so_far.earlier ++ part) (parts_left lines new.next) new.desks.items new.settled.items new.results.items) (sym phase)
-          (subst (λ n. RunsOn (offered lines) (parts lines) (old.phase + 1) (so_far.earlier ++ part) (parts_left lines n) new.desks.items new.settled.items new.results.items) (sym moved) on);
+      runs = subst (λ ps. RunsOf ps before new.settled.items (map desk_log new.desks.items) new.results.items) (sym taken)
+          (subst (λ l. RunsOf (take old.phase (phases lines) ++ p ∷ []) before l (map desk_log new.desks.items) new.results.items) (sym one.settled_are)
+          (subst (λ l. RunsOf (take old.phase (phases lines) ++ p ∷ []) before (old.settled.items ++ one.runs) (map desk_log new.desks.items) l) (sym one.results_are) whole));
       left = ap (parts_left lines) moved ∙ this.2 ∙ ap (λ p. drop p (parts lines)) (sym phase);
       within = subst (NextWithin lines) (sym moved) (within_next lines at next started within);
       counted = omega (arith, phase, this.0);
@@ -237,22 +305,17 @@ go_on lines part old new at next so_far here few split within ran ended count re
       setups = one.setups ∙ so_far.setups;
       ready = subst (λ p. All (IsReady (4096 * p)) new.desks.items) (sym phase) ready;
       settings = subst (λ n. SettingsOf lines n new.settings.items) (sym desks) (subst (SettingsOf lines (length old.desks.items)) (sym settings) so_far.settings);
-      ended = ended so_far.earlier so_far.ended;
+      ended = subst (λ l. AreEnded l new.ended.items) lines_behind (ended (earlier_lines lines old.phase) so_far.ended);
       ended_count = count ∙ so_far.ended_count ∙ sym desks;
     }
 
 -- all phases ran
 pub finish : (lines : List Line) (r : Runner) (histories : List DeviceHistory) → RunsSoFar lines r → r.phase ≡ length (parts lines) → map log_of histories ≡ map desk_log r.desks.items → ((ls : List Line) → map setup_of r.desks.items ≡ setups_from ls 0 (map spec_of r.desks.items) → EachHistory ls 0 (map spec_of r.desks.items) histories)
     → IsBusRun lines r.settled.items histories r.results.items
-finish lines r histories so_far over logs legal =
-    let kinds = offered lines in
-    let none : parts_left lines r.next ≡ [] = so_far.left ∙ drop_all r.phase (parts lines) (omega (arith, over)) in
-    let nothing : RunFrom kinds r.phase so_far.earlier (parts_left lines r.next) (map desk_log r.desks.items) [] (map desk_log r.desks.items) [] =
-    subst (λ ps. RunFrom kinds r.phase so_far.earlier ps (map desk_log r.desks.items) [] (map desk_log r.desks.items) []) (sym none) (refl, refl, refl) in
-    let whole : RunFrom kinds 0 [] (parts lines) (map (λ k. []) kinds) (r.settled.items ++ []) (map desk_log r.desks.items) (r.results.items ++ []) = so_far.runs [] (map desk_log r.desks.items) [] nothing in
-    let a = subst (λ l. RunFrom kinds 0 [] (parts lines) (map (λ k. []) kinds) l (map desk_log r.desks.items) (r.results.items ++ [])) (append-nil r.settled.items) whole in
-    let b = subst (λ l. RunFrom kinds 0 [] (parts lines) (map (λ k. []) kinds) r.settled.items (map desk_log r.desks.items) l) (append-nil r.results.items) a in
+finish lines r histories so_far done logs legal =
+    let all : take r.phase (phases lines) ≡ phases lines = take_all r.phase (phases lines) (omega (arith, done, phases_long (offered lines) 0 (length (offered lines) + 1) [] (parts lines))) in
+    let before : List (List Recorded) = map (λ k. []) (offered lines) in
     record {
-      phases = subst (λ l. RunFrom kinds 0 [] (parts lines) (map (λ k. []) kinds) r.settled.items l r.results.items) (sym logs) b;
+      phases_run = subst (λ l. RunsOf (phases lines) before r.settled.items l r.results.items) (sym logs) (subst (λ ps. RunsOf ps before r.settled.items (map desk_log r.desks.items) r.results.items) all so_far.runs);
       legal = subst (λ k. EachHistory lines 0 k histories) so_far.kinds (legal lines (so_far.setups ∙ ap (setups_from lines 0) (sym so_far.kinds)));
     }

@@ -1,5 +1,5 @@
 -- A device behind the seat that it had in a phase.
-use Rattle.std.proofs.Common.{◌≡◌, ℕ, zero, suc, ◌+◌, ◌<◌, List, [], ◌∷◌, ◌++◌, length, Some, take, drop, get_or, ap, sym, ◌∙◌, refl, arith}
+use Rattle.std.proofs.Common.{◌≡◌, ℕ, List, [], ◌∷◌, Some, ap, sym, ◌∙◌, refl}
 use Rattle.script_lines.specs.declared.line.Ask.TheVariants.{Ic as AskIc, Disk as AskDisk}
 use Rattle.script_lines.specs.declared.line.DeviceSpec.TheVariants.{Disk}
 use Rattle.bus_script.specs.declared.outcome.Reply.TheVariants.{Ic as ReplyIc, Disk as ReplyDisk}
@@ -40,7 +40,7 @@ module _ {S Q A : Type 0} (start : S) (past : List (Entry S Q A)) (quota : ℕ) 
   first_kept = ap (λ l. l.first) same.lock ∙ new.first_is
 
 pub beat_goes_on : (old : Desk) (quota : ℕ) (first : DeviceSeat) (seat : Seat BeatMachine IcAsk IcAnswer) (state : BeatMachine) (history : History BeatMachine IcAsk IcAnswer) → IsSeatFor old quota first → IsSameSeat first (BeatSeat seat)
-    → Closes (λ s q. s) (λ s q. beat_reply q) (seat ∷ []) (entries_of history) → Leaves (λ s. beat_start) (λ s q. s) (λ s q. beat_reply q) (entries_of history) state → GoesOn old (BeatDesk state history) (ic_served seat.calls)
+    → Closes (λ s q. s) (λ s q. beat_reply q) (seat ∷ []) (entries_of history) → Leaves (λ s. beat_start) (λ s q. s) (λ s q. beat_reply q) (entries_of history) state → GoesOn old (BeatDesk state history) (ic_served seat.calls ∷ [])
 beat_goes_on (Out subs) quota first seat state history is same closes leaves = absurd is
 beat_goes_on (BeatDesk state' history') quota (BeatSeat f) seat state history is same closes leaves = record {
   grows = grows_one AskIc ReplyIc (λ s q. s) (λ s q. beat_reply q) seat (entries_of history') (entries_of history) closes (number_kept beat_start (entries_of history') quota f seat is same) (past_kept beat_start (entries_of history') quota f seat is same);
@@ -58,7 +58,7 @@ beat_goes_on (DiskDesk subs state' history') quota (DownSeat f) seat state histo
 beat_goes_on (DiskDesk subs state' history') quota (DiskSeat f) seat state history is same closes leaves = absurd same
 
 pub down_goes_on : (old : Desk) (quota : ℕ) (first : DeviceSeat) (seat : Seat DownMachine IcAsk IcAnswer) (state : DownMachine) (history : History DownMachine IcAsk IcAnswer) → IsSeatFor old quota first → IsSameSeat first (DownSeat seat)
-    → Closes (λ s q. s) (λ s q. down_reply q) (seat ∷ []) (entries_of history) → Leaves (λ s. down_start) (λ s q. s) (λ s q. down_reply q) (entries_of history) state → GoesOn old (DownDesk state history) (ic_served seat.calls)
+    → Closes (λ s q. s) (λ s q. down_reply q) (seat ∷ []) (entries_of history) → Leaves (λ s. down_start) (λ s q. s) (λ s q. down_reply q) (entries_of history) state → GoesOn old (DownDesk state history) (ic_served seat.calls ∷ [])
 down_goes_on (Out subs) quota first seat state history is same closes leaves = absurd is
 down_goes_on (BeatDesk state' history') quota (BeatSeat f) seat state history is same closes leaves = absurd same
 down_goes_on (BeatDesk state' history') quota (DownSeat f) seat state history is same closes leaves = absurd is
@@ -78,7 +78,7 @@ down_goes_on (DiskDesk subs state' history') quota (DiskSeat f) seat state histo
 -- no request changes how many blocks a disk has and which places are bad
 pub disk_goes_on : (old : Desk) (subs quota : ℕ) (first : DeviceSeat) (seat : Seat Kept DiskRequest DiskReply) (state : Kept) (history : History Kept DiskRequest DiskReply) → subs_of old ≡ subs → IsSeatFor old quota first → IsSameSeat first (DiskSeat seat)
     → Closes kept_after (λ s q. disk_reply (stands_for s) q) (seat ∷ []) (entries_of history) → Leaves unwritten kept_after (λ s q. disk_reply (stands_for s) q) (entries_of history) state → unwritten state ≡ seat.lock.first
-    → GoesOn old (DiskDesk subs state history) (disk_served seat.calls)
+    → GoesOn old (DiskDesk subs state history) (disk_served seat.calls ∷ [])
 disk_goes_on (Out subs') subs quota first seat state history with_subs is same closes leaves begins = absurd is
 disk_goes_on (BeatDesk state' history') subs quota (BeatSeat f) seat state history with_subs is same closes leaves begins = absurd same
 disk_goes_on (BeatDesk state' history') subs quota (DownSeat f) seat state history with_subs is same closes leaves begins = absurd is

@@ -1,8 +1,9 @@
 -- The outcomes of a channel's requests, from the lists of both ends.
-use Rattle.std.proofs.Common.{◌≡◌, ℕ, zero, suc, ◌+◌, ◌-◌, ◌<◌, ◌≤◌, arith, List, [], ◌∷◌, ◌++◌, map, drop, length, get_or, append_assoc, refl, sym, ap, ◌∙◌, subst, Option, Some, None}
+use Rattle.std.proofs.Common.{◌≡◌, ℕ, zero, suc, ◌+◌, ◌-◌, ◌<◌, ◌≤◌, Bool, arith, List, [], ◌∷◌, ◌++◌, map, drop, length, get_or, append_assoc, refl, sym, ap, ◌∙◌, Option, Some, None}
 use Rattle.std.specs.Prelude.{replicate, MatchOption}
 use Rattle.std.specs.Option.{option_to_list}
 use Rattle.std.proofs.lemmas.List.{map-append, length-map, drop_more}
+use Rattle.work_model.specs.Channel.{count_of}
 use Rattle.work_model.specs.Outcome.{Outcome, Unserved as IsUnserved, lines_done, lines_of, served_at}
 use Rattle.bus_script.specs.declared.outcome.LineResult.{LineResult}
 use Rattle.bus_script.specs.declared.outcome.LineResult.TheVariants.{Unserved}
@@ -16,7 +17,6 @@ use Rattle.end_work.specs.Seats.{served_at as calls_at}
 use Rattle.phase_run.specs.declared.pair.PairDone.{PairDone}
 use Rattle.bus_run.specs.declared.desk.Desk.{Desk}
 use Rattle.bus_run.specs.Opening.{DeskRan}
-use Rattle.bus_run.proofs.DevicesBack.{no_more}
 use Rattle.bus_run.specs.Outcomes.{served_line, served_lines}
 
 without_replies : (ns : List ℕ) → map line_of (map served_at ns) ≡ served_lines ns []
@@ -70,6 +70,11 @@ none_comes (Some x) rs left m n is many e = absurd (cc)
 pub left_on : (o : Option Reply) (rs left : List Reply) (m n : ℕ) → MatchOption o ((m ≡ 0) × (n ≡ 0)) (λ x. (rs ≡ x ∷ left) × (n + 1 ≡ m)) → rs ≡ option_to_list o ++ left → m ≡ length rs → n ≡ length left
 left_on None rs left m n is items many = omega (arith, is.0, is.1, many, ap length items)
 left_on (Some x) rs left m n is items many = omega (arith, is.1, many, ap length is.0)
+
+-- a channel serves no more than it is asked
+pub no_more : (stop : Option (ℕ × Bool)) (m : ℕ) → count_of stop m ≤ m
+no_more None m = omega arith
+no_more (Some k) m = omega arith
 
 -- what the end of a device's channel tells
 

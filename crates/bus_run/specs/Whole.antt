@@ -1,5 +1,6 @@
 -- A phase, and the phases that are left.
-use Rattle.std.specs.Prelude.{ℕ, ◌≡◌, ◌+◌, ◌*◌, ◌<◌, ◌≤◌, List, [], ◌∷◌, ◌++◌, length, map, drop, All, Option, Some, None}
+use Rattle.std.specs.Prelude.{ℕ, ◌≡◌, ◌+◌, ◌*◌, ◌<◌, ◌≤◌, List, [], ◌∷◌, ◌++◌, length, map, take, drop, All, Option, Some, None}
+use Rattle.std.specs.List.{flat_map}
 use Rattle.script_lines.specs.declared.line.Line.{Line}
 use Rattle.script_lines.specs.declared.line.What.{What}
 use Rattle.script_lines.specs.declared.line.What.TheVariants.{Contact as IsContact, Offer as IsOffer, Bad as IsBad, RingSize as IsRingSize, Window as IsWindow, Ask as IsAsk, Rescind as IsRescind, Shut as IsShut, Phase as IsPhase}
@@ -7,21 +8,31 @@ use Rattle.script_lines.specs.declared.line.DeviceSpec.{DeviceSpec}
 use Rattle.bus_script.specs.declared.outcome.LineResult.{LineResult}
 use Rattle.script_lines.specs.Parts.{parts, offered, blocks_of, bads_of}
 use Rattle.script_lines.specs.WellFormed.{IsDevice}
-use Rattle.bus_model.specs.Logs.{Recorded}
-use Rattle.bus_model.specs.ByDevice.{PhaseRuns, RunFrom}
+use Rattle.script_phases.specs.Openings.{Phase, phases}
+use Rattle.bus_model.specs.Run.{PhaseRuns, RunsOf}
 use Rattle.bus_model.specs.declared.channel_run.ChannelRun.{ChannelRun}
 use Rattle.bus_plan.specs.Endings.{AreEnded}
+use Rattle.bus_plan.specs.Plans.{IsPhaseOf}
+use Rattle.bus_plan.specs.declared.ending.Ending.{Ending}
 use Rattle.scsi_disk.specs.DiskModel.{DiskState}
 use Rattle.bus_run.specs.declared.desk.Desk.{Desk}
 use Rattle.bus_run.specs.declared.runner.Runner.{Runner}
 use Rattle.bus_run.specs.Settings.{SettingsOf}
 use Rattle.bus_run.specs.Desk.{spec_of, setup_of, setup_for, desk_log, IsReady}
 
--- a phase went by, behind these earlier lines
-pub record PhaseRan (phase : ℕ) (earlier part : List Line) (old new : List Desk) (settled settled' : List ChannelRun) (results results' : List LineResult) : Type 0 where
+abbrev pub specs_of : List Desk → List DeviceSpec
+specs_of desks = map spec_of desks
+
+-- the phase with this number and these lines, behind phases that ended these devices
+pub record IsThis (phase : ℕ) (part : List Line) (ended : List (Option Ending)) (specs : List DeviceSpec) (p : Phase) : Type 0 where
+  pub number : p.number ≡ phase
+  pub of : IsPhaseOf part ended specs p
+
+-- a phase went by
+pub record PhaseRan (p : Phase) (old new : List Desk) (settled settled' : List ChannelRun) (results results' : List LineResult) : Type 0 where
   pub runs : List ChannelRun
   pub told : List LineResult
-  pub phase_runs : PhaseRuns (map spec_of old) phase earlier part (map desk_log old) (map desk_log new) runs told
+  pub phase_runs : PhaseRuns p (map desk_log old) (map desk_log new) runs told
   pub kinds : map spec_of new ≡ map spec_of old
   pub setups : map setup_of new ≡ map setup_of old
   pub settled_are : settled' ≡ settled ++ runs
@@ -66,16 +77,13 @@ abbrev pub behind : ℕ → Option ℕ → Option ℕ
 behind at None = None
 behind at (Some n) = Some (at + n)
 
--- a run of what is left, from here on, makes a run of all
-abbrev pub RunsOn : List DeviceSpec → List (List Line) → ℕ → List Line → List (List Line) → List Desk → List ChannelRun → List LineResult → Type 0
-RunsOn kinds all phase earlier left desks settled results =
-    (settled' : List ChannelRun) (after : List (List Recorded)) (results' : List LineResult) → RunFrom kinds phase earlier left (map desk_log desks) settled' after results'
-    → RunFrom kinds 0 [] all (map (λ k. []) kinds) (settled ++ settled') after (results ++ results')
+-- the lines of the first phases, so many
+abbrev pub earlier_lines : List Line → ℕ → List Line
+earlier_lines lines phase = flat_map (λ part. part) (take phase (parts lines))
 
--- The first phases of a script ran, as many as the runner counts
+-- The first phases of a script ran, as many as the runner counts: what it has is a run of them
 pub record RunsSoFar (lines : List Line) (r : Runner) : Type 0 where
-  pub earlier : List Line
-  pub runs : RunsOn (offered lines) (parts lines) r.phase earlier (parts_left lines r.next) r.desks.items r.settled.items r.results.items
+  pub runs : RunsOf (take r.phase (phases lines)) (map (λ k. []) (offered lines)) r.settled.items (map desk_log r.desks.items) r.results.items
   pub left : parts_left lines r.next ≡ drop r.phase (parts lines)
   pub within : NextWithin lines r.next
   pub counted : r.phase ≤ length (parts lines)
@@ -83,5 +91,5 @@ pub record RunsSoFar (lines : List Line) (r : Runner) : Type 0 where
   pub setups : map setup_of r.desks.items ≡ setups_from lines 0 (offered lines)
   pub ready : All (IsReady (4096 * r.phase)) r.desks.items
   pub settings : SettingsOf lines (length r.desks.items) r.settings.items
-  pub ended : AreEnded earlier r.ended.items
+  pub ended : AreEnded (earlier_lines lines r.phase) r.ended.items
   pub ended_count : length r.ended.items ≡ length r.desks.items

@@ -1,5 +1,5 @@
-//! A device's channel is closed.
-ghost use Rattle.std.specs.Prelude.{◌≡◌, ◌+◌, ◌<◌, ◌≤◌, ◌^◌, ◌++◌, ℕ, List, length, map, replicate, IfOk, OnOk};
+//! A channel is closed.
+ghost use Rattle.std.specs.Prelude.{◌≡◌, ◌≤◌, ◌++◌, ◌∷◌, [], ℕ, List, length, map, replicate, IfOk, OnOk};
 ghost use Rattle.std.specs.Vec.Iter.{into_iter_items};
 ghost use Rattle.work_model.specs.Outcome.{lines_of};
 ghost use Rattle.bus_model.specs.Laws.{line_of};
@@ -9,13 +9,14 @@ ghost use Rattle.end_work.specs.Seats.{served_at, IsSameSeat};
 ghost use Rattle.phase_run.specs.declared.pair.PairDone.{PairDone as OneDone};
 ghost use Rattle.end_work.specs.declared.device_seat.DeviceSeat.{DeviceSeat as OneSeat};
 ghost use Rattle.bus_run.specs.declared.desk.Desk.{Desk as OneDesk};
-ghost use Rattle.bus_run.specs.Desk.{subs_of, GoesOn, OpenRan, DeviceRan};
+ghost use Rattle.bus_run.specs.Desk.{subs_of, GoesOn, OpenRan, ChannelRan};
 ghost use Rattle.bus_run.specs.Opening.{IsSeatFor, IsAlone, DeskRan, ComesBack};
 ghost use Rattle.bus_run.specs.Outcomes.{served_line, served_lines};
 
 use crate::desk::Desk;
 use crate::lock::close_seat;
 use bus_model::ChannelRun;
+use bus_plan::ChannelOrder;
 use bus_script::{LineResult, Reply};
 use end_work::DeviceSeat;
 use phase_run::{PairDone, serving_seat};
@@ -26,7 +27,7 @@ use std::vec::IntoIter;
 /// The device of a seat that made its calls, behind its history.
 fn desk_of(alloc: Global, subs: u32, seat: DeviceSeat) -> Result<Desk, AllocError>
     requires { IsAlone seat }
-    ensures { IfOk result (λ new. (old : OneDesk) (quota : ℕ) (first : OneSeat) → subs_of old ≡ subs → IsSeatFor old quota first → IsSameSeat first seat → GoesOn old new (served_at seat)) }
+    ensures { IfOk result (λ new. (old : OneDesk) (quota : ℕ) (first : OneSeat) → subs_of old ≡ subs → IsSeatFor old quota first → IsSameSeat first seat → GoesOn old new (served_at seat ∷ [])) }
 {
     match seat {
         DeviceSeat::Beat(seat) => {
@@ -126,35 +127,29 @@ fn close_desk(
     Ok((settled, desk, results))
 }
 
-/// Closes the channel of a device in a phase, if the phase opened it: what it carried stands behind the runs before, and the answer is the outcomes of
-/// its requests, of which there are so many.
-pub fn close_device(
+/// Closes the only channel of a device: what it carried stands behind the runs before, and the answer is the outcomes of its requests.
+pub fn close_channel(
     alloc: Global,
     phase: u32,
-    device: u32,
-    opened: bool,
-    asked: usize,
+    channel: &ChannelOrder,
     desk: &mut Desk,
     dones: &mut IntoIter<PairDone>,
     settled: &mut Vec<ChannelRun>,
 ) -> Result<Vec<LineResult>, AllocError>
-    requires device { device + 1 < 2 ^ 32 }
-    requires comes { (order : OneOrder) × (old : OneDesk) × (front : List OneDone) × (rest : List OneDone) × (length order.asks ≡ asked) × ComesBack opened order old desk.old (into_iter_items dones.old) front rest }
-    ensures ran { IfOk result (λ results. (order : OneOrder) (old : OneDesk) (front rest : List OneDone) → length order.asks ≡ asked → ComesBack opened order old desk.old (into_iter_items dones.old) front rest → DeviceRan opened phase device order old desk.new settled.old.items settled.new.items results.items) }
-    ensures rest { OnOk result ((order : OneOrder) (old : OneDesk) (front rest : List OneDone) → ComesBack opened order old desk.old (into_iter_items dones.old) front rest → into_iter_items dones.new ≡ rest) }
+    requires { (order : OneOrder) × (old : OneDesk) × (done : OneDone) × (rest : List OneDone) × (length order.asks ≡ length channel.now.asks.items) × ComesBack order old desk.old (into_iter_items dones.old) done rest }
+    ensures ran { IfOk result (λ results. (order : OneOrder) (old : OneDesk) (done : OneDone) (rest : List OneDone) → length order.asks ≡ length channel.now.asks.items → ComesBack order old desk.old (into_iter_items dones.old) done rest
+        → ChannelRan phase channel.now.opening order old desk.new settled.old.items settled.new.items results.items) }
+    ensures rest { OnOk result ((done : OneDone) (rest : List OneDone) → into_iter_items dones.old ≡ done ∷ rest → into_iter_items dones.new ≡ rest) }
 {
-    if !opened {
-        return Ok(Vec::new(alloc));
-    }
     let Some(done) = dones.next() else {
         unreachable!();
     };
-    let (lists, new, results) = close_desk(alloc, desk.subs(), asked, done)?;
+    let (lists, new, results) = close_desk(alloc, desk.subs(), channel.asks.len(), done)?;
     *desk = new;
     settled.push(ChannelRun {
         phase,
-        relid: device + 1,
-        device,
+        relid: channel.opening.relid,
+        device: channel.opening.device,
         settled: lists,
     })?;
     Ok(results)

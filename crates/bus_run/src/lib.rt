@@ -2,9 +2,9 @@
 #![tactic(auto)]
 
 mod bads;
+mod channels;
 mod closing;
 mod desk;
-mod devices;
 mod lock;
 mod opening;
 mod phase;

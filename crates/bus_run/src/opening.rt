@@ -1,18 +1,14 @@
-//! A device's channel is opened.
-ghost use Rattle.std.specs.Prelude.{◌≡◌, ◌+◌, ◌<◌, ◌≤◌, ◌^◌, ◌++◌, List, length, IfOk, OnOk};
-ghost use Rattle.script_lines.specs.Parts.{kind_of};
-ghost use Rattle.bus_model.specs.Orders.{only_order};
-ghost use Rattle.end_work.specs.Plans.{AllCarried, CanStop, stop_of};
-ghost use Rattle.phase_run.specs.Pairs.{Pairing};
-ghost use Rattle.bus_run.specs.Desk.{spec_of, desk_log, IsKept};
+//! A channel is opened.
+ghost use Rattle.std.specs.Prelude.{◌≡◌, ◌+◌, ◌<◌, ◌^◌, length, IfOk, OnOk};
+ghost use Rattle.bus_plan.specs.Plans.{order_by};
+ghost use Rattle.bus_run.specs.Desk.{spec_of, desk_log, IsKept, Suits};
 ghost use Rattle.bus_run.specs.Settings.{HasLimits};
-ghost use Rattle.bus_run.specs.Opening.{IsSeatFor, OpensDesk, OneIf, held_of};
+ghost use Rattle.bus_run.specs.Opening.{IsSeatFor, OpensDesk, away_of, only_of};
 
 use crate::desk::Desk;
 use crate::lock::open_seat;
 use crate::settings::Settings;
-use bus_script::Ask;
-use chan_state::Stop;
+use bus_plan::ChannelOrder;
 use end_work::DeviceSeat;
 use phase_run::{Pair, open_pair};
 use std::alloc::{AllocError, Global};
@@ -45,66 +41,48 @@ fn seat_for(alloc: Global, desk: Desk, quota: u32) -> Result<DeviceSeat, AllocEr
     }
 }
 
-/// The two workers of a device's channel, with a seat for as many calls as it is asked; the device's end stops where this says. Relids count from 1, in order
-/// of the devices.
+/// The two workers of a device's channel, with a seat for as many calls as it is asked; the device's end stops where the order says.
 fn open_desk(
     alloc: Global,
-    device: u32,
     settings: &Settings,
-    asks: &[Ask],
-    stop: Option<Stop>,
+    channel: &ChannelOrder,
     desk: Desk,
 ) -> Result<Pair, AllocError>
     requires kept { IsKept desk }
-    requires stop { CanStop (kind_of (spec_of desk)) (stop_of stop) }
-    requires asks { AllCarried (kind_of (spec_of desk)) asks.now }
-    requires few { length asks.now ≤ 4096 }
+    requires suits { Suits 4096 (order_by channel.now (spec_of desk)) }
     requires limits { HasLimits settings.now }
-    requires device { device + 1 < 2 ^ 32 }
-    requires room { length (desk_log desk) + length asks.now < 2 ^ 32 }
-    ensures { IfOk result (OpensDesk device settings.now (only_order (kind_of (spec_of desk)) asks.now (stop_of stop)) desk) }
+    requires room { length (desk_log desk) + length channel.now.asks.items < 2 ^ 32 }
+    ensures { IfOk result (OpensDesk settings.now channel.now.opening.relid (only_of channel.now desk) desk) }
 {
     let kind = desk.kind();
-    let seat = seat_for(alloc, desk, asks.len() as u32)?;
+    let seat = seat_for(alloc, desk, channel.asks.len() as u32)?;
     open_pair(
         alloc,
         kind,
-        device + 1,
+        channel.opening.relid,
         settings.pages,
         settings.window,
         seat,
-        asks,
-        stop,
+        &channel.asks,
+        channel.stop,
     )
 }
 
-/// Opens the channel of a device in a phase, if the phase opens it.
-pub fn open_device(
+/// Opens the only channel of a device, which is away from then on.
+pub fn open_channel(
     alloc: Global,
-    device: u32,
     settings: &Settings,
-    opened: bool,
-    asks: &[Ask],
-    stop: Option<Stop>,
+    channel: &ChannelOrder,
     desk: &mut Desk,
-    pairs: &mut Vec<Pair>,
-) -> Result<(), AllocError>
+) -> Result<Pair, AllocError>
     requires kept { IsKept desk.old }
-    requires stop { CanStop (kind_of (spec_of desk.old)) (stop_of stop) }
-    requires asks { AllCarried (kind_of (spec_of desk.old)) asks.now }
-    requires few { length asks.now ≤ 4096 }
+    requires suits { Suits 4096 (order_by channel.now (spec_of desk.old)) }
     requires limits { HasLimits settings.now }
-    requires device { device + 1 < 2 ^ 32 }
-    requires room { length (desk_log desk.old) + length asks.now < 2 ^ 32 }
-    ensures held { OnOk result (desk.new ≡ held_of opened desk.old) }
-    ensures pair { OnOk result ((front : List Pairing) × (pairs.new.items ≡ pairs.old.items ++ front) × OneIf opened (OpensDesk device settings.now (only_order (kind_of (spec_of desk.old)) asks.now (stop_of stop)) desk.old) front) }
+    requires room { length (desk_log desk.old) + length channel.now.asks.items < 2 ^ 32 }
+    ensures held { OnOk result (desk.new ≡ away_of desk.old) }
+    ensures opens { IfOk result (OpensDesk settings.now channel.now.opening.relid (only_of channel.now desk.old) desk.old) }
 {
-    if !opened {
-        return Ok(());
-    }
     let subs = desk.subs();
     let whole = mem::replace(desk, Desk::Out { subs });
-    let pair = open_desk(alloc, device, settings, asks, stop, whole)?;
-    pairs.push(pair)?;
-    Ok(())
+    open_desk(alloc, settings, channel, whole)
 }

@@ -3,13 +3,14 @@ ghost use Rattle.std.specs.Prelude.{◌≡◌, ◌+◌, ◌*◌, ◌≤◌, ◌+
 ghost use Rattle.script_lines.specs.declared.line.Line.{Line as OneLine};
 ghost use Rattle.script_lines.specs.Parts.{asks_in};
 ghost use Rattle.script_lines.specs.WellFormed.{AllRight, AllGo};
+ghost use Rattle.script_phases.specs.Openings.{Phase};
 ghost use Rattle.bus_plan.specs.Endings.{AreEnded};
-ghost use Rattle.bus_run.specs.Desk.{spec_of, IsReady};
+ghost use Rattle.bus_run.specs.Desk.{IsReady};
 ghost use Rattle.bus_run.specs.Settings.{HasLimits};
-ghost use Rattle.bus_run.specs.Whole.{PhaseRan};
+ghost use Rattle.bus_run.specs.Whole.{IsThis, PhaseRan, specs_of};
 
+use crate::channels::run_channels;
 use crate::desk::Desk;
-use crate::devices::run_devices;
 use crate::settings::Settings;
 use bus_model::ChannelRun;
 use bus_plan::{Ending, mark_ended, plan_part, tell};
@@ -33,25 +34,23 @@ pub fn run_phase<R: Threads + Wait + Sync, G: Gate>(
     results: &mut Vec<LineResult>,
 ) -> Result<(), AllocError>
     requires ready { All (IsReady (4096 * phase)) desks.old.items }
-    requires right { AllRight (map spec_of desks.old.items) part.now }
+    requires right { AllRight (specs_of desks.old.items) part.now }
     requires go { AllGo part.now }
     requires asks { asks_in part.now ≤ 4096 }
-    requires earlier { (earlier : List OneLine) × AreEnded earlier ended.old }
+    requires this { (p : Phase) × IsThis phase part.now ended.old (specs_of desks.old.items) p }
     requires ended { length ended.old ≡ length desks.old.items }
     requires settings { length settings.now ≡ length desks.old.items }
     requires limits { All HasLimits settings.now }
     requires few { length desks.old.items ≤ 16 }
     requires phase { phase ≤ 20000 }
-    ensures ran { OnOk result ((earlier : List OneLine) → AreEnded earlier ended.old → PhaseRan phase earlier part.now desks.old.items desks.new.items settled.old.items settled.new.items results.old.items results.new.items) }
+    ensures ran { OnOk result ((p : Phase) → IsThis phase part.now ended.old (specs_of desks.old.items) p → PhaseRan p desks.old.items desks.new.items settled.old.items settled.new.items results.old.items results.new.items) }
     ensures ready { OnOk result (All (IsReady (4096 * (phase + 1))) desks.new.items) }
     ensures ended { OnOk result ((earlier : List OneLine) → AreEnded earlier ended.old → AreEnded (earlier ++ part.now) ended.new) }
     ensures count { OnOk result (length ended.new ≡ length ended.old) }
 {
     let plan = plan_part(alloc, ended, part)?;
-    let outcomes = run_devices(
-        rt, gate, alloc, phase, &plan, ended, settings, desks, settled,
-    )?;
-    tell(&outcomes, &plan.addresses, results)?;
+    let outcomes = run_channels(rt, gate, alloc, phase, &plan, settings, desks, settled)?;
+    tell(alloc, ended, &outcomes, part, results)?;
     mark_ended(ended, part);
     Ok(())
 }

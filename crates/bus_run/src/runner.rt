@@ -1,7 +1,7 @@
 //! The run of a script, phase by phase.
-ghost use Rattle.std.specs.Prelude.{◌≡◌, ◌+◌, ◌<◌, ◌≤◌, ◌∷◌, [], ◌++◌, List, length, map, take, drop, All, IfOk, OnOk, IsTrue, ◌↔◌, count_by, MatchOption, ⊤};
+ghost use Rattle.std.specs.Prelude.{◌≡◌, ◌+◌, ◌<◌, ◌≤◌, ◌∷◌, [], ◌++◌, List, length, map, take, drop, replicate, None, All, IfOk, OnOk, IsTrue, ◌↔◌, count_by, MatchOption, ⊤};
 ghost use Rattle.bus_model.specs.Logs.{log_of, EachHistory};
-ghost use Rattle.bus_model.specs.ByDevice.{IsBusRun};
+ghost use Rattle.bus_model.specs.Run.{IsBusRun};
 ghost use Rattle.script_lines.specs.Parts.{parts, offered, offered_by};
 ghost use Rattle.script_lines.specs.declared.line.Line.{Line as OneLine};
 ghost use Rattle.script_lines.specs.declared.line.DeviceSpec.{DeviceSpec as OneSpec};
@@ -15,7 +15,7 @@ use crate::desk::{Desk, history_of, new_desk};
 use crate::phase::run_phase;
 use crate::settings::{Settings, all_settings};
 use bus_model::{ChannelRun, DeviceHistory};
-use bus_plan::{Ending, blank, first_part};
+use bus_plan::{Ending, first_part};
 use bus_script::{Line, LineResult, Script, What};
 use io_edge::Gate;
 use std::alloc::{AllocError, Global};
@@ -92,6 +92,17 @@ fn histories_of(alloc: Global, mut desks: Vec<Desk>) -> Result<Vec<DeviceHistory
     Ok(histories)
 }
 
+/// So many devices, none of which has ended.
+fn none_ended(alloc: Global, count: usize) -> Result<Vec<Option<Ending>>, AllocError>
+    ensures { IfOk result (λ ended. ended.items ≡ replicate count None) }
+{
+    let mut ended = Vec::new(alloc);
+    for _ in 0..count {
+        ended.push(None)?;
+    }
+    Ok(ended)
+}
+
 /// A place counted from another one.
 fn behind(at: usize, next: Option<usize>) -> Option<usize>
     requires { MatchOption next ⊤ (λ n. at + n ≤ 20000) }
@@ -112,7 +123,7 @@ impl Runner {
         let lines = script.lines();
         let desks = new_desks(alloc, lines)?;
         let settings = all_settings(alloc, desks.len(), lines)?;
-        let ended = blank(alloc, desks.len())?;
+        let ended = none_ended(alloc, desks.len())?;
         Ok(Runner {
             desks,
             settings,

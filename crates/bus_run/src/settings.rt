@@ -1,7 +1,7 @@
 //! What the lines of a script set of its devices' channels.
 ghost use Rattle.std.specs.Prelude.{◌≡◌, [], Option, MatchOption, IfOk, ◌∷◌};
-ghost use Rattle.script_lines.specs.Parts.{pages_by, ring_pages_of, window_by, window_of};
-ghost use Rattle.bus_run.specs.Settings.{SettingsOf, settings_of};
+ghost use Rattle.script_lines.specs.Parts.{pages_by, window_by};
+ghost use Rattle.bus_run.specs.Settings.{SettingsOf, settings_of, set_by, set_of};
 
 use bus_script::{Line, What};
 use std::alloc::{AllocError, Global};
@@ -13,6 +13,15 @@ pub struct Settings {
     pub pages: u32,
     /// How many requests of a channel can be open.
     pub window: u32,
+}
+
+/// What a line can set of a device's channels.
+#[derive(Clone, Copy, PartialEq, Eq)]
+pub enum Setting {
+    /// The pages of data of each ring: 1 where no line sets them.
+    Pages,
+    /// How many requests of a channel can be open: 4 where no line sets it.
+    Window,
 }
 
 /// The pages that a line gives each ring of a device.
@@ -31,18 +40,6 @@ fn pages_by(device: usize, what: &What) -> Option<u32>
     }
 }
 
-/// The pages of data of each ring of a device: those of its ring line, or 1.
-fn pages_of(device: usize, lines: &[Line]) -> u32
-    ensures { result ≡ ring_pages_of device lines.now }
-{
-    for line in lines {
-        if let Some(pages) = pages_by(device, &line.what) {
-            return pages;
-        }
-    }
-    1
-}
-
 /// The window that a line gives a device.
 fn window_by(device: usize, what: &What) -> Option<u32>
     ensures { MatchOption result (window_by device what.now ≡ []) (λ window. window_by device what.now ≡ window ∷ []) }
@@ -59,16 +56,26 @@ fn window_by(device: usize, what: &What) -> Option<u32>
     }
 }
 
-/// How many requests of a device's channel can be open: the number of its window line, or 4.
-fn window_of(device: usize, lines: &[Line]) -> u32
-    ensures { result ≡ window_of device lines.now }
+/// What a line sets of a device's channels.
+fn set_by(setting: Setting, device: usize, what: &What) -> Option<u32>
+    ensures { MatchOption result (set_by setting device what.now ≡ []) (λ value. set_by setting device what.now ≡ value ∷ []) }
+{
+    match setting {
+        Setting::Pages => pages_by(device, what),
+        Setting::Window => window_by(device, what),
+    }
+}
+
+/// What the first line sets that sets it, or else this.
+fn set_of(setting: Setting, device: usize, lines: &[Line], default: u32) -> u32
+    ensures { result ≡ set_of setting device lines.now default }
 {
     for line in lines {
-        if let Some(window) = window_by(device, &line.what) {
-            return window;
+        if let Some(value) = set_by(setting, device, &line.what) {
+            return value;
         }
     }
-    4
+    default
 }
 
 /// What the lines set of a device's channels.
@@ -76,8 +83,8 @@ fn settings_of(device: usize, lines: &[Line]) -> Settings
     ensures { result ≡ settings_of lines.now device }
 {
     Settings {
-        pages: pages_of(device, lines),
-        window: window_of(device, lines),
+        pages: set_of(Setting::Pages, device, lines, 1),
+        window: set_of(Setting::Window, device, lines, 4),
     }
 }
 

@@ -9,9 +9,8 @@ use Rattle.script_phases.specs.Says.{is_rescinded}
 use Rattle.script_phases.specs.Openings.{Opening, subs_of, is_opened, opened_from as phase_opens, others, by_relid, phases_from}
 use Rattle.bus_model.specs.Laws.{carried_at, opened_at}
 use Rattle.bus_model.specs.declared.channel_run.ChannelRun.{ChannelRun}
-use Rattle.bus_model.proofs.NoSubs.{script_no_subs}
+use Rattle.bus_model.proofs.NoSubs.{script_no_subs, all_first, by_relid_same}
 use Rattle.bus_model.proofs.Opened.{carries_opened_lem}
-use Rattle.bus_model.proofs.ToByDevice.{all_first, by_relid_same}
 use Rattle.control_model.specs.declared.opening.Opening.{Opening as ControlOpening}
 use Rattle.control_model.specs.Openings.{openings_from, numbered, pages_in, plan_of}
 use Rattle.control_model.specs.Plan.{list_pages, first_gpadl}

@@ -1,6 +1,6 @@
 //! The run of a script: its control path around its phases.
 ghost use Rattle.std.specs.Prelude.{◌≡◌, ◌+◌, ◌<◌, true, false, length, count_by, IfOk, OnOk};
-ghost use Rattle.bus_model.specs.ByDevice.{IsBusRun};
+ghost use Rattle.bus_model.specs.Run.{IsBusRun};
 ghost use Rattle.script_lines.specs.Parts.{parts};
 ghost use Rattle.bus_script.specs.Report.{prints};
 ghost use Rattle.bus_run.specs.Whole.{RunsSoFar};

@@ -1,8 +1,8 @@
 use Rattle.std.proofs.Common.{◌++◌, ◌∙◌, length, sym, subst, arith}
 use Rattle.std.proofs.lemmas.List.{take_all}
-use Rattle.bus_plan.specs.Flags.{IsBelow}
+use Rattle.bus_plan.specs.Heard.{IsBelow}
 use Rattle.bus_plan.specs.Endings.{AreEnded}
-use Rattle.bus_plan.proofs.Marking.{below_at}
+use Rattle.bus_plan.proofs.Hearing.{below_at}
 use Rattle.bus_plan.proofs.Noting.{ended_next}
 use Rattle.bus_plan.proofs.endings.mark_ended.Goals as goal
 

@@ -1,12 +1,9 @@
-use Rattle.std.proofs.Common.{◌≡◌, take, drop, length, List}
-use Rattle.script_lines.specs.declared.line.Line.{Line}
-use Rattle.bus_model.specs.Dests.{dests, addresses}
-use Rattle.bus_plan.specs.Endings.{AreEnded}
-use Rattle.bus_plan.specs.Plans.{IsPlanned}
+use Rattle.std.proofs.Common.{List}
+use Rattle.script_lines.specs.declared.line.DeviceSpec.{DeviceSpec}
+use Rattle.script_phases.specs.Openings.{Phase}
+use Rattle.bus_plan.specs.Plans.{IsPhaseOf, EachOrdered}
+use Rattle.bus_plan.proofs.Ordering.{so_far}
 use Rattle.bus_plan.proofs.plan.plan_part.Given as goal
 
-abbrev pub invariant-loop-line : goal.invariant-loop-line
-invariant-loop-line l = record {
-  plan : (earlier : List Line) → AreEnded earlier l.ended → IsPlanned (length l.ended) (addresses earlier l.part) (dests earlier (take l.line-index l.part)) (dests earlier (drop l.line-index l.part)) l.asks l.addresses.items;
-  count : length l.asks ≡ length l.ended;
-}
+abbrev pub invariant-loop-device : goal.invariant-loop-device
+invariant-loop-device l = (specs : List DeviceSpec) (p : Phase) (is : IsPhaseOf l.part l.ended specs p) → EachOrdered p (so_far p is.next specs l.device) l.plan.items

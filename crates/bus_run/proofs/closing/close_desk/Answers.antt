@@ -1,4 +1,4 @@
-use Rattle.std.proofs.Common.{◌≡◌, ◌∙◌, ap, sym, subst, length, map}
+use Rattle.std.proofs.Common.{◌≡◌, ◌∷◌, [], ◌∙◌, ap, sym, subst, length, map}
 use Rattle.std.specs.Prelude.{unwrap_or}
 use Rattle.work_model.specs.Outcome.{lines_of}
 use Rattle.bus_model.specs.Laws.{line_of}
@@ -20,6 +20,6 @@ returns c order old subs many ran =
     record {
       served = served_at ran.ran.back;
       channel = ran.ran.channel;
-      goes_on = subst (λ s. GoesOn old c.in_ok-desk.desk (served_at s)) same (c.in_ok-desk.ensures old (length order.asks) ran.seat subs ran.is_for (subst (IsSameSeat ran.seat) (sym same) ran.ran.same));
+      goes_on = subst (λ s. GoesOn old c.in_ok-desk.desk (served_at s ∷ [])) same (c.in_ok-desk.ensures old (length order.asks) ran.seat subs ran.is_for (subst (IsSameSeat ran.seat) (sym same) ran.ran.same));
       outcomes = outcomes_told order old c.args.done c.args.asked c.in_ok-results.results.items many ran (c.in_ok-results.ensures ∙ ap (λ s. map line_of (lines_of c.args.asked s c.args.done.replies.items)) c.deref.ensures.value);
     }

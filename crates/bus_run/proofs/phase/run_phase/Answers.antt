@@ -1,37 +1,52 @@
-use Rattle.std.proofs.Common.{◌∙◌, sym, subst, length, ap}
-use Rattle.std.specs.Prelude.{map}
+use Rattle.std.proofs.Common.{◌∙◌, sym, subst}
 use Rattle.std.proofs.lemmas.List.{length-map}
-use Rattle.bus_plan.specs.Flags.{AllBelow}
-use Rattle.bus_plan.specs.Plans.{places_of}
+use Rattle.bus_plan.specs.Heard.{AllBelow}
+use Rattle.bus_plan.specs.Outcomes.{AreTold}
+use Rattle.bus_plan.specs.Plans.{EachOrdered}
+use Rattle.script_phases.specs.Openings.{by_relid}
 use Rattle.bus_run.specs.Desk.{spec_of}
+use Rattle.bus_run.specs.Whole.{specs_of}
 use Rattle.bus_run.proofs.Asking.{below_all}
-use Rattle.bus_run.proofs.PhaseRun.{suits_all, part_there, part_ran}
+use Rattle.bus_run.proofs.PhaseRun.{can_run, have_outcomes, phase_ran}
 use Rattle.bus_run.proofs.phase.run_phase.Goals as goal
 
-pub plan_part-requires : goal.plan_part-requires
-plan_part-requires g c =
-    subst (λ n. AllBelow n c.args.part.now) (length-map c.args.desks.now.items spec_of ∙ sym c.requires.ended) (below_all (map spec_of c.args.desks.now.items) c.args.part.now c.requires.right)
+pub run_channels-requires-clause-can : goal.run_channels-requires-clause-can
+run_channels-requires-clause-can g c κs asked =
+    let p = c.requires.this.0 in
+    let this = c.requires.this.1 in
+    let desks = c.args.desks.now.items in
+    let ordered = subst (EachOrdered p (by_relid p.opened)) (sym c.deref.ensures.value) (c.in_ok-plan.ensures (specs_of desks) p this.of) in
+    (p, can_run c.args.phase c.args.part.now c.args.ended.now c.deref.result.now desks p this ordered c.requires.right c.requires.go c.requires.asks c.requires.few)
 
-pub run_devices-requires-clause-suits : goal.run_devices-requires-clause-suits
-run_devices-requires-clause-suits g c κs asked =
-    let planned = c.in_ok-plan.ensures c.requires.earlier.0 c.requires.earlier.1 in
-    suits_all c.args.desks.now.items c.requires.earlier.0 c.args.part.now c.in_ok-plan.plan (length c.args.ended.now) c.requires.ended c.requires.right c.requires.go c.requires.asks planned
-
-pub run_devices-requires-clause-wanted : goal.run_devices-requires-clause-wanted
-run_devices-requires-clause-wanted g c κs asked = (c.in_ok-plan.ensures c.requires.earlier.0 c.requires.earlier.1).count ∙ c.requires.ended
+pub tell-requires-clause-below : goal.tell-requires-clause-below
+tell-requires-clause-below g c =
+    subst (λ n. AllBelow n c.args.part.now) (length-map c.args.desks.now.items spec_of ∙ sym c.requires.ended) (below_all (specs_of c.args.desks.now.items) c.args.part.now c.requires.right c.requires.go)
 
 pub mark_ended-requires : goal.mark_ended-requires
 mark_ended-requires g c =
-    subst (λ n. AllBelow n c.args.part.now) (length-map c.args.desks.now.items spec_of ∙ sym c.requires.ended) (below_all (map spec_of c.args.desks.now.items) c.args.part.now c.requires.right)
+    subst (λ n. AllBelow n c.args.part.now) (length-map c.args.desks.now.items spec_of ∙ sym c.requires.ended) (below_all (specs_of c.args.desks.now.items) c.args.part.now c.requires.right c.requires.go)
 
-pub tell-requires : goal.tell-requires
-tell-requires g c =
-    let planned = c.in_ok-plan.ensures c.requires.earlier.0 c.requires.earlier.1 in
-    part_there c.args.phase c.requires.earlier.0 c.args.part.now c.args.ended.now c.in_ok-plan.plan c.args.desks.now.items c.run_devices.new.desks.items c.args.settled.now.items c.run_devices.new.settled.items c.in_ok-outcomes.outcomes c.requires.ended c.requires.right
-    c.requires.earlier.1 planned c.in_ok-outcomes.ensures.ran (places_of c.deref.result.now) (ap places_of c.deref.ensures.value ∙ planned.places)
+pub tell-requires-clause-devices : goal.tell-requires-clause-devices
+tell-requires-clause-devices g c =
+    let p = c.requires.this.0 in
+    let desks = c.args.desks.now.items in
+    let ordered = subst (EachOrdered p (by_relid p.opened)) (sym c.deref.ensures.value) (c.in_ok-plan.ensures (specs_of desks) p c.requires.this.1.of) in
+    let can = can_run c.args.phase c.args.part.now c.args.ended.now c.deref.result.now desks p c.requires.this.1 ordered c.requires.right c.requires.go c.requires.asks c.requires.few in
+    (c.in_ok-outcomes.ensures.ran p can).long ∙ sym c.requires.ended
+
+pub tell-requires-clause-has : goal.tell-requires-clause-has
+tell-requires-clause-has g c =
+    let p = c.requires.this.0 in
+    let desks = c.args.desks.now.items in
+    let ordered = subst (EachOrdered p (by_relid p.opened)) (sym c.deref.ensures.value) (c.in_ok-plan.ensures (specs_of desks) p c.requires.this.1.of) in
+    let can = can_run c.args.phase c.args.part.now c.args.ended.now c.deref.result.now desks p c.requires.this.1 ordered c.requires.right c.requires.go c.requires.asks c.requires.few in
+    have_outcomes c.args.phase c.args.part.now c.args.ended.now desks c.run_channels.new.desks.items c.args.settled.now.items c.run_channels.new.settled.items c.in_ok-outcomes.outcomes p c.requires.this.1 (c.in_ok-outcomes.ensures.ran p can)
 
 pub returns-clause-ran : goal.returns-clause-ran
-returns-clause-ran g c earlier marked =
-    let planned = c.in_ok-plan.ensures earlier marked in
-    part_ran c.args.phase earlier c.args.part.now c.args.ended.now c.in_ok-plan.plan c.args.desks.now.items c.run_devices.new.desks.items c.args.settled.now.items c.run_devices.new.settled.items c.in_ok-outcomes.outcomes c.requires.ended c.requires.right
-    marked planned c.in_ok-outcomes.ensures.ran (places_of c.deref.result.now) c.args.results.now.items c.tell.new.results.items (ap places_of c.deref.ensures.value ∙ planned.places) c.in_ok-tell.ensures
+returns-clause-ran g c p this =
+    let desks = c.args.desks.now.items in
+    let ordered = subst (EachOrdered p (by_relid p.opened)) (sym c.deref.ensures.value) (c.in_ok-plan.ensures (specs_of desks) p this.of) in
+    let can = can_run c.args.phase c.args.part.now c.args.ended.now c.deref.result.now desks p this ordered c.requires.right c.requires.go c.requires.asks c.requires.few in
+    let ran = c.in_ok-outcomes.ensures.ran p can in
+    let told = subst (λ n. AreTold p ran.channels n c.in_ok-outcomes.outcomes) (sym c.requires.ended) ran.told in
+    phase_ran p desks c.run_channels.new.desks.items c.args.settled.now.items c.run_channels.new.settled.items c.in_ok-outcomes.outcomes c.args.results.now.items c.tell.new.results.items ran (c.in_ok-tell.ensures p ran.channels this.of.part_is this.of.ended_are told)

@@ -1,8 +1,7 @@
 use Rattle.std.proofs.Common.{ℕ, List, ◌≡◌, ◌<◌, ◌∙◌, ◌+◌, ap, sym, subst, arith, length, slice_set}
 use Rattle.bus_model.specs.Logs.{log_of, IsHistory}
 use Rattle.bus_run.specs.Desk.{spec_of, setup_of, setup_for, desk_log, IsKept}
-use Rattle.bus_run.proofs.Opened.{desk_there}
-use Rattle.bus_run.proofs.Phases.{HistoriesSoFar, history_more, histories_end}
+use Rattle.bus_run.proofs.Phases.{HistoriesSoFar, history_more, histories_end, rest_there}
 use Rattle.bus_run.proofs.runner.histories_of.Goals as goal
 
 pub history_of-requires : goal.history_of-requires
@@ -10,7 +9,7 @@ history_of-requires c =
     let i = c.loop-i.i in
     let d = c.index_mut.result.now in
     let less : i < length c.args.desks.items = omega (arith, c.loop-i-test.true, c.len-i-end.ensures, c.args.desks.ok.0) in
-    let here = desk_there c.args.desks.items c.loop-i.desks.items i d c.loop-i.invariant.rest (omega (arith, less, c.loop-i.invariant.count)) less c.index_mut.ensures.value in
+    let here = rest_there c.args.desks.items c.loop-i.desks.items i d c.loop-i.invariant.rest (omega (arith, less, c.loop-i.invariant.count)) less c.index_mut.ensures.value in
     subst IsKept (sym here ∙ sym c.replace-desk.ensures.value) (c.requires i d less)
 
 pub loop-i-preserved : goal.loop-i-preserved

@@ -1,4 +1,4 @@
-use Rattle.bus_model.proofs.CountingByDevice.{one_each_by_device}
+use Rattle.bus_model.proofs.Counting.{one_each_lem}
 use Rattle.vmbus_main.proofs.Parting.{farewell}
 use Rattle.vmbus_main.proofs.run.run_script.Goals as goal
 
@@ -8,5 +8,5 @@ run-requires-clause-part g c =
 
 pub returns-clause-each : goal.returns-clause-each
 returns-clause-each g c =
-    one_each_by_device c.args.script.now c.in_ok-ran.ran.settled.items c.in_ok-ran.ran.histories.items c.in_ok-ran.ran.results.items
+    one_each_lem c.args.script.now c.in_ok-ran.ran.settled.items c.in_ok-ran.ran.histories.items c.in_ok-ran.ran.results.items
     (c.in_ok-ran.ensures.run c.args.script.now c.in_ok-run_phases.ensures.between.ran c.in_ok-run_phases.ensures.all)

@@ -6,9 +6,9 @@ use Rattle.script_lines.specs.WellFormed.{AllRight, AllGo}
 use Rattle.bus_plan.specs.Endings.{AreEnded}
 use Rattle.bus_run.specs.Desk.{spec_of}
 use Rattle.bus_run.specs.Settings.{HasLimits}
-use Rattle.bus_run.specs.Whole.{parts_left, behind}
+use Rattle.bus_run.specs.Whole.{IsThis, specs_of, parts_left, behind}
 use Rattle.bus_run.proofs.SettingLines.{have_limits}
-use Rattle.bus_run.proofs.Phases.{right_drop, right_take, go_drop, go_take, this_phase, part_next, count_parts, go_on, no_next}
+use Rattle.bus_run.proofs.Phases.{the_phase, next_phase, right_drop, right_take, go_drop, go_take, this_phase, part_next, count_parts, go_on, no_next}
 use Rattle.bus_run.proofs.runner.Runner.run_next.Goals as goal
 
 pub unreachable-requires : goal.unreachable-requires
@@ -41,6 +41,19 @@ run_phase-requires-clause-asks g c κs asked =
     let this = this_phase (parts lines) c.args.self.now.phase part (parts_left lines (behind at next)) (sym cut ∙ ap (parts_left lines) (sym c.in-Some.is) ∙ c.requires.so_far.left) in
     this.1 (λ p. asks_in p ≤ 4096) c.lines.ensures.script.asks
 
+pub run_phase-requires-clause-this : goal.run_phase-requires-clause-this
+run_phase-requires-clause-this g c κs asked =
+    let lines = c.args.script.now in
+    let at = c.in-Some.at in
+    let old = c.args.self.now in
+    let rest = c.split_at.ensures.back ∙ ap (drop at) c.lines.ensures.lines in
+    let part = c.first_part-next.result.0.now in
+    let next = c.first_part-next.result.1 in
+    let cut = part_next lines part at next (subst (λ l. MatchOption next (parts l ≡ part ∷ []) (λ n. parts l ≡ part ∷ parts (drop n l))) rest c.first_part-next.ensures.parts) in
+    let left = sym cut ∙ (ap (parts_left lines) (sym c.in-Some.is) ∙ c.requires.so_far.left) in
+    let p = the_phase lines old.phase in
+    (p, subst (λ e. IsThis old.phase part e (specs_of old.desks.items) p) (sym c.deref_mut.ensures.value) (next_phase lines old part (parts_left lines (behind at next)) c.requires.so_far c.lines.ensures.script left))
+
 pub run_phase-requires-clause-limits : goal.run_phase-requires-clause-limits
 run_phase-requires-clause-limits g c κs asked =
     subst (All HasLimits) (sym c.deref.ensures.value) (have_limits (offered c.args.script.now) c.args.script.now (length c.args.self.now.desks.items) c.args.self.now.settings.items c.lines.ensures.script.right c.requires.so_far.settings)
@@ -66,7 +79,7 @@ returns-clause-so_far g c =
     let before = c.deref_mut.ensures.value in
     let whole = with_items_is old.ended c.run_phase.new.ended (search (rules, places)) in
     let ran = c.in_ok-run_phase.ensures in
-    go_on lines part old _ at next c.requires.so_far c.in-Some.is c.lines.ensures.script.short split within
-    (λ earlier marked. ran.ran earlier (subst (AreEnded earlier) (sym before) marked))
+    go_on lines part old _ at next c.requires.so_far c.lines.ensures.script c.in-Some.is split within
+    (λ p this. ran.ran p (subst (λ e. IsThis old.phase part e (specs_of old.desks.items) p) (sym before) this))
     (λ earlier marked. subst (AreEnded (earlier ++ part)) (sym whole) (ran.ended earlier (subst (AreEnded earlier) (sym before) marked)))
     (ap length whole ∙ ran.count ∙ ap length before) ran.ready refl c.behind-self.ensures refl

@@ -1,8 +1,0 @@
-use Rattle.std.proofs.Common.{take}
-use Rattle.std.specs.List.{list_any}
-use Rattle.bus_model.specs.Dests.{wants_open}
-use Rattle.bus_plan.specs.Flags.{Marks}
-use Rattle.bus_plan.proofs.flags.mark_wanted.Given as goal
-
-abbrev pub invariant-loop-line : goal.invariant-loop-line
-invariant-loop-line l = Marks (λ k. list_any (λ x. wants_open k x.what) (take l.line-index l.part)) l.fn.wanted l.wanted
