@@ -1,4 +1,4 @@
-//! Tests of the devices: their packets against those of Linux's own structs, their replies, and each public call once.
+//! Tests of the disk and the services: their packets against those of Linux's own structs, their replies, and each public call once.
 #![tactic(auto)]
 
 #[cfg(test)]
@@ -9,10 +9,6 @@ mod check;
 mod hex;
 #[cfg(test)]
 mod hist_lock_tests;
-#[cfg(test)]
-mod net_dev_tests;
-#[cfg(test)]
-mod rndis_msg_tests;
 #[cfg(test)]
 mod scsi_disk_tests;
 #[cfg(test)]

@@ -1,27 +1,15 @@
 //! Passes packets through two ends that keep none, over words that both share, and writes how many came out as they went in. Its argument says how many.
 #![tactic(auto)]
 
-use ring_core::{Side, opening_words};
+use ring_core::Side;
 use ring_driver::DriverEnd;
 use std::alloc::Global;
-use std::sync::Arc;
-use std::sync::atomic::AtomicU64;
 use std::{env, io};
-use uses::{SharedSeat, pass_one};
-
-// The words of a new channel of one page.
-fn shared_words(alloc: Global) -> io::Result<Arc<Vec<AtomicU64>, Global>> {
-    let mut words = Vec::new(alloc);
-    for word in opening_words(alloc, 512)?.iter() {
-        words.push(AtomicU64::new(*word))?;
-    }
-    Ok(Arc::new(alloc, words)?)
-}
+use uses::{AtomicWords, SharedSeat, pass_one};
 
 // How many of so many packets come out as they went in.
 fn passed(alloc: Global, count: u64) -> io::Result<u64> {
-    let shared = shared_words(alloc)?;
-    let other = Arc::try_clone(&shared)?;
+    let (shared, other) = AtomicWords::make(alloc, 4096)?;
     let mut guest = DriverEnd::make(alloc, Side::Guest, 4096, SharedSeat::over(shared, 4096))?;
     let mut host = DriverEnd::make(alloc, Side::Host, 4096, SharedSeat::over(other, 4096))?;
     let mut same = 0u64;

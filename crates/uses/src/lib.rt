@@ -1,9 +1,11 @@
-//! Parts of programs that call this library, as their authors write them. CALLING.md beside them shows each file.
+//! Parts of programs that call this library, as their authors write them. docs/CALLING.md shows each file.
 #![tactic(auto)]
 
+mod atomic_words;
 mod driver;
 mod pages;
 mod register;
+mod register_run;
 mod register_seat;
 mod register_talk;
 mod requests;
@@ -14,10 +16,13 @@ mod seat;
 mod srb;
 #[cfg(test)]
 mod tests;
+mod words;
 
+pub use atomic_words::AtomicWords;
 pub use driver::{is_free, pass_one};
 pub use pages::{share, take_piece};
 pub use register::Register;
+pub use register_run::{Stored, store_all};
 pub use register_seat::RegisterSeat;
 pub use register_talk::RegisterTalk;
 pub use requests::settle;
@@ -26,3 +31,4 @@ pub use ring::{send_one, take_one};
 pub use rndis::answer_keepalive;
 pub use seat::SharedSeat;
 pub use srb::serve_srb;
+pub use words::Words;

@@ -1,22 +1,27 @@
-//! A seat over words that a peer may change at any moment: each step is one atomic step on one word.
-ghost use Rattle.std.specs.Prelude.{◌≡◌, ◌/◌};
+//! A seat over words that a peer may change at any moment.
+ghost use Rattle.std.specs.Prelude.{◌≡◌, ◌/◌, ◌≤◌, Some, true};
+ghost use Rattle.ring_machine.specs.Inside.{IsOpOf};
+ghost use Rattle.ring_machine.specs.Places.{words_of};
+ghost use Rattle.ring_machine.specs.Steps.{is_busy_at, next_of};
+ghost use Rattle.ring_machine.specs.declared.place.Op.{Op as OneOp};
+ghost use Rattle.uses.specs.Shared.{MadeStep};
 
+use crate::words::Words;
 use ring_core::{EndCore, Op, Seatlike, mark_index, place_index, signal_index};
-use std::alloc::Global;
-use std::sync::Arc;
-use std::sync::atomic::{AtomicU64, Ordering};
 
-/// The words of a channel that somebody else shares.
+/// An end's place at the words of a channel that somebody else shares.
 #[derive(Drop)]
-pub struct SharedSeat {
-    words: Arc<Vec<AtomicU64>, Global>,
+pub struct SharedSeat<W: Words> {
+    words: W,
     cells: u32,
+    ghost whole: { words_of cells ≤ W.count words },
 }
 
-impl SharedSeat {
+impl<W: Words> SharedSeat<W> {
     /// A seat over these words, of a channel whose rings have `d` bytes of data.
-    pub fn over(words: Arc<Vec<AtomicU64>, Global>, d: u32) -> SharedSeat
-        ensures { result.cells ≡ d / 8 }
+    pub fn over(words: W, d: u32) -> SharedSeat<W>
+        requires { words_of (d / 8) ≤ W.count words }
+        ensures { (result.words ≡ words) × (result.cells ≡ d / 8) }
     {
         SharedSeat {
             words,
@@ -24,21 +29,32 @@ impl SharedSeat {
         }
     }
 
-    fn load(&self, at: usize) -> u64 {
-        match self.words.get(at) {
-            Some(word) => word.load(Ordering::SeqCst),
-            None => 0,
-        }
-    }
-
-    fn store(&self, at: usize, v: u64) {
-        if let Some(word) = self.words.get(at) {
-            word.store(v, Ordering::SeqCst);
+    // Makes one step.
+    fn make(&mut self, op: Op) -> u64
+        requires { IsOpOf self.old.cells op }
+        ensures made { MadeStep W.loads W.stores W.swaps self.old.cells op result self.old.words self.new.words }
+        ensures cells { self.new.cells ≡ self.old.cells }
+    {
+        match op {
+            Op::Load(place) => self.words.load(place_index(self.cells, place)),
+            Op::Store(place, value) => {
+                self.words.store(place_index(self.cells, place), value);
+                0
+            }
+            Op::Raise(side) => {
+                self.words.store(signal_index(self.cells, side), 1);
+                0
+            }
+            Op::TakeSignal(side) => self.words.swap(signal_index(self.cells, side), 0),
+            Op::StoreMark(side) => {
+                self.words.store(mark_index(self.cells, side), 1);
+                0
+            }
         }
     }
 }
 
-impl Seatlike for SharedSeat {
+impl<W: Words> Seatlike for SharedSeat<W> {
     ghost use Rattle.std.specs.Prelude.{None};
 
     ghost cells = { λ s. s.cells };
@@ -53,27 +69,15 @@ impl Seatlike for SharedSeat {
 
     ghost same_trans = { λ _ _ _ _ _. tt };
 
-    fn perform(&mut self, core: &EndCore, packet: &[u64]) -> u64 {
-        let cells = core.machine.cells;
+    fn perform(&mut self, core: &EndCore, packet: &[u64]) -> u64
+        requires busy { is_busy_at core.now.machine.stage ≡ true }
+        requires fits { core.now.machine.cells ≡ self.old.cells }
+        ensures made { (op : OneOp) → next_of core.now.machine packet.now ≡ Some op → MadeStep W.loads W.stores W.swaps self.old.cells op result self.old.words self.new.words }
+        ensures cells { self.new.cells ≡ self.old.cells }
+    {
         match core.next(packet) {
-            Some(Op::Load(place)) => self.load(place_index(cells, place)),
-            Some(Op::Store(place, v)) => {
-                self.store(place_index(cells, place), v);
-                0
-            }
-            Some(Op::Raise(side)) => {
-                self.store(signal_index(cells, side), 1);
-                0
-            }
-            Some(Op::TakeSignal(side)) => match self.words.get(signal_index(cells, side)) {
-                Some(word) => word.swap(0, Ordering::SeqCst),
-                None => 0,
-            },
-            Some(Op::StoreMark(side)) => {
-                self.store(mark_index(cells, side), 1);
-                0
-            }
-            None => 0,
+            Some(op) => self.make(op),
+            None => unreachable!(),
         }
     }
 }

@@ -2,18 +2,15 @@
 ghost use Rattle.std.specs.Prelude.{◌≡◌, true};
 
 use crate::{
-    Register, SharedSeat, answer_keepalive, pass_one, release, send_one, serve_srb, settle, share,
-    take_one, take_piece,
+    AtomicWords, SharedSeat, answer_keepalive, pass_one, release, send_one, serve_srb, settle,
+    share, store_all, take_one, take_piece,
 };
+use channel_port::Ended;
 use gpadl::Assembler;
-use hist_lock::HistLock;
-use ring_core::{End, Room, Side, Signalled, opening_words};
+use ring_core::{End, Room, Side, Signalled};
 use ring_driver::DriverEnd;
 use scsi_disk::Disk;
-use std::alloc::{AllocGlobal, Global};
 use std::process::Abort;
-use std::sync::Arc;
-use std::sync::atomic::AtomicU64;
 use stor_proto::Vstor;
 use txn_table::TxnTable;
 use vmbus_msg::encode;
@@ -82,22 +79,11 @@ fn a_disk_is_ready(rt: HostRuntime) {
     check(&rt, answer.rest[2] == 1);
 }
 
-// The words of a new channel of one page.
-fn shared_words(rt: &(impl Abort + AllocGlobal)) -> Arc<Vec<AtomicU64>, Global> {
-    let alloc = rt.alloc();
-    let mut words = Vec::new(alloc);
-    for word in opening_words(alloc, 512).expect(rt, "memory").iter() {
-        words.push(AtomicU64::new(*word)).expect(rt, "memory");
-    }
-    Arc::new(alloc, words).expect(rt, "memory")
-}
-
 // Both ends over the same words.
 #[test]
 fn a_packet_goes_through_shared_words(rt: HostRuntime) {
     let alloc = rt.alloc();
-    let shared = shared_words(&rt);
-    let other = Arc::try_clone(&shared).expect(&rt, "memory");
+    let (shared, other) = AtomicWords::make(alloc, 4096).expect(&rt, "memory");
     let mut guest = End::make(alloc, Side::Guest, 4096, SharedSeat::over(shared, 4096)).expect(
         &rt, "memory",
     );
@@ -121,8 +107,7 @@ fn a_packet_goes_through_shared_words(rt: HostRuntime) {
 #[test]
 fn a_packet_goes_through_ends_that_keep_none(rt: HostRuntime) {
     let alloc = rt.alloc();
-    let shared = shared_words(&rt);
-    let other = Arc::try_clone(&shared).expect(&rt, "memory");
+    let (shared, other) = AtomicWords::make(alloc, 4096).expect(&rt, "memory");
     let mut guest = DriverEnd::make(
         alloc,
         Side::Guest,
@@ -142,11 +127,16 @@ fn a_packet_goes_through_ends_that_keep_none(rt: HostRuntime) {
 
 #[test]
 fn a_register_gives_what_it_held(rt: HostRuntime) {
-    let mut seats = HistLock::make(rt.alloc(), Register::make(), &[2]).expect(&rt, "memory");
-    for seat in seats.iter_mut() {
-        check(&rt, seat.left() == 2);
-        check(&rt, seat.with(&rt, 5).reply == 0);
-        check(&rt, seat.left() == 1);
-        check(&rt, seat.with(&rt, 6).reply == 5);
-    }
+    let values = vec![in rt.alloc(); 5, 6, 7, 8, 9, 10, 11, 12, 13, 14].expect(&rt, "memory");
+    let (asked, served) = store_all(&rt, rt.alloc(), values).expect(&rt, "memory");
+    check(&rt, asked.ended == Ended::Marked);
+    check(&rt, served.ended == Ended::PeerMarked);
+    check(
+        &rt,
+        asked.replies.as_slice() == [0u64, 5, 6, 7, 8, 9, 10, 11, 12, 13].as_slice(),
+    );
+    check(
+        &rt,
+        served.serials.as_slice() == [0u32, 1, 2, 3, 4, 5, 6, 7, 8, 9].as_slice(),
+    );
 }

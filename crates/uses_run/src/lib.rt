@@ -1,4 +1,4 @@
-//! The whole program, called over bytes in memory. CALLING.md beside it shows it.
+//! The whole program, called over bytes in memory. docs/CALLING.md shows it.
 #![tactic(auto)]
 
 mod script;
