@@ -1,3 +1,4 @@
+pub mod Filling
 pub mod Fronts
 pub mod Pasts
 pub mod RunLaws

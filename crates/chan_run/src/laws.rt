@@ -5,6 +5,7 @@ ghost use Rattle.chan_run.specs.Runs.{Turn, Guest, Host, IsFront, sent_of, got_o
 ghost use Rattle.chan_run.specs.Runs.{has_seen, is_drained, guest_of, host_of, May, IsRun};
 ghost use Rattle.chan_run.specs.Laws.{AreOfOneRun, BothWays, GetsInOrder, DrainsAll, SeesMarks};
 ghost use Rattle.chan_run.specs.Laws.{EndsAtMark, HasFirstMark, StaysUnmarked, exchanged};
+ghost use Rattle.chan_run.specs.Filled.{filled, IsFilledBy};
 
 /// What an end got is the front of what its peer sent: in order, unchanged, none twice and none left out.
 pub fn gets_in_order<P>()
@@ -72,4 +73,23 @@ pub fn is_run_exchanged<P>()
     ensures guest { (run : List (Turn P)) → guest_of (exchanged run) ≡ host_of run }
     ensures host { (run : List (Turn P)) → host_of (exchanged run) ≡ guest_of run }
     ensures ends { (guest host : List (Event P)) → AreOfOneRun guest host → AreOfOneRun host guest }
+{}
+
+/// A run stays one with other things in place of the packets, where the things that an end got are the front of those that its peer sent. What an end did
+/// is the same but for them.
+pub fn fills_runs<P, Q>()
+    ensures run { (plain : P → Q) (guest host : List (Event P)) (guest_sent guest_got host_sent host_got : List Q) →
+        AreOfOneRun guest host → IsFilledBy guest guest_sent guest_got → IsFilledBy host host_sent host_got →
+        IsFront guest_got host_sent → IsFront host_got guest_sent →
+        AreOfOneRun (filled plain guest_sent guest_got guest) (filled plain host_sent host_got host) }
+    ensures sent { (plain : P → Q) (past : List (Event P)) (sent got : List Q) →
+        IsFilledBy past sent got → sent_of (filled plain sent got past) ≡ sent }
+    ensures got { (plain : P → Q) (past : List (Event P)) (sent got : List Q) →
+        IsFilledBy past sent got → got_of (filled plain sent got past) ≡ got }
+    ensures marked { (plain : P → Q) (past : List (Event P)) (sent got : List Q) →
+        has_marked (filled plain sent got past) ≡ has_marked past }
+    ensures seen { (plain : P → Q) (past : List (Event P)) (sent got : List Q) →
+        has_seen (filled plain sent got past) ≡ has_seen past }
+    ensures drained { (plain : P → Q) (past : List (Event P)) (sent got : List Q) →
+        is_drained (filled plain sent got past) ≡ is_drained past }
 {}

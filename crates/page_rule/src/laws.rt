@@ -1,0 +1,25 @@
+//! Laws of pages: each function does nothing, and its contract is a law.
+ghost use Rattle.std.specs.Prelude.{◌≡◌, ℕ, List};
+ghost use Rattle.io_edge.specs.declared.side.Side.{Side};
+ghost use Rattle.page_kept.specs.declared.kept.Kept.{Kept};
+ghost use Rattle.page_kept.specs.Layouts.{other_end, Layout};
+ghost use Rattle.page_kept.specs.Keepers.{Keeper};
+ghost use Rattle.page_rule.specs.Pages.{PagesOwned};
+ghost use Rattle.page_rule.specs.Laws.{new_keeper, Says, Keeps};
+
+/// Each packet that an end sends or takes, and each page word that it stores or loads, keeps the rule of pages.
+pub fn moves_keep_the_rule()
+    ensures { (l : Layout) (s : Side) (base : ℕ) (ws : List ℕ) (took : List (List ℕ)) (k : Kept) (y : Keeper) → Keeps l s base ws took k y }
+{}
+
+/// A new channel meets the rule of pages, and the rule is the same from either side.
+pub fn new_channels_meet_it()
+    ensures new { (l : Layout) (s : Side) (W : ℕ → ℕ → ℕ) → ((q w : ℕ) → W q w ≡ 0) → PagesOwned l s W (new_keeper l s) (new_keeper l (other_end s)) }
+    ensures turned { (l : Layout) (s : Side) (W : ℕ → ℕ → ℕ) (x y : Keeper) → PagesOwned l s W x y → PagesOwned l (other_end s) W y x }
+{}
+
+/// What the rule says: counts are in turn, no page is named by two open packets, page words are the copy of the end that has or holds them, and an end
+/// with nothing to load got the front of its peer's items, with their page words.
+pub fn rule_says()
+    ensures { (l : Layout) (s : Side) (W : ℕ → ℕ → ℕ) (x y : Keeper) → PagesOwned l s W x y → Says l s W x y }
+{}
