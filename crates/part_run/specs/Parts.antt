@@ -1,0 +1,19 @@
+-- A part of one side, from its seat to what it leaves.
+use Rattle.std.specs.Prelude.{◌≡◌, []}
+use Rattle.contact.specs.declared.part.Part.{Part}
+use Rattle.control_serve.specs.declared.part_done.PartDone.{PartDone}
+use Rattle.control_serve.specs.Sides.{Side, AtRest, Served}
+use Rattle.part_run.specs.declared.seat.Seat.{Seat}
+
+module _ {C : Type 0} (seen : C → Side) (follows : C → Type 0) where
+  -- a side may begin a part
+  pub record IsReady (can_begin : C → Part → Type 0) (seat : Seat C) (part : Part) : Type 0 where
+    pub follows_on : follows seat.control
+    pub part_is : can_begin seat.control part
+    pub rest : AtRest (seen seat.control) seat.fetch seat.post
+    pub local : seat.local ≡ record { size = 64; queue = [] }
+
+  -- a side served a part
+  pub record Leaves (part : Part) (seat : Seat C) (done : PartDone C) : Type 0 where
+    pub follows_on : follows done.control
+    pub served : Served part (seen seat.control) seat.fetch seat.post (seen done.control) done.fetch done.post done.fault
