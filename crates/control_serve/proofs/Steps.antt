@@ -29,11 +29,12 @@ longer : (xs ys zs : List Msg) → IsPrefix xs ys → IsPrefix ys zs → IsPrefi
 longer xs ys zs p q = (p.0 ++ q.0, sym (append_assoc xs p.0 q.0) ∙ (ap (λ l. l ++ q.0) p.1 ∙ q.1))
 
 pub stays : (s : Side) → Continues s s
-stays s = record { script = record { says = refl; parting = refl; hears = refl; cut = refl }; posted = ([], append-nil s.posted); fed = ([], append-nil s.fed) }
+stays s = record { script = record { plan = refl; says = refl; parting = refl; hears = refl; cut = refl }; posted = ([], append-nil s.posted); fed = ([], append-nil s.fed) }
 
 pub goes_on : (s t u : Side) → Continues s t → Continues t u → Continues s u
 goes_on s t u a b = record {
   script = record {
+    plan = b.script.plan ∙ a.script.plan;
     says = b.script.says ∙ a.script.says;
     parting = b.script.parting ∙ a.script.parting;
     hears = b.script.hears ∙ a.script.hears;

@@ -6,10 +6,12 @@ use Rattle.vmbus_msg.specs.declared.msg.Msg.{Msg}
 use Rattle.mail_box.specs.Mail.{Post, Fetch}
 use Rattle.control_model.specs.declared.fault.ControlFault.{ControlFault}
 use Rattle.control_model.specs.declared.fault.ControlFault.TheVariants.{Unasked, Memory}
+use Rattle.control_model.specs.Plan.{BusPlan}
 
--- All that this side says by the script, in order, and the message that ends it early; the same of the other side; the part that began last, what it posted
--- and was fed so far, and whether it is done with that part
+-- The plan of the script that it goes by; all that this side says by it, in order, and the message that ends it early; the same of the other side; the part that
+-- began last, what it posted and was fed so far, and whether it is done with that part
 pub record Side : Type 0 where
+  pub plan : BusPlan
   pub part : Option Part
   pub says : List Msg
   pub parting : Msg
@@ -21,6 +23,7 @@ pub record Side : Type 0 where
 
 -- both sides go by the same script
 pub record KeepsScript (old new : Side) : Type 0 where
+  pub plan : new.plan ≡ old.plan
   pub says : new.says ≡ old.says
   pub parting : new.parting ≡ old.parting
   pub hears : new.hears ≡ old.hears
