@@ -24,16 +24,16 @@ chosen_more p n b e =
 
 -- one opening more
 openings_more : (sizes : ℕ → ℕ) (rescinded : ℕ → Bool) (gpadl page : ℕ) (ds : List ℕ) (d : ℕ) → openings_from sizes rescinded gpadl page (map first_channel (ds ++ d ∷ []))
-    ≡ openings_from sizes rescinded gpadl page (map first_channel ds) ++ record { relid = d + 1; ring_pages = sizes d; gpadl = gpadl + length ds; first_page = page + pages_in sizes (map first_channel ds); rescinded = rescinded d } ∷ []
+    ≡ openings_from sizes rescinded gpadl page (map first_channel ds) ++ record { relid = d + 1; sub = 0; ring_pages = sizes d; gpadl = gpadl + length ds; first_page = page + pages_in sizes (map first_channel ds); rescinded = rescinded d } ∷ []
 openings_more sizes rescinded gpadl page [] d =
-    let O : ℕ → ℕ → List Opening = λ g p. record { relid = d + 1; ring_pages = sizes d; gpadl = g; first_page = p; rescinded = rescinded d } ∷ [] in
+    let O : ℕ → ℕ → List Opening = λ g p. record { relid = d + 1; sub = 0; ring_pages = sizes d; gpadl = g; first_page = p; rescinded = rescinded d } ∷ [] in
     let a : gpadl ≡ gpadl + 0 = omega arith in
     let b : page ≡ page + 0 = omega arith in
     ap (λ g. O g page) a ∙ ap (O (gpadl + 0)) b
 openings_more sizes rescinded gpadl page (x ∷ ds) d =
-    let first : Opening = record { relid = x + 1; ring_pages = sizes x; gpadl = gpadl; first_page = page; rescinded = rescinded x } in
+    let first : Opening = record { relid = x + 1; sub = 0; ring_pages = sizes x; gpadl = gpadl; first_page = page; rescinded = rescinded x } in
     let rest : List Opening = openings_from sizes rescinded (gpadl + 1) (page + list_pages (sizes x)) (map first_channel ds) in
-    let O : ℕ → ℕ → List Opening = λ g p. first ∷ (rest ++ record { relid = d + 1; ring_pages = sizes d; gpadl = g; first_page = p; rescinded = rescinded d } ∷ []) in
+    let O : ℕ → ℕ → List Opening = λ g p. first ∷ (rest ++ record { relid = d + 1; sub = 0; ring_pages = sizes d; gpadl = g; first_page = p; rescinded = rescinded d } ∷ []) in
     let a : (gpadl + 1) + length ds ≡ gpadl + suc (length ds) = omega arith in
     let b : (page + list_pages (sizes x)) + pages_in sizes (map first_channel ds) ≡ page + (list_pages (sizes x) + pages_in sizes (map first_channel ds)) = omega arith in
     ap (λ (os : List Opening). first ∷ os) (openings_more sizes rescinded (gpadl + 1) (page + list_pages (sizes x)) ds d)
@@ -58,7 +58,7 @@ on sizes rescinded gpadl page n ds false size gone os os' next next' so_far is g
       next_page = ap (λ (x : Next). x.page) dealt.1 ∙ so_far.next_page ∙ ap (λ (l : List ℕ). page + pages_in sizes (map first_channel l)) (sym same);
     }
 on sizes rescinded gpadl page n ds true size gone os os' next next' so_far is gives dealt =
-    let O : ℕ → Bool → ℕ → ℕ → List Opening = λ s r g p. record { relid = n + 1; ring_pages = s; gpadl = g; first_page = p; rescinded = r } ∷ [] in
+    let O : ℕ → Bool → ℕ → ℕ → List Opening = λ s r g p. record { relid = n + 1; sub = 0; ring_pages = s; gpadl = g; first_page = p; rescinded = r } ∷ [] in
     let old : os ++ O size gone next.gpadl next.page ≡ openings_from sizes rescinded gpadl page (map first_channel ds) ++ O size gone next.gpadl next.page = ap (λ (l : List Opening). l ++ O size gone next.gpadl next.page) so_far.openings in
     let new : O size gone next.gpadl next.page ≡ O (sizes n) (rescinded n) (gpadl + length ds) (page + pages_in sizes (map first_channel ds)) =
     ap (λ s. O s gone next.gpadl next.page) (sym is) ∙ ap (λ r. O (sizes n) r next.gpadl next.page) (sym gives) ∙ ap (λ g. O (sizes n) (rescinded n) g next.page) so_far.next_gpadl ∙ ap (O (sizes n) (rescinded n) (gpadl + length ds)) so_far.next_page in

@@ -6,3 +6,4 @@ pub mod DealingLaws
 pub mod CuttingLaws
 pub mod PhaseLaws
 pub mod ScriptLaws
+pub mod SubLaws

@@ -19,6 +19,12 @@ all_of P f phases i j v x i_in is j_in item all =
     let phase : All P (f v) = subst (λ os. All P os) here (All-get_or (λ os. All P os) (map f phases) i (f v) (omega (arith, i_in, length-map phases f)) all) in
     subst P (sym item) (All-get_or P (f v) j x j_in phase)
 
+-- what holds of each phase holds of this one
+pub one_of : {X V : Type 0} (P : List X → Type 0) (f : V → List X) (phases : List V) (i : ℕ) (v : V) → i < length phases → v ≡ get_or phases i v → All P (map f phases) → P (f v)
+one_of P f phases i v i_in is all =
+    let here : get_or (map f phases) i (f v) ≡ f v = get_or-map f phases i v ∙ ap f (sym is) in
+    subst P here (All-get_or P (map f phases) i (f v) (omega (arith, i_in, length-map phases f)) all)
+
 -- past the end of a phase there is no opening
 pub none_past : {X V : Type 0} (f : V → List X) (phases : List V) (i j : ℕ) (v : V) → i < length phases → v ≡ get_or phases i v → length (f v) ≤ j → slice_get (get_or (map f phases) i []) j ≡ None
 none_past f phases i j v i_in is past =

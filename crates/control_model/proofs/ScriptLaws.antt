@@ -1,7 +1,7 @@
 -- The plan of a script is one.
 use Rattle.std.proofs.Common.{◌≡◌, ◌∙◌, ℕ, zero, suc, ◌+◌, ◌*◌, ◌^◌, ◌<◌, ◌≤◌, ◌==◌, Bool, true, false, cond, not, ◌&&◌, ◌||◌, is_some, slice_get, All, List, [], ◌∷◌, ◌++◌, length, map, filter, get_or, slice_index_or, refl, sym, ap, subst, arith}
 use Rattle.std.proofs.lemmas.List.{length-map}
-use Rattle.std.proofs.lemmas.List.Elements.{All-nil, All-cons}
+use Rattle.std.proofs.lemmas.List.Elements.{All-nil, All-cons, All-head, All-tail, filter-append}
 use Rattle.std.proofs.lemmas.Grind.{flat_map-append}
 use Rattle.std.proofs.lemmas.List.Folds.{list_any-append}
 use Rattle.std.specs.List.{flat_map, list_any, onto_first, range_with_len, AllByRecursion}
@@ -21,7 +21,7 @@ use Rattle.std.proofs.lemmas.List.FromFn.{get_or-map-range_with_len, length-map-
 use Rattle.control_model.specs.declared.planning.Served.{Served}
 use Rattle.control_model.specs.Dealing.{served_of, first_channel, size_in, no_device, HasSizes}
 use Rattle.control_model.specs.declared.opening.Opening.{Opening}
-use Rattle.control_model.specs.Plan.{BusPlan, IsPlan, IsOpening, Rising, Follows, OpensAgain, RescindsEnd, all_openings, list_pages, first_gpadl}
+use Rattle.control_model.specs.Plan.{BusPlan, IsPlan, IsOpening, Rising, Follows, OpensAgain, RescindsEnd, is_sub, firsts as firsts_of, subs_in, Seated, all_openings, list_pages, first_gpadl, most_channels}
 use Rattle.control_model.specs.Openings.{plan_of, guest_in, host_in, guest_by, host_by, openings_from, pages_in, numbered}
 use Rattle.control_model.proofs.FirstLaws.{OpenAs, open_firsts}
 
@@ -83,10 +83,10 @@ fits_from : (sizes : ℕ → ℕ) (rescinded : ℕ → Bool) (count gpadl page :
 fits_from sizes rescinded count gpadl page [] sized few below room = All-nil (λ o. IsOpening o)
 fits_from sizes rescinded count gpadl page (d ∷ ds) sized few below room =
     let size = sized d in
-    let o : Opening = record { relid = d + 1; ring_pages = sizes d; gpadl = gpadl; first_page = page; rescinded = rescinded d } in
+    let o : Opening = record { relid = d + 1; sub = 0; ring_pages = sizes d; gpadl = gpadl; first_page = page; rescinded = rescinded d } in
     let one : IsOpening o = record {
       named = let n : 1 ≤ d + 1 = omega arith in n;
-      few = omega (arith, below.0, few);
+      few = let n : d + 1 ≤ most_channels = omega (arith, below.0, few) in n;
       some_pages = size.0;
       few_pages = size.1;
       numbered = omega (arith, size.1, room);
@@ -97,7 +97,7 @@ fits_from sizes rescinded count gpadl page (d ∷ ds) sized few below room =
 offered_from : (sizes : ℕ → ℕ) (rescinded : ℕ → Bool) (count gpadl page : ℕ) (ds : List ℕ) → AllByRecursion (λ d. d < count) ds → All (λ o. o.relid ≤ count) (openings_from sizes rescinded gpadl page (map first_channel ds))
 offered_from sizes rescinded count gpadl page [] below = All-nil (λ o. o.relid ≤ count)
 offered_from sizes rescinded count gpadl page (d ∷ ds) below =
-    All-cons (λ o. o.relid ≤ count) (record { relid = d + 1; ring_pages = sizes d; gpadl = gpadl; first_page = page; rescinded = rescinded d }) (openings_from sizes rescinded (gpadl + 1) (page + list_pages (sizes d)) (map first_channel ds)) (omega (arith, below.0))
+    All-cons (λ o. o.relid ≤ count) (record { relid = d + 1; sub = 0; ring_pages = sizes d; gpadl = gpadl; first_page = page; rescinded = rescinded d }) (openings_from sizes rescinded (gpadl + 1) (page + list_pages (sizes d)) (map first_channel ds)) (omega (arith, below.0))
     (offered_from sizes rescinded count (gpadl + 1) (page + list_pages (sizes d)) ds below.1)
 
 pages_few : (sizes : ℕ → ℕ) (os : List PhaseOpening) → ((d : ℕ) → IsSize (sizes d)) → pages_in sizes os ≤ 34 * length os
@@ -187,7 +187,7 @@ Unharmed lines o = (d : ℕ) → o.relid ≡ d + 1 → is_rescinded d lines ≡ 
 unharmed_from : (sizes : ℕ → ℕ) (rescinded : ℕ → Bool) (lines : List Line) (gpadl page : ℕ) (ds : List ℕ) → AllByRecursion (λ d. is_rescinded d lines ≡ false) ds → All (Unharmed lines) (openings_from sizes rescinded gpadl page (map first_channel ds))
 unharmed_from sizes rescinded lines gpadl page [] none = All-nil (Unharmed lines)
 unharmed_from sizes rescinded lines gpadl page (d ∷ ds) none =
-    All-cons (Unharmed lines) (record { relid = d + 1; ring_pages = sizes d; gpadl = gpadl; first_page = page; rescinded = rescinded d }) (openings_from sizes rescinded (gpadl + 1) (page + list_pages (sizes d)) (map first_channel ds))
+    All-cons (Unharmed lines) (record { relid = d + 1; sub = 0; ring_pages = sizes d; gpadl = gpadl; first_page = page; rescinded = rescinded d }) (openings_from sizes rescinded (gpadl + 1) (page + list_pages (sizes d)) (map first_channel ds))
     (λ e is. let same : d ≡ e = omega (arith, is) in subst (λ k. is_rescinded k lines ≡ false) same none.0) (unharmed_from sizes rescinded lines (gpadl + 1) (page + list_pages (sizes d)) ds none.1)
 
 all_so : (P Q : ℕ → Type 0) → ((d : ℕ) → P d → Q d) → (ds : List ℕ) → AllByRecursion P ds → AllByRecursion Q ds
@@ -214,20 +214,53 @@ none_opened_again : (sizes : ℕ → ℕ) (part : List Line) (gpadl page : ℕ) 
 none_opened_again sizes part gpadl page [] later fine = All-nil (OpensAgain later)
 none_opened_again sizes part gpadl page (d ∷ ds) later fine =
     let rescinded : ℕ → Bool = λ device. is_rescinded device part in
-    All-cons (OpensAgain later) (record { relid = d + 1; ring_pages = sizes d; gpadl = gpadl; first_page = page; rescinded = rescinded d }) (openings_from sizes rescinded (gpadl + 1) (page + list_pages (sizes d)) (map first_channel ds))
+    All-cons (OpensAgain later) (record { relid = d + 1; sub = 0; ring_pages = sizes d; gpadl = gpadl; first_page = page; rescinded = rescinded d }) (openings_from sizes rescinded (gpadl + 1) (page + list_pages (sizes d)) (map first_channel ds))
     (λ i os in_phases j p in_os is. fine i os in_phases j p in_os d is) (none_opened_again sizes part (gpadl + 1) (page + list_pages (sizes d)) ds later fine)
+
+-- no sub-channel is opened
+abbrev pub AllFirst : List Opening → Type 0
+AllFirst os = AllByRecursion (λ o. o.sub ≡ 0) os
+
+first_from : (sizes : ℕ → ℕ) (rescinded : ℕ → Bool) (gpadl page : ℕ) (ds : List ℕ) → AllFirst (openings_from sizes rescinded gpadl page (map first_channel ds))
+first_from sizes rescinded gpadl page [] = tt
+first_from sizes rescinded gpadl page (d ∷ ds) = (refl, first_from sizes rescinded (gpadl + 1) (page + list_pages (sizes d)) ds)
+
+many_from : (sizes : ℕ → ℕ) (rescinded : ℕ → Bool) (gpadl page : ℕ) (cs : List PhaseOpening) → length (openings_from sizes rescinded gpadl page cs) ≡ length cs
+many_from sizes rescinded gpadl page [] = refl
+many_from sizes rescinded gpadl page (c ∷ cs) = ap (λ n. suc n) (many_from sizes rescinded (gpadl + 1) (page + list_pages (sizes c.device)) cs)
+
+first_seated : (next : ℕ) (os : List Opening) → AllFirst os → Seated next os
+first_seated next [] all = tt
+first_seated next (o ∷ os) all = ((λ e. let none = ap (λ n. not (n == 0)) all.0 in let wrong : true ≡ false = sym e ∙ none in absurd (cc)), first_seated (o.sub + 1) os all.1)
+
+first_same : (os : List Opening) → AllFirst os → firsts_of os ≡ os
+first_same [] all = refl
+first_same (o ∷ os) all = let here = ap (λ n. n == 0) all.0 in ap (λ b. cond b (o ∷ firsts_of os) (firsts_of os)) here ∙ ap (λ (xs : List Opening). o ∷ xs) (first_same os all.1)
+
+first_none : (os : List Opening) → AllFirst os → subs_in os ≡ []
+first_none [] all = refl
+first_none (o ∷ os) all = let here = ap (λ n. not (n == 0)) all.0 in ap (λ b. cond b (o ∷ subs_in os) (subs_in os)) here ∙ first_none os all.1
+
+none_later : (phases : List (List Opening)) → All AllFirst phases → subs_in (all_openings phases) ≡ []
+none_later [] all = refl
+none_later (os ∷ phases) all =
+    let here = first_none os (All-head AllFirst os phases all) in
+    let rest = none_later phases (All-tail AllFirst os phases all) in
+    filter-append is_sub os (all_openings phases) ∙ (λ i. here i ++ rest i)
 
 -- the openings of all phases
 pub record Phases (count gpadl page : ℕ) (phases : List (List Opening)) : Type 0 where
   pub fits : All (λ os. All (λ o. IsOpening o) os) phases
   pub offered : All (λ os. All (λ o. o.relid ≤ count) os) phases
   pub rising : All (λ os. Rising 1 os) phases
+  pub first : All AllFirst phases
+  pub small : All (λ os. length os ≤ 16) phases
   pub follow : Follows gpadl page (all_openings phases)
   pub ends : RescindsEnd phases
 
 all_phases : (sizes : ℕ → ℕ) (specs : List DeviceSpec) (number next gpadl page : ℕ) (earlier : List Line) (ps : List (List Line)) → AllByRecursion (λ k. subs_of k ≡ 0) specs → ((d : ℕ) → IsSize (sizes d)) → length specs ≤ 16 → page + 544 * length ps < 2 ^ 64
     → Phases (length specs) gpadl page (numbered sizes gpadl page (phases_from specs number next earlier ps))
-all_phases sizes specs number next gpadl page earlier [] none sized few room = record { fits = All-nil (λ os. All (λ o. IsOpening o) os); offered = All-nil (λ os. All (λ o. o.relid ≤ length specs) os); rising = All-nil (λ os. Rising 1 os); follow = tt; ends = tt }
+all_phases sizes specs number next gpadl page earlier [] none sized few room = record { fits = All-nil (λ os. All (λ o. IsOpening o) os); offered = All-nil (λ os. All (λ o. o.relid ≤ length specs) os); rising = All-nil (λ os. Rising 1 os); first = All-nil AllFirst; small = All-nil (λ os. length os ≤ 16); follow = tt; ends = tt }
 all_phases sizes specs number next gpadl page earlier (part ∷ ps) none sized few room =
     let count = length specs in
     let cs = opened_from (is_opened earlier part) 0 next specs in
@@ -247,6 +280,8 @@ all_phases sizes specs number next gpadl page earlier (part ∷ ps) none sized f
       fits = All-cons (λ os. All (λ o. IsOpening o) os) here later (subst (λ os. All (λ o. IsOpening o) os) same (fits_from sizes rescinded count gpadl page ds sized few below (omega (arith, room, chosen, few)))) rest.fits;
       offered = All-cons (λ os. All (λ o. o.relid ≤ count) os) here later (subst (λ os. All (λ o. o.relid ≤ count) os) same (offered_from sizes rescinded count gpadl page ds below)) rest.offered;
       rising = All-cons (λ os. Rising 1 os) here later (subst (Rising 1) same (rising_from sizes rescinded (is_opened earlier part) gpadl page 0 count)) rest.rising;
+      first = All-cons AllFirst here later (subst AllFirst same (first_from sizes rescinded gpadl page ds)) rest.first;
+      small = All-cons (λ os. length os ≤ 16) here later (let many = many_from sizes rescinded gpadl page cs in omega (arith, many, some, few)) rest.small;
       follow = follow_from sizes rescinded gpadl page cs (all_openings later) rest.follow;
       ends = (
         subst (All (OpensAgain later)) same (none_opened_again sizes part gpadl page ds later (no_more sizes specs (number + 1) relid (gpadl + length cs) (page + pages_in sizes cs) (earlier ++ part) part ps none (λ d. later_rescinds earlier part d))),
@@ -296,8 +331,13 @@ plan_is lines script =
       some = omega (arith, long, many.0);
       short = omega (arith, long, many.1, script.short);
       fits = phases.fits;
-      offered = subst (λ n. All (λ os. All (λ o. o.relid ≤ n) os) (plan_of lines).phases) (sym each) phases.offered;
-      rising = phases.rising;
+      small = phases.small;
+      seated = λ k d less. first_seated 0 (get_or (plan_of lines).phases k d) (phases.first k d less);
+      offered = λ k d less j e inside first. let few : All (λ o. o.relid ≤ count) (get_or (plan_of lines).phases k d) = phases.offered k d less in let here = few j e inside in omega (arith, each, here);
+      rising = λ k d less. subst (Rising 1) (sym (first_same (get_or (plan_of lines).phases k d) (phases.first k d less))) (phases.rising k d less);
+      later =
+          let P : List Opening → Type 0 = λ os. map (λ (o : Opening). o.relid) os ≡ range_with_len (length (plan_of lines).kinds + 1) (length os) in
+          subst P (sym (none_later (plan_of lines).phases phases.first)) refl;
       follow = phases.follow;
       ends = phases.ends;
     }
@@ -306,8 +346,8 @@ plan_is lines script =
 openings_same : (s t : ℕ → ℕ) (rescinded : ℕ → Bool) (gpadl page : ℕ) (ds : List ℕ) → AllByRecursion (λ d. s d ≡ t d) ds → openings_from s rescinded gpadl page (map first_channel ds) ≡ openings_from t rescinded gpadl page (map first_channel ds)
 openings_same s t rescinded gpadl page [] same = refl
 openings_same s t rescinded gpadl page (d ∷ ds) same =
-    let O : ℕ → List Opening = λ n. record { relid = d + 1; ring_pages = n; gpadl = gpadl; first_page = page; rescinded = rescinded d } ∷ openings_from s rescinded (gpadl + 1) (page + list_pages n) (map first_channel ds) in
-    ap O same.0 ∙ ap (λ os. record { relid = d + 1; ring_pages = t d; gpadl = gpadl; first_page = page; rescinded = rescinded d } ∷ os) (openings_same s t rescinded (gpadl + 1) (page + list_pages (t d)) ds same.1)
+    let O : ℕ → List Opening = λ n. record { relid = d + 1; sub = 0; ring_pages = n; gpadl = gpadl; first_page = page; rescinded = rescinded d } ∷ openings_from s rescinded (gpadl + 1) (page + list_pages n) (map first_channel ds) in
+    ap O same.0 ∙ ap (λ os. record { relid = d + 1; sub = 0; ring_pages = t d; gpadl = gpadl; first_page = page; rescinded = rescinded d } ∷ os) (openings_same s t rescinded (gpadl + 1) (page + list_pages (t d)) ds same.1)
 
 pages_same : (s t : ℕ → ℕ) (ds : List ℕ) → AllByRecursion (λ d. s d ≡ t d) ds → pages_in s (map first_channel ds) ≡ pages_in t (map first_channel ds)
 pages_same s t [] same = refl

@@ -1,5 +1,5 @@
--- The tables by which a script's plan is made in one pass over its lines.
-use Rattle.std.specs.Prelude.{◌≡◌, ℕ, ◌+◌, ◌≤◌, Bool, true, false, ◌++◌, not, ◌&&◌, ◌||◌, List, [], ◌∷◌, length, All, slice_index_or, drop, nat_lt, nat_le, if◌then◌else◌, Option, Some, None, is_some, slice_get}
+-- The tables by which a script's plan is made in one pass over its lines, and by which its openings are found.
+use Rattle.std.specs.Prelude.{◌≡◌, ℕ, ◌+◌, ◌-◌, ◌≤◌, ◌==◌, Bool, true, false, ◌++◌, not, ◌&&◌, ◌||◌, List, [], ◌∷◌, length, All, slice_index_or, drop, nat_lt, nat_le, if◌then◌else◌, Option, Some, None, is_some, slice_get}
 use Rattle.std.specs.List.{list_any, position}
 use Rattle.script_lines.specs.declared.line.Line.{Line}
 use Rattle.script_lines.specs.declared.line.What.{What}
@@ -10,7 +10,7 @@ use Rattle.script_phases.specs.Openings.{Opening as PhaseOpening}
 use Rattle.control_model.specs.declared.planning.Served.{Served}
 use Rattle.control_model.specs.declared.planning.Next.{Next}
 use Rattle.control_model.specs.declared.opening.Opening.{Opening}
-use Rattle.control_model.specs.Plan.{list_pages}
+use Rattle.control_model.specs.Plan.{list_pages, is_of_sub}
 
 -- a line ends a device for all later phases: it rescinds it, or closes it
 abbrev pub ends : ℕ → What → Bool
@@ -59,9 +59,26 @@ HasSizes devices = All (λ d. (1 ≤ d.ring_pages) × (d.ring_pages ≤ 16)) dev
 abbrev pub Dealt : Bool → ℕ → ℕ → Bool → List Opening → Next → List Opening → Next → Type 0
 Dealt false number ring_pages rescinded before next after later = (after ≡ before) × (later ≡ next)
 Dealt true number ring_pages rescinded before next after later =
-    (after ≡ before ++ record { relid = number + 1; ring_pages = ring_pages; gpadl = next.gpadl; first_page = next.page; rescinded = rescinded } ∷ []) ×
+    (after ≡ before ++ record { relid = number + 1; sub = 0; ring_pages = ring_pages; gpadl = next.gpadl; first_page = next.page; rescinded = rescinded } ∷ []) ×
     (later ≡ record { gpadl = next.gpadl + 1; page = next.page + list_pages ring_pages })
 
 -- the phases from a place on: none past the end
 abbrev pub rest_of : List Line → ℕ → List (List Line)
 rest_of lines start = if nat_le start (length lines) then parts (drop start lines) else []
+
+-- where the opening with a place in closing order stands among a phase's openings: a sub-channel one place later, and a device's first channel where the device
+-- begins
+abbrev pub sub_at : Option Opening → ℕ
+sub_at None = 0
+sub_at (Some o) = o.sub
+
+abbrev pub closing_place : List Opening → ℕ → ℕ
+closing_place os place = if is_of_sub (slice_get os (place + 1)) then place + 1 else place - sub_at (slice_get os place)
+
+-- a device's first channel stands at a place of these openings
+abbrev pub is_of_first : Option Opening → Bool
+is_of_first None = false
+is_of_first (Some o) = o.sub == 0
+
+abbrev pub is_first_at : List Opening → ℕ → Bool
+is_first_at os place = is_of_first (slice_get os place)

@@ -1,9 +1,10 @@
 -- A guest's control: what it waits for, what it does about each message, and what it refuses.
-use Rattle.std.specs.Prelude.{◌≡◌, ℕ, ◌+◌, ◌==◌, ◌<◌, Bool, true, false, not, ◌&&◌, ◌||◌, List, [], ◌∷◌, ◌++◌, length, slice_get, nat_le, Option, Some, None, is_some, Result, Ok, Err, if◌then◌else◌}
+use Rattle.std.specs.Prelude.{◌≡◌, ℕ, ◌+◌, ◌-◌, ◌==◌, ◌<◌, Bool, true, false, not, ◌&&◌, ◌||◌, List, [], ◌∷◌, ◌++◌, length, slice_get, nat_le, Option, Some, None, is_some, Result, Ok, Err, if◌then◌else◌}
 use Rattle.contact.specs.declared.version.Version.{Version}
 use Rattle.contact.specs.declared.part.Part.{Part}
 use Rattle.contact.specs.declared.part.Part.TheVariants.{Contact, PhaseStart, PhaseEnd, Unload}
 use Rattle.contact.specs.declared.kind.Kind.{Kind}
+use Rattle.contact.specs.declared.kind.Kind.TheVariants.{Disk}
 use Rattle.contact.specs.declared.channel_offer.OfferFault.TheVariants.{Class}
 use Rattle.contact.specs.Versions.{version, IsVersion}
 use Rattle.io_edge.specs.declared.side.Side.TheVariants.{Guest as GuestSide}
@@ -23,11 +24,11 @@ use Rattle.control_model.specs.declared.burst.Burst.TheVariants.{Empty, One, Two
 use Rattle.control_model.specs.declared.fault.ControlFault.{ControlFault}
 use Rattle.control_model.specs.declared.fault.ControlFault.TheVariants.{Gpadl, Relid, Offer, Unasked, Memory}
 use Rattle.control_model.specs.declared.guest_wait.GuestWait.{GuestWait}
-use Rattle.control_model.specs.declared.guest_wait.GuestWait.TheVariants.{Nothing, Response, Offers, Created, Opened, Torn, Rescinded, Unloaded}
+use Rattle.control_model.specs.declared.guest_wait.GuestWait.TheVariants.{Nothing, Response, Offers, SubOffer, Created, Opened, Torn, Rescinded, Unloaded}
 use Rattle.control_model.specs.declared.guest_turn.GuestTurn.{GuestTurn}
-use Rattle.control_model.specs.Plan.{BusPlan, opening_in}
+use Rattle.control_model.specs.Plan.{BusPlan, opening_in, is_sub, is_of_sub, most_channels}
 use Rattle.control_model.specs.Messages.{propose, request, open_on, close, teardown, release, farewell, Sends, Fits}
-use Rattle.control_model.specs.Channels.{version_below, kind_with, is_kind, by_relid, lived, changed, place_of_list}
+use Rattle.control_model.specs.Channels.{version_below, kind_with, same_kind, is_kind, by_relid, lived, changed, place_of_list}
 
 -- all that contracts see of a guest's control
 pub record GuestSeen : Type 0 where
@@ -130,7 +131,7 @@ abbrev pub hears_response : GuestSeen → GuestWait → ℕ → GuestTurn
 hears_response g (Response v) supported = answered g v supported
 hears_response g _ supported = idle g
 
--- OFFERCHANNEL: the next device's, of its kind, with the next relid
+-- OFFERCHANNEL: while devices are offered, the next device's, of its kind, with the next relid
 abbrev pub offered_channel : Channel
 offered_channel = record { life = record { side = GuestSide; state = IsOffered }; gpadl = None }
 
@@ -142,12 +143,30 @@ abbrev pub is_next_offer : GuestSeen → Kind → ℕ → ℕ → Bool
 is_next_offer g kind sub relid =
     awaits_offers g.awaits && (relid == length g.channels + 1) && (sub == 0) && is_kind kind (slice_get g.plan.kinds (length g.channels))
 
-abbrev pub takes_offer : GuestSeen → Kind → ℕ → ℕ → GuestTurn
-takes_offer g kind sub relid = if is_next_offer g kind sub relid then record (idle g) { heard = Offered offered_channel } else idle g
+abbrev pub device_offered : GuestSeen → Kind → ℕ → ℕ → GuestTurn
+device_offered g kind sub relid = if is_next_offer g kind sub relid then record (idle g) { heard = Offered offered_channel } else idle g
+
+-- behind a device's first channel, which is open then, that of its next sub-channel, with its relid, which is the next one, and its number
+abbrev pub is_sub_offer : GuestSeen → Opening → Kind → ℕ → ℕ → Bool
+is_sub_offer g o kind sub relid = (relid == length g.channels + 1) && (relid == o.relid) && (sub == o.sub) && same_kind Disk kind
+
+-- once all of them came, the guest goes on with the first one: its page list is sent
+abbrev pub goes_behind : GuestSeen → GuestTurn → ℕ → Opening → GuestTurn
+goes_behind g turn place o =
+    if is_of_sub (opening_of g (place + 1)) then record turn { awaits = SubOffer (place + 1) } else lists_next turn (place + 1 - o.sub) (opening_of g (place + 1 - o.sub))
+
+abbrev pub sub_offered : GuestSeen → ℕ → Kind → ℕ → ℕ → Option Opening → GuestTurn
+sub_offered g place kind sub relid None = idle g
+sub_offered g place kind sub relid (Some o) =
+    if is_sub_offer g o kind sub relid then goes_behind g (record (idle g) { heard = Offered offered_channel }) place o else idle g
+
+abbrev pub takes_offer : GuestSeen → GuestWait → Kind → ℕ → ℕ → GuestTurn
+takes_offer g (SubOffer place) kind sub relid = sub_offered g place kind sub relid (opening_of g place)
+takes_offer g _ kind sub relid = device_offered g kind sub relid
 
 abbrev pub hears_offer : GuestSeen → List ℕ → ℕ → ℕ → Option Kind → Result GuestTurn ControlFault
 hears_offer g if_type sub relid None = Err (Offer (Class if_type))
-hears_offer g if_type sub relid (Some kind) = Ok (takes_offer g kind sub relid)
+hears_offer g if_type sub relid (Some kind) = Ok (takes_offer g g.awaits kind sub relid)
 
 -- ALLOFFERS_DELIVERED, behind the last offer
 abbrev pub hears_delivered : GuestSeen → GuestTurn
@@ -173,11 +192,15 @@ abbrev pub hears_created : GuestSeen → ℕ → ℕ → ℕ → Option Channel 
 hears_created g relid gpadl status None = Err (Relid relid)
 hears_created g relid gpadl status (Some c) = Ok (created_while g g.awaits relid gpadl status c)
 
--- OPENCHANNEL_RESULT: the channel is open with status 0, and the guest goes on with the next opening
+-- OPENCHANNEL_RESULT: the channel is open with status 0, and the guest goes on with the next opening; behind a device's first channel the offers of its
+-- sub-channels come before
+abbrev pub opens_next : GuestTurn → ℕ → Opening → Option Opening → GuestTurn
+opens_next turn place o next = if not (is_sub o) && is_of_sub next then record turn { awaits = SubOffer (place + 1) } else lists_next turn (place + 1) next
+
 abbrev pub opened_for : GuestSeen → GuestTurn → ℕ → ℕ → ℕ → Option Opening → GuestTurn
 opened_for g turn place relid status None = turn
 opened_for g turn place relid status (Some o) =
-    if (o.relid == relid) && (status == 0) then lists_next turn (place + 1) (opening_of g (place + 1)) else turn
+    if (o.relid == relid) && (status == 0) then opens_next turn place o (opening_of g (place + 1)) else turn
 
 abbrev pub opened_while : GuestSeen → GuestTurn → GuestWait → ℕ → ℕ → GuestTurn
 opened_while g turn (Opened place) relid status = opened_for g turn place relid status (opening_of g place)
@@ -196,9 +219,16 @@ abbrev pub ended_for : GuestSeen → GuestTurn → ℕ → ℕ → Option Openin
 ended_for g turn place relid None = turn
 ended_for g turn place relid (Some o) = if o.relid == relid then closes_next turn g.channels (place + 1) (opening_of g (place + 1)) else turn
 
--- GPADL_TORNDOWN: the channel is closed, and the guest goes on with the next opening
+-- GPADL_TORNDOWN: the channel is closed, and the guest goes on with the next opening; but a sub-channel waits for the host to rescind it
+abbrev pub torn_then : GuestSeen → GuestTurn → ℕ → ℕ → Opening → GuestTurn
+torn_then g turn place relid o = if (o.relid == relid) && is_sub o then record turn { awaits = Rescinded place } else ended_for g turn place relid (Some o)
+
+abbrev pub torn_for : GuestSeen → GuestTurn → ℕ → ℕ → Option Opening → GuestTurn
+torn_for g turn place relid None = turn
+torn_for g turn place relid (Some o) = torn_then g turn place relid o
+
 abbrev pub torn_while : GuestSeen → GuestTurn → GuestWait → ℕ → GuestTurn
-torn_while g turn (Torn place) relid = ended_for g turn place relid (opening_of g place)
+torn_while g turn (Torn place) relid = torn_for g turn place relid (opening_of g place)
 torn_while g turn _ relid = turn
 
 abbrev pub torn_by : GuestSeen → ℕ → Result Channel ControlFault → Result GuestTurn ControlFault
@@ -252,9 +282,9 @@ abbrev pub IsListed : GuestWait → Type 0
 IsListed (Response v) = IsVersion v.0
 IsListed _ = Unit {0}
 
--- there are at most 16 channels
+-- there are no more channels than a plan can have
 abbrev pub HasRoom : List Channel → Change → Type 0
-HasRoom channels (Offered channel) = length channels < 16
+HasRoom channels (Offered channel) = length channels < most_channels
 HasRoom channels _ = Unit {0}
 
 -- a wish adds no channel

@@ -1,22 +1,22 @@
 -- Where a guest stands, by its part and what it waits for: its channels, and what it has still to say and to hear.
-use Rattle.std.specs.Prelude.{◌≡◌, ℕ, suc, ◌+◌, ◌<◌, ◌≤◌, true, false, List, [], ◌∷◌, ◌++◌, length, map, drop, replicate, Option, Some, None}
-use Rattle.std.specs.List.{flat_map}
+use Rattle.std.specs.Prelude.{◌≡◌, ℕ, suc, ◌+◌, ◌-◌, ◌<◌, ◌≤◌, true, false, List, [], ◌∷◌, ◌++◌, length, map, drop, replicate, Option, Some, None}
+use Rattle.std.specs.List.{AllByRecursion, flat_map}
 use Rattle.contact.specs.declared.version.Version.{Version}
 use Rattle.contact.specs.declared.part.Part.{Part}
 use Rattle.contact.specs.declared.part.Part.TheVariants.{Contact, PhaseStart, PhaseEnd, Unload}
 use Rattle.contact.specs.Versions.{versions_tried}
 use Rattle.contact.specs.Classes.{offers_from}
-use Rattle.chan_state.specs.declared.state.State.TheVariants.{Opening as IsOpening, Opened as IsOpened, Closing}
+use Rattle.chan_state.specs.declared.state.State.TheVariants.{Opening as IsOpening, Opened as IsOpened, Closing, Closed as IsClosed}
 use Rattle.vmbus_msg.specs.declared.msg.Msg.{Msg}
 use Rattle.control_model.specs.declared.opening.Opening.{Opening}
 use Rattle.control_model.specs.declared.channel.Channel.{Channel}
 use Rattle.control_model.specs.declared.guest_wait.GuestWait.{GuestWait}
-use Rattle.control_model.specs.declared.guest_wait.GuestWait.TheVariants.{Nothing, Response, Offers, Created, Opened, Torn, Rescinded, Unloaded}
-use Rattle.control_model.specs.Plan.{BusPlan, phase_of}
-use Rattle.control_model.specs.Messages.{propose, request, delivered, open_on, opened, farewell, farewell_taken}
-use Rattle.control_model.specs.Said.{answer_to, guest_opens, host_opens, guest_closes, host_closes, guest_in_phase, host_in_phase, from_3_0, said_by_guest, said_by_host}
+use Rattle.control_model.specs.declared.guest_wait.GuestWait.TheVariants.{Nothing, Response, Offers, SubOffer, Created, Opened, Torn, Rescinded, Unloaded}
+use Rattle.control_model.specs.Plan.{BusPlan, phase_of, closing_of, is_sub, first_subs, subs_next}
+use Rattle.control_model.specs.Messages.{propose, request, delivered, open_on, opened, offer_sub, release, rescind, farewell, farewell_taken}
+use Rattle.control_model.specs.Said.{answer_to, guest_opens, host_opens_all, guest_closes, host_closes, only_sub, guest_in_phase, host_in_phase, from_3_0, said_by_guest, said_by_host}
 use Rattle.control_model.specs.Guest.{GuestSeen, offered_channel}
-use Rattle.control_model.specs.Stand.{At, marked, guest_is, guest_ends, guest_before, Tries, Agreed, Meet}
+use Rattle.control_model.specs.Stand.{At, EndsAt, offered_before, offered_by, marked, guest_is, guest_ends, guest_before, Tries, Agreed, Meet}
 
 -- from a phase on: the phases that are left, and the farewell
 abbrev pub guest_from : BusPlan → ℕ → List Msg
@@ -35,34 +35,54 @@ contact_to_hear plan (Response v) channels = map (answer_to plan) (versions_trie
 contact_to_hear plan Offers channels = offers_from (channels + 1) (drop channels plan.kinds) ++ delivered ∷ []
 contact_to_hear plan awaits channels = []
 
--- of a phase's start: once a page list was sent, its channel is opened; once that was asked for, its answer comes
+-- of a phase's start: once a page list was sent, its channel is opened; once that was asked for, its answer comes, and behind that of a device's first channel
+-- the offers of its sub-channels; once all of these came, the first one's page list is sent
 abbrev pub opens_listed : List Opening → List Msg
 opens_listed [] = []
 opens_listed (o ∷ os) = open_on o ∷ flat_map guest_opens os
 
 abbrev pub answers_open : List Opening → List Msg
 answers_open [] = []
-answers_open (o ∷ os) = opened o.relid o.relid ∷ flat_map host_opens os
+answers_open (o ∷ os) = opened o.relid o.relid ∷ (map offer_sub (subs_next (o ∷ os)) ++ host_opens_all os)
+
+-- from the first sub-channel of the device whose sub-channel has this place
+abbrev pub from_first_sub : List Opening → ℕ → List Opening → List Opening
+from_first_sub os place [] = []
+from_first_sub os place (o ∷ left) = drop (place + 1 - o.sub) os
 
 abbrev pub start_to_say : List Opening → GuestWait → List Msg
 start_to_say os (Created place) = opens_listed (drop place os)
 start_to_say os (Opened place) = flat_map guest_opens (drop (suc place) os)
+start_to_say os (SubOffer place) = flat_map guest_opens (from_first_sub os place (drop place os))
 start_to_say os awaits = []
 
 abbrev pub start_to_hear : List Opening → GuestWait → List Msg
-start_to_hear os (Created place) = flat_map host_opens (drop place os)
+start_to_hear os (Created place) = host_opens_all (drop place os)
 start_to_hear os (Opened place) = answers_open (drop place os)
+start_to_hear os (SubOffer place) = map offer_sub (first_subs (drop place os)) ++ host_opens_all (from_first_sub os place (drop place os))
 start_to_hear os awaits = []
 
--- of a phase's end
+-- of a phase's end, whose openings stand in closing order: a channel that was closed is given back where it is a sub-channel; one is taken back, and given back
+abbrev pub gives_sub : List Opening → List Msg
+gives_sub [] = []
+gives_sub (o ∷ os) = only_sub o (release o.relid) ++ flat_map guest_closes os
+
+abbrev pub gives_one : List Opening → List Msg
+gives_one [] = []
+gives_one (o ∷ os) = release o.relid ∷ flat_map guest_closes os
+
+abbrev pub takes_one : List Opening → List Msg
+takes_one [] = []
+takes_one (o ∷ os) = rescind o.relid ∷ flat_map host_closes os
+
 abbrev pub end_to_say : List Opening → GuestWait → List Msg
-end_to_say os (Torn place) = flat_map guest_closes (drop (suc place) os)
-end_to_say os (Rescinded place) = flat_map guest_closes (drop place os)
+end_to_say os (Torn place) = gives_sub (drop place os)
+end_to_say os (Rescinded place) = gives_one (drop place os)
 end_to_say os awaits = []
 
 abbrev pub end_to_hear : List Opening → GuestWait → List Msg
 end_to_hear os (Torn place) = flat_map host_closes (drop place os)
-end_to_hear os (Rescinded place) = flat_map host_closes (drop place os)
+end_to_hear os (Rescinded place) = takes_one (drop place os)
 end_to_hear os awaits = []
 
 -- of the farewell
@@ -74,16 +94,16 @@ unload_to_hear awaits = []
 abbrev pub to_say : BusPlan → Option Part → GuestWait → List Msg
 to_say plan None awaits = said_by_guest plan
 to_say plan (Some Contact) awaits = contact_to_say plan awaits ++ guest_from plan 0
-to_say plan (Some (PhaseStart phase)) awaits = start_to_say (phase_of plan phase) awaits ++ (flat_map guest_closes (phase_of plan phase) ++ guest_from plan (suc phase))
-to_say plan (Some (PhaseEnd phase)) awaits = end_to_say (phase_of plan phase) awaits ++ guest_from plan (suc phase)
+to_say plan (Some (PhaseStart phase)) awaits = start_to_say (phase_of plan phase) awaits ++ (flat_map guest_closes (closing_of plan phase) ++ guest_from plan (suc phase))
+to_say plan (Some (PhaseEnd phase)) awaits = end_to_say (closing_of plan phase) awaits ++ guest_from plan (suc phase)
 to_say plan (Some Unload) awaits = []
 
 -- and all that it has still to hear, where it has so many channels
 abbrev pub to_hear : BusPlan → Option Part → GuestWait → ℕ → List Msg
 to_hear plan None awaits channels = said_by_host plan
 to_hear plan (Some Contact) awaits channels = contact_to_hear plan awaits channels ++ host_from plan 0
-to_hear plan (Some (PhaseStart phase)) awaits channels = start_to_hear (phase_of plan phase) awaits ++ (flat_map host_closes (phase_of plan phase) ++ host_from plan (suc phase))
-to_hear plan (Some (PhaseEnd phase)) awaits channels = end_to_hear (phase_of plan phase) awaits ++ host_from plan (suc phase)
+to_hear plan (Some (PhaseStart phase)) awaits channels = start_to_hear (phase_of plan phase) awaits ++ (flat_map host_closes (closing_of plan phase) ++ host_from plan (suc phase))
+to_hear plan (Some (PhaseEnd phase)) awaits channels = end_to_hear (closing_of plan phase) awaits ++ host_from plan (suc phase)
 to_hear plan (Some Unload) awaits channels = unload_to_hear awaits
 
 -- the version and the channels of a guest, a row for each part and what it waits for
@@ -93,23 +113,29 @@ pub data GuestStands (plan : BusPlan) : Option Part → GuestWait → Option Ver
   -- a version is proposed; the offers come; all came
   proposes : (v : Version) → Tries plan v → GuestStands plan (Some Contact) (Response v) None []
   asks : (v : Version) (n : ℕ) → Agreed plan v → n ≤ length plan.kinds → GuestStands plan (Some Contact) Offers (Some v) (replicate n offered_channel)
-  contacted : (v : Version) (channels : List Channel) → Meet plan v channels (guest_before plan 0) → GuestStands plan (Some Contact) Nothing (Some v) channels
-  -- a channel's page list was sent; the channel is to be opened; all channels of the phase are open
+  contacted : (v : Version) (channels : List Channel) → Meet plan v channels (offered_before plan 0) (guest_before plan 0) → GuestStands plan (Some Contact) Nothing (Some v) channels
+  -- a device's first channel is open, and some of its sub-channels were offered; a channel's page list was sent; the channel is to be opened; all channels of the phase are open
+  offers : (v : Version) (channels : List Channel) (phase place : ℕ) (done : List Opening) (first : Opening) (offered : List Opening) (o : Opening) (left : List Opening)
+      → At plan phase place (done ++ first ∷ offered) o left → is_sub first ≡ false → AllByRecursion (λ p. is_sub p ≡ true) (offered ++ o ∷ [])
+      → Meet plan v channels (offered_by plan phase done [] + length offered) (marked (guest_is IsOpened) (done ++ first ∷ []) (guest_before plan phase))
+      → GuestStands plan (Some (PhaseStart phase)) (SubOffer place) (Some v) channels
   lists : (v : Version) (channels : List Channel) (phase place : ℕ) (done : List Opening) (o : Opening) (left : List Opening) → At plan phase place done o left
-      → Meet plan v channels (marked (guest_is IsOpened) done (guest_before plan phase)) → GuestStands plan (Some (PhaseStart phase)) (Created place) (Some v) channels
+      → Meet plan v channels (offered_by plan phase done (o ∷ left)) (marked (guest_is IsOpened) done (guest_before plan phase)) → GuestStands plan (Some (PhaseStart phase)) (Created place) (Some v) channels
   opens : (v : Version) (channels : List Channel) (phase place : ℕ) (done : List Opening) (o : Opening) (left : List Opening) → At plan phase place done o left
-      → Meet plan v channels (marked (guest_is IsOpened) done (marked (guest_is IsOpening) (o ∷ []) (guest_before plan phase))) → GuestStands plan (Some (PhaseStart phase)) (Opened place) (Some v) channels
+      → Meet plan v channels (offered_by plan phase done (o ∷ left)) (marked (guest_is IsOpened) done (marked (guest_is IsOpening) (o ∷ []) (guest_before plan phase))) → GuestStands plan (Some (PhaseStart phase)) (Opened place) (Some v) channels
   started : (v : Version) (channels : List Channel) (phase : ℕ) → phase < length plan.phases
-      → Meet plan v channels (marked (guest_is IsOpened) (phase_of plan phase) (guest_before plan phase)) → GuestStands plan (Some (PhaseStart phase)) Nothing (Some v) channels
-  -- a channel is being closed; one is to be rescinded; all channels of the phase are done with
-  closes : (v : Version) (channels : List Channel) (phase place : ℕ) (done : List Opening) (o : Opening) (left : List Opening) → At plan phase place done o left → o.rescinded ≡ false
-      → Meet plan v channels (marked guest_ends done (marked (guest_is Closing) (o ∷ []) (marked (guest_is IsOpened) left (guest_before plan phase)))) → GuestStands plan (Some (PhaseEnd phase)) (Torn place) (Some v) channels
-  gives_back : (v : Version) (channels : List Channel) (phase place : ℕ) (done : List Opening) (o : Opening) (left : List Opening) → At plan phase place done o left → o.rescinded ≡ true
-      → Meet plan v channels (marked guest_ends done (marked (guest_is IsOpened) (o ∷ left) (guest_before plan phase))) → GuestStands plan (Some (PhaseEnd phase)) (Rescinded place) (Some v) channels
-  ended : (v : Version) (channels : List Channel) (phase : ℕ) → phase < length plan.phases → Meet plan v channels (guest_before plan (suc phase)) → GuestStands plan (Some (PhaseEnd phase)) Nothing (Some v) channels
+      → Meet plan v channels (offered_before plan (suc phase)) (marked (guest_is IsOpened) (phase_of plan phase) (guest_before plan phase)) → GuestStands plan (Some (PhaseStart phase)) Nothing (Some v) channels
+  -- a channel is being closed; one is to be rescinded; a sub-channel is closed, and to be rescinded; all channels of the phase are done with
+  closes : (v : Version) (channels : List Channel) (phase place : ℕ) (done : List Opening) (o : Opening) (left : List Opening) → EndsAt plan phase place done o left → o.rescinded ≡ false
+      → Meet plan v channels (offered_before plan (suc phase)) (marked guest_ends done (marked (guest_is Closing) (o ∷ []) (marked (guest_is IsOpened) left (guest_before plan phase)))) → GuestStands plan (Some (PhaseEnd phase)) (Torn place) (Some v) channels
+  gives_back : (v : Version) (channels : List Channel) (phase place : ℕ) (done : List Opening) (o : Opening) (left : List Opening) → EndsAt plan phase place done o left → o.rescinded ≡ true
+      → Meet plan v channels (offered_before plan (suc phase)) (marked guest_ends done (marked (guest_is IsOpened) (o ∷ left) (guest_before plan phase))) → GuestStands plan (Some (PhaseEnd phase)) (Rescinded place) (Some v) channels
+  gives_sub_back : (v : Version) (channels : List Channel) (phase place : ℕ) (done : List Opening) (o : Opening) (left : List Opening) → EndsAt plan phase place done o left → o.rescinded ≡ false → is_sub o ≡ true
+      → Meet plan v channels (offered_before plan (suc phase)) (marked guest_ends done (marked (guest_is IsClosed) (o ∷ []) (marked (guest_is IsOpened) left (guest_before plan phase)))) → GuestStands plan (Some (PhaseEnd phase)) (Rescinded place) (Some v) channels
+  ended : (v : Version) (channels : List Channel) (phase : ℕ) → phase < length plan.phases → Meet plan v channels (offered_before plan (suc phase)) (guest_before plan (suc phase)) → GuestStands plan (Some (PhaseEnd phase)) Nothing (Some v) channels
   -- the farewell is said; it is over
-  leaves : (v : Version) (channels : List Channel) → Meet plan v channels (guest_before plan (length plan.phases)) → GuestStands plan (Some Unload) Unloaded (Some v) channels
-  is_over : (v : Version) (channels : List Channel) → Meet plan v channels (guest_before plan (length plan.phases)) → GuestStands plan (Some Unload) Nothing (Some v) channels
+  leaves : (v : Version) (channels : List Channel) → Meet plan v channels (offered_before plan (length plan.phases)) (guest_before plan (length plan.phases)) → GuestStands plan (Some Unload) Unloaded (Some v) channels
+  is_over : (v : Version) (channels : List Channel) → Meet plan v channels (offered_before plan (length plan.phases)) (guest_before plan (length plan.phases)) → GuestStands plan (Some Unload) Nothing (Some v) channels
 
 -- a guest stands so, said the front of all that it says, and heard the front of all that its host says; where it stands tells what is left of both
 pub record GuestAt (plan : BusPlan) (g : GuestSeen) : Type 0 where

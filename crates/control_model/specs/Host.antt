@@ -1,5 +1,5 @@
 -- A host's control: what it waits for, what it does about each message, and what it refuses.
-use Rattle.std.specs.Prelude.{◌≡◌, ℕ, ◌+◌, ◌==◌, Bool, true, false, not, ◌&&◌, ◌||◌, List, [], ◌∷◌, ◌++◌, filter, length, map, slice_set, ◌-◌, Option, Some, None, is_some, Result, Ok, Err, if◌then◌else◌}
+use Rattle.std.specs.Prelude.{◌≡◌, ℕ, ◌+◌, ◌==◌, Bool, true, false, not, ◌&&◌, ◌||◌, List, [], ◌∷◌, ◌++◌, filter, length, map, replicate, slice_set, ◌-◌, Option, Some, None, is_some, Result, Ok, Err, if◌then◌else◌}
 use Rattle.contact.specs.declared.version.Version.{Version}
 use Rattle.contact.specs.declared.part.Part.{Part}
 use Rattle.contact.specs.declared.part.Part.TheVariants.{Contact, PhaseStart, PhaseEnd, Unload}
@@ -19,14 +19,14 @@ use Rattle.vmbus_msg.specs.declared.msg.Msg.{Msg}
 use Rattle.vmbus_msg.specs.declared.msg.Msg.TheVariants.{RequestOffers, OpenChannel, CloseChannel, GpadlHeader, GpadlBody, GpadlTeardown, RelidReleased, InitiateContact, Unload as UnloadSeen}
 use Rattle.control_model.specs.declared.opening.Opening.{Opening}
 use Rattle.control_model.specs.declared.burst.Burst.{Burst}
-use Rattle.control_model.specs.declared.burst.Burst.TheVariants.{Empty, One, Two, Offers}
+use Rattle.control_model.specs.declared.burst.Burst.TheVariants.{Empty, One, Two, Offers, Opens}
 use Rattle.control_model.specs.declared.fault.ControlFault.{ControlFault}
 use Rattle.control_model.specs.declared.fault.ControlFault.TheVariants.{State as StateFault, Gpadl, Relid, Unasked}
 use Rattle.control_model.specs.declared.host_wait.HostWait.{HostWait}
 use Rattle.control_model.specs.declared.host_wait.HostWait.TheVariants.{Nothing, Contact as AwaitsContact, Request, List as AwaitsList, Open, Close, Teardown, Release, Unload as AwaitsUnload}
 use Rattle.control_model.specs.declared.host_next.HostNext.{HostNext}
 use Rattle.control_model.specs.declared.host_next.Rescind.{Rescind}
-use Rattle.control_model.specs.Plan.{BusPlan, opening_in}
+use Rattle.control_model.specs.Plan.{BusPlan, opening_in, is_sub, subs_behind}
 use Rattle.control_model.specs.Messages.{respond, created, opened, torndown, rescind, farewell_taken, Sends}
 use Rattle.control_model.specs.Channels.{accepts, by_relid, row_of, stands}
 use Rattle.control_model.specs.Guest.{can_unload}
@@ -153,6 +153,10 @@ abbrev pub is_of : ℕ → Option Opening → Bool
 is_of relid None = false
 is_of relid (Some o) = o.relid == relid
 
+-- a channel that is offered
+abbrev pub offered_life : ChanState
+offered_life = record { side = HostSide; state = IsOffered }
+
 -- INITIATE_CONTACT: answered by 1 where the host has the version, and by 0 otherwise
 abbrev pub hears_contact : HostSeen → HostWait → ℕ → HostTurn
 hears_contact h AwaitsContact asked =
@@ -162,8 +166,7 @@ hears_contact h _ asked = at_rest h
 
 -- REQUESTOFFERS: each device is offered
 abbrev pub hears_request : HostSeen → HostWait → HostTurn
-hears_request h Request =
-    record (at_rest h) { awaits = Nothing; channels = map (λ kind. record { side = HostSide; state = IsOffered }) h.plan.kinds; burst = Offers }
+hears_request h Request = record (at_rest h) { awaits = Nothing; channels = map (λ kind. offered_life) h.plan.kinds; burst = Offers }
 hears_request h _ = at_rest h
 
 -- a channel's page list came: it is created once it is whole
@@ -190,19 +193,38 @@ hears_header h relid m (Some life) = hears_piece h m (fault_of h.lists m)
 abbrev pub goes_on : HostSeen → ℕ → ChanState → State → List ChanState
 goes_on h relid life state = slice_set h.channels (relid - 1) (stands life state)
 
--- OPENCHANNEL, answered by status 0 where the table says so
+-- OPENCHANNEL, answered by status 0 where the table says so; behind the answer the sub-channels of the device are offered, where this is its first channel and
+-- the host waited for it
 abbrev pub opened_then : HostSeen → HostWait → ℕ → HostWait
 opened_then h (Open place) relid = if is_of relid (opening_for h place) then waits_list (place + 1) (opening_for h (place + 1)) else Open place
 opened_then h awaits relid = awaits
 
-abbrev pub opened_burst : ℕ → ℕ → Action → Burst
-opened_burst relid openid SendResult = One (opened relid openid)
-opened_burst relid openid _ = Empty
+abbrev pub with_offers : HostSeen → HostWait → ℕ → Msg → Burst
+with_offers h (Open place) relid m = if is_of relid (opening_for h place) then Opens m h.part place else One m
+with_offers h awaits relid m = One m
+
+abbrev pub opened_burst : HostSeen → ℕ → ℕ → Action → Burst
+opened_burst h relid openid SendResult = with_offers h h.awaits relid (opened relid openid)
+opened_burst h relid openid _ = Empty
+
+abbrev pub subs_offered : HostSeen → HostWait → ℕ → List Opening
+subs_offered h (Open place) relid = if is_of relid (opening_for h place) then subs_behind h.plan h.part place else []
+subs_offered h awaits relid = []
+
+abbrev pub opened_subs : HostSeen → ℕ → Action → List Opening
+opened_subs h relid SendResult = subs_offered h h.awaits relid
+opened_subs h relid _ = []
+
+abbrev pub with_subs : List ChanState → List Opening → List ChanState
+with_subs channels subs = channels ++ replicate (length subs) offered_life
+
+abbrev pub open_turn : HostSeen → ℕ → ℕ → ChanState → Action → HostTurn
+open_turn h relid openid now action =
+    record (at_rest h) { awaits = opened_then h h.awaits relid; channels = with_subs (slice_set h.channels (relid - 1) now) (opened_subs h relid action); burst = opened_burst h relid openid action }
 
 abbrev pub open_by : HostSeen → ℕ → ℕ → ChanState → Option (State × Action) → Result HostTurn ControlFault
 open_by h relid openid life None = Err (StateFault (record { state = life.state; event = OpenSeen }))
-open_by h relid openid life (Some row) =
-    Ok (record (at_rest h) { awaits = opened_then h h.awaits relid; channels = goes_on h relid life row.0; burst = opened_burst relid openid row.1 })
+open_by h relid openid life (Some row) = Ok (open_turn h relid openid (stands life row.0) row.1)
 
 abbrev pub hears_open : HostSeen → ℕ → ℕ → Option ChanState → Result HostTurn ControlFault
 hears_open h relid openid None = Err (Relid relid)
@@ -229,10 +251,18 @@ stays h = waits h.awaits
 abbrev pub ended_at : HostSeen → ℕ → ℕ → HostNext
 ended_at h place relid = if is_of relid (opening_for h place) then next_end h.channels (place + 1) (opening_for h (place + 1)) else stays h
 
--- GPADL_TEARDOWN: the page list isn't live any more
-abbrev pub torn_then : HostSeen → HostWait → ℕ → HostNext
-torn_then h (Teardown place) relid = ended_at h place relid
-torn_then h awaits relid = stays h
+-- GPADL_TEARDOWN: the page list isn't live any more, and the host goes on with the next opening; but a sub-channel, which stands so then, is rescinded
+abbrev pub torn_one : HostSeen → ℕ → ℕ → ChanState → Opening → HostNext
+torn_one h place relid life o =
+    if (o.relid == relid) && is_sub o then record { awaits = Release place; rescinds = wants_rescind o (Some life) } else ended_at h place relid
+
+abbrev pub torn_for : HostSeen → ℕ → ℕ → ChanState → Option Opening → HostNext
+torn_for h place relid life None = stays h
+torn_for h place relid life (Some o) = torn_one h place relid life o
+
+abbrev pub torn_then : HostSeen → HostWait → ℕ → ChanState → HostNext
+torn_then h (Teardown place) relid life = torn_for h place relid life (opening_for h place)
+torn_then h awaits relid life = stays h
 
 abbrev pub lists_torn : Assembly → ℕ → Action → Assembly
 lists_torn lists gpadl SendTorndown = without lists gpadl
@@ -245,7 +275,7 @@ torn_answer gpadl _ = None
 abbrev pub teardown_by : HostSeen → ℕ → ℕ → ChanState → Option (State × Action) → Result HostTurn ControlFault
 teardown_by h relid gpadl life None = Err (StateFault (record { state = life.state; event = TeardownSeen }))
 teardown_by h relid gpadl life (Some row) =
-    Ok (goes_next (record (at_rest h) { channels = goes_on h relid life row.0; lists = lists_torn h.lists gpadl row.1 }) (torn_answer gpadl row.1) (torn_then h h.awaits relid))
+    Ok (goes_next (record (at_rest h) { channels = goes_on h relid life row.0; lists = lists_torn h.lists gpadl row.1 }) (torn_answer gpadl row.1) (torn_then h h.awaits relid (stands life row.0)))
 
 -- the rescind of a channel ends its page list, so no handle is asked of it then
 abbrev pub is_rescinded : State → Bool

@@ -1,6 +1,6 @@
 -- Where a host stands, by its part and what it waits for: its channels and its page lists, and what it has still to say and to hear.
-use Rattle.std.specs.Prelude.{◌≡◌, ℕ, suc, ◌<◌, true, false, List, [], ◌∷◌, ◌++◌, length, map, drop, Option, Some, None}
-use Rattle.std.specs.List.{flat_map}
+use Rattle.std.specs.Prelude.{◌≡◌, ℕ, suc, ◌<◌, ◌==◌, not, true, false, List, [], ◌∷◌, ◌++◌, length, map, drop, filter, Option, Some, None}
+use Rattle.std.specs.List.{flat_map, list_any}
 use Rattle.contact.specs.declared.version.Version.{Version}
 use Rattle.contact.specs.declared.part.Part.{Part}
 use Rattle.contact.specs.declared.part.Part.TheVariants.{Contact, PhaseStart, PhaseEnd, Unload}
@@ -15,12 +15,12 @@ use Rattle.vmbus_msg.specs.declared.msg.Msg.{Msg}
 use Rattle.control_model.specs.declared.opening.Opening.{Opening}
 use Rattle.control_model.specs.declared.host_wait.HostWait.{HostWait}
 use Rattle.control_model.specs.declared.host_wait.HostWait.TheVariants.{Nothing, Contact as AwaitsContact, Request, List as AwaitsList, Open, Close, Teardown, Release, Unload as AwaitsUnload}
-use Rattle.control_model.specs.Plan.{BusPlan, phase_of}
-use Rattle.control_model.specs.Messages.{propose, request, delivered, pages_from, teardown, farewell, farewell_taken}
-use Rattle.control_model.specs.Said.{answer_to, guest_opens, host_opens, guest_closes, host_closes, said_by_guest, said_by_host}
+use Rattle.control_model.specs.Plan.{BusPlan, phase_of, closing_of}
+use Rattle.control_model.specs.Messages.{propose, request, delivered, pages_from, teardown, release, farewell, farewell_taken}
+use Rattle.control_model.specs.Said.{answer_to, guest_opens, host_opens_all, guest_closes, host_closes, only_sub, ends_given_back, said_by_guest, said_by_host}
 use Rattle.control_model.specs.Host.{HostSeen}
-use Rattle.control_model.specs.Stand.{At, marked, host_is, host_ends, host_before, Tries, Agreed, Meet, handles}
-use Rattle.control_model.specs.GuestAt.{guest_from, host_from, opens_listed, answers_open}
+use Rattle.control_model.specs.Stand.{At, EndsAt, offered_before, offered_by, marked, host_is, host_ends, host_before, Tries, Agreed, Meet, handles}
+use Rattle.control_model.specs.GuestAt.{guest_from, host_from, opens_listed, answers_open, gives_one}
 
 -- of the contact, where these versions are still to be tried
 abbrev pub host_contact_to_say : BusPlan → HostWait → List ℕ → List Msg
@@ -35,7 +35,7 @@ host_contact_to_hear awaits tried = []
 
 -- of a phase's start, where these messages of a page list are still to come: the channel is opened behind them
 abbrev pub host_start_to_say : List Opening → HostWait → List Msg
-host_start_to_say os (AwaitsList place) = flat_map host_opens (drop place os)
+host_start_to_say os (AwaitsList place) = host_opens_all (drop place os)
 host_start_to_say os (Open place) = answers_open (drop place os)
 host_start_to_say os awaits = []
 
@@ -44,10 +44,10 @@ host_start_to_hear os (AwaitsList place) pieces = pieces ++ opens_listed (drop p
 host_start_to_hear os (Open place) pieces = opens_listed (drop place os)
 host_start_to_hear os awaits pieces = []
 
--- of a phase's end: a channel that was closed has its page list torn down
+-- of a phase's end: a channel that was closed has its page list torn down, and is given back where it is a sub-channel
 abbrev pub tears_down : List Opening → List Msg
 tears_down [] = []
-tears_down (o ∷ os) = teardown o ∷ flat_map guest_closes os
+tears_down (o ∷ os) = teardown o ∷ (only_sub o (release o.relid) ++ flat_map guest_closes os)
 
 abbrev pub host_end_to_say : List Opening → HostWait → List Msg
 host_end_to_say os (Close place) = flat_map host_closes (drop place os)
@@ -58,7 +58,7 @@ host_end_to_say os awaits = []
 abbrev pub host_end_to_hear : List Opening → HostWait → List Msg
 host_end_to_hear os (Close place) = flat_map guest_closes (drop place os)
 host_end_to_hear os (Teardown place) = tears_down (drop place os)
-host_end_to_hear os (Release place) = flat_map guest_closes (drop place os)
+host_end_to_hear os (Release place) = gives_one (drop place os)
 host_end_to_hear os awaits = []
 
 -- of the farewell
@@ -74,21 +74,25 @@ unload_to_answer awaits = []
 abbrev pub host_to_say : BusPlan → Option Part → HostWait → List ℕ → List Msg
 host_to_say plan None awaits tried = said_by_host plan
 host_to_say plan (Some Contact) awaits tried = host_contact_to_say plan awaits tried ++ host_from plan 0
-host_to_say plan (Some (PhaseStart phase)) awaits tried = host_start_to_say (phase_of plan phase) awaits ++ (flat_map host_closes (phase_of plan phase) ++ host_from plan (suc phase))
-host_to_say plan (Some (PhaseEnd phase)) awaits tried = host_end_to_say (phase_of plan phase) awaits ++ host_from plan (suc phase)
+host_to_say plan (Some (PhaseStart phase)) awaits tried = host_start_to_say (phase_of plan phase) awaits ++ (flat_map host_closes (closing_of plan phase) ++ host_from plan (suc phase))
+host_to_say plan (Some (PhaseEnd phase)) awaits tried = host_end_to_say (closing_of plan phase) awaits ++ host_from plan (suc phase)
 host_to_say plan (Some Unload) awaits tried = unload_to_answer awaits
 
 -- and all that it has still to hear
 abbrev pub host_to_hear : BusPlan → Option Part → HostWait → List ℕ → List Msg → List Msg
 host_to_hear plan None awaits tried pieces = said_by_guest plan
 host_to_hear plan (Some Contact) awaits tried pieces = host_contact_to_hear awaits tried ++ guest_from plan 0
-host_to_hear plan (Some (PhaseStart phase)) awaits tried pieces = host_start_to_hear (phase_of plan phase) awaits pieces ++ (flat_map guest_closes (phase_of plan phase) ++ guest_from plan (suc phase))
-host_to_hear plan (Some (PhaseEnd phase)) awaits tried pieces = host_end_to_hear (phase_of plan phase) awaits ++ guest_from plan (suc phase)
+host_to_hear plan (Some (PhaseStart phase)) awaits tried pieces = host_start_to_hear (phase_of plan phase) awaits pieces ++ (flat_map guest_closes (closing_of plan phase) ++ guest_from plan (suc phase))
+host_to_hear plan (Some (PhaseEnd phase)) awaits tried pieces = host_end_to_hear (closing_of plan phase) awaits ++ guest_from plan (suc phase)
 host_to_hear plan (Some Unload) awaits tried pieces = unload_to_take awaits
 
 -- no page list is being built, and those with these handles are live
 abbrev pub live_ones : List ℕ → Assembly
 live_ones live = record { building = None; live = live }
+
+-- the page lists of a phase are live, but for those of these openings, which are done with
+abbrev pub lists_but : List Opening → List Opening → Assembly
+lists_but done os = live_ones (filter (λ handle. not (list_any (λ o. o.gpadl == handle) done)) (handles os))
 
 -- the page list of an opening comes: its first messages were taken, and these are still to come
 pub record ListComes (done : List Opening) (o : Opening) (lists : Assembly) (pieces : List Msg) : Type 0 where
@@ -104,25 +108,25 @@ pub data HostStands (plan : BusPlan) : Option Part → HostWait → Option Versi
   -- a version is to be proposed; one was accepted, and the offers are to be asked for; all were sent
   answers : (v : Version) → Tries plan v → HostStands plan (Some Contact) AwaitsContact None [] (live_ones []) (versions_tried v.0 plan.host.0) []
   accepts : (v : Version) → Agreed plan v → HostStands plan (Some Contact) Request (Some v) [] (live_ones []) [] []
-  contacted : (v : Version) (channels : List ChanState) → Meet plan v channels (host_before plan 0) → HostStands plan (Some Contact) Nothing (Some v) channels (live_ones []) [] []
+  contacted : (v : Version) (channels : List ChanState) → Meet plan v channels (offered_before plan 0) (host_before plan 0) → HostStands plan (Some Contact) Nothing (Some v) channels (live_ones []) [] []
   -- a channel's page list comes; the channel is to be opened; all channels of the phase are open
   lists : (v : Version) (channels : List ChanState) (phase place : ℕ) (done : List Opening) (o : Opening) (left : List Opening) (assembly : Assembly) (m : Msg) (ms : List Msg) → At plan phase place done o left
-      → Meet plan v channels (marked (host_is Opened) done (host_before plan phase)) → ListComes done o assembly (m ∷ ms) → HostStands plan (Some (PhaseStart phase)) (AwaitsList place) (Some v) channels assembly [] (m ∷ ms)
+      → Meet plan v channels (offered_by plan phase done (o ∷ left)) (marked (host_is Opened) done (host_before plan phase)) → ListComes done o assembly (m ∷ ms) → HostStands plan (Some (PhaseStart phase)) (AwaitsList place) (Some v) channels assembly [] (m ∷ ms)
   listed : (v : Version) (channels : List ChanState) (phase place : ℕ) (done : List Opening) (o : Opening) (left : List Opening) → At plan phase place done o left
-      → Meet plan v channels (marked (host_is Opened) done (host_before plan phase)) → HostStands plan (Some (PhaseStart phase)) (Open place) (Some v) channels (live_ones (handles (done ++ o ∷ []))) [] []
+      → Meet plan v channels (offered_by plan phase done (o ∷ left)) (marked (host_is Opened) done (host_before plan phase)) → HostStands plan (Some (PhaseStart phase)) (Open place) (Some v) channels (live_ones (handles (done ++ o ∷ []))) [] []
   started : (v : Version) (channels : List ChanState) (phase : ℕ) → phase < length plan.phases
-      → Meet plan v channels (marked (host_is Opened) (phase_of plan phase) (host_before plan phase)) → HostStands plan (Some (PhaseStart phase)) Nothing (Some v) channels (live_ones (handles (phase_of plan phase))) [] []
+      → Meet plan v channels (offered_before plan (suc phase)) (marked (host_is Opened) (phase_of plan phase) (host_before plan phase)) → HostStands plan (Some (PhaseStart phase)) Nothing (Some v) channels (live_ones (handles (phase_of plan phase))) [] []
   -- a channel is to be closed; its page list is to be torn down; one is rescinded, with its page list, and to be given back; all channels of the phase are done with
-  closes : (v : Version) (channels : List ChanState) (phase place : ℕ) (done : List Opening) (o : Opening) (left : List Opening) → At plan phase place done o left → o.rescinded ≡ false
-      → Meet plan v channels (marked host_ends done (marked (host_is Opened) (o ∷ left) (host_before plan phase))) → HostStands plan (Some (PhaseEnd phase)) (Close place) (Some v) channels (live_ones (handles (o ∷ left))) [] []
-  tears : (v : Version) (channels : List ChanState) (phase place : ℕ) (done : List Opening) (o : Opening) (left : List Opening) → At plan phase place done o left → o.rescinded ≡ false
-      → Meet plan v channels (marked host_ends done (marked (host_is Closing) (o ∷ []) (marked (host_is Opened) left (host_before plan phase)))) → HostStands plan (Some (PhaseEnd phase)) (Teardown place) (Some v) channels (live_ones (handles (o ∷ left))) [] []
-  takes_back : (v : Version) (channels : List ChanState) (phase place : ℕ) (done : List Opening) (o : Opening) (left : List Opening) → At plan phase place done o left → o.rescinded ≡ true
-      → Meet plan v channels (marked host_ends done (marked (host_is Rescinded) (o ∷ []) (marked (host_is Opened) left (host_before plan phase)))) → HostStands plan (Some (PhaseEnd phase)) (Release place) (Some v) channels (live_ones (handles left)) [] []
-  ended : (v : Version) (channels : List ChanState) (phase : ℕ) → phase < length plan.phases → Meet plan v channels (host_before plan (suc phase)) → HostStands plan (Some (PhaseEnd phase)) Nothing (Some v) channels (live_ones []) [] []
+  closes : (v : Version) (channels : List ChanState) (phase place : ℕ) (done : List Opening) (o : Opening) (left : List Opening) → EndsAt plan phase place done o left → o.rescinded ≡ false
+      → Meet plan v channels (offered_before plan (suc phase)) (marked host_ends done (marked (host_is Opened) (o ∷ left) (host_before plan phase))) → HostStands plan (Some (PhaseEnd phase)) (Close place) (Some v) channels (lists_but done (phase_of plan phase)) [] []
+  tears : (v : Version) (channels : List ChanState) (phase place : ℕ) (done : List Opening) (o : Opening) (left : List Opening) → EndsAt plan phase place done o left → o.rescinded ≡ false
+      → Meet plan v channels (offered_before plan (suc phase)) (marked host_ends done (marked (host_is Closing) (o ∷ []) (marked (host_is Opened) left (host_before plan phase)))) → HostStands plan (Some (PhaseEnd phase)) (Teardown place) (Some v) channels (lists_but done (phase_of plan phase)) [] []
+  takes_back : (v : Version) (channels : List ChanState) (phase place : ℕ) (done : List Opening) (o : Opening) (left : List Opening) → EndsAt plan phase place done o left → ends_given_back o ≡ true
+      → Meet plan v channels (offered_before plan (suc phase)) (marked host_ends done (marked (host_is Rescinded) (o ∷ []) (marked (host_is Opened) left (host_before plan phase)))) → HostStands plan (Some (PhaseEnd phase)) (Release place) (Some v) channels (lists_but (done ++ o ∷ []) (phase_of plan phase)) [] []
+  ended : (v : Version) (channels : List ChanState) (phase : ℕ) → phase < length plan.phases → Meet plan v channels (offered_before plan (suc phase)) (host_before plan (suc phase)) → HostStands plan (Some (PhaseEnd phase)) Nothing (Some v) channels (live_ones []) [] []
   -- the farewell is to be said; it is over
-  leaves : (v : Version) (channels : List ChanState) → Meet plan v channels (host_before plan (length plan.phases)) → HostStands plan (Some Unload) AwaitsUnload (Some v) channels (live_ones []) [] []
-  is_over : (v : Version) (channels : List ChanState) → Meet plan v channels (host_before plan (length plan.phases)) → HostStands plan (Some Unload) Nothing (Some v) channels (live_ones []) [] []
+  leaves : (v : Version) (channels : List ChanState) → Meet plan v channels (offered_before plan (length plan.phases)) (host_before plan (length plan.phases)) → HostStands plan (Some Unload) AwaitsUnload (Some v) channels (live_ones []) [] []
+  is_over : (v : Version) (channels : List ChanState) → Meet plan v channels (offered_before plan (length plan.phases)) (host_before plan (length plan.phases)) → HostStands plan (Some Unload) Nothing (Some v) channels (live_ones []) [] []
 
 -- a host stands so, said the front of all that it says, and heard the front of all that its guest says; where it stands tells what is left of both
 pub record HostAt (plan : BusPlan) (h : HostSeen) : Type 0 where

@@ -1,14 +1,15 @@
 -- The messages that the two sides send.
-use Rattle.std.specs.Prelude.{◌≡◌, ℕ, ◌+◌, List, [], ◌∷◌, ◌++◌, replicate}
+use Rattle.std.specs.Prelude.{◌≡◌, ℕ, ◌+◌, List, [], ◌∷◌, ◌++◌, map, replicate}
 use Rattle.std.specs.List.{range_with_len}
 use Rattle.vmbus_msg.specs.declared.msg.Msg.{Msg}
 use Rattle.vmbus_msg.specs.declared.msg.Msg.TheVariants.{RequestOffers, AllOffersDelivered, OpenChannel, OpenChannelResult, CloseChannel, RescindChannelOffer, GpadlCreated, GpadlTeardown, GpadlTorndown, RelidReleased, InitiateContact, VersionResponse, Unload, UnloadResponse}
-use Rattle.contact.specs.Classes.{offers_from}
+use Rattle.contact.specs.declared.kind.Kind.TheVariants.{Disk}
+use Rattle.contact.specs.Classes.{offer, offers_from}
 use Rattle.gpadl.specs.Cut.{AreMessagesOf}
 use Rattle.control_model.specs.declared.opening.Opening.{Opening}
 use Rattle.control_model.specs.declared.burst.Burst.{Burst}
-use Rattle.control_model.specs.declared.burst.Burst.TheVariants.{Empty, One, Two, Three, PageList, Offers}
-use Rattle.control_model.specs.Plan.{BusPlan, list_pages, IsOpening}
+use Rattle.control_model.specs.declared.burst.Burst.TheVariants.{Empty, One, Two, Three, PageList, Offers, Opens}
+use Rattle.control_model.specs.Plan.{BusPlan, list_pages, subs_behind, IsOpening}
 
 -- the guest proposes a version
 abbrev pub propose : ℕ → Msg
@@ -40,6 +41,10 @@ open_on o = OpenChannel 0 o.relid o.relid o.gpadl 0 (o.ring_pages + 1) (replicat
 -- the host opened it
 abbrev pub opened : ℕ → ℕ → Msg
 opened relid openid = OpenChannelResult 0 relid openid 0
+
+-- the host offers a sub-channel: only a disk has some
+abbrev pub offer_sub : Opening → Msg
+offer_sub o = offer Disk o.relid o.sub
 
 -- the guest closes a channel, and lets its page list go
 abbrev pub close : ℕ → Msg
@@ -75,6 +80,7 @@ Sends plan (Two m n) sent = sent ≡ m ∷ n ∷ []
 Sends plan (Three m n o) sent = sent ≡ m ∷ n ∷ o ∷ []
 Sends plan (PageList o) sent = AreMessagesOf o.relid o.gpadl (pages_from o) sent
 Sends plan Offers sent = sent ≡ offers_from 1 plan.kinds ++ delivered ∷ []
+Sends plan (Opens m part place) sent = sent ≡ m ∷ map offer_sub (subs_behind plan part place)
 
 -- a burst can be sent: the page list in it has pages
 abbrev pub Fits : Burst → Type 0

@@ -35,7 +35,7 @@ host_in (l ∷ ls) = host_by l.what
 abbrev pub openings_from : (ℕ → ℕ) → (ℕ → Bool) → ℕ → ℕ → List PhaseOpening → List Opening
 openings_from sizes rescinded gpadl page [] = []
 openings_from sizes rescinded gpadl page (o ∷ os) =
-    record { relid = o.relid; ring_pages = sizes o.device; gpadl = gpadl; first_page = page; rescinded = rescinded o.device }
+    record { relid = o.relid; sub = o.sub; ring_pages = sizes o.device; gpadl = gpadl; first_page = page; rescinded = rescinded o.device }
     ∷ openings_from sizes rescinded (gpadl + 1) (page + list_pages (sizes o.device)) os
 
 abbrev pub pages_in : (ℕ → ℕ) → List PhaseOpening → ℕ

@@ -1,5 +1,6 @@
 -- What both controls know of a script from the start.
-use Rattle.std.specs.Prelude.{◌≡◌, ◌<◌, ◌≤◌, ◌^◌, All, ℕ, false, ◌+◌, ◌*◌, List, [], ◌∷◌, ◌++◌, length, slice_get, slice_index_or, nat_lt, Option, Some, None, if◌then◌else◌}
+use Rattle.std.specs.Prelude.{◌≡◌, ◌<◌, ◌≤◌, ◌^◌, All, ℕ, Bool, true, false, not, ◌+◌, ◌*◌, ◌==◌, List, [], ◌∷◌, ◌++◌, drop, filter, length, map, slice_get, slice_index_or, nat_lt, Option, Some, None, if◌then◌else◌}
+use Rattle.std.specs.List.{range_with_len}
 use Rattle.contact.specs.Versions.{IsVersion}
 use Rattle.contact.specs.declared.version.Version.{Version}
 use Rattle.contact.specs.declared.kind.Kind.{Kind}
@@ -22,10 +23,49 @@ phase_of plan phase = slice_index_or plan.phases phase []
 abbrev pub opening_at : BusPlan → ℕ → ℕ → Option Opening
 opening_at plan phase place = slice_get (phase_of plan phase) place
 
+-- an opening is of a sub-channel, and not of a device's first channel
+abbrev pub is_sub : Opening → Bool
+is_sub o = not (o.sub == 0)
+
+abbrev pub is_of_sub : Option Opening → Bool
+is_of_sub None = false
+is_of_sub (Some o) = is_sub o
+
+-- the sub-channels that these openings begin with, up to the next device's first channel
+abbrev pub first_subs : List Opening → List Opening
+first_subs [] = []
+first_subs (o ∷ os) = if is_sub o then o ∷ first_subs os else []
+
+-- where these openings begin with a device's first channel, its sub-channels, which stand right behind it
+abbrev pub subs_next : List Opening → List Opening
+subs_next [] = []
+subs_next (o ∷ os) = if is_sub o then [] else first_subs os
+
+-- the sub-channels of the device whose first channel is opened at this place, while a phase starts
+abbrev pub subs_behind : BusPlan → Option Part → ℕ → List Opening
+subs_behind plan (Some (PhaseStart phase)) place = subs_next (drop place (phase_of plan phase))
+subs_behind plan part place = []
+
+-- at the end of a phase a device's sub-channels are done with before its first channel
+abbrev pub behind_subs : Opening → List Opening → List Opening
+behind_subs first [] = first ∷ []
+behind_subs first (o ∷ os) = if is_sub o then o ∷ behind_subs first os else first ∷ behind_subs o os
+
+abbrev pub in_closing_order : List Opening → List Opening
+in_closing_order [] = []
+in_closing_order (o ∷ os) = behind_subs o os
+
+-- the openings of a phase, in the order in which their channels are done with
+abbrev pub closing_of : BusPlan → ℕ → List Opening
+closing_of plan phase = in_closing_order (phase_of plan phase)
+
+abbrev pub closing_at : BusPlan → ℕ → ℕ → Option Opening
+closing_at plan phase place = slice_get (closing_of plan phase) place
+
 -- the opening with this place in the phase that starts or ends in a part
 abbrev pub opening_in : BusPlan → Option Part → ℕ → Option Opening
 opening_in plan (Some (PhaseStart phase)) place = opening_at plan phase place
-opening_in plan (Some (PhaseEnd phase)) place = opening_at plan phase place
+opening_in plan (Some (PhaseEnd phase)) place = closing_at plan phase place
 opening_in plan part place = None
 
 -- the part that comes next: each phase starts and ends, and the farewell comes behind the last one
@@ -40,15 +80,32 @@ part_after plan (Some Unload) = None
 abbrev pub list_pages : ℕ → ℕ
 list_pages ring_pages = 2 * ring_pages + 2
 
--- an opening of one of the first 16 channels: its rings have 1 to 16 data pages, and its list has pages with numbers of 64 bits
+-- at most 16 devices are offered at first, and each of the phases, which are at most 20,001, opens at most 16 channels
+abbrev pub most_channels : ℕ
+most_channels = 320032
+
+-- an opening of a channel: its rings have 1 to 16 data pages, and its list has pages with numbers of 64 bits
 pub record IsOpening (o : Opening) : Type 0 where
   pub named : 1 ≤ o.relid
-  pub few : o.relid ≤ 16
+  pub few : o.relid ≤ most_channels
   pub some_pages : 1 ≤ o.ring_pages
   pub few_pages : o.ring_pages ≤ 16
   pub numbered : o.first_page + list_pages o.ring_pages < 2 ^ 64
 
--- the relids of a phase rise
+-- the first channels of devices
+abbrev pub firsts : List Opening → List Opening
+firsts os = filter (λ o. o.sub == 0) os
+
+-- the sub-channels of devices
+abbrev pub subs_in : List Opening → List Opening
+subs_in os = filter is_sub os
+
+-- each channel of a device stands behind the one before, with the next number among the device's channels: where the next one is a sub-channel, it has this number
+abbrev pub Seated : ℕ → List Opening → Type 0
+Seated next [] = Unit {0}
+Seated next (o ∷ os) = (is_sub o ≡ true → o.sub ≡ next) × Seated (o.sub + 1) os
+
+-- the relids of a phase's first channels rise
 abbrev pub Rising : ℕ → List Opening → Type 0
 Rising least [] = Unit {0}
 Rising least (o ∷ os) = (least ≤ o.relid) × Rising (o.relid + 1) os
@@ -75,7 +132,7 @@ all_openings (os ∷ phases) = os ++ all_openings phases
 abbrev pub first_gpadl : ℕ
 first_gpadl = 0xE1E10
 
--- What every plan keeps: versions of the list, at most 16 devices, whose channels are opened in order of offer in each phase; handles and page numbers are never used twice; and a channel that was rescinded isn't opened again
+-- What every plan keeps: versions of the list, at most 16 devices, whose first channels are opened in order of offer in each phase, each with its sub-channels right behind it; sub-channels have the relids behind those of the devices, one after the other over all phases; handles, page numbers and the relids of sub-channels are never used twice; and a channel that was rescinded isn't opened again
 pub record IsPlan (p : BusPlan) : Type 0 where
   pub guest : IsVersion p.guest.0
   pub host : IsVersion p.host.0
@@ -83,7 +140,10 @@ pub record IsPlan (p : BusPlan) : Type 0 where
   pub some : 1 ≤ length p.phases
   pub short : length p.phases ≤ 20001
   pub fits : All (λ os. All (λ o. IsOpening o) os) p.phases
-  pub offered : All (λ os. All (λ o. o.relid ≤ length p.kinds) os) p.phases
-  pub rising : All (λ os. Rising 1 os) p.phases
+  pub small : All (λ os. length os ≤ 16) p.phases
+  pub seated : All (λ os. Seated 0 os) p.phases
+  pub offered : All (λ os. All (λ o. is_sub o ≡ false → o.relid ≤ length p.kinds) os) p.phases
+  pub rising : All (λ os. Rising 1 (firsts os)) p.phases
+  pub later : map (λ o. o.relid) (subs_in (all_openings p.phases)) ≡ range_with_len (length p.kinds + 1) (length (subs_in (all_openings p.phases)))
   pub follow : Follows first_gpadl 0 (all_openings p.phases)
   pub ends : RescindsEnd p.phases

@@ -1,5 +1,5 @@
 -- All that a guest and its host say to each other over a plan, in order, and where its channels stand then.
-use Rattle.std.specs.Prelude.{ℕ, ◌==◌, ◌&&◌, Bool, min, nat_le, List, [], ◌∷◌, ◌++◌, length, map, if◌then◌else◌}
+use Rattle.std.specs.Prelude.{ℕ, ◌+◌, ◌==◌, ◌&&◌, ◌||◌, Bool, min, nat_le, List, [], ◌∷◌, ◌++◌, length, map, if◌then◌else◌}
 use Rattle.std.specs.List.{flat_map, list_any, range_with_len}
 use Rattle.contact.specs.Versions.{version, versions_tried}
 use Rattle.contact.specs.Classes.{offers_from}
@@ -8,8 +8,8 @@ use Rattle.chan_state.specs.declared.state.State.TheVariants.{Offered, Closed, R
 use Rattle.gpadl.specs.Cut.{cut}
 use Rattle.vmbus_msg.specs.declared.msg.Msg.{Msg}
 use Rattle.control_model.specs.declared.opening.Opening.{Opening}
-use Rattle.control_model.specs.Plan.{BusPlan, all_openings}
-use Rattle.control_model.specs.Messages.{propose, respond, request, delivered, pages_from, created, open_on, opened, close, teardown, torndown, rescind, release, farewell, farewell_taken}
+use Rattle.control_model.specs.Plan.{BusPlan, is_sub, subs_next, subs_in, in_closing_order, all_openings}
+use Rattle.control_model.specs.Messages.{propose, respond, request, delivered, pages_from, created, open_on, opened, offer_sub, close, teardown, torndown, rescind, release, farewell, farewell_taken}
 
 -- the version that both agree on
 abbrev pub agreed : BusPlan → ℕ
@@ -33,20 +33,30 @@ guest_opens o = cut o.relid o.gpadl (pages_from o) ++ open_on o ∷ []
 abbrev pub host_opens : Opening → List Msg
 host_opens o = created o.relid o.gpadl ∷ opened o.relid o.relid ∷ []
 
+-- once a device's first channel is open, the host offers its sub-channels together; each channel is opened in its turn
+abbrev pub host_opens_all : List Opening → List Msg
+host_opens_all [] = []
+host_opens_all (o ∷ os) = host_opens o ++ (map offer_sub (subs_next (o ∷ os)) ++ host_opens_all os)
+
+-- only for a sub-channel
+abbrev pub only_sub : Opening → Msg → List Msg
+only_sub o m = if is_sub o then m ∷ [] else []
+
 -- a channel that is rescinded is taken back by the host, and the guest gives it back; each other one is closed: the guest closes it and tears its page list
--- down, which the host lets go
+-- down, which the host lets go; a sub-channel is taken back and given back then
 abbrev pub guest_closes : Opening → List Msg
-guest_closes o = if o.rescinded then release o.relid ∷ [] else close o.relid ∷ teardown o ∷ []
+guest_closes o = if o.rescinded then release o.relid ∷ [] else close o.relid ∷ teardown o ∷ only_sub o (release o.relid)
 
 abbrev pub host_closes : Opening → List Msg
-host_closes o = if o.rescinded then rescind o.relid ∷ [] else torndown o.gpadl ∷ []
+host_closes o = if o.rescinded then rescind o.relid ∷ [] else torndown o.gpadl ∷ only_sub o (rescind o.relid)
 
--- a phase opens its channels at its start, and closes them or gives them back at its end, both in order of offer
+-- a phase opens its channels at its start, and closes them or gives them back at its end, both in order of offer of their devices: a device's first channel is
+-- opened before its sub-channels, and closed behind them
 abbrev pub guest_in_phase : List Opening → List Msg
-guest_in_phase os = flat_map guest_opens os ++ flat_map guest_closes os
+guest_in_phase os = flat_map guest_opens os ++ flat_map guest_closes (in_closing_order os)
 
 abbrev pub host_in_phase : List Opening → List Msg
-host_in_phase os = flat_map host_opens os ++ flat_map host_closes os
+host_in_phase os = host_opens_all os ++ flat_map host_closes (in_closing_order os)
 
 -- the farewell is said from version 3.0 on
 abbrev pub from_3_0 : BusPlan → List Msg → List Msg
@@ -59,17 +69,24 @@ said_by_guest plan = guest_contacts plan ++ (flat_map guest_in_phase plan.phases
 abbrev pub said_by_host : BusPlan → List Msg
 said_by_host plan = host_contacts plan ++ (flat_map host_in_phase plan.phases ++ from_3_0 plan (farewell_taken ∷ []))
 
--- a phase opened a channel; a phase rescinded it
+-- a phase opened a channel; it is given back at the end of a phase: a channel that the phase rescinds, and each sub-channel
 abbrev pub is_opened : BusPlan → ℕ → Bool
 is_opened plan relid = list_any (λ o. o.relid == relid) (all_openings plan.phases)
 
-abbrev pub is_rescinded : BusPlan → ℕ → Bool
-is_rescinded plan relid = list_any (λ o. (o.relid == relid) && o.rescinded) (all_openings plan.phases)
+abbrev pub ends_given_back : Opening → Bool
+ends_given_back o = o.rescinded || is_sub o
 
--- at the end a channel that a phase rescinded is given back, each other one that a phase opened is closed, and each that none opened is offered
+abbrev pub is_given_back : BusPlan → ℕ → Bool
+is_given_back plan relid = list_any (λ o. (o.relid == relid) && ends_given_back o) (all_openings plan.phases)
+
+-- at the end a channel that a phase rescinded and each sub-channel is given back, each other one that a phase opened is closed, and each that none opened is offered
 abbrev pub last_state : BusPlan → ℕ → State
-last_state plan relid = if is_rescinded plan relid then Released else if is_opened plan relid then Closed else Offered
+last_state plan relid = if is_given_back plan relid then Released else if is_opened plan relid then Closed else Offered
+
+-- how many channels are offered in all: one for each device, and the sub-channels that the phases open
+abbrev pub channel_count : BusPlan → ℕ
+channel_count plan = length plan.kinds + length (subs_in (all_openings plan.phases))
 
 -- where all channels stand at the end, in order of relid
 abbrev pub at_end : BusPlan → List State
-at_end plan = map (last_state plan) (range_with_len 1 (length plan.kinds))
+at_end plan = map (last_state plan) (range_with_len 1 (channel_count plan))

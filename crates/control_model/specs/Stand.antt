@@ -1,5 +1,5 @@
 -- Where the channels of a side stand, and the versions that a guest tries.
-use Rattle.std.specs.Prelude.{◌≡◌, ℕ, zero, suc, ◌<◌, ◌≤◌, ◌==◌, Bool, true, false, List, [], ◌∷◌, ◌++◌, length, map, Some, if◌then◌else◌}
+use Rattle.std.specs.Prelude.{◌≡◌, ℕ, zero, suc, ◌+◌, ◌<◌, ◌≤◌, ◌==◌, Bool, true, false, List, [], ◌∷◌, ◌++◌, length, map, take, Some, if◌then◌else◌}
 use Rattle.contact.specs.declared.version.Version.{Version}
 use Rattle.contact.specs.Versions.{IsVersion}
 use Rattle.io_edge.specs.declared.side.Side.TheVariants.{Guest as GuestSide, Host as HostSide}
@@ -8,15 +8,30 @@ use Rattle.chan_state.specs.declared.state.State.TheVariants.{Offered, Closed, R
 use Rattle.chan_state.specs.declared.chan_state.ChanState.{ChanState}
 use Rattle.control_model.specs.declared.opening.Opening.{Opening}
 use Rattle.control_model.specs.declared.channel.Channel.{Channel}
-use Rattle.control_model.specs.Plan.{BusPlan, phase_of}
+use Rattle.control_model.specs.Plan.{BusPlan, phase_of, closing_of, first_subs, subs_in, all_openings}
 use Rattle.control_model.specs.Channels.{by_relid}
 use Rattle.control_model.specs.Guest.{offered_channel}
+use Rattle.control_model.specs.Said.{ends_given_back}
 
 -- an opening's place in a phase: those before it, and those behind it
 pub record At (plan : BusPlan) (phase place : ℕ) (done : List Opening) (o : Opening) (left : List Opening) : Type 0 where
   pub in_plan : phase < length plan.phases
   pub phase_is : phase_of plan phase ≡ done ++ o ∷ left
   pub place_is : place ≡ length done
+
+-- the same in the order in which the channels of a phase are done with
+pub record EndsAt (plan : BusPlan) (phase place : ℕ) (done : List Opening) (o : Opening) (left : List Opening) : Type 0 where
+  pub in_plan : phase < length plan.phases
+  pub closing_is : closing_of plan phase ≡ done ++ o ∷ left
+  pub place_is : place ≡ length done
+
+-- how many channels are offered before a phase: one for each device, and the sub-channels of earlier phases
+abbrev pub offered_before : BusPlan → ℕ → ℕ
+offered_before plan phase = length plan.kinds + length (subs_in (all_openings (take phase plan.phases)))
+
+-- and while it starts, where these openings are done and these are left: the sub-channels of the devices whose first channels are open
+abbrev pub offered_by : BusPlan → ℕ → List Opening → List Opening → ℕ
+offered_by plan phase done left = offered_before plan phase + (length (subs_in done) + length (first_subs left))
 
 -- the channels of these openings stand so, and each other one as it did
 abbrev pub marked : {X : Type 0} → (Opening → X) → List Opening → (ℕ → X) → ℕ → X
@@ -30,16 +45,16 @@ guest_is state o = record { life = record { side = GuestSide; state = state }; g
 abbrev pub host_is : State → Opening → ChanState
 host_is state o = record { side = HostSide; state = state }
 
--- at the end of a phase a channel of it is given back where it is rescinded, and closed otherwise
+-- at the end of a phase a channel of it is given back where it is rescinded or a sub-channel, and closed otherwise
 abbrev pub end_state : Bool → State
 end_state true = Released
 end_state false = Closed
 
 abbrev pub guest_ends : Opening → Channel
-guest_ends o = guest_is (end_state o.rescinded) o
+guest_ends o = guest_is (end_state (ends_given_back o)) o
 
 abbrev pub host_ends : Opening → ChanState
-host_ends o = host_is (end_state o.rescinded) o
+host_ends o = host_is (end_state (ends_given_back o)) o
 
 -- before a phase each channel that an earlier one opened stands as that one left it, and each other one is offered
 abbrev pub before_phase : {X : Type 0} → BusPlan → (Opening → X) → X → ℕ → ℕ → X
@@ -52,10 +67,10 @@ guest_before plan phase = before_phase plan guest_ends offered_channel phase
 abbrev pub host_before : BusPlan → ℕ → ℕ → ChanState
 host_before plan phase = before_phase plan host_ends (record { side = HostSide; state = Offered }) phase
 
--- there is a channel for each device, and each stands so
-pub record Stand {X : Type 0} (channels : List X) (plan : BusPlan) (stands : ℕ → X) : Type 0 where
-  pub many : length channels ≡ length plan.kinds
-  pub each : (relid : ℕ) → 1 ≤ relid → relid ≤ length plan.kinds → by_relid channels relid ≡ Some (stands relid)
+-- so many channels were offered, and each stands so
+pub record Stand {X : Type 0} (channels : List X) (count : ℕ) (stands : ℕ → X) : Type 0 where
+  pub many : length channels ≡ count
+  pub each : (relid : ℕ) → 1 ≤ relid → relid ≤ count → by_relid channels relid ≡ Some (stands relid)
 
 -- a version that the guest may propose: no version that both know is above it
 pub record Tries (plan : BusPlan) (v : Version) : Type 0 where
@@ -68,10 +83,10 @@ pub record Agreed (plan : BusPlan) (v : Version) : Type 0 where
   pub tried : Tries plan v
   pub within_host : v.0 ≤ plan.host.0
 
--- a version is agreed on, and a side's channels stand so
-pub record Meet {X : Type 0} (plan : BusPlan) (v : Version) (channels : List X) (stands : ℕ → X) : Type 0 where
+-- a version is agreed on, so many channels were offered to a side, and they stand so
+pub record Meet {X : Type 0} (plan : BusPlan) (v : Version) (channels : List X) (count : ℕ) (stands : ℕ → X) : Type 0 where
   pub agreed : Agreed plan v
-  pub stand : Stand channels plan stands
+  pub stand : Stand channels count stands
 
 -- the handles of page lists
 abbrev pub handles : List Opening → List ℕ

@@ -1,5 +1,6 @@
 //! What one side sends at a time.
 use crate::Opening;
+use contact::Part;
 use vmbus_msg::Msg;
 
 /// The messages that a side sends, one after the other, before it listens again.
@@ -17,4 +18,7 @@ pub enum Burst {
     PageList(Opening),
     /// An OFFERCHANNEL for each device, and ALLOFFERS_DELIVERED.
     Offers,
+    /// OPENCHANNEL_RESULT, and an OFFERCHANNEL for each sub-channel of the device whose first channel
+    /// is opened at this place, while the phase of this part starts.
+    Opens(Msg, Option<Part>, usize),
 }

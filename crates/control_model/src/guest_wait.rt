@@ -1,8 +1,9 @@
 //! What a guest waits for.
 use contact::Version;
 
-/// The next message that a guest's control waits for in a part. Openings count from 0, in the order
-/// of the phase.
+/// The next message that a guest's control waits for in a part. Openings count from 0: at the start
+/// of a phase in the order in which they are opened, and at its end in the order in which they are
+/// closed.
 #[derive(Clone, Copy)]
 pub enum GuestWait {
     /// None: the part is done, or none has begun.
@@ -11,6 +12,8 @@ pub enum GuestWait {
     Response(Version),
     /// An OFFERCHANNEL for each device, and then ALLOFFERS_DELIVERED.
     Offers,
+    /// OFFERCHANNEL, for the sub-channel of this opening.
+    SubOffer(usize),
     /// GPADL_CREATED, for the page list of this opening.
     Created(usize),
     /// OPENCHANNEL_RESULT, for the channel of this opening.

@@ -1,7 +1,8 @@
 //! What a host waits for.
 
-/// The next message that a host's control waits for in a part. Openings count from 0, in the order
-/// of the phase.
+/// The next message that a host's control waits for in a part. Openings count from 0: at the start of
+/// a phase in the order in which they are opened, and at its end in the order in which they are
+/// closed.
 #[derive(Clone, Copy)]
 pub enum HostWait {
     /// None: the part is done, or none has begun.

@@ -5,6 +5,9 @@
 pub struct Opening {
     /// The channel's number.
     pub relid: u32,
+    /// Its number among the channels of its device: 0 for the first one, and from 1 on for its
+    /// sub-channels.
+    pub sub: u16,
     /// The data pages of each of its two rings, of 4,096 bytes.
     pub ring_pages: u32,
     /// The handle of the page list that it is opened on.

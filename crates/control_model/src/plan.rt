@@ -1,7 +1,9 @@
 //! What both controls know of a script from the start.
-ghost use Rattle.std.specs.Prelude.{◌≡◌, ◌+◌, ◌^◌, ◌<◌, ◌≤◌, length, IfOk, IfSome, OnSome};
+ghost use Rattle.std.specs.Prelude.{◌≡◌, ◌+◌, ◌^◌, ◌<◌, ◌≤◌, ◌==◌, drop, length, IfOk, IfSome, OnSome, IsTrue};
+ghost use Rattle.std.specs.List.{position};
 ghost use Rattle.contact.specs.Versions.{IsVersion};
-ghost use Rattle.control_model.specs.Plan.{opening_at, opening_in, part_after, IsOpening};
+ghost use Rattle.control_model.specs.Plan.{phase_of, opening_at, closing_at, opening_in, first_subs, subs_next, subs_behind, part_after, IsOpening, Seated};
+ghost use Rattle.control_model.specs.Dealing.{is_first_at, closing_place};
 ghost use Rattle.control_model.specs.Openings.{plan_of};
 
 use crate::Opening;
@@ -73,14 +75,16 @@ impl Plan {
         &self.kinds
     }
 
-    /// The opening with this place in the phase that starts or ends in a part.
+    /// The opening with this place in the phase that starts or ends in a part: at the start of a phase in
+    /// the order in which channels are opened, and at its end in the order in which they are closed.
     pub fn opening(&self, part: Option<Part>, place: usize) -> Option<Opening>
         ensures opening { result ≡ opening_in self.now part place }
         ensures fits { IfSome result (λ o. IsOpening o) }
         ensures small { OnSome result (place + 1 < 2 ^ 64) }
     {
         match part {
-            Some(Part::PhaseStart(phase) | Part::PhaseEnd(phase)) => self.opening_at(phase, place),
+            Some(Part::PhaseStart(phase)) => self.opening_at(phase, place),
+            Some(Part::PhaseEnd(phase)) => self.closing_at(phase, place),
             _ => None,
         }
     }
@@ -104,6 +108,44 @@ impl Plan {
         }
     }
 
+    /// The sub-channels of the device whose first channel is opened at this place, while the phase of a
+    /// part starts: none behind another channel, nor in another part.
+    pub fn subs_behind(&self, part: Option<Part>, place: usize) -> &[Opening]
+        ensures subs { result.now ≡ subs_behind self.now part place }
+        ensures few { length result.now ≤ 16 }
+    {
+        match part {
+            Some(Part::PhaseStart(phase)) => subs_next(self.phase(phase), place),
+            _ => &[],
+        }
+    }
+
+    // The openings of a phase.
+    fn phase(&self, phase: u32) -> &[Opening]
+        ensures openings { result.now ≡ phase_of self.now phase }
+        ensures few { length result.now ≤ 16 }
+        ensures seated { Seated 0 result.now }
+    {
+        let phase = phase as usize;
+        if phase < self.phases.len() {
+            return &self.phases[phase];
+        }
+        &[]
+    }
+
+    // The opening with this place in a phase, in the order in which its channels are closed.
+    fn closing_at(&self, phase: u32, place: usize) -> Option<Opening>
+        ensures opening { result ≡ closing_at self.now phase place }
+        ensures fits { IfSome result (λ o. IsOpening o) }
+        ensures small { OnSome result (place + 1 < 2 ^ 64) }
+    {
+        let openings = self.phase(phase);
+        if place >= openings.len() {
+            return None;
+        }
+        self.opening_at(phase, closing_place(openings, place))
+    }
+
     // The opening with this place in a phase.
     fn opening_at(&self, phase: u32, place: usize) -> Option<Opening>
         ensures opening { result ≡ opening_at self.now phase place }
@@ -118,5 +160,57 @@ impl Plan {
             }
         }
         None
+    }
+}
+
+// The sub-channels of the device whose first channel stands at a place.
+fn subs_next(openings: &[Opening], place: usize) -> &[Opening]
+    ensures { result.now ≡ subs_next (drop place openings.now) }
+{
+    if is_first_at(openings, place) {
+        return subs_from(openings, place + 1);
+    }
+    &[]
+}
+
+// Whether a device's first channel stands at a place.
+fn is_first_at(openings: &[Opening], place: usize) -> bool
+    ensures first { result ≡ is_first_at openings.now place }
+    ensures within { IsTrue result → place < length openings.now }
+{
+    match openings.get(place) {
+        Some(o) => o.sub == 0,
+        None => false,
+    }
+}
+
+// The sub-channels that stand from a place on, up to the next first channel.
+fn subs_from(openings: &[Opening], start: usize) -> &[Opening]
+    requires { start ≤ length openings.now }
+    ensures { result.now ≡ first_subs (drop start openings.now) }
+{
+    let behind = &openings[start..];
+    match first_place(behind) {
+        Some(count) => &behind[..count],
+        None => behind,
+    }
+}
+
+// The place of the first one that is of no sub-channel.
+fn first_place(openings: &[Opening]) -> Option<usize>
+    ensures { result ≡ position (λ o. o.sub == 0) openings.now }
+{
+    openings.iter().position(|o| o.sub == 0)
+}
+
+// Where the opening with this place in closing order stands among the openings of a phase: a
+// sub-channel one place later, and a device's first channel where the device begins.
+fn closing_place(openings: &[Opening], place: usize) -> usize
+    requires { place < length openings.now }
+    ensures { result ≡ closing_place openings.now place }
+{
+    match openings.get(place + 1) {
+        Some(next) if next.sub != 0 => place + 1,
+        _ => place.saturating_sub(openings[place].sub as usize),
     }
 }

@@ -261,6 +261,7 @@ fn deal(
     if opened {
         openings.push_reserved(Opening {
             relid: number + 1,
+            sub: 0,
             ring_pages: device.ring_pages,
             gpadl: next.gpadl,
             first_page: next.page,

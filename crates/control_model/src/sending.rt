@@ -1,14 +1,14 @@
 //! The messages that the two sides send.
 ghost use Rattle.std.specs.List.{range_with_len};
-ghost use Rattle.std.specs.Prelude.{◌≡◌, ◌+◌, ◌^◌, ◌<◌, ◌≤◌, [], ◌∷◌, ◌++◌, length, IfOk};
+ghost use Rattle.std.specs.Prelude.{◌≡◌, ◌+◌, ◌^◌, ◌<◌, ◌≤◌, [], ◌∷◌, ◌++◌, length, map, IfOk};
 ghost use Rattle.contact.specs.Classes.{offers_from};
 ghost use Rattle.gpadl.specs.Cut.{AreMessagesOf};
 ghost use Rattle.vmbus_msg.specs.Grammar.{type_of};
-ghost use Rattle.control_model.specs.Plan.{IsOpening};
-ghost use Rattle.control_model.specs.Messages.{open_on, teardown, release, delivered, pages_from, Sends, Fits};
+ghost use Rattle.control_model.specs.Plan.{IsOpening, subs_behind};
+ghost use Rattle.control_model.specs.Messages.{open_on, teardown, release, delivered, offer_sub, pages_from, Sends, Fits};
 
 use crate::{Burst, Opening, Plan};
-use contact::offers;
+use contact::{Kind, Part, offer, offers};
 use gpadl::to_messages;
 use std::alloc::{AllocError, Global};
 use vmbus_msg::Msg;
@@ -85,6 +85,7 @@ pub fn messages(alloc: Global, plan: &Plan, burst: &Burst) -> Result<Vec<Msg>, A
         Burst::Three(m, n, o) => three(alloc, m, n, o),
         Burst::PageList(o) => page_list(alloc, o),
         Burst::Offers => all_offers(alloc, plan),
+        Burst::Opens(m, part, place) => with_offers(alloc, plan, m, *part, *place),
     }
 }
 
@@ -148,5 +149,25 @@ fn all_offers(alloc: Global, plan: &Plan) -> Result<Vec<Msg>, AllocError>
 {
     let mut sent = offers(alloc, plan.kinds())?;
     sent.push(Msg::AllOffersDelivered { padding: 0 })?;
+    Ok(sent)
+}
+
+// A message, and an offer for each sub-channel of the device whose first channel is opened at a place.
+fn with_offers(
+    alloc: Global,
+    plan: &Plan,
+    first: &Msg,
+    part: Option<Part>,
+    place: usize,
+) -> Result<Vec<Msg>, AllocError>
+    ensures sends { IfOk result (λ sent. sent.items ≡ first.now ∷ map offer_sub (subs_behind plan.now part place)) }
+    ensures few { IfOk result (λ sent. length sent.items ≤ 17) }
+{
+    let subs = plan.subs_behind(part, place);
+    let mut sent = Vec::with_capacity(alloc, subs.len() + 1)?;
+    sent.push_reserved(*first);
+    for o in subs {
+        sent.push_reserved(offer(Kind::Disk, o.relid, o.sub));
+    }
     Ok(sent)
 }

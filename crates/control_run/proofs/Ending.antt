@@ -1,5 +1,5 @@
 -- How both stand at the end.
-use Rattle.std.proofs.Common.{◌≡◌, ◌∙◌, ℕ, zero, suc, ◌+◌, ◌<◌, ◌≤◌, ◌==◌, ◌&&◌, ◌||◌, Bool, true, false, List, [], ◌∷◌, ◌++◌, length, map, take, Option, Some, is_some, if◌then◌else◌, refl, sym, ap, arith}
+use Rattle.std.proofs.Common.{◌≡◌, ◌∙◌, ℕ, zero, suc, ◌+◌, ◌<◌, ◌≢◌, ◌≤◌, ◌==◌, ◌&&◌, ◌||◌, Bool, true, false, List, [], ◌∷◌, ◌++◌, length, map, take, Option, Some, is_some, if◌then◌else◌, refl, sym, ap, subst, arith}
 use Rattle.std.specs.List.{AllByRecursion, list_any}
 use Rattle.std.proofs.lemmas.Bool.{eqb-true}
 use Rattle.std.proofs.lemmas.List.{take_all, append-nil}
@@ -17,31 +17,34 @@ use Rattle.control_model.specs.declared.opening.Opening.{Opening}
 use Rattle.control_model.specs.declared.channel.Channel.{Channel}
 use Rattle.control_model.specs.declared.guest_wait.GuestWait.{GuestWait}
 use Rattle.control_model.specs.declared.host_wait.HostWait.{HostWait}
-use Rattle.control_model.specs.Plan.{BusPlan, all_openings, Rising, IsPlan, phase_of}
+use Rattle.control_model.specs.Plan.{BusPlan, all_openings, IsPlan, phase_of}
 use Rattle.control_model.specs.Guest.{offered_channel, waits_for_nothing}
 use Rattle.control_model.specs.Host.{host_waits_for_nothing}
-use Rattle.control_model.specs.Said.{said_by_guest, said_by_host, last_state, at_end}
-use Rattle.control_model.specs.Stand.{marked, before_phase, end_state, guest_ends, host_ends, Agreed}
+use Rattle.control_model.specs.Said.{ends_given_back, said_by_guest, said_by_host, last_state, at_end}
+use Rattle.control_model.specs.Stand.{marked, before_phase, end_state, guest_ends, host_ends, Stand, Agreed}
 use Rattle.control_model.specs.GuestAt.{to_say, to_hear, GuestStands}
-use Rattle.control_model.specs.GuestAt.GuestStands.{fresh, proposes, asks, contacted, lists, opens, started, closes, gives_back, ended, leaves, is_over}
+use Rattle.control_model.specs.GuestAt.GuestStands.{fresh, proposes, asks, contacted, offers, lists, opens, started, closes, gives_back, gives_sub_back, ended, leaves, is_over}
 use Rattle.control_model.specs.HostAt.{host_to_say, host_to_hear, HostStands}
 use Rattle.control_model.specs.HostAt.HostStands.{fresh as IsFresh, answers as IsAnswering, accepts as IsAccepting, contacted as IsContacted, lists as IsListing, listed as IsListed, started as IsStarted, closes as IsClosing, tears as IsTearing, takes_back as IsTakingBack, ended as IsEnded, leaves as IsLeaving, is_over as IsDone}
 use Rattle.control_run.specs.Sides.{BothOver}
 use Rattle.control_run.proofs.Marks.{by_test, differ}
-use Rattle.control_run.proofs.Plans.{all_weaker, above, openings_more, earlier_ends, phase_rises}
+use Rattle.control_run.proofs.Plans.{not_given_back}
+use Rattle.control_run.proofs.Relids.{phase_relids, all_offered}
+use Rattle.control_run.proofs.Closing.{Distinct}
+use Rattle.control_run.proofs.Cutting.{all_weaker, openings_more}
 use Rattle.control_run.proofs.States.{all_stand}
 use Rattle.control_run.proofs.Tried.{agreed_is}
 
--- openings of a channel, and those of them that are rescinded
+-- openings of a channel, and those of them behind which it is given back
 abbrev pub opens_it : ℕ → List Opening → Bool
 opens_it relid os = list_any (λ o. o.relid == relid) os
 
 abbrev pub rescinds_it : ℕ → List Opening → Bool
-rescinds_it relid os = list_any (λ o. (o.relid == relid) && o.rescinded) os
+rescinds_it relid os = list_any (λ o. (o.relid == relid) && ends_given_back o) os
 
-none_opens : (relid : ℕ) (os : List Opening) → AllByRecursion (λ p. relid + 1 ≤ p.relid) os → opens_it relid os ≡ false
-none_opens relid [] above = refl
-none_opens relid (o ∷ os) above = let far = above.0 in rw (differ o.relid relid (λ e. absurd (omega (arith, far, e)))) (none_opens relid os above.1)
+none_opens : (relid : ℕ) (os : List Opening) → AllByRecursion (λ p. p.relid ≢ relid) os → opens_it relid os ≡ false
+none_opens relid [] apart = refl
+none_opens relid (o ∷ os) apart = rw (differ o.relid relid apart.0) (none_opens relid os apart.1)
 
 pub not_opened : (relid : ℕ) (os : List Opening) → opens_it relid os ≡ false → rescinds_it relid os ≡ false
 not_opened relid [] none = refl
@@ -50,15 +53,15 @@ not_opened relid (o ∷ os) none = by_test {P = rescinds_it relid (o ∷ os) ≡
     (λ e. let rest : opens_it relid os ≡ false = rw e at none in rw e (not_opened relid os rest))
 
 -- at the end of a phase a channel that it opened stands as it left it
-marked_state : {X : Type 0} (state : X → State) (as_left : Opening → X) (least : ℕ) (os : List Opening) (before : ℕ → X) (relid : ℕ) → ((o : Opening) → state (as_left o) ≡ end_state o.rescinded) → Rising least os
+marked_state : {X : Type 0} (state : X → State) (as_left : Opening → X) (os : List Opening) (before : ℕ → X) (relid : ℕ) → ((o : Opening) → state (as_left o) ≡ end_state (ends_given_back o)) → Distinct (λ o. o.relid) os
     → state (marked as_left os before relid) ≡ (if opens_it relid os then end_state (rescinds_it relid os) else state (before relid))
-marked_state state as_left least [] before relid is rises = refl
-marked_state {X} state as_left least (o ∷ os) before relid is rises = by_test {P = state (marked as_left (o ∷ os) before relid) ≡ (if opens_it relid (o ∷ os) then end_state (rescinds_it relid (o ∷ os)) else state (before relid))} (o.relid == relid)
+marked_state state as_left [] before relid is apart = refl
+marked_state {X} state as_left (o ∷ os) before relid is apart = by_test {P = state (marked as_left (o ∷ os) before relid) ≡ (if opens_it relid (o ∷ os) then end_state (rescinds_it relid (o ∷ os)) else state (before relid))} (o.relid == relid)
     (λ e.
     let this : o.relid ≡ relid = eqb-true o.relid relid e in
-    let none : rescinds_it relid os ≡ false = not_opened relid os (none_opens relid os (above (relid + 1) (o.relid + 1) os (omega (arith, this)) rises.1)) in
-    rw (e, none) (is o ∙ ap end_state (sym (or_false o.rescinded))))
-    (λ e. rw e (marked_state state as_left (o.relid + 1) os before relid is rises.1))
+    let none : rescinds_it relid os ≡ false = not_opened relid os (none_opens relid os (all_weaker (λ p. p.relid ≢ o.relid) (λ p. p.relid ≢ relid) (λ p off e. off (e ∙ sym this)) os apart.0)) in
+    rw (e, none) (is o ∙ ap end_state (sym (or_false (ends_given_back o)))))
+    (λ e. rw e (marked_state state as_left os before relid is apart.1))
   where
     or_false : (a : Bool) → (a || false) ≡ a
     or_false true = refl
@@ -85,13 +88,13 @@ both_phases gone opened here_gone true once none = here_so here_gone ∙ ap (λ 
     here_so false = ap (λ o. stands_so false o) (sym (or_true opened))
 
 -- where a phase opens a channel, no earlier one rescinded it
-matches : (relid : ℕ) (q : Opening) (os : List Opening) → opens_it relid os ≡ true → AllByRecursion (λ p. p.relid ≡ q.relid → q.rescinded ≡ false) os → q.relid ≡ relid → q.rescinded ≡ false
+matches : (relid : ℕ) (q : Opening) (os : List Opening) → opens_it relid os ≡ true → AllByRecursion (λ p. p.relid ≡ q.relid → ends_given_back q ≡ false) os → q.relid ≡ relid → ends_given_back q ≡ false
 matches relid q [] some all is = absurd (let wrong : false ≡ true = some in cc)
-matches relid q (o ∷ os) some all is = by_test {P = q.rescinded ≡ false} (o.relid == relid)
+matches relid q (o ∷ os) some all is = by_test {P = ends_given_back q ≡ false} (o.relid == relid)
     (λ e. all.0 (eqb-true o.relid relid e ∙ sym is))
     (λ e. let rest : opens_it relid os ≡ true = rw e at some in matches relid q os rest all.1 is)
 
-none_rescinded : (relid : ℕ) (qs : List Opening) → AllByRecursion (λ q. q.relid ≡ relid → q.rescinded ≡ false) qs → rescinds_it relid qs ≡ false
+none_rescinded : (relid : ℕ) (qs : List Opening) → AllByRecursion (λ q. q.relid ≡ relid → ends_given_back q ≡ false) qs → rescinds_it relid qs ≡ false
 none_rescinded relid [] all = refl
 none_rescinded relid (q ∷ qs) all = by_test {P = rescinds_it relid (q ∷ qs) ≡ false} (q.relid == relid)
     (λ e. let off = all.0 (eqb-true q.relid relid e) in rw (e, off) (none_rescinded relid qs all.1))
@@ -101,15 +104,15 @@ pub earlier_not : (plan : BusPlan) (relid phase k : ℕ) → IsPlan plan → pha
 earlier_not plan relid phase zero planned less few here = refl
 earlier_not plan relid phase (suc k) planned less few here =
     let os : List Opening = phase_of plan phase in
-    let test : Opening → Bool = λ o. (o.relid == relid) && o.rescinded in
+    let test : Opening → Bool = λ o. (o.relid == relid) && ends_given_back o in
     let earlier = earlier_not plan relid phase k planned less (omega (arith, few)) here in
-    let all = earlier_ends plan k phase planned (omega (arith, few)) less in
-    let each = all_weaker (λ q. AllByRecursion (λ p. p.relid ≡ q.relid → q.rescinded ≡ false) os) (λ q. q.relid ≡ relid → q.rescinded ≡ false) (λ q a is. matches relid q os here a is) (phase_of plan k) all in
+    let all = not_given_back plan k phase planned (omega (arith, few)) less in
+    let each = all_weaker (λ q. AllByRecursion (λ p. p.relid ≡ q.relid → ends_given_back q ≡ false) os) (λ q. q.relid ≡ relid → ends_given_back q ≡ false) (λ q a is. matches relid q os here a is) (phase_of plan k) all in
     ap (list_any test) (openings_more plan.phases k (omega (arith, few, less))) ∙ list_any-append test (all_openings (take k plan.phases)) (phase_of plan k)
     ∙ ap (λ b. b || rescinds_it relid (phase_of plan k)) earlier ∙ none_rescinded relid (phase_of plan k) each
 
 -- the state of a channel before a phase
-before_state : {X : Type 0} (plan : BusPlan) (state : X → State) (as_left : Opening → X) (unopened : X) (phase relid : ℕ) → IsPlan plan → state unopened ≡ Offered → ((o : Opening) → state (as_left o) ≡ end_state o.rescinded) → phase ≤ length plan.phases
+before_state : {X : Type 0} (plan : BusPlan) (state : X → State) (as_left : Opening → X) (unopened : X) (phase relid : ℕ) → IsPlan plan → state unopened ≡ Offered → ((o : Opening) → state (as_left o) ≡ end_state (ends_given_back o)) → phase ≤ length plan.phases
     → state (before_phase plan as_left unopened phase relid) ≡ stands_so (rescinds_it relid (all_openings (take phase plan.phases))) (opens_it relid (all_openings (take phase plan.phases)))
 before_state plan state as_left unopened zero relid planned first is few = first
 before_state plan state as_left unopened (suc phase) relid planned first is few =
@@ -118,14 +121,14 @@ before_state plan state as_left unopened (suc phase) relid planned first is few 
     let old : List Opening = all_openings (take phase plan.phases) in
     let earlier = before_state plan state as_left unopened phase relid planned first is (omega (arith, few)) in
     let more : all_openings (take (suc phase) plan.phases) ≡ old ++ os = openings_more plan.phases phase less in
-    let gone : rescinds_it relid (all_openings (take (suc phase) plan.phases)) ≡ (rescinds_it relid old || rescinds_it relid os) = ap (rescinds_it relid) more ∙ list_any-append (λ o. (o.relid == relid) && o.rescinded) old os in
+    let gone : rescinds_it relid (all_openings (take (suc phase) plan.phases)) ≡ (rescinds_it relid old || rescinds_it relid os) = ap (rescinds_it relid) more ∙ list_any-append (λ o. (o.relid == relid) && ends_given_back o) old os in
     let opened : opens_it relid (all_openings (take (suc phase) plan.phases)) ≡ (opens_it relid old || opens_it relid os) = ap (opens_it relid) more ∙ list_any-append (λ o. o.relid == relid) old os in
-    marked_state state as_left 1 os (before_phase plan as_left unopened phase) relid is (phase_rises plan phase planned less)
+    marked_state state as_left os (before_phase plan as_left unopened phase) relid is (phase_relids plan phase planned less).distinct
     ∙ ap (λ s. if opens_it relid os then end_state (rescinds_it relid os) else s) earlier
     ∙ both_phases (rescinds_it relid old) (opens_it relid old) (rescinds_it relid os) (opens_it relid os) (λ here. earlier_not plan relid phase phase planned less (omega arith) here) (not_opened relid os)
     ∙ sym (λ i. stands_so (gone i) (opened i))
 
-at_last : {X : Type 0} (plan : BusPlan) (state : X → State) (as_left : Opening → X) (unopened : X) (relid : ℕ) → IsPlan plan → state unopened ≡ Offered → ((o : Opening) → state (as_left o) ≡ end_state o.rescinded)
+at_last : {X : Type 0} (plan : BusPlan) (state : X → State) (as_left : Opening → X) (unopened : X) (relid : ℕ) → IsPlan plan → state unopened ≡ Offered → ((o : Opening) → state (as_left o) ≡ end_state (ends_given_back o))
     → state (before_phase plan as_left unopened (length plan.phases) relid) ≡ last_state plan relid
 at_last plan state as_left unopened relid planned first is =
     before_state plan state as_left unopened (length plan.phases) relid planned first is (omega arith)
@@ -146,18 +149,20 @@ guest_ended plan part awaits version channels planned fresh last over = absurd (
 guest_ended plan part awaits version channels planned (proposes v tries) last over = absurd (cc)
 guest_ended plan part awaits version channels planned (asks v n agreed few) last over = absurd (cc)
 guest_ended plan part awaits version channels planned (contacted v cs meet) last over = absurd (cc)
+guest_ended plan part awaits version channels planned (offers v cs phase place done first offered o left at one subs meet) last over = absurd (cc)
 guest_ended plan part awaits version channels planned (lists v cs phase place done o left at meet) last over = absurd (cc)
 guest_ended plan part awaits version channels planned (opens v cs phase place done o left at meet) last over = absurd (cc)
 guest_ended plan part awaits version channels planned (started v cs phase in_plan meet) last over = absurd (cc)
 guest_ended plan part awaits version channels planned (closes v cs phase place done o left at closed meet) last over = absurd (cc)
 guest_ended plan part awaits version channels planned (gives_back v cs phase place done o left at gone meet) last over = absurd (cc)
+guest_ended plan part awaits version channels planned (gives_sub_back v cs phase place done o left at closed sub meet) last over = absurd (cc)
 guest_ended plan part awaits version channels planned (ended v cs phase in_plan meet) last over = absurd (cc)
 guest_ended plan part awaits version channels planned (leaves v cs meet) last over = absurd (cc)
 guest_ended plan part awaits version channels planned (is_over v cs meet) last over = record {
   last = v;
   agreed = meet.agreed;
   version_is = refl;
-  stands = all_stand (λ (c : Channel). c.life.state) cs plan (before_phase plan guest_ends offered_channel (length plan.phases)) meet.stand (λ relid. at_last plan (λ (c : Channel). c.life.state) guest_ends offered_channel relid planned refl (λ o. refl));
+  stands = all_stand (λ (c : Channel). c.life.state) cs plan (before_phase plan guest_ends offered_channel (length plan.phases)) (subst (λ n. Stand cs n (before_phase plan guest_ends offered_channel (length plan.phases))) (all_offered plan) meet.stand) (λ relid. at_last plan (λ (c : Channel). c.life.state) guest_ends offered_channel relid planned refl (λ o. refl));
   no_say = refl;
   no_hear = refl;
 }
@@ -180,7 +185,7 @@ host_ended plan part awaits version channels assembly tried pieces planned (IsDo
   last = v;
   agreed = meet.agreed;
   version_is = refl;
-  stands = all_stand (λ (c : ChanState). c.state) cs plan (before_phase plan host_ends (record { side = HostSide; state = Offered }) (length plan.phases)) meet.stand
+  stands = all_stand (λ (c : ChanState). c.state) cs plan (before_phase plan host_ends (record { side = HostSide; state = Offered }) (length plan.phases)) (subst (λ n. Stand cs n (before_phase plan host_ends (record { side = HostSide; state = Offered }) (length plan.phases))) (all_offered plan) meet.stand)
       (λ relid. at_last plan (λ (c : ChanState). c.state) host_ends (record { side = HostSide; state = Offered }) relid planned refl (λ o. refl));
   no_say = refl;
   no_hear = refl;

@@ -13,10 +13,12 @@ use Rattle.control_model.specs.declared.opening.Opening.{Opening}
 use Rattle.control_model.specs.declared.channel.Channel.{Channel}
 use Rattle.control_model.specs.Plan.{BusPlan, phase_of}
 use Rattle.control_model.specs.Channels.{lived, row_of, is_handle, place_of_list}
+use Rattle.control_model.specs.Said.{ends_given_back}
 use Rattle.control_model.specs.Guest.{offered_channel}
 use Rattle.control_model.specs.Stand.{marked, before_phase, end_state, guest_is, host_is, guest_ends, host_ends, guest_before, host_before, Stand}
 use Rattle.control_run.proofs.Marks.{differ, at_relid, marked_has, marked_at, marked_there}
-use Rattle.control_run.proofs.Plans.{all_weaker, Facts}
+use Rattle.control_run.proofs.Plans.{Facts}
+use Rattle.control_run.proofs.Cutting.{all_weaker}
 
 pub all_front : {X : Type 0} (P : X → Type 0) (xs ys : List X) → AllByRecursion P (xs ++ ys) → AllByRecursion P xs × AllByRecursion P ys
 all_front P [] ys all = (tt, all)
@@ -29,13 +31,13 @@ before_has plan ended offered P relid first zero each = first
 before_has plan ended offered P relid first (suc phase) each =
     marked_at ended P (phase_of plan phase) (before_phase plan ended offered phase) relid (each phase (omega arith)) (before_has plan ended offered P relid first phase (λ j less. each j (omega (arith, less))))
 
--- earlier openings of a channel that is opened weren't rescinded
+-- a channel that is opened wasn't given back at the end of an earlier phase
 abbrev pub NotBefore : BusPlan → ℕ → ℕ → Type 0
-NotBefore plan phase relid = (j : ℕ) → j < phase → AllByRecursion (λ q. q.relid ≡ relid → q.rescinded ≡ false) (phase_of plan j)
+NotBefore plan phase relid = (j : ℕ) → j < phase → AllByRecursion (λ q. q.relid ≡ relid → ends_given_back q ≡ false) (phase_of plan j)
 
-closed_each : {X : Type 0} (plan : BusPlan) (phase relid : ℕ) (ended : Bool → Opening → X) (P : X → Type 0) → NotBefore plan phase relid → ((o : Opening) → P (ended false o)) → (j : ℕ) → j < phase → AllByRecursion (λ q. q.relid ≡ relid → P (ended q.rescinded q)) (phase_of plan j)
+closed_each : {X : Type 0} (plan : BusPlan) (phase relid : ℕ) (ended : Bool → Opening → X) (P : X → Type 0) → NotBefore plan phase relid → ((o : Opening) → P (ended false o)) → (j : ℕ) → j < phase → AllByRecursion (λ q. q.relid ≡ relid → P (ended (ends_given_back q) q)) (phase_of plan j)
 closed_each plan phase relid ended P none then j less =
-    all_weaker (λ q. q.relid ≡ relid → q.rescinded ≡ false) (λ q. q.relid ≡ relid → P (ended q.rescinded q)) (λ q f e. subst (λ b. P (ended b q)) (sym (f e)) (then q)) (phase_of plan j) (none j less)
+    all_weaker (λ q. q.relid ≡ relid → ends_given_back q ≡ false) (λ q. q.relid ≡ relid → P (ended (ends_given_back q) q)) (λ q f e. subst (λ b. P (ended b q)) (sym (f e)) (then q)) (phase_of plan j) (none j less)
 
 -- a guest may open it
 abbrev Opens : Channel → Type 0
@@ -56,9 +58,9 @@ can_open_host plan phase relid none =
     (closed_each plan phase relid (λ b o. host_is (end_state b) o) (λ (life : ChanState). HostOpens life) none (λ o. record { row = refl; side = refl }))
 
 -- the channel that set up a list, where no other one has its handle
-pub find_list : (guests : List Channel) (plan : BusPlan) (stands : ℕ → Channel) (relid gpadl : ℕ) → Stand guests plan stands → 1 ≤ relid → relid ≤ length plan.kinds → is_handle gpadl (stands relid).gpadl ≡ true → ((q : ℕ) → q ≢ relid → is_handle gpadl (stands q).gpadl ≡ false)
+pub find_list : (guests : List Channel) (count : ℕ) (stands : ℕ → Channel) (relid gpadl : ℕ) → Stand guests count stands → 1 ≤ relid → relid ≤ count → is_handle gpadl (stands relid).gpadl ≡ true → ((q : ℕ) → q ≢ relid → is_handle gpadl (stands q).gpadl ≡ false)
     → place_of_list guests gpadl ≡ Some (relid - 1)
-find_list guests plan stands relid gpadl stand one few here there =
+find_list guests count stands relid gpadl stand one few here there =
     let many = stand.many in
     let test : Channel → Bool = λ channel. is_handle gpadl channel.gpadl in
     let read : (k : ℕ) (d : Channel) → k < length guests → get_or guests k d ≡ stands (k + 1) = λ k d less.

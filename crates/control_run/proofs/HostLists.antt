@@ -2,7 +2,6 @@
 use Rattle.std.proofs.Common.{◌≡◌, ◌∙◌, ℕ, suc, ◌==◌, true, false, List, [], ◌∷◌, ◌++◌, length, drop, Option, Some, None, Ok, if◌then◌else◌, refl, sym, ap, subst, append_assoc}
 use Rattle.std.specs.List.{flat_map}
 use Rattle.std.proofs.lemmas.List.{map-append}
-use Rattle.std.proofs.lemmas.List.Concat.{flat_map-cons}
 use Rattle.contact.specs.declared.version.Version.{Version}
 use Rattle.contact.specs.declared.part.Part.{Part}
 use Rattle.contact.specs.declared.part.Part.TheVariants.{PhaseStart}
@@ -17,17 +16,17 @@ use Rattle.control_model.specs.declared.opening.Opening.{Opening}
 use Rattle.control_model.specs.declared.burst.Burst.TheVariants.{One}
 use Rattle.control_model.specs.declared.host_wait.HostWait.{HostWait}
 use Rattle.control_model.specs.declared.host_wait.HostWait.TheVariants.{List as AwaitsList, Open as AwaitsOpen}
-use Rattle.control_model.specs.Plan.{BusPlan, opening_at, IsPlan, phase_of}
+use Rattle.control_model.specs.Plan.{BusPlan, opening_at, IsPlan, phase_of, closing_of}
 use Rattle.control_model.specs.Channels.{by_relid}
 use Rattle.control_model.specs.Messages.{propose, request, pages_from, created, open_on, close, teardown, release, farewell}
-use Rattle.control_model.specs.Said.{host_opens, host_closes, guest_closes}
+use Rattle.control_model.specs.Said.{host_opens_all, host_closes, guest_closes}
 use Rattle.control_model.specs.Host.{HostSeen, HostTurn, host_waits_for_nothing, at_rest, hears_header, hears_piece, listed as listed_for, lists_by, is_of, host_hears}
-use Rattle.control_model.specs.Stand.{At, marked, host_is, host_before, Meet, handles}
+use Rattle.control_model.specs.Stand.{At, offered_by, marked, host_is, host_before, Meet, handles}
 use Rattle.control_model.specs.GuestAt.{guest_from, host_from, opens_listed, answers_open}
 use Rattle.control_model.specs.HostAt.{live_ones, ListComes, HostStands}
 use Rattle.control_model.specs.HostAt.HostStands.{fresh, answers, accepts, contacted, lists, listed, started, closes, tears, takes_back, ended, leaves, is_over}
 use Rattle.control_run.proofs.Marks.{by_test, same, stand_at}
-use Rattle.control_run.proofs.Plans.{facts, opening_here}
+use Rattle.control_run.proofs.Plans.{facts, opening_here, offered_here}
 use Rattle.control_run.proofs.Logs.{Logs}
 use Rattle.control_run.proofs.Pieces.{IsPieceFor, list_of, Piecewise, piece_built, is_last, comes, after_more}
 use Rattle.control_run.proofs.Saying.{left_at}
@@ -44,7 +43,7 @@ module _ (plan : BusPlan) (logs : Logs) (v : Version) (hosts : List ChanState) (
   host_at = a_host plan logs (Some (PhaseStart phase)) (AwaitsList place) (Some v) hosts s
 
   abbrev AreOpen : Type 0
-  AreOpen = Meet plan v hosts (marked (host_is Opened) done (host_before plan phase))
+  AreOpen = Meet plan v hosts (offered_by plan phase done (o ∷ left)) (marked (host_is Opened) done (host_before plan phase))
 
   abbrev HeardSo : Msg → Partial → Type 0
   HeardSo m p = host_hears host_at m ≡ Ok (lists_by host_at (next s m) (Some p))
@@ -67,10 +66,10 @@ module _ (plan : BusPlan) (logs : Logs) (v : Version) (hosts : List ChanState) (
         pieces_then = [];
         goes = listed v hosts phase place done o left at meet;
         says = λ sent f.
-            let later : List Msg = flat_map host_closes (phase_of plan phase) ++ host_from plan (suc phase) in
-            ap (λ os. flat_map host_opens os ++ later) here ∙ ap (λ xs. xs ++ later) (flat_map-cons host_opens o left) ∙ ap (λ os. created o.relid o.gpadl ∷ (answers_open os ++ later)) (sym here)
+            let later : List Msg = flat_map host_closes (closing_of plan phase) ++ host_from plan (suc phase) in
+            ap (λ os. host_opens_all os ++ later) here ∙ ap (λ os. created o.relid o.gpadl ∷ (answers_open os ++ later)) (sym here)
             ∙ ap (λ xs. xs ++ (answers_open (drop place (phase_of plan phase)) ++ later)) (sym f);
-        heard = ap (λ xs. m ∷ ((xs ++ opens_listed (drop place (phase_of plan phase))) ++ (flat_map guest_closes (phase_of plan phase) ++ guest_from plan (suc phase)))) last.empty;
+        heard = ap (λ xs. m ∷ ((xs ++ opens_listed (drop place (phase_of plan phase))) ++ (flat_map guest_closes (closing_of plan phase) ++ guest_from plan (suc phase)))) last.empty;
       }
 
   -- frames are missing
@@ -92,7 +91,7 @@ module _ (plan : BusPlan) (logs : Logs) (v : Version) (hosts : List ChanState) (
           whole = whole_is ∙ sym (append_assoc came (m ∷ []) (n ∷ ms));
           lists_are = ap (λ (t : Assembly). next t m) so_far ∙ sym (after_more (live_ones (handles done)) came m);
         });
-        says = λ sent f. ap (λ xs. xs ++ (flat_map host_opens (drop place (phase_of plan phase)) ++ (flat_map host_closes (phase_of plan phase) ++ host_from plan (suc phase)))) (sym f);
+        says = λ sent f. ap (λ xs. xs ++ (host_opens_all (drop place (phase_of plan phase)) ++ (flat_map host_closes (closing_of plan phase) ++ host_from plan (suc phase)))) (sym f);
         heard = refl;
       }
 
@@ -102,7 +101,7 @@ module _ (plan : BusPlan) (logs : Logs) (v : Version) (hosts : List ChanState) (
       let pieces : Piecewise o done s m ms = subst (λ (t : Assembly). Piecewise o done t m ms) (sym list.lists_are) (comes o done list.came m ms fact.fits fact.done_handles list.whole) in
       let fine = pieces.assemble.taken.0 in
       let life : ChanState = host_before plan phase o.relid in
-      let known : by_relid hosts o.relid ≡ Some life = stand_at hosts plan (host_is Opened) done o (host_before plan phase) life meet.stand fact.fits.named fact.known fact.done_apart refl in
+      let known : by_relid hosts o.relid ≡ Some life = stand_at hosts (offered_by plan phase done (o ∷ left)) (host_is Opened) done o (host_before plan phase) life meet.stand fact.fits.named (offered_here plan phase place done o left planned at) fact.done_apart refl in
       let made = piece_built s m o.relid pieces.first fine in
       let heard_so : HeardSo m made.list = heard host_at life o.relid m pieces.first known fine ∙ ap (λ b. Ok (lists_by host_at (next s m) b)) made.is in
       by_test {P = HostStep plan host_at [] m (m ∷ ms)} (length made.list.pages == made.list.want)

@@ -1,13 +1,19 @@
 pub mod NextOne
 pub mod Logs
 pub mod Marks
+pub mod Closing
+pub mod Cutting
+pub mod Relids
+pub mod Counts
 pub mod Plans
 pub mod Lower
 pub mod Pieces
+pub mod Live
 pub mod Next
 pub mod NextEnd
 pub mod Tried
 pub mod Saying
+pub mod Seats
 pub mod States
 pub mod Offering
 pub mod Handles
@@ -22,3 +28,4 @@ pub mod Going
 pub mod Handing
 pub mod Counting
 pub mod Never
+pub mod PlainPhases

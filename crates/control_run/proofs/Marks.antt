@@ -1,11 +1,10 @@
 -- Channels that are marked, and lists of channels that stand so.
-use Rattle.std.proofs.Common.{◌≡◌, ◌≢◌, ◌∙◌, ℕ, zero, suc, ◌-◌, ◌<◌, ◌≤◌, ◌==◌, Bool, true, false, List, [], ◌∷◌, ◌++◌, length, slice_get, slice_set, Some, if◌then◌else◌, refl, sym, ap, subst, ⊎_elim, arith}
+use Rattle.std.proofs.Common.{◌≡◌, ◌≢◌, ◌∙◌, ℕ, zero, suc, ◌+◌, ◌-◌, ◌<◌, ◌≤◌, ◌==◌, nat_le, Bool, true, false, List, [], ◌∷◌, ◌++◌, length, replicate, slice_get, slice_set, Some, if◌then◌else◌, refl, sym, ap, subst, ⊎_elim, length-append, arith}
 use Rattle.std.specs.List.{AllByRecursion}
 use Rattle.std.proofs.lemmas.Bool.{eq-eqb, eqb-true, cases_eq}
 use Rattle.std.proofs.lemmas.Bool.Decides.{nat_tests}
-use Rattle.std.proofs.lemmas.List.{length-set}
+use Rattle.std.proofs.lemmas.List.{length-set, length-replicate}
 use Rattle.control_model.specs.declared.opening.Opening.{Opening}
-use Rattle.control_model.specs.Plan.{BusPlan}
 use Rattle.control_model.specs.Channels.{by_relid}
 use Rattle.control_model.specs.Stand.{marked, Stand}
 
@@ -69,9 +68,9 @@ pub at_relid : {X : Type 0} (channels : List X) (relid : ℕ) → 1 ≤ relid �
 at_relid channels relid some = rw (differ relid 0 (λ e. absurd (omega (arith, some, e)))) refl
 
 -- one channel stands otherwise now
-pub stand_now : {X : Type 0} (channels : List X) (plan : BusPlan) (stands after : ℕ → X) (relid : ℕ) (x : X) → Stand channels plan stands → 1 ≤ relid → relid ≤ length plan.kinds → after relid ≡ x → ((q : ℕ) → q ≢ relid → after q ≡ stands q)
-    → Stand (slice_set channels (relid - 1) x) plan after
-stand_now channels plan stands after relid x old some within here there = record {
+pub stand_now : {X : Type 0} (channels : List X) (count : ℕ) (stands after : ℕ → X) (relid : ℕ) (x : X) → Stand channels count stands → 1 ≤ relid → relid ≤ count → after relid ≡ x → ((q : ℕ) → q ≢ relid → after q ≡ stands q)
+    → Stand (slice_set channels (relid - 1) x) count after
+stand_now channels count stands after relid x old some within here there = record {
   many = length-set channels (relid - 1) x ∙ old.many;
   each = λ q one few. by_place q relid
       (λ e. let many = old.many in let fits : relid - 1 < length channels = omega (arith, many, some, within) in
@@ -82,24 +81,57 @@ stand_now channels plan stands after relid x old some within here there = record
 }
 
 -- the same, told otherwise
-pub stand_like : {X : Type 0} (channels : List X) (plan : BusPlan) (stands after : ℕ → X) → Stand channels plan stands → ((q : ℕ) → after q ≡ stands q) → Stand channels plan after
-stand_like channels plan stands after old like = record { many = old.many; each = λ q one few. old.each q one few ∙ ap Some (sym (like q)) }
+pub stand_like : {X : Type 0} (channels : List X) (count : ℕ) (stands after : ℕ → X) → Stand channels count stands → ((q : ℕ) → after q ≡ stands q) → Stand channels count after
+stand_like channels count stands after old like = record { many = old.many; each = λ q one few. old.each q one few ∙ ap Some (sym (like q)) }
 
 -- behind marked channels, one more is marked
-pub stand_mark : {X : Type 0} (channels : List X) (plan : BusPlan) (a b : Opening → X) (done : List Opening) (o : Opening) (before base : ℕ → X) → Stand channels plan (marked a done before) → 1 ≤ o.relid → o.relid ≤ length plan.kinds
-    → AllByRecursion (λ p. p.relid ≢ o.relid) done → ((q : ℕ) → q ≢ o.relid → base q ≡ before q) → Stand (slice_set channels (o.relid - 1) (b o)) plan (marked a done (marked b (o ∷ []) base))
-stand_mark channels plan a b done o before base old some within apart like =
-    stand_now channels plan (marked a done before) (marked a done (marked b (o ∷ []) base)) o.relid (b o) old some within
+pub stand_mark : {X : Type 0} (channels : List X) (count : ℕ) (a b : Opening → X) (done : List Opening) (o : Opening) (before base : ℕ → X) → Stand channels count (marked a done before) → 1 ≤ o.relid → o.relid ≤ count
+    → AllByRecursion (λ p. p.relid ≢ o.relid) done → ((q : ℕ) → q ≢ o.relid → base q ≡ before q) → Stand (slice_set channels (o.relid - 1) (b o)) count (marked a done (marked b (o ∷ []) base))
+stand_mark channels count a b done o before base old some within apart like =
+    stand_now channels count (marked a done before) (marked a done (marked b (o ∷ []) base)) o.relid (b o) old some within
     (marked_apart a done (marked b (o ∷ []) base) o.relid apart ∙ marked_here b o [] base)
     (λ q off. marked_like a done (marked b (o ∷ []) base) before q (marked_there b o [] base q off ∙ like q off))
 
 -- and it joins those before it
-pub stand_join : {X : Type 0} (channels : List X) (plan : BusPlan) (a : Opening → X) (done : List Opening) (o : Opening) (before base : ℕ → X) → Stand channels plan (marked a done before) → 1 ≤ o.relid → o.relid ≤ length plan.kinds
-    → AllByRecursion (λ p. p.relid ≢ o.relid) done → ((q : ℕ) → q ≢ o.relid → base q ≡ before q) → Stand (slice_set channels (o.relid - 1) (a o)) plan (marked a (done ++ o ∷ []) base)
-stand_join channels plan a done o before base old some within apart like =
-    stand_like (slice_set channels (o.relid - 1) (a o)) plan (marked a done (marked a (o ∷ []) base)) (marked a (done ++ o ∷ []) base) (stand_mark channels plan a a done o before base old some within apart like) (λ q. marked_append a done (o ∷ []) base q)
+pub stand_join : {X : Type 0} (channels : List X) (count : ℕ) (a : Opening → X) (done : List Opening) (o : Opening) (before base : ℕ → X) → Stand channels count (marked a done before) → 1 ≤ o.relid → o.relid ≤ count
+    → AllByRecursion (λ p. p.relid ≢ o.relid) done → ((q : ℕ) → q ≢ o.relid → base q ≡ before q) → Stand (slice_set channels (o.relid - 1) (a o)) count (marked a (done ++ o ∷ []) base)
+stand_join channels count a done o before base old some within apart like =
+    stand_like (slice_set channels (o.relid - 1) (a o)) count (marked a done (marked a (o ∷ []) base)) (marked a (done ++ o ∷ []) base) (stand_mark channels count a a done o before base old some within apart like) (λ q. marked_append a done (o ∷ []) base q)
 
 -- the channel of an opening
-pub stand_at : {X : Type 0} (channels : List X) (plan : BusPlan) (a : Opening → X) (done : List Opening) (o : Opening) (before : ℕ → X) (x : X) → Stand channels plan (marked a done before) → 1 ≤ o.relid → o.relid ≤ length plan.kinds
+pub stand_at : {X : Type 0} (channels : List X) (count : ℕ) (a : Opening → X) (done : List Opening) (o : Opening) (before : ℕ → X) (x : X) → Stand channels count (marked a done before) → 1 ≤ o.relid → o.relid ≤ count
     → AllByRecursion (λ p. p.relid ≢ o.relid) done → before o.relid ≡ x → by_relid channels o.relid ≡ Some x
-stand_at channels plan a done o before x old some within apart is = old.each o.relid some within ∙ ap Some (marked_apart a done before o.relid apart ∙ is)
+stand_at channels count a done o before x old some within apart is = old.each o.relid some within ∙ ap Some (marked_apart a done before o.relid apart ∙ is)
+
+-- channels that are offered stand behind the others
+get_front : {X : Type 0} (xs ys : List X) (i : ℕ) → i < length xs → slice_get (xs ++ ys) i ≡ slice_get xs i
+get_front [] ys i less = absurd (omega (arith, less))
+get_front (x ∷ xs) ys zero less = refl
+get_front (x ∷ xs) ys (suc i) less = get_front xs ys i (omega (arith, less))
+
+get_back : {X : Type 0} (xs ys : List X) (i j : ℕ) → i ≡ length xs + j → slice_get (xs ++ ys) i ≡ slice_get ys j
+get_back [] ys i j is = let same_place : i ≡ j = omega (arith, is) in ap (slice_get ys) same_place
+get_back (x ∷ xs) ys zero j is = absurd (omega (arith, is))
+get_back (x ∷ xs) ys (suc i) j is = get_back xs ys i j (omega (arith, is))
+
+get_same : {X : Type 0} (n i : ℕ) (x : X) → i < n → slice_get (replicate n x) i ≡ Some x
+get_same zero i x less = absurd (omega (arith, less))
+get_same (suc n) zero x less = refl
+get_same (suc n) (suc i) x less = get_same n i x (omega (arith, less))
+
+pub stand_add : {X : Type 0} (channels : List X) (count n : ℕ) (stands : ℕ → X) (x : X) → Stand channels count stands → ((q : ℕ) → count < q → q ≤ count + n → stands q ≡ x) → Stand (channels ++ replicate n x) (count + n) stands
+stand_add channels count n stands x old offered =
+    let more = length-append channels (replicate n x) in
+    let new = length-replicate n x in
+    let many = old.many in
+    record {
+      many = omega (arith, more, new, many);
+      each = λ q one few. by_test {P = by_relid (channels ++ replicate n x) q ≡ Some (stands q)} (nat_le q count)
+          (λ e.
+          let within : q ≤ count = grind (arith, nat_tests, e) in
+          at_relid (channels ++ replicate n x) q one ∙ get_front channels (replicate n x) (q - 1) (omega (arith, one, within, many)) ∙ sym (at_relid channels q one) ∙ old.each q one within)
+          (λ e.
+          let behind : count < q = grind (arith, nat_tests, e) in
+          let place : q - 1 ≡ length channels + (q - 1 - count) = omega (arith, one, behind, many) in
+          at_relid (channels ++ replicate n x) q one ∙ get_back channels (replicate n x) (q - 1) (q - 1 - count) place ∙ get_same n (q - 1 - count) x (omega (arith, one, behind, few)) ∙ ap Some (sym (offered q behind few)));
+    }

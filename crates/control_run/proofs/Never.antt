@@ -8,8 +8,9 @@ use Rattle.contact.specs.Classes.{offers_from}
 use Rattle.gpadl.specs.Cut.{bodies, cut}
 use Rattle.vmbus_msg.specs.declared.msg.Msg.{Msg}
 use Rattle.control_model.specs.declared.opening.Opening.{Opening}
-use Rattle.control_model.specs.Messages.{propose, delivered, request, pages_from, open_on, close, teardown, torndown, rescind, release, farewell, farewell_taken}
-use Rattle.control_model.specs.Said.{answer_to, guest_opens, host_opens, guest_closes, host_closes, guest_in_phase, host_in_phase, from_3_0}
+use Rattle.control_model.specs.Messages.{propose, delivered, request, pages_from, offer_sub, open_on, close, teardown, torndown, rescind, release, farewell, farewell_taken}
+use Rattle.control_model.specs.Plan.{is_sub, subs_next, in_closing_order}
+use Rattle.control_model.specs.Said.{answer_to, guest_opens, host_opens, host_opens_all, guest_closes, host_closes, only_sub, guest_in_phase, host_in_phase, from_3_0}
 use Rattle.control_run.specs.Sides.{GuestIsCut, HostIsCut}
 
 abbrev Never : Msg → List Msg → Type 0
@@ -19,7 +20,7 @@ both : (m : Msg) (xs ys : List Msg) → Never m xs → Never m ys → Never m (x
 both m [] ys a b = b
 both m (x ∷ xs) ys a b = (a.0, both m xs ys a.1 b)
 
-mapped : (m : Msg) (f : ℕ → Msg) (vs : List ℕ) → ((v : ℕ) → f v ≢ m) → Never m (map f vs)
+mapped : {X : Type 0} (m : Msg) (f : X → Msg) (vs : List X) → ((v : X) → f v ≢ m) → Never m (map f vs)
 mapped m f [] none = tt
 mapped m f (v ∷ vs) none = (none v, mapped m f vs none)
 
@@ -36,10 +37,18 @@ offers : (relid : ℕ) (kinds : List Kind) → Never farewell (offers_from relid
 offers relid [] = tt
 offers relid (kind ∷ kinds) = ((λ e. absurd (cc)), offers (relid + 1) kinds)
 
+opens : (os : List Opening) → Never farewell (host_opens_all os)
+opens [] = tt
+opens (o ∷ os) =
+    let more : List Msg = map offer_sub (subs_next (o ∷ os)) in
+    both farewell (host_opens o) (more ++ host_opens_all os) ((λ e. absurd (cc)), ((λ e. absurd (cc)), tt)) (both farewell more (host_opens_all os) (mapped farewell offer_sub (subs_next (o ∷ os)) (λ p e. absurd (cc))) (opens os))
+
+sub_closes : (m n : Msg) (o : Opening) → n ≢ m → Never m (only_sub o n)
+sub_closes m n o off = only_if m (is_sub o) (n ∷ []) [] (off, tt) tt
+
 host_phase : (os : List Opening) → Never farewell (host_in_phase os)
-host_phase os = both farewell (flat_map host_opens os) (flat_map host_closes os)
-    (each farewell host_opens os (λ o. ((λ e. absurd (cc)), ((λ e. absurd (cc)), tt))))
-    (each farewell host_closes os (λ o. only_if farewell o.rescinded (rescind o.relid ∷ []) (torndown o.gpadl ∷ []) ((λ e. absurd (cc)), tt) ((λ e. absurd (cc)), tt)))
+host_phase os = both farewell (host_opens_all os) (flat_map host_closes (in_closing_order os)) (opens os)
+    (each farewell host_closes (in_closing_order os) (λ o. only_if farewell o.rescinded (rescind o.relid ∷ []) (torndown o.gpadl ∷ only_sub o (rescind o.relid)) ((λ e. absurd (cc)), tt) ((λ e. absurd (cc)), sub_closes farewell (rescind o.relid) o (λ e. absurd (cc)))))
 
 pub guest_is_cut : GuestIsCut
 guest_is_cut = (
@@ -65,9 +74,9 @@ no_cut relid handle [] = tt
 no_cut relid handle (page ∷ pages) = ((λ e. absurd (cc)), no_body (length pages) handle 0 (drop 26 (page ∷ pages)))
 
 guest_phase : (os : List Opening) → Never farewell_taken (guest_in_phase os)
-guest_phase os = both farewell_taken (flat_map guest_opens os) (flat_map guest_closes os)
+guest_phase os = both farewell_taken (flat_map guest_opens os) (flat_map guest_closes (in_closing_order os))
     (each farewell_taken guest_opens os (λ o. both farewell_taken (cut o.relid o.gpadl (pages_from o)) (open_on o ∷ []) (no_cut o.relid o.gpadl (pages_from o)) ((λ e. absurd (cc)), tt)))
-    (each farewell_taken guest_closes os (λ o. only_if farewell_taken o.rescinded (release o.relid ∷ []) (close o.relid ∷ teardown o ∷ []) ((λ e. absurd (cc)), tt) ((λ e. absurd (cc)), ((λ e. absurd (cc)), tt))))
+    (each farewell_taken guest_closes (in_closing_order os) (λ o. only_if farewell_taken o.rescinded (release o.relid ∷ []) (close o.relid ∷ teardown o ∷ only_sub o (release o.relid)) ((λ e. absurd (cc)), tt) ((λ e. absurd (cc)), ((λ e. absurd (cc)), sub_closes farewell_taken (release o.relid) o (λ e. absurd (cc))))))
 
 pub host_is_cut : HostIsCut
 host_is_cut = (

@@ -1,5 +1,5 @@
 -- How both sides go on at the end of a phase with the openings that are left of it: the first of them is closed, or rescinded.
-use Rattle.std.proofs.Common.{ℕ, Bool, true, false, List, [], ◌∷◌}
+use Rattle.std.proofs.Common.{ℕ, Bool, true, false, List, [], ◌∷◌, ◌++◌}
 use Rattle.chan_state.specs.declared.state.State.TheVariants.{Opened, Closing, Rescinded as IsRescinded}
 use Rattle.chan_state.specs.declared.chan_state.ChanState.{ChanState}
 use Rattle.vmbus_msg.specs.declared.msg.Msg.{Msg}
@@ -10,7 +10,7 @@ use Rattle.control_model.specs.declared.guest_wait.GuestWait.TheVariants.{Nothin
 use Rattle.control_model.specs.declared.host_wait.HostWait.{HostWait}
 use Rattle.control_model.specs.declared.host_wait.HostWait.TheVariants.{Nothing as HostNothing, Close, Release}
 use Rattle.control_model.specs.Messages.{close, teardown, rescind}
-use Rattle.control_model.specs.Stand.{marked, guest_is, host_is, handles}
+use Rattle.control_model.specs.Stand.{marked, guest_is, host_is}
 
 -- the guest closes the first one, or waits for it to be rescinded
 abbrev pub guest_waits : ℕ → Bool → GuestWait
@@ -54,13 +54,13 @@ abbrev pub host_next_stands : List Opening → (ℕ → ChanState) → ℕ → C
 host_next_stands [] before = before
 host_next_stands (o ∷ left) before = host_marks o left before o.rescinded
 
-abbrev pub host_lists : Opening → List Opening → Bool → List ℕ
-host_lists o left true = handles left
-host_lists o left false = handles (o ∷ left)
+abbrev pub host_done : List Opening → Opening → Bool → List Opening
+host_done done o true = done ++ o ∷ []
+host_done done o false = done
 
-abbrev pub host_next_live : List Opening → List ℕ
-host_next_live [] = []
-host_next_live (o ∷ left) = host_lists o left o.rescinded
+abbrev pub host_next_done : List Opening → List Opening → List Opening
+host_next_done done [] = done
+host_next_done done (o ∷ left) = host_done done o o.rescinded
 
 abbrev pub host_sends : Opening → Bool → List Msg
 host_sends o true = rescind o.relid ∷ []

@@ -1,11 +1,11 @@
 -- Lists of channels that were all offered.
-use Rattle.std.proofs.Common.{◌≡◌, ◌∙◌, ℕ, zero, suc, ◌-◌, ◌<◌, true, List, [], ◌∷◌, ◌++◌, length, map, replicate, slice_get, Some, refl, ap, arith}
+use Rattle.std.proofs.Common.{◌≡◌, ◌∙◌, ℕ, zero, suc, ◌+◌, ◌-◌, ◌<◌, true, List, [], ◌∷◌, ◌++◌, length, map, take, replicate, slice_get, Some, refl, sym, ap, arith}
 use Rattle.std.proofs.lemmas.List.{length-replicate, length-map}
 use Rattle.contact.specs.declared.kind.Kind.{Kind}
 use Rattle.contact.specs.declared.kind.Kind.TheVariants.{Beat, Down, Disk, Net}
-use Rattle.control_model.specs.Plan.{BusPlan}
+use Rattle.control_model.specs.Plan.{BusPlan, subs_in, all_openings}
 use Rattle.control_model.specs.Channels.{same_kind}
-use Rattle.control_model.specs.Stand.{Stand}
+use Rattle.control_model.specs.Stand.{offered_before, Stand}
 use Rattle.control_run.proofs.Marks.{at_relid}
 
 pub kind_same : (kind : Kind) → same_kind kind kind ≡ true
@@ -28,15 +28,19 @@ each_mapped [] i x less = absurd (omega (arith, less))
 each_mapped (y ∷ ys) zero x less = refl
 each_mapped (y ∷ ys) (suc i) x less = each_mapped ys i x (omega (arith, less))
 
+-- before the first phase no sub-channel is offered
+pub first_count : (plan : BusPlan) → offered_before plan 0 ≡ length plan.kinds
+first_count plan = let none : length (subs_in (all_openings (take 0 plan.phases))) ≡ 0 = refl in omega (arith, none)
+
 -- as many channels as there are devices, all the same
-pub all_alike : {X : Type 0} (plan : BusPlan) (n : ℕ) (x : X) → n ≡ length plan.kinds → Stand (replicate n x) plan (λ relid. x)
+pub all_alike : {X : Type 0} (plan : BusPlan) (n : ℕ) (x : X) → n ≡ length plan.kinds → Stand (replicate n x) (offered_before plan 0) (λ relid. x)
 all_alike plan n x is = record {
-  many = length-replicate n x ∙ is;
-  each = λ relid one few. at_relid (replicate n x) relid one ∙ each_same n (relid - 1) x (omega (arith, one, few, is));
+  many = length-replicate n x ∙ is ∙ sym (first_count plan);
+  each = λ relid one few. at_relid (replicate n x) relid one ∙ each_same n (relid - 1) x (let all = first_count plan in omega (arith, one, few, is, all));
 }
 
-pub all_mapped : {X : Type 0} (plan : BusPlan) (x : X) → Stand (map (λ (kind : Kind). x) plan.kinds) plan (λ relid. x)
+pub all_mapped : {X : Type 0} (plan : BusPlan) (x : X) → Stand (map (λ (kind : Kind). x) plan.kinds) (offered_before plan 0) (λ relid. x)
 all_mapped plan x = record {
-  many = length-map plan.kinds (λ (kind : Kind). x);
-  each = λ relid one few. at_relid (map (λ (kind : Kind). x) plan.kinds) relid one ∙ each_mapped plan.kinds (relid - 1) x (omega (arith, one, few));
+  many = length-map plan.kinds (λ (kind : Kind). x) ∙ sym (first_count plan);
+  each = λ relid one few. at_relid (map (λ (kind : Kind). x) plan.kinds) relid one ∙ each_mapped plan.kinds (relid - 1) x (let all = first_count plan in omega (arith, one, few, all));
 }

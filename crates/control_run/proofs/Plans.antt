@@ -1,19 +1,18 @@
 -- What a plan says of an opening at its place.
-use Rattle.std.proofs.Common.{◌≡◌, ◌≢◌, ◌∙◌, ℕ, zero, suc, ◌+◌, ◌<◌, ◌≤◌, false, List, [], ◌∷◌, ◌++◌, length, take, drop, get_or, slice_get, slice_index_or, Option, Some, None, All, refl, sym, ap, subst, append_assoc, length-append, arith}
-use Rattle.std.specs.List.{AllByRecursion}
+use Rattle.std.proofs.Common.{◌≡◌, ◌≢◌, ◌∙◌, ℕ, zero, suc, ◌+◌, ◌<◌, ◌≤◌, ◌||◌, Bool, true, false, cond, if◌then◌else◌, List, [], ◌∷◌, ◌++◌, length, map, take, drop, get_or, slice_get, slice_index_or, Option, Some, None, All, refl, sym, ap, subst, append_assoc, length-append, arith}
+use Rattle.std.specs.List.{AllByRecursion, range_with_len}
 use Rattle.std.proofs.lemmas.List.{append-nil}
-use Rattle.std.proofs.lemmas.List.Elements.{All-get_or, All-head, All-tail}
-use Rattle.std.proofs.Math.Seq.{get_or-append_seam}
+use Rattle.std.proofs.lemmas.List.Elements.{All-get_or}
 use Rattle.control_model.specs.declared.opening.Opening.{Opening}
 use Rattle.control_model.specs.declared.channel.Channel.{Channel}
-use Rattle.control_model.specs.Plan.{BusPlan, opening_at, IsOpening, Rising, Follows, RescindsEnd, all_openings, first_gpadl, list_pages, IsPlan, phase_of}
+use Rattle.control_model.specs.Plan.{BusPlan, is_sub, first_subs, firsts, subs_in, in_closing_order, opening_at, closing_of, closing_at, IsOpening, Rising, Follows, RescindsEnd, all_openings, first_gpadl, list_pages, IsPlan, phase_of}
 use Rattle.control_model.specs.Channels.{is_handle}
-use Rattle.control_model.specs.Stand.{At, guest_ends, guest_before}
-use Rattle.control_run.proofs.Marks.{differ, marked_has}
-
-pub all_weaker : {X : Type 0} (P Q : X → Type 0) → ((x : X) → P x → Q x) → (xs : List X) → AllByRecursion P xs → AllByRecursion Q xs
-all_weaker P Q f [] all = tt
-all_weaker P Q f (x ∷ xs) all = (f x all.0, all_weaker P Q f xs all.1)
+use Rattle.control_model.specs.Said.{ends_given_back}
+use Rattle.control_model.specs.Stand.{At, EndsAt, offered_before, offered_by, guest_ends, guest_before}
+use Rattle.control_run.proofs.Marks.{by_test, differ, marked_has}
+use Rattle.control_run.proofs.Closing.{all_closing, Distinct, distinct_closing, distinct_mid}
+use Rattle.control_run.proofs.Cutting.{all_weaker, mid_all, openings_more, openings_cut, by_all}
+use Rattle.control_run.proofs.Relids.{phase_relids, subs_before, sub_place}
 
 -- the first of what follows
 pub get_from : {X : Type 0} (xs ys : List X) → slice_get (xs ++ ys) (length xs) ≡ slice_get ys 0
@@ -32,25 +31,6 @@ done_more plan phase place done o left at = at.phase_is ∙ sym (append_assoc do
 
 pub place_more : (plan : BusPlan) (phase place : ℕ) (done : List Opening) (o : Opening) (left : List Opening) → At plan phase place done o left → place + 1 ≡ length (done ++ o ∷ [])
 place_more plan phase place done o left at = omega (arith, at.place_is, length-append done (o ∷ []))
-
-pub mid : (P : Opening → Type 0) (done : List Opening) (o : Opening) (left : List Opening) → All P (done ++ o ∷ left) → P o
-mid P done o left all = subst P (get_or-append_seam done o left o) (all (length done) o (omega (arith, length-append done (o ∷ left))))
-
--- relids rise
-pub above : (n least : ℕ) (os : List Opening) → n ≤ least → Rising least os → AllByRecursion (λ p. n ≤ p.relid) os
-above n least [] less rises = tt
-above n least (o ∷ os) less rises = let r = rises.0 in (omega (arith, less, r), above n (o.relid + 1) os (omega (arith, less, r)) rises.1)
-
-least_mid : (least : ℕ) (done : List Opening) (o : Opening) (left : List Opening) → Rising least (done ++ o ∷ left) → least ≤ o.relid
-least_mid least [] o left rises = rises.0
-least_mid least (p ∷ done) o left rises = let r = rises.0 in let q = least_mid (p.relid + 1) done o left rises.1 in omega (arith, r, q)
-
-rises_mid : (least : ℕ) (done : List Opening) (o : Opening) (left : List Opening) → Rising least (done ++ o ∷ left) → AllByRecursion (λ p. p.relid ≢ o.relid) done × AllByRecursion (λ p. p.relid ≢ o.relid) left
-rises_mid least [] o left rises = (tt, all_weaker (λ p. o.relid + 1 ≤ p.relid) (λ p. p.relid ≢ o.relid) (λ p less e. absurd (omega (arith, less, e))) left (above (o.relid + 1) (o.relid + 1) left (omega arith) rises.1))
-rises_mid least (p ∷ done) o left rises =
-    let rest = rises_mid (p.relid + 1) done o left rises.1 in
-    let q = least_mid (p.relid + 1) done o left rises.1 in
-    (((λ e. absurd (omega (arith, q, e))), rest.0), rest.1)
 
 -- handles follow each other
 pub record FollowsBehind (gpadl : ℕ) (os : List Opening) : Type 0 where
@@ -72,18 +52,6 @@ within low high gpadl page [] less most follows = tt
 within low high gpadl page (x ∷ xs) less most follows =
     let e = follows.0 in
     ((omega (arith, e, less), omega (arith, e, most)), within low high (gpadl + 1) (page + list_pages x.ring_pages) xs (omega (arith, less)) (omega (arith, most)) follows.2)
-
--- all openings, cut at a phase
-pub openings_more : (phases : List (List Opening)) (k : ℕ) → k < length phases → all_openings (take (suc k) phases) ≡ all_openings (take k phases) ++ slice_index_or phases k []
-openings_more [] k less = absurd (omega (arith, less))
-openings_more (os ∷ phases) zero less = append-nil os
-openings_more (os ∷ phases) (suc k) less = ap (λ xs. os ++ xs) (openings_more phases k (omega (arith, less))) ∙ sym (append_assoc os (all_openings (take k phases)) (slice_index_or phases k []))
-
-openings_cut : (phases : List (List Opening)) (k : ℕ) → k < length phases → all_openings phases ≡ all_openings (take k phases) ++ (slice_index_or phases k [] ++ all_openings (drop (suc k) phases))
-openings_cut [] k less = absurd (omega (arith, less))
-openings_cut (os ∷ phases) zero less = refl
-openings_cut (os ∷ phases) (suc k) less =
-    ap (λ xs. os ++ xs) (openings_cut phases k (omega (arith, less))) ∙ sym (append_assoc os (all_openings (take k phases)) (slice_index_or phases k [] ++ all_openings (drop (suc k) phases)))
 
 -- an opening that a plan has, with those before and behind it
 pub record CutAt (plan : BusPlan) (phase place : ℕ) (o : Opening) : Type 0 where
@@ -175,56 +143,140 @@ earlier_all (os ∷ later) j zero ends less few = absurd (omega (arith, less))
 earlier_all (os ∷ later) zero (suc k) ends less few = λ i q in_os. All-get_or (λ ps. All (λ p. p.relid ≡ (get_or os i q).relid → (get_or os i q).rescinded ≡ false) ps) later k [] (omega (arith, few)) (ends.0 i q in_os)
 earlier_all (os ∷ later) (suc j) (suc k) ends less few = earlier_all later j k ends.1 (omega (arith, less)) (omega (arith, few))
 
-pub by_all : (P : Opening → Type 0) (xs : List Opening) → All P xs → AllByRecursion P xs
-by_all P [] all = tt
-by_all P (x ∷ xs) all = (All-head P x xs all, by_all P xs (All-tail P x xs all))
-
 pub earlier_ends : (plan : BusPlan) (j k : ℕ) → IsPlan plan → j < k → k < length plan.phases → AllByRecursion (λ q. AllByRecursion (λ p. p.relid ≡ q.relid → q.rescinded ≡ false) (phase_of plan k)) (phase_of plan j)
 earlier_ends plan j k planned less few =
     all_weaker (λ q. All (λ p. p.relid ≡ q.relid → q.rescinded ≡ false) (phase_of plan k)) (λ q. AllByRecursion (λ p. p.relid ≡ q.relid → q.rescinded ≡ false) (phase_of plan k))
     (λ q all. by_all (λ p. p.relid ≡ q.relid → q.rescinded ≡ false) (phase_of plan k) all)
     (phase_of plan j) (by_all (λ q. All (λ p. p.relid ≡ q.relid → q.rescinded ≡ false) (phase_of plan k)) (phase_of plan j) (earlier_all plan.phases j k planned.ends less few))
 
-pub phase_rises : (plan : BusPlan) (k : ℕ) → IsPlan plan → k < length plan.phases → Rising 1 (phase_of plan k)
-phase_rises plan k planned less = All-get_or (λ os. Rising 1 os) plan.phases k [] less planned.rising
+pub phase_rises : (plan : BusPlan) (k : ℕ) → IsPlan plan → k < length plan.phases → Rising 1 (firsts (phase_of plan k))
+phase_rises plan k planned less = All-get_or (λ os. Rising 1 (firsts os)) plan.phases k [] less planned.rising
 
--- so do those that match it
-pub not_rescinded : (plan : BusPlan) (phase place : ℕ) (done : List Opening) (o : Opening) (left : List Opening) → RescindsEnd plan.phases → At plan phase place done o left
-    → (j : ℕ) → j < phase → AllByRecursion (λ q. q.relid ≡ o.relid → q.rescinded ≡ false) (phase_of plan j)
-not_rescinded plan phase place done o left ends at j less =
-    all_weaker (λ q. All (λ p. p.relid ≡ q.relid → q.rescinded ≡ false) (phase_of plan phase)) (λ q. q.relid ≡ o.relid → q.rescinded ≡ false)
-    (λ q all e. mid (λ p. p.relid ≡ q.relid → q.rescinded ≡ false) done o left (subst (λ os. All (λ p. p.relid ≡ q.relid → q.rescinded ≡ false) os) at.phase_is all) (sym e))
-    (phase_of plan j) (by_all (λ q. All (λ p. p.relid ≡ q.relid → q.rescinded ≡ false) (phase_of plan phase)) (phase_of plan j) (earlier_all plan.phases j phase ends less at.in_plan))
+-- handles of a phase are no two the same
+handles_distinct : (gpadl page : ℕ) (os : List Opening) → Follows gpadl page os → Distinct (λ o. o.gpadl) os
+handles_distinct gpadl page [] follows = tt
+handles_distinct gpadl page (o ∷ os) follows =
+    let mine = follows.0 in
+    let rest = within (gpadl + 1) (gpadl + 1 + length os) (gpadl + 1) (page + list_pages o.ring_pages) os (omega arith) (omega arith) follows.2 in
+    (all_weaker (λ p. (gpadl + 1 ≤ p.gpadl) × (p.gpadl < gpadl + 1 + length os)) (λ p. p.gpadl ≢ o.gpadl) (λ p b e. let low = b.0 in absurd (omega (arith, low, e, mine))) os rest, handles_distinct (gpadl + 1) (page + list_pages o.ring_pages) os follows.2)
+
+-- what a plan says of all openings of a phase, in some order
+pub record PhaseHas (plan : BusPlan) (phase : ℕ) (os : List Opening) : Type 0 where
+  pub fits : AllByRecursion IsOpening os
+  pub known : AllByRecursion (λ p. p.relid ≤ offered_before plan (suc phase)) os
+  pub relids : Distinct (λ p. p.relid) os
+  pub handles : Distinct (λ p. p.gpadl) os
+  pub not_before : (j : ℕ) → j < phase → AllByRecursion (λ q. AllByRecursion (λ p. p.relid ≡ q.relid → ends_given_back q ≡ false) os) (phase_of plan j)
+  pub before_handles : AllByRecursion (λ p. (relid : ℕ) → is_handle p.gpadl (guest_before plan phase relid).gpadl ≡ false) os
+
+-- a sub-channel's relid isn't that of an opening of a later phase
+or_false : (a b : Bool) → a ≡ false → b ≡ false → (a || b) ≡ false
+or_false true b e f = absurd (cc)
+or_false false b e f = f
+
+pub not_given_back : (plan : BusPlan) (j k : ℕ) → IsPlan plan → j < k → k < length plan.phases → AllByRecursion (λ q. AllByRecursion (λ p. p.relid ≡ q.relid → ends_given_back q ≡ false) (phase_of plan k)) (phase_of plan j)
+not_given_back plan j k planned less few =
+    let ps : List Opening = phase_of plan k in
+    let later = (phase_relids plan k planned few).fresh in
+    let low = subs_before plan j k planned less (omega (arith, few)) in
+    let ends = earlier_ends plan j k planned less few in
+    both (λ q. AllByRecursion (λ p. p.relid ≡ q.relid → q.rescinded ≡ false) ps) (λ q. is_sub q ≡ true → (length plan.kinds < q.relid) × (q.relid ≤ offered_before plan k)) (λ q. AllByRecursion (λ p. p.relid ≡ q.relid → ends_given_back q ≡ false) ps)
+    (λ q all sub. both (λ p. p.relid ≡ q.relid → q.rescinded ≡ false) (λ p. (is_sub p ≡ false → p.relid ≤ length plan.kinds) × (is_sub p ≡ true → offered_before plan k < p.relid)) (λ p. p.relid ≡ q.relid → ends_given_back q ≡ false)
+    (λ p gone fresh e. or_false q.rescinded (is_sub q) (gone e) (by_test {P = is_sub q ≡ false} (is_sub q)
+    (λ t. let bounds = sub t in let above = bounds.0 in let below = bounds.1 in by_test {P = is_sub q ≡ false} (is_sub p)
+    (λ it. let far = fresh.1 it in absurd (omega (arith, far, below, e)))
+    (λ it. let near = fresh.0 it in absurd (omega (arith, near, above, e))))
+    (λ t. t))) ps all later) (phase_of plan j) ends low
+  where
+    both : (P Q R : Opening → Type 0) → ((o : Opening) → P o → Q o → R o) → (os : List Opening) → AllByRecursion P os → AllByRecursion Q os → AllByRecursion R os
+    both P Q R f [] p q = tt
+    both P Q R f (o ∷ os) p q = (f o p.0 q.0, both P Q R f os p.1 q.1)
+
+pub phase_has : (plan : BusPlan) (phase : ℕ) → IsPlan plan → phase < length plan.phases → PhaseHas plan phase (phase_of plan phase)
+phase_has plan phase planned less =
+    let here = phase_follows plan phase planned less in
+    let ids = phase_relids plan phase planned less in
+    let mine = within (first_of plan phase) (first_of plan phase + length (phase_of plan phase)) (first_of plan phase) here.page (phase_of plan phase) (omega arith) (omega arith) here.follows in
+    record {
+      fits = by_all IsOpening (phase_of plan phase) (All-get_or (λ os. All (λ p. IsOpening p) os) plan.phases phase [] less planned.fits);
+      known = ids.known;
+      relids = ids.distinct;
+      handles = handles_distinct (first_of plan phase) here.page (phase_of plan phase) here.follows;
+      not_before = λ j before. not_given_back plan j phase planned before less;
+      before_handles = all_weaker (λ p. (first_of plan phase ≤ p.gpadl) × (p.gpadl < first_of plan phase + length (phase_of plan phase))) (λ p. (relid : ℕ) → is_handle p.gpadl (guest_before plan phase relid).gpadl ≡ false)
+          (λ p b relid. let low = b.0 in not_low (first_of plan phase) p.gpadl (guest_before plan phase relid).gpadl (omega (arith, low)) (lows plan phase relid planned (omega (arith, less)))) (phase_of plan phase) mine;
+    }
+
+pub closing_has : (plan : BusPlan) (phase : ℕ) → IsPlan plan → phase < length plan.phases → PhaseHas plan phase (closing_of plan phase)
+closing_has plan phase planned less =
+    let os : List Opening = phase_of plan phase in
+    let has = phase_has plan phase planned less in
+    record {
+      fits = all_closing IsOpening os has.fits;
+      known = all_closing (λ p. p.relid ≤ offered_before plan (suc phase)) os has.known;
+      relids = distinct_closing (λ p. p.relid) os has.relids;
+      handles = distinct_closing (λ p. p.gpadl) os has.handles;
+      not_before = λ j before. all_weaker (λ q. AllByRecursion (λ p. p.relid ≡ q.relid → ends_given_back q ≡ false) os) (λ q. AllByRecursion (λ p. p.relid ≡ q.relid → ends_given_back q ≡ false) (in_closing_order os)) (λ q all. all_closing (λ p. p.relid ≡ q.relid → ends_given_back q ≡ false) os all) (phase_of plan j) (has.not_before j before);
+      before_handles = all_closing (λ p. (relid : ℕ) → is_handle p.gpadl (guest_before plan phase relid).gpadl ≡ false) os has.before_handles;
+    }
 
 -- all that a plan says of an opening
 pub record Facts (plan : BusPlan) (phase : ℕ) (done : List Opening) (o : Opening) (left : List Opening) : Type 0 where
   pub fits : IsOpening o
-  pub known : o.relid ≤ length plan.kinds
+  pub known : o.relid ≤ offered_before plan (suc phase)
   pub done_apart : AllByRecursion (λ p. p.relid ≢ o.relid) done
   pub left_apart : AllByRecursion (λ p. p.relid ≢ o.relid) left
   pub done_handles : AllByRecursion (λ p. p.gpadl ≢ o.gpadl) done
   pub left_handles : AllByRecursion (λ p. p.gpadl ≢ o.gpadl) left
-  pub not_before : (j : ℕ) → j < phase → AllByRecursion (λ q. q.relid ≡ o.relid → q.rescinded ≡ false) (phase_of plan j)
+  pub not_before : (j : ℕ) → j < phase → AllByRecursion (λ q. q.relid ≡ o.relid → ends_given_back q ≡ false) (phase_of plan j)
   pub before_handles : (relid : ℕ) → is_handle o.gpadl (guest_before plan phase relid).gpadl ≡ false
 
-pub facts : (plan : BusPlan) (phase place : ℕ) (done : List Opening) (o : Opening) (left : List Opening) → IsPlan plan → At plan phase place done o left → Facts plan phase done o left
-facts plan phase place done o left planned at =
-    let less = at.in_plan in
-    let here = phase_follows plan phase planned less in
-    let all : Follows (first_of plan phase) here.page (done ++ o ∷ left) = subst (Follows (first_of plan phase) here.page) at.phase_is here.follows in
-    let rest = behind (first_of plan phase) here.page done (o ∷ left) all in
-    let mine : o.gpadl ≡ first_of plan phase + length done = rest.follows.0 in
-    let front = within 0 (first_of plan phase + length done) (first_of plan phase) here.page done (omega arith) (omega arith) (ahead (first_of plan phase) here.page done (o ∷ left) all) in
-    let back = within (first_of plan phase + length done + 1) (first_of plan phase + length done + 1 + length left) (first_of plan phase + length done + 1) (rest.page + list_pages o.ring_pages) left (omega arith) (omega arith) rest.follows.2 in
-    let rises : Rising 1 (done ++ o ∷ left) = subst (Rising 1) at.phase_is (All-get_or (λ os. Rising 1 os) plan.phases phase [] less planned.rising) in
-    let apart = rises_mid 1 done o left rises in
+facts_in : (plan : BusPlan) (phase : ℕ) (done : List Opening) (o : Opening) (left : List Opening) → PhaseHas plan phase (done ++ o ∷ left) → Facts plan phase done o left
+facts_in plan phase done o left has =
+    let apart = distinct_mid (λ p. p.relid) done o left has.relids in
+    let other = distinct_mid (λ p. p.gpadl) done o left has.handles in
     record {
-      fits = mid (λ p. IsOpening p) done o left (subst (λ os. All (λ p. IsOpening p) os) at.phase_is (All-get_or (λ os. All (λ p. IsOpening p) os) plan.phases phase [] less planned.fits));
-      known = mid (λ p. p.relid ≤ length plan.kinds) done o left (subst (λ os. All (λ p. p.relid ≤ length plan.kinds) os) at.phase_is (All-get_or (λ os. All (λ p. p.relid ≤ length plan.kinds) os) plan.phases phase [] less planned.offered));
+      fits = mid_all IsOpening done o left has.fits;
+      known = mid_all (λ p. p.relid ≤ offered_before plan (suc phase)) done o left has.known;
       done_apart = apart.0;
       left_apart = apart.1;
-      done_handles = all_weaker (λ p. (0 ≤ p.gpadl) × (p.gpadl < first_of plan phase + length done)) (λ p. p.gpadl ≢ o.gpadl) (λ p b e. let high = b.1 in absurd (omega (arith, high, e, mine))) done front;
-      left_handles = all_weaker (λ p. (first_of plan phase + length done + 1 ≤ p.gpadl) × (p.gpadl < first_of plan phase + length done + 1 + length left)) (λ p. p.gpadl ≢ o.gpadl) (λ p b e. let low = b.0 in absurd (omega (arith, low, e, mine))) left back;
-      not_before = not_rescinded plan phase place done o left planned.ends at;
-      before_handles = λ relid. not_low (first_of plan phase) o.gpadl (guest_before plan phase relid).gpadl (omega (arith, mine)) (lows plan phase relid planned (omega (arith, less)));
+      done_handles = other.0;
+      left_handles = other.1;
+      not_before = λ j less. all_weaker (λ q. AllByRecursion (λ p. p.relid ≡ q.relid → ends_given_back q ≡ false) (done ++ o ∷ left)) (λ q. q.relid ≡ o.relid → ends_given_back q ≡ false) (λ q all e. mid_all (λ p. p.relid ≡ q.relid → ends_given_back q ≡ false) done o left all (sym e)) (phase_of plan j) (has.not_before j less);
+      before_handles = mid_all (λ p. (relid : ℕ) → is_handle p.gpadl (guest_before plan phase relid).gpadl ≡ false) done o left has.before_handles;
     }
+
+pub facts : (plan : BusPlan) (phase place : ℕ) (done : List Opening) (o : Opening) (left : List Opening) → IsPlan plan → At plan phase place done o left → Facts plan phase done o left
+facts plan phase place done o left planned at = facts_in plan phase done o left (subst (PhaseHas plan phase) at.phase_is (phase_has plan phase planned at.in_plan))
+
+-- the same of one in closing order
+pub end_facts : (plan : BusPlan) (phase place : ℕ) (done : List Opening) (o : Opening) (left : List Opening) → IsPlan plan → EndsAt plan phase place done o left → Facts plan phase done o left
+end_facts plan phase place done o left planned at = facts_in plan phase done o left (subst (PhaseHas plan phase) at.closing_is (closing_has plan phase planned at.in_plan))
+
+-- places in closing order
+pub closing_from : (plan : BusPlan) (phase place : ℕ) (done left : List Opening) → closing_of plan phase ≡ done ++ left → place ≡ length done → closing_at plan phase place ≡ slice_get left 0
+closing_from plan phase place done left is at = ap (λ os. slice_get os place) is ∙ ap (λ n. slice_get (done ++ left) n) at ∙ get_from done left
+
+pub closing_here : (plan : BusPlan) (phase place : ℕ) (done : List Opening) (o : Opening) (left : List Opening) → EndsAt plan phase place done o left → closing_at plan phase place ≡ Some o
+closing_here plan phase place done o left at = closing_from plan phase place done (o ∷ left) at.closing_is at.place_is
+
+pub ends_more : (plan : BusPlan) (phase place : ℕ) (done : List Opening) (o : Opening) (left : List Opening) → EndsAt plan phase place done o left → closing_of plan phase ≡ (done ++ o ∷ []) ++ left
+ends_more plan phase place done o left at = at.closing_is ∙ sym (append_assoc done (o ∷ []) left)
+
+pub ends_place : (plan : BusPlan) (phase place : ℕ) (done : List Opening) (o : Opening) (left : List Opening) → EndsAt plan phase place done o left → place + 1 ≡ length (done ++ o ∷ [])
+ends_place plan phase place done o left at = omega (arith, at.place_is, length-append done (o ∷ []))
+
+-- the channel of an opening that is left was offered, while its phase starts
+sub_of_first : (o : Opening) (left : List Opening) (b : Bool) → is_sub o ≡ b → length (subs_in (o ∷ [])) ≤ length (first_subs (o ∷ left))
+sub_of_first o left true e = let here = ap (λ b. length (if b then o ∷ first_subs left else [])) e in let one = ap (λ b. length (cond b (o ∷ []) [])) e in omega (arith, here, one)
+sub_of_first o left false e = let one = ap (λ b. length (cond b (o ∷ []) [])) e in omega (arith, one)
+
+pub offered_here : (plan : BusPlan) (phase place : ℕ) (done : List Opening) (o : Opening) (left : List Opening) → IsPlan plan → At plan phase place done o left → o.relid ≤ offered_by plan phase done (o ∷ left)
+offered_here plan phase place done o left planned at =
+    let P : List Opening → Type 0 = λ os. map (λ p. p.relid) (subs_in os) ≡ range_with_len (offered_before plan phase + 1) (length (subs_in os)) in
+    let ids = phase_relids plan phase planned at.in_plan in
+    let mine : P (done ++ o ∷ left) = subst P at.phase_is ids.subs_are in
+    let few : AllByRecursion (λ p. is_sub p ≡ false → p.relid ≤ length plan.kinds) (done ++ o ∷ left) = subst (AllByRecursion (λ p. is_sub p ≡ false → p.relid ≤ length plan.kinds)) at.phase_is (all_weaker (λ p. (is_sub p ≡ false → p.relid ≤ length plan.kinds) × (is_sub p ≡ true → offered_before plan phase < p.relid)) (λ p. is_sub p ≡ false → p.relid ≤ length plan.kinds) (λ p f. f.0) (phase_of plan phase) ids.fresh) in
+    by_test {P = o.relid ≤ offered_by plan phase done (o ∷ left)} (is_sub o)
+    (λ e. let spot = sub_place (offered_before plan phase + 1) done o left e mine in let more = sub_of_first o left (is_sub o) refl in let one = ap (λ b. length (cond b (o ∷ []) [])) e in omega (arith, spot, more, one))
+    (λ e. let low = mid_all (λ p. is_sub p ≡ false → p.relid ≤ length plan.kinds) done o left few e in omega (arith, low))

@@ -9,7 +9,7 @@ use Rattle.chan_state.specs.declared.state.State.{State}
 use Rattle.chan_state.specs.declared.chan_state.ChanState.{ChanState}
 use Rattle.control_model.specs.declared.channel.Channel.{Channel}
 use Rattle.control_model.specs.Plan.{BusPlan}
-use Rattle.control_model.specs.Said.{last_state, at_end}
+use Rattle.control_model.specs.Said.{channel_count, last_state, at_end}
 use Rattle.control_model.specs.Channels.{by_relid}
 use Rattle.control_model.specs.Guest.{state_at}
 use Rattle.control_model.specs.Host.{life_at}
@@ -34,24 +34,24 @@ get_range a zero i less = absurd (omega (arith, less))
 get_range a (suc n) zero less = let same : a ≡ a + 0 = omega arith in ap Some same
 get_range a (suc n) (suc i) less = let same : a + 1 + i ≡ a + suc i = omega arith in get_range (a + 1) n i (omega (arith, less)) ∙ ap Some same
 
-get_end : (plan : BusPlan) (i : ℕ) → i < length plan.kinds → slice_get (at_end plan) i ≡ Some (last_state plan (1 + i))
-get_end plan i less = slice_get-map (last_state plan) (range_with_len 1 (length plan.kinds)) i ∙ ap (option_map (last_state plan)) (get_range 1 (length plan.kinds) i less)
+get_end : (plan : BusPlan) (i : ℕ) → i < channel_count plan → slice_get (at_end plan) i ≡ Some (last_state plan (1 + i))
+get_end plan i less = slice_get-map (last_state plan) (range_with_len 1 (channel_count plan)) i ∙ ap (option_map (last_state plan)) (get_range 1 (channel_count plan) i less)
 
-pub all_stand : {X : Type 0} (state : X → State) (channels : List X) (plan : BusPlan) (stands : ℕ → X) → Stand channels plan stands → ((relid : ℕ) → state (stands relid) ≡ last_state plan relid) → map state channels ≡ at_end plan
+pub all_stand : {X : Type 0} (state : X → State) (channels : List X) (plan : BusPlan) (stands : ℕ → X) → Stand channels (channel_count plan) stands → ((relid : ℕ) → state (stands relid) ≡ last_state plan relid) → map state channels ≡ at_end plan
 all_stand state channels plan stands stand each =
     let many = stand.many in
     let count = length-map channels state in
-    same_lists (map state channels) (at_end plan) (count ∙ many ∙ sym (length-map-range_with_len (last_state plan) 1 (length plan.kinds)))
+    same_lists (map state channels) (at_end plan) (count ∙ many ∙ sym (length-map-range_with_len (last_state plan) 1 (channel_count plan)))
     (λ i less.
-    let within : i < length plan.kinds = omega (arith, less, count, many) in
+    let within : i < channel_count plan = omega (arith, less, count, many) in
     let back : (1 + i) - 1 ≡ i = omega arith in
     let here : slice_get channels i ≡ Some (stands (1 + i)) = ap (slice_get channels) (sym back) ∙ sym (at_relid channels (1 + i) (omega arith)) ∙ stand.each (1 + i) (omega arith) (omega (arith, within)) in
     slice_get-map state channels i ∙ ap (option_map state) here ∙ ap Some (each (1 + i)) ∙ sym (get_end plan i within))
 
-many_at_end : {X : Type 0} (state : X → State) (channels : List X) (plan : BusPlan) → map state channels ≡ at_end plan → length channels ≡ length plan.kinds
-many_at_end state channels plan stands = sym (length-map channels state) ∙ ap length stands ∙ length-map-range_with_len (last_state plan) 1 (length plan.kinds)
+many_at_end : {X : Type 0} (state : X → State) (channels : List X) (plan : BusPlan) → map state channels ≡ at_end plan → length channels ≡ channel_count plan
+many_at_end state channels plan stands = sym (length-map channels state) ∙ ap length stands ∙ length-map-range_with_len (last_state plan) 1 (channel_count plan)
 
-each_at_end : {X : Type 0} (state : X → State) (channels : List X) (plan : BusPlan) (relid : ℕ) → map state channels ≡ at_end plan → 1 ≤ relid → relid ≤ length plan.kinds → option_map state (by_relid channels relid) ≡ Some (last_state plan relid)
+each_at_end : {X : Type 0} (state : X → State) (channels : List X) (plan : BusPlan) (relid : ℕ) → map state channels ≡ at_end plan → 1 ≤ relid → relid ≤ channel_count plan → option_map state (by_relid channels relid) ≡ Some (last_state plan relid)
 each_at_end state channels plan relid stands one few =
     let back : 1 + (relid - 1) ≡ relid = omega (arith, one) in
     ap (option_map state) (at_relid channels relid one) ∙ sym (slice_get-map state channels (relid - 1)) ∙ ap (λ xs. slice_get xs (relid - 1)) stands ∙ get_end plan (relid - 1) (omega (arith, one, few)) ∙ ap (λ r. Some (last_state plan r)) back

@@ -4,11 +4,11 @@ use Rattle.contact.specs.declared.part.Part.{Part}
 use Rattle.contact.specs.declared.part.Part.TheVariants.{Unload}
 use Rattle.chan_state.specs.declared.state.State.TheVariants.{Released}
 use Rattle.vmbus_msg.specs.declared.msg.Msg.{Msg}
-use Rattle.vmbus_msg.specs.declared.msg.Msg.TheVariants.{RescindChannelOffer, RelidReleased}
+use Rattle.vmbus_msg.specs.declared.msg.Msg.TheVariants.{OfferChannel, RescindChannelOffer, RelidReleased}
 use Rattle.control_model.specs.declared.opening.Opening.{Opening}
 use Rattle.control_model.specs.declared.guest_turn.GuestTurn.{GuestTurn}
-use Rattle.control_model.specs.Plan.{BusPlan, part_after, opening_at, IsPlan}
-use Rattle.control_model.specs.Messages.{rescind, release}
+use Rattle.control_model.specs.Plan.{BusPlan, is_sub, part_after, opening_at, IsPlan}
+use Rattle.control_model.specs.Messages.{offer_sub, rescind, release}
 use Rattle.control_model.specs.Said.{agreed, said_by_guest, said_by_host}
 use Rattle.control_model.specs.GuestAt.{GuestAt}
 use Rattle.control_model.specs.HostAt.{HostAt}
@@ -83,6 +83,21 @@ is_release_of relid m = false
 abbrev pub RescindedOnce : Type 0
 RescindedOnce = (plan : BusPlan) (g : GuestSeen) (h : HostSeen) (phase place : ℕ) (o : Opening) → IsPlan plan → IsOver plan g h → opening_at plan phase place ≡ Some o → o.rescinded ≡ true
     → (filter (is_rescind_of o.relid) h.posted ≡ rescind o.relid ∷ []) × (filter (is_release_of o.relid) g.posted ≡ release o.relid ∷ [])
+
+-- a sub-channel that a phase opens is given back at both sides at the end
+abbrev pub SubsAreReleased : Type 0
+SubsAreReleased = (plan : BusPlan) (g : GuestSeen) (h : HostSeen) (phase place : ℕ) (o : Opening) → IsPlan plan → IsOver plan g h → opening_at plan phase place ≡ Some o → is_sub o ≡ true
+    → (state_of g o.relid ≡ Some Released) × (host_state_of h o.relid ≡ Some Released)
+
+-- a message that offers a channel
+abbrev pub is_offer_of : ℕ → Msg → Bool
+is_offer_of relid (OfferChannel padding if_type if_instance reserved1 reserved2 chn_flags mmio user sub reserved3 r monitorid monitor interrupt connection) = r == relid
+is_offer_of relid m = false
+
+-- the host offers it once and takes it back once, and the guest gives it back once: no other opening has its relid
+abbrev pub SubsOnce : Type 0
+SubsOnce = (plan : BusPlan) (g : GuestSeen) (h : HostSeen) (phase place : ℕ) (o : Opening) → IsPlan plan → IsOver plan g h → opening_at plan phase place ≡ Some o → is_sub o ≡ true
+    → (filter (is_offer_of o.relid) h.posted ≡ offer_sub o ∷ []) × (filter (is_rescind_of o.relid) h.posted ≡ rescind o.relid ∷ []) × (filter (is_release_of o.relid) g.posted ≡ release o.relid ∷ [])
 
 -- the version at the end is the lower one of both ends' highest
 abbrev pub EndsAtLower : Type 0

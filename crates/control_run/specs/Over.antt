@@ -3,7 +3,7 @@ use Rattle.std.specs.Prelude.{◌≡◌, ℕ, ◌≤◌, true, length, map, Some
 use Rattle.contact.specs.declared.version.Version.{Version}
 use Rattle.contact.specs.declared.part.Part.TheVariants.{Unload}
 use Rattle.control_model.specs.Plan.{BusPlan}
-use Rattle.control_model.specs.Said.{said_by_guest, said_by_host, last_state, at_end}
+use Rattle.control_model.specs.Said.{said_by_guest, said_by_host, channel_count, last_state, at_end}
 use Rattle.control_model.specs.Guest.{GuestSeen, state_of, guest_done}
 use Rattle.control_model.specs.Host.{HostSeen, host_state_of, host_done}
 use Rattle.control_model.specs.Stand.{Agreed}
@@ -25,9 +25,9 @@ pub record IsOver (plan : BusPlan) (g : GuestSeen) (h : HostSeen) : Type 0 where
   pub guest_fed : g.fed ≡ h.posted
   pub host_fed : h.fed ≡ g.posted
 
--- there is a channel for each device, and each stands as it is to at the end
+-- there is a channel for each device and for each sub-channel that a phase opened, and each stands as it is to at the end
 pub record StandsSo (plan : BusPlan) (g : GuestSeen) (h : HostSeen) : Type 0 where
-  pub guest_many : length g.channels ≡ length plan.kinds
-  pub host_many : length h.channels ≡ length plan.kinds
-  pub guest_each : (relid : ℕ) → 1 ≤ relid → relid ≤ length plan.kinds → state_of g relid ≡ Some (last_state plan relid)
-  pub host_each : (relid : ℕ) → 1 ≤ relid → relid ≤ length plan.kinds → host_state_of h relid ≡ Some (last_state plan relid)
+  pub guest_many : length g.channels ≡ channel_count plan
+  pub host_many : length h.channels ≡ channel_count plan
+  pub guest_each : (relid : ℕ) → 1 ≤ relid → relid ≤ channel_count plan → state_of g relid ≡ Some (last_state plan relid)
+  pub host_each : (relid : ℕ) → 1 ≤ relid → relid ≤ channel_count plan → host_state_of h relid ≡ Some (last_state plan relid)

@@ -1,9 +1,10 @@
 -- What both sides say over small plans.
-use Rattle.std.specs.Prelude.{◌≡◌, ℕ, ◌+◌, Bool, true, false, not, [], ◌∷◌}
+use Rattle.std.specs.Prelude.{◌≡◌, ℕ, ◌+◌, ◌*◌, Bool, true, false, not, List, [], ◌∷◌, ◌++◌}
 use Rattle.contact.specs.Versions.{version}
 use Rattle.contact.specs.Classes.{offer}
 use Rattle.contact.specs.declared.kind.Kind.TheVariants.{Beat, Disk}
 use Rattle.chan_state.specs.declared.state.State.TheVariants.{Offered, Closed, Released}
+use Rattle.vmbus_msg.specs.declared.msg.Msg.{Msg}
 use Rattle.gpadl.specs.Cut.{header}
 use Rattle.control_model.specs.declared.opening.Opening.{Opening}
 use Rattle.control_model.specs.Plan.{BusPlan, first_gpadl}
@@ -12,7 +13,7 @@ use Rattle.control_model.specs.Said.{said_by_guest, said_by_host, at_end}
 
 -- a disk and a heartbeat are offered; one phase opens the disk, with rings of one data page
 abbrev pub disk_of : Opening
-disk_of = record { relid = 1; ring_pages = 1; gpadl = first_gpadl; first_page = 0; rescinded = false }
+disk_of = record { relid = 1; sub = 0; ring_pages = 1; gpadl = first_gpadl; first_page = 0; rescinded = false }
 
 abbrev pub small_plan : ℕ → ℕ → BusPlan
 small_plan guest host = record { guest = record { 0 = guest }; host = record { 0 = host }; kinds = Disk ∷ Beat ∷ []; phases = (disk_of ∷ []) ∷ [] }
@@ -35,10 +36,10 @@ HostSaysNone = said_by_host (small_plan (version 2 4) (version 5 2)) ≡ respond
 
 -- two disks, of which the host rescinds the first one, or the second one, at the end of the phase; the other one is closed
 abbrev pub first_of : Bool → Opening
-first_of rescinded = record { relid = 1; ring_pages = 1; gpadl = first_gpadl; first_page = 0; rescinded = rescinded }
+first_of rescinded = record { relid = 1; sub = 0; ring_pages = 1; gpadl = first_gpadl; first_page = 0; rescinded = rescinded }
 
 abbrev pub second_of : Bool → Opening
-second_of rescinded = record { relid = 2; ring_pages = 1; gpadl = first_gpadl + 1; first_page = 4; rescinded = rescinded }
+second_of rescinded = record { relid = 2; sub = 0; ring_pages = 1; gpadl = first_gpadl + 1; first_page = 4; rescinded = rescinded }
 
 abbrev pub mixed_plan : Bool → BusPlan
 mixed_plan first = record { guest = record { 0 = version 5 2 }; host = record { 0 = version 5 2 }; kinds = Disk ∷ Disk ∷ []; phases = (first_of first ∷ second_of (not first) ∷ []) ∷ [] }
@@ -60,6 +61,45 @@ GuestGivesSecond = said_by_guest (mixed_plan false)
 abbrev pub HostTakesSecond : Type 0
 HostTakesSecond = said_by_host (mixed_plan false)
     ≡ respond 1 ∷ offer Disk 1 0 ∷ offer Disk 2 0 ∷ delivered ∷ created 1 first_gpadl ∷ opened 1 1 ∷ created 2 (first_gpadl + 1) ∷ opened 2 2 ∷ torndown first_gpadl ∷ rescind 2 ∷ farewell_taken ∷ []
+
+-- a disk with two sub-channels and a heartbeat are offered; a phase opens the disk, which is closed at its end, or rescinded
+abbrev pub seat_of : Bool → ℕ → ℕ → ℕ → Opening
+seat_of rescinded relid sub turn = record { relid = relid; sub = sub; ring_pages = 1; gpadl = first_gpadl + turn; first_page = 4 * turn; rescinded = rescinded }
+
+abbrev pub subs_plan : Bool → BusPlan
+subs_plan rescinded = record {
+  guest = record { 0 = version 5 2 };
+  host = record { 0 = version 5 2 };
+  kinds = Disk ∷ Beat ∷ [];
+  phases = (seat_of rescinded 1 0 0 ∷ seat_of rescinded 3 1 1 ∷ seat_of rescinded 4 2 2 ∷ []) ∷ [];
+}
+
+abbrev pub guest_starts_subs : Bool → List Msg
+guest_starts_subs rescinded =
+    header 1 first_gpadl 0 (1 ∷ 2 ∷ 3 ∷ []) ∷ open_on (seat_of rescinded 1 0 0) ∷ header 3 (first_gpadl + 1) 4 (5 ∷ 6 ∷ 7 ∷ []) ∷ open_on (seat_of rescinded 3 1 1)
+    ∷ header 4 (first_gpadl + 2) 8 (9 ∷ 10 ∷ 11 ∷ []) ∷ open_on (seat_of rescinded 4 2 2) ∷ []
+
+abbrev pub host_starts_subs : List Msg
+host_starts_subs =
+    respond 1 ∷ offer Disk 1 0 ∷ offer Beat 2 0 ∷ delivered ∷ created 1 first_gpadl ∷ opened 1 1 ∷ offer Disk 3 1 ∷ offer Disk 4 2
+    ∷ created 3 (first_gpadl + 1) ∷ opened 3 3 ∷ created 4 (first_gpadl + 2) ∷ opened 4 4 ∷ []
+
+abbrev pub GuestClosesSubs : Type 0
+GuestClosesSubs = said_by_guest (subs_plan false)
+    ≡ propose (version 5 2) ∷ request ∷ (guest_starts_subs false ++ (close 3 ∷ teardown (seat_of false 3 1 1) ∷ release 3 ∷ close 4 ∷ teardown (seat_of false 4 2 2) ∷ release 4 ∷ close 1 ∷ teardown (seat_of false 1 0 0) ∷ farewell ∷ []))
+
+abbrev pub HostClosesSubs : Type 0
+HostClosesSubs = said_by_host (subs_plan false) ≡ host_starts_subs ++ (torndown (first_gpadl + 1) ∷ rescind 3 ∷ torndown (first_gpadl + 2) ∷ rescind 4 ∷ torndown first_gpadl ∷ farewell_taken ∷ [])
+
+abbrev pub GuestGivesSubs : Type 0
+GuestGivesSubs = said_by_guest (subs_plan true) ≡ propose (version 5 2) ∷ request ∷ (guest_starts_subs true ++ (release 3 ∷ release 4 ∷ release 1 ∷ farewell ∷ []))
+
+abbrev pub HostTakesSubs : Type 0
+HostTakesSubs = said_by_host (subs_plan true) ≡ host_starts_subs ++ (rescind 3 ∷ rescind 4 ∷ rescind 1 ∷ farewell_taken ∷ [])
+
+-- each sub-channel is given back at the end, its first channel as it would be without it
+abbrev pub SubStates : Type 0
+SubStates = (at_end (subs_plan false) ≡ Closed ∷ Offered ∷ Released ∷ Released ∷ []) × (at_end (subs_plan true) ≡ Released ∷ Offered ∷ Released ∷ Released ∷ [])
 
 -- a channel that is rescinded is given back at the end, one that is closed is closed, and one that no phase opens is offered
 abbrev pub EndStates : Type 0

@@ -1,8 +1,9 @@
 //! Laws of a guest's control and of its host's, of each by itself and of both as they talk. The
 //! functions do nothing: each one's contract is the law.
 ghost use Rattle.control_run.specs.Sides.{NewOnesStand, GuestStarts, HostStarts, GuestHears, HostHears, GuestFronts, HostFronts, GuestIsCut, HostIsCut, BothOver};
-ghost use Rattle.control_run.specs.Laws.{NewOnesAgree, BothBegin, HostGoesOn, GuestGoesOn, BothDone, FewOnTheirWay, EndsWell, EndTellsEach, RescindedAreReleased, RescindedOnce, EndsAtLower};
-ghost use Rattle.control_run.specs.Rows.{GuestSays, HostSays, GuestSaysNone, HostSaysNone, GuestGivesFirst, HostTakesFirst, GuestGivesSecond, HostTakesSecond, EndStates};
+ghost use Rattle.control_run.specs.Laws.{NewOnesAgree, BothBegin, HostGoesOn, GuestGoesOn, BothDone, FewOnTheirWay, EndsWell, EndTellsEach, RescindedAreReleased, RescindedOnce, SubsAreReleased, SubsOnce, EndsAtLower};
+ghost use Rattle.control_run.specs.Plain.{PlainGuest, PlainHost, PlainCount};
+ghost use Rattle.control_run.specs.Rows.{GuestSays, HostSays, GuestSaysNone, HostSaysNone, GuestGivesFirst, HostTakesFirst, GuestGivesSecond, HostTakesSecond, GuestClosesSubs, HostClosesSubs, GuestGivesSubs, HostTakesSubs, EndStates, SubStates};
 
 /// A side that was made from a plan stands at the start.
 pub fn new_ones_stand()
@@ -106,6 +107,25 @@ pub fn rescinded_once()
     ensures { RescindedOnce }
 {}
 
+/// A sub-channel that a phase opens is given back at both sides at the end.
+pub fn subs_are_released()
+    ensures { SubsAreReleased }
+{}
+
+/// The host offers a sub-channel that a phase opens once and takes it back once, and the guest gives it
+/// back once.
+pub fn subs_once()
+    ensures { SubsOnce }
+{}
+
+/// Where no sub-channel is opened, each side opens and closes the channels of a phase in order of
+/// offer, and there is a channel for each device.
+pub fn plain()
+    ensures guest { PlainGuest }
+    ensures host { PlainHost }
+    ensures count { PlainCount }
+{}
+
 /// The version at the end is the lower one of both ends' highest.
 pub fn ends_at_lower()
     ensures { EndsAtLower }
@@ -113,7 +133,8 @@ pub fn ends_at_lower()
 
 /// What both say over small plans: versions, the offers, a channel that is opened and closed, and a
 /// farewell, which isn't said below 3.0; and of two channels, one that is rescinded and one that is
-/// closed at the end of a phase, in both orders, and how they stand then.
+/// closed at the end of a phase, in both orders, and how they stand then; and of a disk with two
+/// sub-channels that is closed at the end of a phase, or rescinded.
 pub fn say_so()
     ensures guest { GuestSays }
     ensures host { HostSays }
@@ -123,5 +144,10 @@ pub fn say_so()
     ensures host_first { HostTakesFirst }
     ensures guest_second { GuestGivesSecond }
     ensures host_second { HostTakesSecond }
+    ensures guest_closes_subs { GuestClosesSubs }
+    ensures host_closes_subs { HostClosesSubs }
+    ensures guest_gives_subs { GuestGivesSubs }
+    ensures host_takes_subs { HostTakesSubs }
     ensures states { EndStates }
+    ensures sub_states { SubStates }
 {}

@@ -40,13 +40,14 @@ pub struct GuestControl {
 
 impl Model for GuestControl {
     ghost use Rattle.std.specs.Prelude.{◌≤◌, length};
+    ghost use Rattle.control_model.specs.Plan.{most_channels};
     ghost use Rattle.control_model.specs.Guest.{GuestSeen, IsListed};
 
     ghost Value = { GuestSeen };
 
     ghost view = { λ c. record { plan = c.plan; part = c.part; awaits = c.awaits; version = c.version; channels = c.channels.items; posted = c.posted.items; fed = c.fed.items } };
 
-    ghost invariant = { λ c. IsListed c.awaits × (length c.channels.items ≤ 16) };
+    ghost invariant = { λ c. IsListed c.awaits × (length c.channels.items ≤ most_channels) };
 }
 
 impl GuestControl {

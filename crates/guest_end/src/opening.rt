@@ -1,17 +1,17 @@
 //! A channel is open.
-ghost use Rattle.std.specs.Prelude.{◌≡◌, IfOk};
+ghost use Rattle.std.specs.Prelude.{◌≡◌, ◌+◌, ◌^◌, ◌<◌, IfOk};
 ghost use Rattle.control_model.specs.Plan.{opening_in};
 ghost use Rattle.control_model.specs.Channels.{by_relid};
-ghost use Rattle.control_model.specs.Guest.{IsFit, hears_result, opened_for, opened_while};
+ghost use Rattle.control_model.specs.Guest.{IsFit, hears_result, opens_next, opened_for, opened_while};
 
 use crate::GuestControl;
 use crate::turns::lived;
 use chan_state::Event;
-use control_model::{Change, ControlFault, GuestTurn, GuestWait};
+use control_model::{Change, ControlFault, GuestTurn, GuestWait, Opening};
 
 impl GuestControl {
     // OPENCHANNEL_RESULT: where it is of the channel that was opened last, and says that it is open,
-    // the guest goes on with the next opening.
+    // the guest goes on.
     pub(crate) fn hears_result(&self, relid: u32, status: u32) -> Result<GuestTurn, ControlFault>
         ensures turn { result ≡ hears_result self.now relid status (by_relid self.now.channels relid) }
         ensures fits { IfOk result (λ turn. IsFit self.now turn) }
@@ -37,10 +37,25 @@ impl GuestControl {
         ensures fits { IsFit self.now result }
     {
         match self.plan.opening(self.part, place) {
-            Some(o) if o.relid == relid && status == 0 => {
-                self.list_next(turn, self.part, place + 1)
-            }
+            Some(o) if o.relid == relid && status == 0 => self.open_next(turn, place, &o),
             _ => turn,
         }
+    }
+
+    // Goes on behind a channel that is open: with the offers of its device's sub-channels, where it is
+    // the first channel and its device has some, and with the next opening otherwise.
+    fn open_next(&self, turn: GuestTurn, place: usize, o: &Opening) -> GuestTurn
+        requires fits { IsFit self.now turn }
+        requires small { place + 1 < 2 ^ 64 }
+        ensures turn { result ≡ opens_next turn place o.now (opening_in self.now.plan self.now.part (place + 1)) }
+        ensures fits { IsFit self.now result }
+    {
+        if o.sub == 0 && self.is_sub_at(place + 1) {
+            return GuestTurn {
+                awaits: GuestWait::SubOffer(place + 1),
+                ..turn
+            };
+        }
+        self.list_next(turn, self.part, place + 1)
     }
 }

@@ -2,7 +2,7 @@
 ghost use Rattle.std.specs.Prelude.{◌≡◌, slice_get, IfOk};
 ghost use Rattle.control_model.specs.Plan.{opening_in};
 ghost use Rattle.control_model.specs.Channels.{by_relid, lived, place_of_list};
-ghost use Rattle.control_model.specs.Guest.{IsFit, and_close, closes, closes_next, hears_torndown, torn_at, ended_for, torn_while};
+ghost use Rattle.control_model.specs.Guest.{IsFit, and_close, closes, closes_next, hears_torndown, torn_at, torn_for, ended_for, torn_while};
 
 use crate::GuestControl;
 use crate::turns::lived;
@@ -88,8 +88,23 @@ impl GuestControl {
             ..self.idle()
         };
         match self.awaits {
-            GuestWait::Torn(place) => Ok(self.ended(turn, place, relid)),
+            GuestWait::Torn(place) => Ok(self.torn(turn, place, relid)),
             _ => Ok(turn),
+        }
+    }
+
+    // The same, while a channel waits for it: a sub-channel waits for the host to rescind it then.
+    fn torn(&self, turn: GuestTurn, place: usize, relid: u32) -> GuestTurn
+        requires { IsFit self.now turn }
+        ensures turn { result ≡ torn_for self.now turn place relid (opening_in self.now.plan self.now.part place) }
+        ensures fits { IsFit self.now result }
+    {
+        match self.plan.opening(self.part, place) {
+            Some(o) if o.relid == relid && o.sub != 0 => GuestTurn {
+                awaits: GuestWait::Rescinded(place),
+                ..turn
+            },
+            _ => self.ended(turn, place, relid),
         }
     }
 

@@ -1,14 +1,16 @@
 -- What feeding a host's control comes to.
-use Rattle.std.specs.Prelude.{◌≡◌, ℕ, ◌++◌, ◌∷◌, [], List, Option, Some, None, Result, Ok, Err}
+use Rattle.std.specs.Prelude.{◌≡◌, ℕ, ◌-◌, ◌++◌, ◌∷◌, [], List, slice_set, Option, Some, None, Result, Ok, Err}
 use Rattle.vmbus_msg.specs.declared.msg.Msg.{Msg}
 use Rattle.mail_box.specs.Mail.{Mail}
+use Rattle.chan_state.specs.declared.action.Action.{Action}
+use Rattle.chan_state.specs.declared.chan_state.ChanState.{ChanState}
 use Rattle.gpadl.specs.declared.progress.Progress.{Progress}
 use Rattle.gpadl.specs.declared.progress.Progress.TheVariants.{More, Done}
 use Rattle.control_model.specs.declared.burst.Burst.{Burst}
 use Rattle.control_model.specs.declared.fault.ControlFault.{ControlFault}
 use Rattle.control_model.specs.declared.fault.ControlFault.TheVariants.{Memory}
 use Rattle.control_model.specs.Messages.{Sends}
-use Rattle.control_model.specs.Host.{HostSeen, HostTurn, host_after}
+use Rattle.control_model.specs.Host.{HostSeen, HostTurn, opened_then, opened_subs, with_subs, host_after}
 
 -- a box with messages behind those that are in it
 abbrev pub with_mail : Mail → List Msg → Mail
@@ -19,6 +21,22 @@ pub record Posts (old new : HostSeen) (burst : Burst) (fed : List Msg) (before a
   pub sent : List Msg
   pub sends : Sends old.plan burst sent
   pub now : new ≡ record { plan = old.plan; part = old.part; awaits = old.awaits; version = old.version; channels = old.channels; lists = old.lists; posted = old.posted ++ sent; fed = old.fed ++ fed }
+  pub mail : after ≡ with_mail before sent
+
+-- a channel that stands so then was opened, with this action of the table: a burst was sent, and the sub-channels that are offered then are behind the others
+pub record Opens (old new : HostSeen) (m : Msg) (relid : ℕ) (life : ChanState) (action : Action) (burst : Burst) (before after : Mail) : Type 0 where
+  pub sent : List Msg
+  pub sends : Sends old.plan burst sent
+  pub now : new ≡ record {
+    plan = old.plan;
+    part = old.part;
+    awaits = opened_then old old.awaits relid;
+    version = old.version;
+    channels = with_subs (slice_set old.channels (relid - 1) life) (opened_subs old relid action);
+    lists = old.lists;
+    posted = old.posted ++ sent;
+    fed = old.fed ++ m ∷ [];
+  }
   pub mail : after ≡ with_mail before sent
 
 -- what the message does came about, and what comes of it was sent

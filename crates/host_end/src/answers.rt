@@ -1,7 +1,7 @@
 //! What a host answers.
 ghost use Rattle.std.specs.Prelude.{◌≡◌};
 ghost use Rattle.control_model.specs.Messages.{Fits, respond, created, opened, torndown, rescind};
-ghost use Rattle.control_model.specs.Host.{opened_burst, torn_answer, and_rescind, is_rescinded};
+ghost use Rattle.control_model.specs.Host.{torn_answer, and_rescind, is_rescinded};
 ghost use Rattle.control_model.specs.Guest.{can_unload};
 
 use chan_state::{Action, ChanState, State};
@@ -88,18 +88,15 @@ pub(crate) fn and_rescind(answer: Option<Msg>, rescinds: Option<Rescind>) -> Bur
     }
 }
 
-// OPENCHANNEL_RESULT with status 0, where the table of a channel's life says so.
-pub(crate) fn opened_burst(relid: u32, openid: u32, action: Action) -> Burst
-    ensures { result ≡ opened_burst relid openid action }
+// OPENCHANNEL_RESULT with status 0: a channel is open.
+pub(crate) fn opened(relid: u32, openid: u32) -> Msg
+    ensures { result ≡ opened relid openid }
 {
-    match action {
-        Action::SendResult => Burst::One(Msg::OpenChannelResult {
-            padding: 0,
-            relid,
-            openid,
-            status: 0,
-        }),
-        _ => Burst::Empty,
+    Msg::OpenChannelResult {
+        padding: 0,
+        relid,
+        openid,
+        status: 0,
     }
 }
 

@@ -1,8 +1,8 @@
 //! The end of a phase: its channels are closed by the guest, or rescinded by the host.
-ghost use Rattle.std.specs.Prelude.{◌≡◌};
+ghost use Rattle.std.specs.Prelude.{◌≡◌, Some};
 ghost use Rattle.control_model.specs.Channels.{by_relid};
 ghost use Rattle.control_model.specs.Plan.{opening_in};
-ghost use Rattle.control_model.specs.Host.{first_next, waits, stays, next_end, ended_at, torn_then, released_then, wants_rescind, rescinded_among, without_its};
+ghost use Rattle.control_model.specs.Host.{first_next, waits, stays, next_end, ended_at, torn_for, torn_then, released_then, wants_rescind, rescinded_among, without_its};
 
 use crate::HostControl;
 use crate::answers::can_unload;
@@ -50,16 +50,9 @@ impl HostControl {
     fn wants_rescind(&self, o: Opening) -> Option<Rescind>
         ensures { result ≡ wants_rescind o (by_relid self.now.channels o.relid) }
     {
-        let Some(mut life) = self.life(o.relid) else {
-            return None;
-        };
-        match life.event(Event::WantRescind) {
-            Ok(_) => Some(Rescind {
-                relid: o.relid,
-                life,
-                gpadl: o.gpadl,
-            }),
-            Err(_) => None,
+        match self.life(o.relid) {
+            Some(life) => rescind_of(o, life),
+            None => None,
         }
     }
 
@@ -81,13 +74,26 @@ impl HostControl {
         waits(self.awaits)
     }
 
-    // What it goes on with once a page list was torn down.
-    pub(crate) fn torn_then(&self, relid: u32) -> HostNext
-        ensures { result ≡ torn_then self.now self.now.awaits relid }
+    // What it goes on with once a page list was torn down, whose channel stands so then.
+    pub(crate) fn torn_then(&self, relid: u32, life: ChanState) -> HostNext
+        ensures { result ≡ torn_then self.now self.now.awaits relid life }
     {
         match self.awaits {
-            HostWait::Teardown(place) => self.ended_at(place, relid),
+            HostWait::Teardown(place) => self.torn_at(place, relid, life),
             _ => self.stays(),
+        }
+    }
+
+    // The same, where it waited for the opening at a place: a sub-channel is rescinded then.
+    fn torn_at(&self, place: usize, relid: u32, life: ChanState) -> HostNext
+        ensures { result ≡ torn_for self.now place relid life (opening_in self.now.plan self.now.part place) }
+    {
+        match self.plan.opening(self.part(), place) {
+            Some(o) if o.relid == relid && o.sub != 0 => HostNext {
+                awaits: HostWait::Release(place),
+                rescinds: rescind_of(o, life),
+            },
+            _ => self.ended_at(place, relid),
         }
     }
 
@@ -99,6 +105,21 @@ impl HostControl {
             HostWait::Release(place) => self.ended_at(place, relid),
             _ => self.stays(),
         }
+    }
+}
+
+// A channel that stands so is rescinded, where the table of its life has a row for that.
+fn rescind_of(o: Opening, life: ChanState) -> Option<Rescind>
+    ensures { result ≡ wants_rescind o (Some life) }
+{
+    let mut now = life;
+    match now.event(Event::WantRescind) {
+        Ok(_) => Some(Rescind {
+            relid: o.relid,
+            life: now,
+            gpadl: o.gpadl,
+        }),
+        Err(_) => None,
     }
 }
 

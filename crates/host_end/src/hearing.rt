@@ -3,13 +3,11 @@ ghost use Rattle.std.specs.Prelude.{◌≡◌, ◌+◌, ◌≤◌, length, map, 
 ghost use Rattle.control_model.specs.Channels.{by_relid, row_of};
 ghost use Rattle.chan_state.specs.declared.event.Event.TheVariants.{TeardownSeen};
 ghost use Rattle.control_model.specs.Plan.{opening_in};
-ghost use Rattle.control_model.specs.Host.{hears_contact, hears_request, hears_open, hears_close, hears_teardown, teardown_by, hears_release, hears_unload, waits_list, is_of, opened_then, closed_then};
+ghost use Rattle.control_model.specs.Host.{hears_contact, hears_request, hears_close, hears_teardown, teardown_by, hears_release, hears_unload, waits_list, is_of, closed_then, offered_life};
 ghost use Rattle.host_end.specs.Feeding.{Comes};
-ghost use Rattle.chan_state.specs.declared.state.State.TheVariants.{Offered as IsOffered};
-ghost use Rattle.io_edge.specs.declared.side.Side.TheVariants.{Host as HostSide};
 
 use crate::HostControl;
-use crate::answers::{and_rescind, is_rescinded, opened_burst, respond, torn_answer};
+use crate::answers::{and_rescind, is_rescinded, respond, torn_answer};
 use crate::ending::{end_list, put_rescinded};
 use crate::lists::tear_list;
 use chan_state::{ChanState, Event};
@@ -83,45 +81,6 @@ impl HostControl {
                 Ok(())
             }
             _ => self.send(m, &Burst::Empty, post),
-        }
-    }
-
-    // OPENCHANNEL goes by the table of a channel's life, and is answered where the table says so.
-    pub(crate) fn hear_open(
-        &mut self,
-        m: &Msg,
-        relid: u32,
-        openid: u32,
-        post: &mut MailBox,
-    ) -> Result<(), ControlFault>
-        requires room { length post.old.queue + 32 ≤ post.old.size }
-        ensures { Comes (hears_open self.old relid openid (by_relid self.old.channels relid)) self.old self.new m.now post.old post.new result }
-    {
-        let Some(mut life) = self.life(relid) else {
-            return Err(ControlFault::Relid { value: relid });
-        };
-        let action = match life.event(Event::OpenSeen) {
-            Ok(action) => action,
-            Err(fault) => return Err(ControlFault::State(fault)),
-        };
-        let burst = opened_burst(relid, openid, action);
-        let awaits = self.opened_then(relid);
-        self.send(m, &burst, post)?;
-        self.awaits = awaits;
-        self.channels[relid as usize - 1] = life;
-        Ok(())
-    }
-
-    // What it waits for once a channel was opened.
-    fn opened_then(&self, relid: u32) -> HostWait
-        ensures { result ≡ opened_then self.now self.now.awaits relid }
-    {
-        match self.awaits {
-            HostWait::Open(place) => match self.plan.opening(self.part(), place) {
-                Some(o) if o.relid == relid => self.waits_list(self.part(), place + 1),
-                _ => HostWait::Open(place),
-            },
-            other => other,
         }
     }
 
@@ -207,7 +166,7 @@ impl HostControl {
             Ok(action) => action,
             Err(fault) => return Err(ControlFault::State(fault)),
         };
-        let next = self.torn_then(relid);
+        let next = self.torn_then(relid, now);
         self.send(
             m,
             &and_rescind(torn_answer(gpadl, action), next.rescinds),
@@ -265,7 +224,7 @@ impl HostControl {
 
 // A channel for each device, as it is offered.
 fn offered(alloc: Global, kinds: &[Kind]) -> Result<Vec<ChanState>, AllocError>
-    ensures { IfOk result (λ channels. channels.items ≡ map (λ kind. record { side = HostSide; state = IsOffered }) kinds.now) }
+    ensures { IfOk result (λ channels. channels.items ≡ map (λ kind. offered_life) kinds.now) }
 {
     kinds
         .iter()

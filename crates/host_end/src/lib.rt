@@ -9,6 +9,7 @@ mod control;
 mod ending;
 mod hearing;
 mod lists;
+mod opening;
 mod posting;
 
 pub use control::HostControl;

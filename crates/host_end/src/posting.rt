@@ -54,7 +54,7 @@ impl HostControl {
 }
 
 // Puts messages behind those that were posted, and into the box.
-fn put_all(posted: &mut Vec<Msg>, sent: &[Msg], post: &mut MailBox)
+pub(crate) fn put_all(posted: &mut Vec<Msg>, sent: &[Msg], post: &mut MailBox)
     requires reserved { vec_len posted.old + length sent.now ≤ vec_capacity posted.old }
     requires room { length post.old.queue + length sent.now ≤ post.old.size }
     ensures posted { posted.new.items ≡ posted.old.items ++ sent.now }

@@ -27,3 +27,18 @@ returns-clause-host_second c = refl
 
 pub returns-clause-states : goal.returns-clause-states
 returns-clause-states c = (refl, refl, refl)
+
+pub returns-clause-guest_closes_subs : goal.returns-clause-guest_closes_subs
+returns-clause-guest_closes_subs c = refl
+
+pub returns-clause-host_closes_subs : goal.returns-clause-host_closes_subs
+returns-clause-host_closes_subs c = refl
+
+pub returns-clause-guest_gives_subs : goal.returns-clause-guest_gives_subs
+returns-clause-guest_gives_subs c = refl
+
+pub returns-clause-host_takes_subs : goal.returns-clause-host_takes_subs
+returns-clause-host_takes_subs c = refl
+
+pub returns-clause-sub_states : goal.returns-clause-sub_states
+returns-clause-sub_states c = (refl, refl)

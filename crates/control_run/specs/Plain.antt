@@ -1,0 +1,30 @@
+-- What both sides say over plans without sub-channels.
+use Rattle.std.specs.Prelude.{◌≡◌, false, List, [], ◌∷◌, ◌++◌, length, if◌then◌else◌}
+use Rattle.std.specs.List.{AllByRecursion, flat_map}
+use Rattle.vmbus_msg.specs.declared.msg.Msg.{Msg}
+use Rattle.control_model.specs.declared.opening.Opening.{Opening}
+use Rattle.control_model.specs.Plan.{BusPlan, is_sub, all_openings}
+use Rattle.control_model.specs.Messages.{close, teardown, torndown, rescind, release}
+use Rattle.control_model.specs.Said.{guest_opens, host_opens, guest_in_phase, host_in_phase, channel_count}
+
+-- none of these is of a sub-channel
+abbrev pub NoSubs : List Opening → Type 0
+NoSubs os = AllByRecursion (λ o. is_sub o ≡ false) os
+
+-- a channel that is rescinded is taken back and given back, each other one is closed and its page list torn down
+abbrev pub guest_closes_one : Opening → List Msg
+guest_closes_one o = if o.rescinded then release o.relid ∷ [] else close o.relid ∷ teardown o ∷ []
+
+abbrev pub host_closes_one : Opening → List Msg
+host_closes_one o = if o.rescinded then rescind o.relid ∷ [] else torndown o.gpadl ∷ []
+
+-- a phase opens its channels at its start, and closes them or gives them back at its end, both in order of offer
+abbrev pub PlainGuest : Type 0
+PlainGuest = (os : List Opening) → NoSubs os → guest_in_phase os ≡ flat_map guest_opens os ++ flat_map guest_closes_one os
+
+abbrev pub PlainHost : Type 0
+PlainHost = (os : List Opening) → NoSubs os → host_in_phase os ≡ flat_map host_opens os ++ flat_map host_closes_one os
+
+-- and there is a channel for each device
+abbrev pub PlainCount : Type 0
+PlainCount = (plan : BusPlan) → NoSubs (all_openings plan.phases) → channel_count plan ≡ length plan.kinds
