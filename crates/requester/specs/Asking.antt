@@ -63,10 +63,10 @@ abbrev pub id_in : Option ℕ → ℕ
 id_in None = 0
 id_in (Some id) = id
 
--- why nothing more is sent: all was; or the next ask has no id yet, and none is free, or an answer of the start-up is missing; or its packet waits for the
--- room that it needs
+-- why nothing more is sent: all was, and a request is open; or the next ask has no id yet, and none is free, or an answer of the start-up is missing; or its
+-- packet waits for the room that it needs
 abbrev pub Holds : {T A Q R : Type 0} → Speech (List ℕ) A Q R → List A → Hold → Asking T R → Type 0
-Holds s asks HoldDone w = w.next ≡ length asks
+Holds s asks HoldDone w = (w.next ≡ length asks) × (0 < count_by is_some w.table)
 Holds s asks HoldPlace w = (w.waiting ≡ None) × All IsSome w.table
 Holds s asks HoldAnswer w = (w.waiting ≡ None) × (w.next ≤ w.starts) × (0 < count_by is_some w.table)
 Holds {A = A} s asks (HoldRoom need) w =
@@ -106,6 +106,10 @@ answer_of s (Some a) p = listed (s.result a (p ∷ []))
 -- all was asked, and no request is open
 abbrev pub HasSettled : {T A R : Type 0} → List A → Asking T R → Type 0
 HasSettled asks w = (w.next ≡ length asks) × (count_by is_some w.table ≡ 0)
+
+-- where all was asked, a request is open
+abbrev pub HasOpen : {T A R : Type 0} → List A → Asking T R → Type 0
+HasOpen asks w = w.next ≡ length asks → 0 < count_by is_some w.table
 
 -- the worker ended, for every plan with its requests
 abbrev pub AsksAll : {A Q R : Type 0} → Speech (List ℕ) A Q R → List A → List (Event (List ℕ)) → List R → Type 0

@@ -8,7 +8,7 @@ ghost use Rattle.channel_port.specs.declared.ended.Ended.TheVariants.{Marked as 
 ghost use Rattle.channel_port.specs.Causes.{Arms, Polls};
 ghost use Rattle.requester.specs.Causes.{AskCause, AskerActs, AsksOne, AsksOrArms};
 ghost use Rattle.channel_port.specs.Line.{IsReady, HasTakeRoom, LacksTake, TookOne};
-ghost use Rattle.requester.specs.Asking.{AsksBy, AskTurns, IsPaced, AskLacks, AsksOn, AskEnds, Holds, HasSettled, HasNone, waits_under, want_by, AskedBy};
+ghost use Rattle.requester.specs.Asking.{AsksBy, AskTurns, IsPaced, AskLacks, AsksOn, AskEnds, Holds, HasOpen, HasSettled, HasNone, waits_under, want_by, AskedBy};
 ghost use Rattle.channel_port.specs.Rooms.{CameOver, HasReserved, LacksFor, SentAtMost};
 
 use crate::settle::settle;
@@ -25,7 +25,7 @@ use txn_table::TxnTable;
 /// Why nothing more is sent.
 #[derive(Clone, Copy, Debug, PartialEq, Eq)]
 pub enum Hold {
-    /// All was sent.
+    /// All was sent, and a request is open.
     Done,
     /// No id is free.
     Place,
@@ -207,6 +207,7 @@ impl<T: Talk> Requester<T> {
     fn ask<G: Gate>(&mut self, gate: &G) -> Asked
         requires ready { IsReady self.old.end }
         requires unseen { self.old.seen ≡ false }
+        requires open { HasOpen (T.asks self.old.talk) self.old }
         ensures asked { AskedBy (T.speech self.new.talk) (T.asks self.new.talk) result self.new }
         ensures cause { AsksOne result self.old.end.state.past self.new.end }
         ensures ready { IsReady self.new.end }
@@ -254,9 +255,10 @@ impl<T: Talk> Requester<T> {
         }
     }
 
-    // Whether all was asked and answered.
+    // Whether all was asked and answered. Where all was asked and that isn't so, a request is open.
     fn is_settled(&self) -> bool
-        ensures { result ≡ true → HasSettled (T.asks self.now.talk) self.now }
+        ensures settled { result ≡ true → HasSettled (T.asks self.now.talk) self.now }
+        ensures open { result ≡ false → HasOpen (T.asks self.now.talk) self.now }
     {
         self.next == self.talk.count() && self.table.count() == 0
     }
@@ -313,6 +315,7 @@ impl<T: Talk> Requester<T> {
     fn ask_or_rest<G: Gate>(&mut self, gate: &G) -> Turn
         requires ready { IsReady self.old.end }
         requires unseen { self.old.seen ≡ false }
+        requires open { HasOpen (T.asks self.old.talk) self.old }
         ensures turns { AskTurns (T.speech self.new.talk) (T.asks self.new.talk) result self.new }
         ensures cause { AsksOrArms result self.old.end.state.past self.new.end }
         ensures on { AsksOn self.old self.new }

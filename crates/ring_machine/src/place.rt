@@ -2,7 +2,7 @@
 pub use io_edge::Side;
 
 /// One of a channel's two rings, by the end that empties it.
-#[derive(Clone, Copy)]
+#[derive(Clone, Copy, Debug, PartialEq, Eq)]
 pub enum Ring {
     /// The guest fills it, the host empties it.
     ToHost,
@@ -12,7 +12,7 @@ pub enum Ring {
 
 /// A word of a channel's memory. Of the five header words only the low 32 bits count.
 /// Source: Linux `include/linux/hyperv.h`, `struct hv_ring_buffer`; signal and mark are this library's own.
-#[derive(Clone, Copy)]
+#[derive(Clone, Copy, Debug, PartialEq, Eq)]
 pub enum Place {
     /// The write index, in bytes.
     Write(Ring),
@@ -33,7 +33,7 @@ pub enum Place {
 }
 
 /// One word step: a load, a store or an exchange of one word.
-#[derive(Clone, Copy)]
+#[derive(Clone, Copy, Debug, PartialEq, Eq)]
 pub enum Op {
     Load(Place),
     Store(Place, u64),
