@@ -1,6 +1,5 @@
 -- For each order, and each list of served requests that is right for it, there is a run of its channel.
 use Rattle.std.proofs.Common.{◌≡◌, ℕ, zero, suc, ◌+◌, ◌≤◌, Bool, true, false, List, [], ◌∷◌, map, take, length, length-append, refl, sym, ap, ◌∙◌, subst, arith, Option, Some, None}
-use Rattle.std.specs.Prelude.{◌==◌, if◌then◌else◌}
 use Rattle.std.specs.List.{AllByRecursion}
 use Rattle.std.proofs.lemmas.List.{length-map}
 use Rattle.contact.specs.declared.kind.Kind.{Kind}
@@ -10,10 +9,11 @@ use Rattle.io_edge.specs.declared.side.Side.TheVariants.{Guest, Host}
 use Rattle.ring_model.specs.Lists.{Lists}
 use Rattle.script_lines.specs.declared.line.Ask.{Ask}
 use Rattle.bus_speech.specs.declared.want.Want.TheVariants.{Script}
-use Rattle.bus_speech.specs.Wants.{startup, IsAskable}
+use Rattle.bus_speech.specs.Wants.{IsAskable}
 use Rattle.bus_speech.specs.Speeches.{speech_of, fits_on}
+use Rattle.bus_speech.proofs.TalkLaws.{few_starts}
 use Rattle.bus_speech.proofs.SpeechLaws.{keeps, start_is_fixed, script_asks, asked_is}
-use Rattle.work_model.specs.Channel.{count_of, AllFixed}
+use Rattle.work_model.specs.Channel.{count_of}
 use Rattle.work_model.specs.Roles.{side_that_asks}
 use Rattle.bus_model.specs.Served.{Served}
 use Rattle.bus_model.specs.Orders.{Order, startup_of, plan_of}
@@ -40,20 +40,6 @@ fit kind (suc n) id (a ∷ asks) (c ∷ served) can serves fits =
     let tail : map (λ (c : Served). c.request) served ≡ take n asks = cc in
     (asked_is kind id a can.0 ∙ ap Some (sym head), fits.0, fit kind n (id + 1) asks served can.1 tail fits.1)
 
-pub fixed_if : (kind : Kind) (b : Bool) → AllFixed (speech_of kind) (if b then startup kind else [])
-fixed_if kind true = start_is_fixed kind
-fixed_if kind false = tt
-
-four : (kind : Kind) → length (startup kind) ≤ 4
-four Beat = omega arith
-four Down = omega arith
-four Disk = omega arith
-four Net = omega arith
-
-four_if : (kind : Kind) (b : Bool) → length (if b then startup kind else []) ≤ 4
-four_if kind true = four kind
-four_if kind false = omega arith
-
 count_few : (stop : Option (ℕ × Bool)) (m : ℕ) → count_of stop m ≤ m
 count_few None m = omega arith
 count_few (Some k) m = omega arith
@@ -65,10 +51,10 @@ lists_of Host sent back = record { guest_sent = back; guest_got = sent; host_sen
 plan_made : (order : Order) (served : List Served) → Suits order served → Made (speech_of order.kind) (keeps order.kind) (plan_of order) served
 plan_made order served suits =
     let long : length (map Script order.asks) ≡ length order.asks = length-map order.asks Script in
-    let starts : length (startup_of order) ≤ 4 = four_if order.kind (order.sub == 0) in
+    let starts : length (startup_of order) ≤ 5 = few_starts order.kind order.sub order.subs in
     let all : count_of order.stop (length (map Script order.asks)) ≡ count_of order.stop (length order.asks) = ap (count_of order.stop) long in
     made (speech_of order.kind) (keeps order.kind) (plan_of order) served
-    (record { fixed = fixed_if order.kind (order.sub == 0); asks = script_asks order.kind order.asks suits.can })
+    (record { fixed = start_is_fixed order.kind order.sub order.subs; asks = script_asks order.kind order.asks suits.can })
     (omega (arith, starts, long, suits.few, length-append (startup_of order) (map Script order.asks)))
     (count_few order.stop (length (map Script order.asks)))
     (subst (λ n. Fit (speech_of order.kind) (keeps order.kind) n (1 + length (startup_of order)) (map Script order.asks) served) (sym all)

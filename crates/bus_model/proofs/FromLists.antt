@@ -13,7 +13,7 @@ use Rattle.bus_speech.specs.declared.want.Want.{Want}
 use Rattle.bus_speech.specs.declared.want.Want.TheVariants.{Script}
 use Rattle.bus_speech.specs.Wants.{IsAskable}
 use Rattle.bus_speech.specs.Speeches.{speech_of, read_on}
-use Rattle.bus_speech.proofs.SpeechLaws.{all_ask, asked_is}
+use Rattle.bus_speech.proofs.SpeechLaws.{start_is_fixed, all_ask, asked_is}
 use Rattle.work_model.specs.Asker.{Encoded}
 use Rattle.work_model.specs.Channel.{AllFixed, count_of, IsChannelRun as IsTalkRun}
 use Rattle.work_model.specs.Outcome.{Outcome, Unserved, done_of, served_of, outcomes_of as work_outcomes}
@@ -23,7 +23,6 @@ use Rattle.bus_model.specs.Orders.{Order, plan_of, startup_of}
 use Rattle.bus_model.specs.Channel.{served_count, replies_to, rescinded_of, outcomes_by}
 use Rattle.bus_model.specs.Laws.{ServesFirst, ListsTell, line_of}
 use Rattle.bus_model.proofs.Arriving.{serves_each_lem}
-use Rattle.bus_model.proofs.ChannelMade.{fixed_if}
 
 -- served is what was asked first
 
@@ -68,7 +67,7 @@ first_asked : (order : Order) (sent got server_sent server_got : List (List ℕ)
     → IsTalkRun (speech_of order.kind) (plan_of order) sent got server_sent server_got served told → map (λ s. s.request) served ≡ take (served_count order) order.asks
 first_asked order sent got server_sent server_got served told can run =
     let asked = subst (Encoded (speech_of order.kind) (startup_of order ++ map Script order.asks)) (all_requests order.kind sent) run.requests in
-    let front = plan_front order.kind (startup_of order) order.asks sent (fixed_if order.kind _) can asked in
+    let front = plan_front order.kind (startup_of order) order.asks sent (start_is_fixed order.kind order.sub order.subs) can asked in
     let whole : order.asks ≡ map (λ (s : Served). s.request) served ++ (run.asked.0 ++ front.0) =
     front.1 ∙ (ap (λ l. l ++ front.0) run.asked.1 ∙ append_assoc (map (λ (s : Served). s.request) served) run.asked.0 front.0) in
     let count : length (map (λ (s : Served). s.request) served) ≡ served_count order = length-map served (λ s. s.request) ∙ (run.count ∙ ap (count_of order.stop) (length-map order.asks Script)) in

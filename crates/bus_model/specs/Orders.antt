@@ -1,5 +1,5 @@
 -- What the script orders of a channel.
-use Rattle.std.specs.Prelude.{ℕ, ◌==◌, Bool, List, [], map, Option, if◌then◌else◌}
+use Rattle.std.specs.Prelude.{ℕ, Bool, List, map, Option}
 use Rattle.contact.specs.declared.kind.Kind.{Kind}
 use Rattle.script_lines.specs.declared.line.Ask.{Ask}
 use Rattle.script_lines.specs.Parts.{kind_of, channels_of}
@@ -34,9 +34,9 @@ order_of p o = record {
 abbrev pub only_order : Kind → List Ask → Option (ℕ × Bool) → Order
 only_order kind asks stop = record { kind = kind; sub = 0; subs = 0; asks = asks; stop = stop }
 
--- a sub-channel has no start-up
+-- what its start-up asks: that of a disk's first channel asks for the sub-channels in the end, and a sub-channel has none
 abbrev pub startup_of : Order → List Want
-startup_of order = if order.sub == 0 then startup order.kind else []
+startup_of order = startup order.kind order.sub order.subs
 
 -- what the end that asks has to ask, and where the other one stops
 abbrev pub plan_of : Order → Plan Want

@@ -60,6 +60,8 @@ fn open_desk(
         alloc,
         kind,
         channel.opening.relid,
+        0,
+        0,
         settings.pages,
         settings.window,
         seat,

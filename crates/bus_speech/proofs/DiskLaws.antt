@@ -1,5 +1,5 @@
 -- A disk's channel: what was asked is read, what was answered is read, and packets under other ids say the same.
-use Rattle.std.proofs.Common.{◌≡◌, ℕ, zero, suc, ◌^◌, ◌<◌, ◌≤◌, Bool, true, false, cond, ◌&&◌, List, [], ◌++◌, length, replicate, Option, Some, None, refl, sym, ap, ◌∙◌, lit<, lit≤, arith}
+use Rattle.std.proofs.Common.{◌≡◌, ℕ, zero, suc, ◌^◌, ◌<◌, ◌≤◌, Bool, true, false, cond, ◌&&◌, List, [], ◌++◌, length, replicate, Option, Some, None, ◌+◌, refl, sym, ap, ◌∙◌, lit<, lit≤, arith}
 use Rattle.std.specs.Prelude.{nat_le, is_none}
 use Rattle.std.proofs.lemmas.Bool.Decides.{nat_tests}
 use Rattle.wire_table.proofs.RowLaws.{IsBytes}
@@ -93,20 +93,23 @@ start_is_formed : (k : ℕ) → Formed (start_vstor k)
 start_is_formed zero = start_formed BeginInitialization 0
 start_is_formed (suc zero) = start_formed QueryProtocolVersion 0x0602
 start_is_formed (suc (suc zero)) = start_formed QueryProperties 0
-start_is_formed (suc (suc (suc k))) = start_formed EndInitialization 0
+start_is_formed (suc (suc (suc zero))) = start_formed EndInitialization 0
+start_is_formed (suc (suc (suc (suc n)))) = start_formed CreateSubChannels (n + 1)
 
 start_allowed : (k : ℕ) → IsAllowed (start_vstor k)
 start_allowed zero = (refl, λ other. refl)
 start_allowed (suc zero) = (refl, λ other. refl)
 start_allowed (suc (suc zero)) = (refl, λ other. refl)
-start_allowed (suc (suc (suc k))) = (refl, λ other. refl)
+start_allowed (suc (suc (suc zero))) = (refl, λ other. refl)
+start_allowed (suc (suc (suc (suc n)))) = (refl, λ other. refl)
 
 start_asks_nothing : (k : ℕ) (more : List ℕ) → disk_asked (start_vstor k) more ≡ None
 unfolding disk_asked
 start_asks_nothing zero more = refl
 start_asks_nothing (suc zero) more = refl
 start_asks_nothing (suc (suc zero)) more = refl
-start_asks_nothing (suc (suc (suc k))) more = refl
+start_asks_nothing (suc (suc (suc zero))) more = refl
+start_asks_nothing (suc (suc (suc (suc n)))) more = refl
 
 none_are_bytes : IsBytes []
 none_are_bytes i = omega arith

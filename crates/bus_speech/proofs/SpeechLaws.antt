@@ -1,5 +1,5 @@
 -- Each kind of channel keeps to the laws of a speech.
-use Rattle.std.proofs.Common.{◌≡◌, ◌≢◌, ℕ, Bool, true, List, [], ◌∷◌, Option, Some, None, ◌⊎◌, inl, inr, refl, sym, ap, subst, ◌∙◌}
+use Rattle.std.proofs.Common.{◌≡◌, ◌≢◌, ℕ, zero, suc, ◌+◌, Bool, true, List, [], ◌∷◌, Option, Some, None, ◌⊎◌, inl, inr, refl, sym, ap, subst, ◌∙◌}
 use Rattle.std.specs.Prelude.{map}
 use Rattle.std.specs.List.{AllByRecursion}
 use Rattle.contact.specs.declared.kind.Kind.{Kind}
@@ -107,11 +107,16 @@ step_read Disk id k = ap (mapped AskDisk) (disk_start_read id k)
 step_read Net id k = refl
 
 -- what goes back for the start-up is fixed
-pub start_is_fixed : (kind : Kind) → AllFixed (speech_of kind) (startup kind)
-start_is_fixed Beat = (λ id. step_read Beat id 0, tt)
-start_is_fixed Down = (λ id. step_read Down id 0, tt)
-start_is_fixed Disk = (λ id. step_read Disk id 0, (λ id. step_read Disk id 1, (λ id. step_read Disk id 2, (λ id. step_read Disk id 3, tt))))
-start_is_fixed Net = tt
+pub start_is_fixed : (kind : Kind) (sub subs : ℕ) → AllFixed (speech_of kind) (startup kind sub subs)
+start_is_fixed Beat zero subs = (λ id. step_read Beat id 0, tt)
+start_is_fixed Down zero subs = (λ id. step_read Down id 0, tt)
+start_is_fixed Disk zero zero = (λ id. step_read Disk id 0, (λ id. step_read Disk id 1, (λ id. step_read Disk id 2, (λ id. step_read Disk id 3, tt))))
+start_is_fixed Disk zero (suc n) = (λ id. step_read Disk id 0, (λ id. step_read Disk id 1, (λ id. step_read Disk id 2, (λ id. step_read Disk id 3, (λ id. step_read Disk id (3 + suc n), tt)))))
+start_is_fixed Net zero subs = tt
+start_is_fixed Beat (suc s) subs = tt
+start_is_fixed Down (suc s) subs = tt
+start_is_fixed Disk (suc s) subs = tt
+start_is_fixed Net (suc s) subs = tt
 
 -- a request of this kind that can be asked is what is read
 asked_so : {Q R : Type 0} (x : Codec (WantOf Q) Q R) (request : Q → Ask) (Can : Q → Type 0) (id : ℕ) → ((q : Q) → Can q → x.read (x.encode id (Request q)) ≡ Some q) → (ask : Ask) (o : Option Q) → ((q : Q) → o ≡ Some q → request q ≡ ask)

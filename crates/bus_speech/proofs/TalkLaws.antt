@@ -16,27 +16,45 @@ use Rattle.bus_speech.specs.Codecs.{Codec, result_in}
 use Rattle.bus_speech.specs.Services.{service_fixed, service_answer, service_codec}
 use Rattle.bus_speech.specs.Disks.{done_packet, disk_fixed, disk_answer, disk_codec}
 use Rattle.bus_speech.specs.Kinds.{services, disks}
-use Rattle.bus_speech.specs.Wants.{startup, IsAskable}
+use Rattle.bus_speech.specs.Wants.{startup, step_at, IsAskable}
 use Rattle.bus_speech.specs.Speeches.{said_on, answer_on, has_answer_on, speech_of}
 use Rattle.bus_speech.specs.Talks.{Talked, asks_of, CanAsk}
 use Rattle.bus_speech.proofs.SpeechLaws.{keeps, step_read, asked_is, script_waits, start_has_answer}
 
 -- the start-up is part of what is asked
-pub starts_within : (kind : Kind) (asks : List Want) → length (startup kind) ≤ length (startup kind ++ asks)
-starts_within kind asks = omega (arith, length-append (startup kind) asks)
+pub starts_within : (kind : Kind) (sub subs : ℕ) (asks : List Want) → length (startup kind sub subs) ≤ length (startup kind sub subs ++ asks)
+starts_within kind sub subs asks = omega (arith, length-append (startup kind sub subs) asks)
+
+-- a start-up has few steps
+pub few_starts : (kind : Kind) (sub subs : ℕ) → length (startup kind sub subs) ≤ 5
+few_starts Beat zero subs = omega arith
+few_starts Down zero subs = omega arith
+few_starts Disk zero zero = omega arith
+few_starts Disk zero (suc n) = omega arith
+few_starts Net zero subs = omega arith
+few_starts Beat (suc s) subs = omega arith
+few_starts Down (suc s) subs = omega arith
+few_starts Disk (suc s) subs = omega arith
+few_starts Net (suc s) subs = omega arith
 
 -- what stands at a place of the start-up
-start_at : (kind : Kind) (asks : List Want) (k : ℕ) (a : Want) → k < length (startup kind) → slice_get (startup kind ++ asks) k ≡ Some a → a ≡ Starts k
-start_at Beat asks zero a lt h = cc
-start_at Beat asks (suc k) a lt h = absurd (omega arith)
-start_at Down asks zero a lt h = cc
-start_at Down asks (suc k) a lt h = absurd (omega arith)
-start_at Disk asks zero a lt h = cc
-start_at Disk asks (suc zero) a lt h = cc
-start_at Disk asks (suc (suc zero)) a lt h = cc
-start_at Disk asks (suc (suc (suc zero))) a lt h = cc
-start_at Disk asks (suc (suc (suc (suc k)))) a lt h = absurd (omega arith)
-start_at Net asks k a lt h = absurd (omega arith)
+start_at : (kind : Kind) (sub subs : ℕ) (asks : List Want) (k : ℕ) (a : Want) → k < length (startup kind sub subs) → slice_get (startup kind sub subs ++ asks) k ≡ Some a → a ≡ Starts (step_at subs k)
+start_at Beat zero subs asks zero a lt h = cc
+start_at Beat zero subs asks (suc k) a lt h = absurd (omega arith)
+start_at Down zero subs asks zero a lt h = cc
+start_at Down zero subs asks (suc k) a lt h = absurd (omega arith)
+start_at Disk zero subs asks zero a lt h = cc
+start_at Disk zero subs asks (suc zero) a lt h = cc
+start_at Disk zero subs asks (suc (suc zero)) a lt h = cc
+start_at Disk zero subs asks (suc (suc (suc zero))) a lt h = cc
+start_at Disk zero zero asks (suc (suc (suc (suc k)))) a lt h = absurd (omega arith)
+start_at Disk zero (suc n) asks (suc (suc (suc (suc zero)))) a lt h = let is : Some (Starts (3 + suc n)) ≡ Some a = h in let e : Starts (3 + suc n) ≡ a = cc in sym e
+start_at Disk zero (suc n) asks (suc (suc (suc (suc (suc k))))) a lt h = absurd (omega arith)
+start_at Net zero subs asks k a lt h = absurd (omega arith)
+start_at Beat (suc s) subs asks k a lt h = absurd (omega arith)
+start_at Down (suc s) subs asks k a lt h = absurd (omega arith)
+start_at Disk (suc s) subs asks k a lt h = absurd (omega arith)
+start_at Net (suc s) subs asks k a lt h = absurd (omega arith)
 
 behind : (xs ys : List Want) (j : ℕ) → slice_get (xs ++ ys) (length xs + j) ≡ slice_get ys j
 behind [] ys j = let e : length {A = Want} [] + j ≡ j = omega arith in ap (slice_get ys) e
@@ -69,45 +87,46 @@ answer_says Disk ask p can = says_so disk_codec disks.request disks.reply (disks
 answer_says Net ask p can = absurd can
 
 module _ (t : Talked) (can : CanAsk t.kind t.asks) where
-  pub length-asks : length (asks_of t) ≡ length (startup t.kind) + length t.asks
-  length-asks = omega (arith, length-append (startup t.kind) (map Script t.asks), length-map t.asks Script)
+  pub length-asks : length (asks_of t) ≡ length (startup t.kind t.sub t.subs) + length t.asks
+  length-asks = omega (arith, length-append (startup t.kind t.sub t.subs) (map Script t.asks), length-map t.asks Script)
 
   -- a place of the start-up, or one of the script
-  pub at_start : (k : ℕ) (a : Want) → k < length (startup t.kind) → slice_get (asks_of t) k ≡ Some a → a ≡ Starts k
-  at_start k a lt h = start_at t.kind (map Script t.asks) k a lt h
+  pub at_start : (k : ℕ) (a : Want) → k < length (startup t.kind t.sub t.subs) → slice_get (asks_of t) k ≡ Some a → a ≡ Starts (step_at t.subs k)
+  at_start k a lt h = start_at t.kind t.sub t.subs (map Script t.asks) k a lt h
 
-  pub at_script : (k : ℕ) (a : Want) → length (startup t.kind) ≤ k → slice_get (asks_of t) k ≡ Some a → (ask : Ask) × (slice_get t.asks (k - length (startup t.kind)) ≡ Some ask) × (a ≡ Script ask)
+  pub at_script : (k : ℕ) (a : Want) → length (startup t.kind t.sub t.subs) ≤ k → slice_get (asks_of t) k ≡ Some a → (ask : Ask) × (slice_get t.asks (k - length (startup t.kind t.sub t.subs)) ≡ Some ask) × (a ≡ Script ask)
   at_script k a le h =
-      let j = k - length (startup t.kind) in
-      let place : length (startup t.kind) + j ≡ k = omega arith in
-      found t.asks j a (sym (behind (startup t.kind) (map Script t.asks) j) ∙ (ap (slice_get (asks_of t)) place ∙ h))
+      let j = k - length (startup t.kind t.sub t.subs) in
+      let place : length (startup t.kind t.sub t.subs) + j ≡ k = omega arith in
+      found t.asks j a (sym (behind (startup t.kind t.sub t.subs) (map Script t.asks) j) ∙ (ap (slice_get (asks_of t)) place ∙ h))
 
   pub can_at : (j : ℕ) (ask : Ask) → slice_get t.asks j ≡ Some ask → IsAskable t.kind ask
   can_at j ask h = all_at (IsAskable t.kind) t.asks j ask can.can h
 
   -- what came back says nothing to a request of the start-up
-  pub start_says_nothing : (k : ℕ) (a : Want) (part : List (List ℕ)) → k < length (startup t.kind) → slice_get (asks_of t) k ≡ Some a → (speech_of t.kind).result a part ≡ None
+  pub start_says_nothing : (k : ℕ) (a : Want) (part : List (List ℕ)) → k < length (startup t.kind t.sub t.subs) → slice_get (asks_of t) k ≡ Some a → (speech_of t.kind).result a part ≡ None
   start_says_nothing k a part lt h =
-      ap (λ x. (speech_of t.kind).result x part) (at_start k a lt h) ∙ (keeps t.kind).no_result 0 (Starts k) part (step_read t.kind 0 k)
+      ap (λ x. (speech_of t.kind).result x part) (at_start k a lt h) ∙ (keeps t.kind).no_result 0 (Starts (step_at t.subs k)) part (step_read t.kind 0 (step_at t.subs k))
 
   -- to one of the script it says what the answer says
-  pub script_says : (k : ℕ) (a : Want) (p : List ℕ) → length (startup t.kind) ≤ k → slice_get (asks_of t) k ≡ Some a → (speech_of t.kind).result a (p ∷ []) ≡ said_on t.kind p
+  pub script_says : (k : ℕ) (a : Want) (p : List ℕ) → length (startup t.kind t.sub t.subs) ≤ k → slice_get (asks_of t) k ≡ Some a → (speech_of t.kind).result a (p ∷ []) ≡ said_on t.kind p
   script_says k a p le h =
       let at = at_script k a le h in
-      ap (λ x. (speech_of t.kind).result x (p ∷ [])) at.2 ∙ answer_says t.kind at.0 p (can_at (k - length (startup t.kind)) at.0 at.1)
+      ap (λ x. (speech_of t.kind).result x (p ∷ [])) at.2 ∙ answer_says t.kind at.0 p (can_at (k - length (startup t.kind t.sub t.subs)) at.0 at.1)
 
   -- each has an answer
   pub all_wait : (k : ℕ) (a : Want) → slice_get (asks_of t) k ≡ Some a → has_answer_on t.kind a ≡ true
   all_wait k a h =
-      ⊎_elim (λ lt. ap (has_answer_on t.kind) (at_start k a lt h) ∙ start_has_answer t.kind k (not_net t.kind k lt))
-      (λ le. let at = at_script k a le h in ap (has_answer_on t.kind) at.2 ∙ script_waits t.kind at.0 (can_at (k - length (startup t.kind)) at.0 at.1))
-      (cases_lt k (length (startup t.kind)))
+      ⊎_elim (λ lt. ap (has_answer_on t.kind) (at_start k a lt h) ∙ start_has_answer t.kind (step_at t.subs k) (not_net t.kind t.sub t.subs k lt))
+      (λ le. let at = at_script k a le h in ap (has_answer_on t.kind) at.2 ∙ script_waits t.kind at.0 (can_at (k - length (startup t.kind t.sub t.subs)) at.0 at.1))
+      (cases_lt k (length (startup t.kind t.sub t.subs)))
     where
-      not_net : (kind : Kind) (k : ℕ) → k < length (startup kind) → kind ≢ Net
-      not_net Beat k lt = λ is. cc
-      not_net Down k lt = λ is. cc
-      not_net Disk k lt = λ is. cc
-      not_net Net k lt = absurd (omega arith)
+      not_net : (kind : Kind) (sub subs k : ℕ) → k < length (startup kind sub subs) → kind ≢ Net
+      not_net Beat sub subs k lt = λ is. cc
+      not_net Down sub subs k lt = λ is. cc
+      not_net Disk sub subs k lt = λ is. cc
+      not_net Net zero subs k lt = absurd (omega arith)
+      not_net Net (suc s) subs k lt = absurd (omega arith)
 
 -- packets have words
 

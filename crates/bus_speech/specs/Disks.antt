@@ -1,5 +1,5 @@
 -- What the packets of a disk's channel say: the guest asks the disk of the host.
-use Rattle.std.specs.Prelude.{ℕ, zero, suc, ◌≡◌, ◌≤◌, ◌<◌, ◌==◌, Bool, ◌&&◌, nat_le, nat_lt, List, [], ◌++◌, length, drop, Option, Some, None, IsSome, is_none, Result, Ok, Err, if◌then◌else◌}
+use Rattle.std.specs.Prelude.{ℕ, zero, suc, ◌+◌, ◌≡◌, ◌≤◌, ◌<◌, ◌==◌, Bool, ◌&&◌, nat_le, nat_lt, List, [], ◌++◌, length, drop, Option, Some, None, IsSome, is_none, Result, Ok, Err, if◌then◌else◌}
 use Rattle.std.specs.List.{AllByRecursion, list_all}
 use Rattle.scsi_disk.specs.Commands.{command_of}
 use Rattle.scsi_disk.specs.DiskModel.{most_back}
@@ -9,7 +9,7 @@ use Rattle.scsi_disk.specs.declared.reply.DiskReply.TheVariants.{Good, Check}
 use Rattle.stor_proto.specs.Packets.{vstor_bytes, vstor_in, vstor_fault}
 use Rattle.stor_proto.specs.Opening.{start_of, answer_of}
 use Rattle.stor_proto.specs.Srbs.{request_of, reply_of, stop_of, done_of, ask_of, bytes_moved, HasItsData}
-use Rattle.stor_proto.specs.declared.operation.Operation.TheVariants.{BeginInitialization, EndInitialization, QueryProtocolVersion, QueryProperties}
+use Rattle.stor_proto.specs.declared.operation.Operation.TheVariants.{BeginInitialization, EndInitialization, QueryProtocolVersion, QueryProperties, CreateSubChannels}
 use Rattle.stor_proto.specs.declared.stop.SrbStop.{SrbStop}
 use Rattle.stor_proto.specs.declared.vstor.Vstor.{Vstor}
 use Rattle.pkt_desc.specs.Packets.{id_of, inband_packet, completion_packet}
@@ -81,12 +81,13 @@ unfoldable pub disk_fits : DiskRequest → DiskReply → Bool
 disk_fits q (Good bytes) = nat_le (length bytes) (most_back (command_of q.cdb)) && list_all (λ b. nat_lt b 256) bytes
 disk_fits q (Check key asc ascq) = nat_lt key 256 && nat_lt asc 256 && nat_lt ascq 256
 
--- the packets of the start-up: it begins, version 6.2 is asked for, then the properties, and it ends
+-- the packets of the start-up: it begins, version 6.2 is asked for, then the properties, and it ends; then each step asks for one sub-channel more than the step before
 abbrev pub start_vstor : ℕ → Vstor
 start_vstor zero = start_of BeginInitialization 0
 start_vstor (suc zero) = start_of QueryProtocolVersion 0x0602
 start_vstor (suc (suc zero)) = start_of QueryProperties 0
-start_vstor _ = start_of EndInitialization 0
+start_vstor (suc (suc (suc zero))) = start_of EndInitialization 0
+start_vstor (suc (suc (suc (suc n)))) = start_of CreateSubChannels (n + 1)
 
 unfoldable pub disk_start : ℕ → ℕ → List ℕ
 disk_start id k = sent_packet id (start_vstor k) []

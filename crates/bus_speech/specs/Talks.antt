@@ -1,5 +1,5 @@
 -- One end's part in the talk of a channel.
-use Rattle.std.specs.Prelude.{◌<◌, ◌^◌, List, ◌++◌, map, length}
+use Rattle.std.specs.Prelude.{ℕ, ◌<◌, ◌^◌, List, ◌++◌, map, length}
 use Rattle.std.specs.List.{AllByRecursion}
 use Rattle.contact.specs.declared.kind.Kind.{Kind}
 use Rattle.script_lines.specs.declared.line.Ask.{Ask}
@@ -7,14 +7,16 @@ use Rattle.bus_speech.specs.declared.want.Want.{Want}
 use Rattle.bus_speech.specs.declared.want.Want.TheVariants.{Script}
 use Rattle.bus_speech.specs.Wants.{startup, IsAskable}
 
--- the kind of channel, and what the script asks on it
+-- the kind of channel, its number among its device's channels, how many are beside the first one, and what the script asks on it
 pub record Talked : Type 0 where
   pub kind : Kind
+  pub sub : ℕ
+  pub subs : ℕ
   pub asks : List Ask
 
 -- what the end that asks has to ask: the start-up first
 abbrev pub asks_of : Talked → List Want
-asks_of t = startup t.kind ++ map Script t.asks
+asks_of t = startup t.kind t.sub t.subs ++ map Script t.asks
 
 -- all of it can be asked, and there is room to count it in
 pub record CanAsk (kind : Kind) (asks : List Ask) : Type 0 where

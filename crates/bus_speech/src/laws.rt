@@ -1,5 +1,5 @@
 //! Laws of what the packets of each kind of channel say: each function does nothing, and its contract is a law.
-ghost use Rattle.std.specs.Prelude.{◌≡◌, ℕ, List, Some, map};
+ghost use Rattle.std.specs.Prelude.{◌≡◌, ℕ, ◌≤◌, List, Some, map};
 ghost use Rattle.std.specs.List.{AllByRecursion};
 ghost use Rattle.contact.specs.declared.kind.Kind.{Kind};
 ghost use Rattle.script_lines.specs.declared.line.Ask.{Ask};
@@ -9,7 +9,7 @@ ghost use Rattle.bus_speech.specs.Codecs.{speech_by};
 ghost use Rattle.bus_speech.specs.Disks.{disk_codec};
 ghost use Rattle.bus_speech.specs.Services.{service_codec};
 ghost use Rattle.bus_speech.specs.declared.want.Want.TheVariants.{Script};
-ghost use Rattle.bus_speech.specs.Wants.{startup, IsAskable};
+ghost use Rattle.bus_speech.specs.Wants.{startup, AsksForSubs, IsAskable};
 ghost use Rattle.bus_speech.specs.Speeches.{encode_on, read_on, speech_of};
 
 /// The packets of a service's channel keep to the laws of a speech in the service's own requests and replies, and those of a disk's in the disk's.
@@ -26,7 +26,12 @@ pub fn keeps_to_its_laws()
 
 /// What goes back for a start-up is fixed: no device is asked.
 pub fn start_up_is_fixed()
-    ensures { (kind : Kind) → AllFixed (speech_of kind) (startup kind) }
+    ensures { (kind : Kind) (sub subs : ℕ) → AllFixed (speech_of kind) (startup kind sub subs) }
+{}
+
+/// The start-up of a disk's first channel asks in the end for as many sub-channels as there are, and that many are granted.
+pub fn asks_for_sub_channels()
+    ensures { (subs : ℕ) → 1 ≤ subs → subs ≤ 3 → AsksForSubs subs }
 {}
 
 /// Each request of a script that can be asked asks the device.

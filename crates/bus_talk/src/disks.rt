@@ -72,8 +72,10 @@ fn write_done(id: u64, v: &Vstor, more: &[u8], out: &mut [u64]) -> usize
     build_comp(out, id, &bytes[..len])
 }
 
-/// The k-th storage packet of the start-up: it begins, version 6.2 is asked for, then the properties, and it ends.
+/// The storage packet of a step of the start-up: it begins, version 6.2 is asked for, then the properties, and it ends; step 4 asks for one sub-channel, step 5
+/// for two, and step 6 for three.
 fn start_packet(k: u32) -> Vstor
+    requires { k ≤ 6 }
     ensures value { result ≡ start_of k }
     ensures allowed { IsAllowed result }
 {
@@ -81,14 +83,18 @@ fn start_packet(k: u32) -> Vstor
         0 => start_up(Operation::BeginInitialization, 0),
         1 => start_up(Operation::QueryProtocolVersion, 0x0602),
         2 => start_up(Operation::QueryProperties, 0),
-        _ => start_up(Operation::EndInitialization, 0),
+        3 => start_up(Operation::EndInitialization, 0),
+        4 => start_up(Operation::CreateSubChannels, 1),
+        5 => start_up(Operation::CreateSubChannels, 2),
+        _ => start_up(Operation::CreateSubChannels, 3),
     }
 }
 
-/// Writes the k-th packet of the start-up under an id: its words.
+/// Writes the packet of a step of the start-up under an id: its words.
 #[tactic(auto, unfolding(bus_speech::specs::Disks::disk_start))]
 pub(crate) fn write_start(k: u32, id: u64, out: &mut [u64]) -> usize
-    requires { length out.old ≡ 384 }
+    requires step { k ≤ 6 }
+    requires out { length out.old ≡ 384 }
     ensures packet { take result out.new ≡ disk_start id k }
     ensures is_packet { IsPacket (take result out.new) }
     ensures most { result ≤ 384 }

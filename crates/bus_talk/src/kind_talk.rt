@@ -8,7 +8,7 @@ ghost use Rattle.script_lines.specs.declared.line.Ask.{Ask as OneAsk};
 ghost use Rattle.bus_speech.specs.declared.want.Want.{Want as OneWant};
 ghost use Rattle.bus_speech.specs.declared.want.Want.TheVariants.{Starts, Script};
 ghost use Rattle.bus_speech.specs.Kinds.{ic_request as ic_of, disk_request as disk_of, disk_reply as disk_reply_of};
-ghost use Rattle.bus_speech.specs.Wants.{startup, IsAskable};
+ghost use Rattle.bus_speech.specs.Wants.{first_steps, subs_asked, startup, step_at, IsAskable};
 ghost use Rattle.bus_speech.specs.Speeches.{encode_on, waits_on, read_on, fits_on, answer_on, said_on, speech_of};
 ghost use Rattle.bus_speech.specs.Talks.{asks_of};
 
@@ -28,35 +28,45 @@ use scsi_disk::{DiskReply, DiskRequest};
 use std::marker::Model;
 use util_ic::IcAsk;
 
-/// The part of an end in the talk of a channel: the kind of the channel, and what the script asks on it. The end that serves asks nothing.
+/// The part of an end in the talk of a channel: the kind of the channel, its number among the device's channels, how many are beside the first one, and
+/// what the script asks on it. The end that serves asks nothing.
 ///
 /// A utility service starts up with one request, which negotiates its versions, and a disk with four: it begins, version 6.2 is asked for, then the
-/// properties, and it ends. Linux asks for version 6.0 and then for 5.1 where one is refused; between the two ends of this program none is, so the list
+/// properties, and it ends. A fifth one asks for the sub-channels, where the disk has some. A sub-channel has no start-up. Linux asks for version 6.0 and then for 5.1 where one is refused; between the two ends of this program none is, so the list
 /// is fixed.
 #[derive(Drop)]
 pub struct KindTalk {
     kind: Kind,
+    sub: u32,
+    subs: u32,
     asks: Vec<Ask>,
 }
 
 impl Model for KindTalk {
+    ghost use Rattle.std.specs.Prelude.{◌≤◌};
     ghost use Rattle.bus_speech.specs.Talks.{Talked, CanAsk};
 
     ghost Value = { Talked };
 
-    ghost view = { λ t. record { kind = t.kind; asks = t.asks.items } };
+    ghost view = { λ t. record { kind = t.kind; sub = t.sub; subs = t.subs; asks = t.asks.items } };
 
-    ghost invariant = { λ t. CanAsk t.kind t.asks.items };
+    ghost invariant = { λ t. CanAsk t.kind t.asks.items × (t.subs ≤ 3) };
 }
 
 impl KindTalk {
     /// The talk of a channel of this kind on which this is asked.
-    pub fn make(kind: Kind, asks: Vec<Ask>) -> KindTalk
+    pub fn make(kind: Kind, sub: u32, subs: u32, asks: Vec<Ask>) -> KindTalk
+        requires subs { subs ≤ 3 }
         requires can { AllByRecursion (IsAskable kind) asks.items }
         requires few { length asks.items < 2 ^ 31 }
-        ensures { result ≡ record { kind = kind; asks = asks.items } }
+        ensures { result ≡ record { kind = kind; sub = sub; subs = subs; asks = asks.items } }
     {
-        KindTalk { kind, asks }
+        KindTalk {
+            kind,
+            sub,
+            subs,
+            asks,
+        }
     }
 
     /// The kind of the channel.
@@ -67,9 +77,9 @@ impl KindTalk {
     }
 }
 
-/// How many requests the start-up of a channel has.
-fn count_starts(kind: Kind) -> u32
-    ensures value { result ≡ length (startup kind) }
+/// How many requests each start-up of a channel of this kind begins with.
+fn count_first(kind: Kind) -> u32
+    ensures value { result ≡ length (first_steps kind) }
     ensures few { result ≤ 4 }
 {
     match kind {
@@ -79,17 +89,49 @@ fn count_starts(kind: Kind) -> u32
     }
 }
 
+/// How many ask for sub-channels behind them, of which there are so many.
+fn count_asking(kind: Kind, subs: u32) -> u32
+    ensures value { result ≡ length (subs_asked kind subs) }
+    ensures few { result ≤ 1 }
+{
+    match kind {
+        Kind::Disk => if subs == 0 { 0 } else { 1 },
+        Kind::Beat | Kind::Down | Kind::Net => 0,
+    }
+}
+
+/// How many requests the start-up of a channel has.
+fn count_starts(kind: Kind, sub: u32, subs: u32) -> u32
+    ensures value { result ≡ length (startup kind sub subs) }
+    ensures few { result ≤ 5 }
+{
+    if sub == 0 {
+        count_first(kind) + count_asking(kind, subs)
+    } else {
+        0
+    }
+}
+
+/// The number of the k-th step of a start-up.
+fn step_at(subs: u32, k: u32) -> u32
+    requires { subs ≤ 3 }
+    ensures { result ≡ step_at subs k }
+{
+    if k == 4 { 3 + subs } else { k }
+}
+
 /// Writes the k-th packet of the start-up under an id: its words.
-fn encode_start(kind: Kind, k: u32, id: u64, out: &mut [u64]) -> usize
-    requires some { k < length (startup kind) }
+fn encode_start(kind: Kind, sub: u32, subs: u32, k: u32, id: u64, out: &mut [u64]) -> usize
+    requires some { k < length (startup kind sub subs) }
+    requires subs { subs ≤ 3 }
     requires out { length out.old ≡ 384 }
-    ensures packet { take result out.new ≡ encode_on kind id (Starts k) }
+    ensures packet { take result out.new ≡ encode_on kind id (Starts (step_at subs k)) }
     ensures is_packet { IsPacket (take result out.new) }
     ensures most { result ≤ 384 }
 {
     match kind {
         Kind::Beat | Kind::Down => write_negotiate(kind, id, out),
-        Kind::Disk => write_start(k, id, out),
+        Kind::Disk => write_start(step_at(subs, k), id, out),
         Kind::Net => unreachable!(),
     }
 }
@@ -246,31 +288,32 @@ impl Talk for KindTalk {
 
     ghost asks = { asks_of };
 
-    ghost starts = { λ s. length (startup s.kind) };
+    ghost starts = { λ s. length (startup s.kind s.sub s.subs) };
 
-    ghost within = { λ s. starts_within s.kind (map Script s.asks) };
+    ghost within = { λ s. starts_within s.kind s.sub s.subs (map Script s.asks) };
 
     ghost message = { λ s p r back. [] };
 
     ghost answer = { λ s p r. answer_on s.kind p r };
 
     fn count(&self) -> u32 {
-        count_starts(self.kind) + self.asks.len() as u32
+        count_starts(self.kind, self.sub, self.subs) + self.asks.len() as u32
     }
 
     fn starts(&self) -> u32 {
-        count_starts(self.kind)
+        count_starts(self.kind, self.sub, self.subs)
     }
 
     /// Each has one: the requests of both start-ups, and those of a script, which can be asked.
     fn has_answer(&self, k: u32) -> bool {
-        (k as usize) < count_starts(self.kind) as usize + self.asks.len()
+        let starts = count_starts(self.kind, self.sub, self.subs);
+        (k as usize) < starts as usize + self.asks.len()
     }
 
     fn encode(&self, k: u32, id: u64, out: &mut [u64]) -> usize {
-        let starts = count_starts(self.kind);
+        let starts = count_starts(self.kind, self.sub, self.subs);
         if k < starts {
-            return encode_start(self.kind, k, id, out);
+            return encode_start(self.kind, self.sub, self.subs, k, id, out);
         }
         encode_ask(self.kind, &self.asks[(k - starts) as usize], id, out)
     }
@@ -307,7 +350,7 @@ impl Talk for KindTalk {
     }
 
     fn result(&self, k: u32, packet: &[u64]) -> Option<Reply> {
-        if k < count_starts(self.kind) {
+        if k < count_starts(self.kind, self.sub, self.subs) {
             return None;
         }
         said(self.kind, packet)

@@ -24,7 +24,7 @@ fn talk_of(rt: &impl Abort, alloc: Global, kind: Kind, ask: Ask) -> Result<KindT
     }
     let mut asks = Vec::with_capacity(alloc, 1)?;
     asks.push(ask)?;
-    Ok(KindTalk::make(kind, asks))
+    Ok(KindTalk::make(kind, 0, 0, asks))
 }
 
 /// Wants a packet of this first word and id with these first bytes of its payload, and zeros behind them up to 64 bytes.
@@ -49,8 +49,8 @@ const DONE: u64 = 0x000a_0002_000b;
 fn starts(rt: &impl Abort, talk: &KindTalk, k: u32, asked: [u8; 14], back: &[u8])
     requires { length back.now ≤ 64 }
 {
-    check(rt, (talk.count(), talk.starts()) == (4, 4));
-    check(rt, k < 4);
+    check(rt, talk.count() == talk.starts());
+    check(rt, k < talk.starts());
     let mut words = [0; 384];
     let len = talk.encode(k, 40, &mut words);
     let packet = &words[..len];
@@ -65,7 +65,8 @@ fn starts(rt: &impl Abort, talk: &KindTalk, k: u32, asked: [u8; 14], back: &[u8]
 
 #[test]
 fn disks_start_up(rt: HostRuntime) -> Result<(), Fail> {
-    let talk = KindTalk::make(Kind::Disk, Vec::with_capacity(rt.alloc(), 0)?);
+    let talk = KindTalk::make(Kind::Disk, 0, 0, Vec::with_capacity(rt.alloc(), 0)?);
+    check(&rt, talk.starts() == 4);
     let t = &talk;
     starts(
         &rt,
@@ -100,6 +101,30 @@ fn disks_start_up(rt: HostRuntime) -> Result<(), Fail> {
         [8, 0, 0, 0, 1, 0, 0, 0, 0, 0, 0, 0, 0, 0],
         &[1, 0, 0, 0, 1],
     );
+    Ok(())
+}
+
+// The first channel asks for the sub-channels in the end, and a sub-channel asks for nothing.
+#[test]
+fn disks_ask_for_sub_channels(rt: HostRuntime) -> Result<(), Fail> {
+    let first = KindTalk::make(Kind::Disk, 0, 3, Vec::with_capacity(rt.alloc(), 0)?);
+    check(&rt, first.starts() == 5);
+    starts(
+        &rt,
+        &first,
+        3,
+        [8, 0, 0, 0, 1, 0, 0, 0, 0, 0, 0, 0, 0, 0],
+        &[1, 0, 0, 0, 1],
+    );
+    starts(
+        &rt,
+        &first,
+        4,
+        [13, 0, 0, 0, 1, 0, 0, 0, 0, 0, 0, 0, 3, 0],
+        &[1, 0, 0, 0, 1, 0, 0, 0, 0, 0, 0, 0, 3],
+    );
+    let other = KindTalk::make(Kind::Disk, 2, 3, Vec::with_capacity(rt.alloc(), 0)?);
+    check(&rt, (other.count(), other.starts()) == (0, 0));
     Ok(())
 }
 

@@ -1,6 +1,7 @@
 -- What stands in a script can be asked, and what a start-up asks has answers.
-use Rattle.std.proofs.Common.{◌≡◌, ◌+◌, ap, map, ◌<◌, ◌≤◌, ℕ, zero, suc, List, [], ◌∷◌, length, filter, get_or, take, ◌++◌, ◌∙◌, Option, Some, None, ◌⊎◌, inl, inr, refl, sym, subst, arith}
+use Rattle.std.proofs.Common.{◌≡◌, true, ◌+◌, ap, map, ◌<◌, ◌≤◌, ℕ, zero, suc, List, [], ◌∷◌, length, filter, get_or, take, ◌++◌, ◌∙◌, Option, Some, None, Result, Ok, Err, ◌⊎◌, inl, inr, refl, sym, subst, arith}
 use Rattle.std.proofs.lemmas.List.{length-append, length-map, take_all, take_more}
+use Rattle.std.specs.Prelude.{IfOk}
 use Rattle.std.specs.List.{AllByRecursion}
 use Rattle.wire_table.proofs.RowLaws.{IsBytes, all_bytes}
 use Rattle.contact.specs.declared.kind.Kind.{Kind}
@@ -17,7 +18,8 @@ use Rattle.bus_speech.specs.Disks.{IsDiskAsk}
 use Rattle.bus_speech.specs.Speeches.{has_answer_on}
 use Rattle.bus_speech.specs.Talks.{Talked, asks_of}
 use Rattle.bus_speech.specs.Wants.{startup}
-use Rattle.bus_speech.specs.declared.want.Want.TheVariants.{Script}
+use Rattle.bus_speech.specs.declared.want.Want.{Want}
+use Rattle.bus_speech.specs.declared.want.Want.TheVariants.{Starts, Script}
 use Rattle.bus_speech.proofs.SpeechLaws.{start_has_answer}
 use Rattle.end_work.specs.Plans.{AllCarried}
 
@@ -55,18 +57,6 @@ carried_can q carried cdb_bytes out_bytes = record {
   out_bytes = all_bytes q.out out_bytes;
 }
 
--- how many requests of a start-up have answers
-abbrev pub starts_with : Kind → ℕ
-starts_with kind = length (filter (has_answer_on kind) (startup kind))
-
-pub service_starts : (kind : Kind) → (kind ≡ Beat) ⊎ (kind ≡ Down) → 1 ≡ starts_with kind
-service_starts kind (inl is) = subst (λ k. 1 ≡ starts_with k) (sym is) (grind (arith, start_has_answer Beat 0 (λ e. absurd (cc (e)))))
-service_starts kind (inr is) = subst (λ k. 1 ≡ starts_with k) (sym is) (grind (arith, start_has_answer Down 0 (λ e. absurd (cc (e)))))
-
-pub disk_starts : (kind : Kind) → kind ≡ Disk → 4 ≡ starts_with kind
-disk_starts kind is = subst (λ k. 4 ≡ starts_with k) (sym is)
-    (grind (arith, start_has_answer Disk 0 (λ e. absurd (cc (e))), start_has_answer Disk 1 (λ e. absurd (cc (e))), start_has_answer Disk 2 (λ e. absurd (cc (e))), start_has_answer Disk 3 (λ e. absurd (cc (e)))))
-
 -- each request at a place of a list of which all are carried
 pub carried_kind : (kind : Kind) (asks : List Ask) (i : ℕ) (d : Ask) → AllCarried kind asks → i < length asks → kind_asked (get_or asks i d) ≡ kind
 carried_kind kind [] i d all below = absurd (omega arith)
@@ -79,8 +69,8 @@ carried_goes kind (a ∷ asks) zero d all below = all.1
 carried_goes kind (a ∷ asks) (suc i) d all below = carried_goes kind asks i d all.2 (omega arith)
 
 -- how much a talk has to ask
-pub asks_length : (kind : Kind) (asks : List Ask) (talk : Talked) → talk ≡ record { kind = kind; asks = asks } → length (asks_of talk) ≡ length (startup kind) + length asks
-asks_length kind asks talk is = omega (arith, ap (λ (t : Talked). length (asks_of t)) is, length-append (startup kind) (map Script asks), length-map asks Script)
+pub asks_length : (kind : Kind) (sub subs : ℕ) (asks : List Ask) (talk : Talked) → talk ≡ record { kind = kind; sub = sub; subs = subs; asks = asks } → length (asks_of talk) ≡ length (startup kind sub subs) + length asks
+asks_length kind sub subs asks talk is = omega (arith, ap (λ (t : Talked). length (asks_of t)) is, length-append (startup kind sub subs) (map Script asks), length-map asks Script)
 
 -- one more of a list that can be asked
 all_push : {A : Type 0} (P : A → Type 0) (xs : List A) (x : A) → AllByRecursion P xs → P x → AllByRecursion P (xs ++ x ∷ [])
@@ -93,8 +83,32 @@ all_more {A} P xs i x below is all here =
     subst (AllByRecursion P) (sym grown) (all_push P (take i xs) x all here)
 
 -- all requests of a start-up have answers
-pub starts_all : (kind : Kind) → length (startup kind) ≤ length (filter (has_answer_on kind) (startup kind))
-starts_all Beat = omega (arith, service_starts Beat (inl refl))
-starts_all Down = omega (arith, service_starts Down (inr refl))
-starts_all Disk = omega (arith, disk_starts Disk refl)
-starts_all Net = omega arith
+
+abbrev AllAnswered : Kind → List Want → Type 0
+AllAnswered kind wants = AllByRecursion (λ a. has_answer_on kind a ≡ true) wants
+
+answered_alike : (kind : Kind) (wants : List Want) → AllAnswered kind wants → filter (has_answer_on kind) wants ≡ wants
+answered_alike kind [] all = refl
+answered_alike kind (a ∷ wants) all = rw all.0 (ap (λ l. a ∷ l) (answered_alike kind wants all.1))
+
+disk_answers : (k : ℕ) → has_answer_on Disk (Starts k) ≡ true
+disk_answers k = start_has_answer Disk k (λ e. cc)
+
+starts_answered : (kind : Kind) (sub subs : ℕ) → AllAnswered kind (startup kind sub subs)
+starts_answered Beat zero subs = (start_has_answer Beat 0 (λ e. cc), tt)
+starts_answered Down zero subs = (start_has_answer Down 0 (λ e. cc), tt)
+starts_answered Disk zero zero = (disk_answers 0, (disk_answers 1, (disk_answers 2, (disk_answers 3, tt))))
+starts_answered Disk zero (suc n) = (disk_answers 0, (disk_answers 1, (disk_answers 2, (disk_answers 3, (disk_answers (3 + suc n), tt)))))
+starts_answered Net zero subs = tt
+starts_answered Beat (suc s) subs = tt
+starts_answered Down (suc s) subs = tt
+starts_answered Disk (suc s) subs = tt
+starts_answered Net (suc s) subs = tt
+
+pub starts_all : (kind : Kind) (sub subs : ℕ) → length (startup kind sub subs) ≡ length (filter (has_answer_on kind) (startup kind sub subs))
+starts_all kind sub subs = ap length (sym (answered_alike kind (startup kind sub subs) (starts_answered kind sub subs)))
+
+-- what follows where a call gives a value
+pub if_ok : {A E : Type 0} (P Q : A → Type 0) (r : Result A E) → ((a : A) → P a → Q a) → IfOk r P → IfOk r Q
+if_ok P Q (Ok a) follows is = follows a is
+if_ok P Q (Err e) follows is = tt

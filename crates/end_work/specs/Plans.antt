@@ -61,12 +61,11 @@ abbrev pub CanStop : Kind → Option (ℕ × Bool) → Type 0
 CanStop kind None = Unit {0}
 CanStop kind (Some k) = (kind ≡ DiskKind) × (k.0 ≤ 4096) × (k.1 ≡ true → 1 ≤ k.0)
 
--- A plan that a worker of this side can have: at most 64 requests are open, the channel is its device's first one, and where this side asks the list
--- has all requests, each of which the channel carries
+-- A plan that a worker of this side can have: at most 64 requests are open, at most 3 channels are beside the device's first one, and where this side asks
+-- the list has all requests, each of which the channel carries
 pub record CanPlan (side : Side) (p : Planned) : Type 0 where
   pub window : (1 ≤ p.window) × (p.window ≤ 64)
   pub few : p.count ≤ 4096
-  pub primary : p.sub ≡ 0
   pub subs : p.subs ≤ 3
   pub stop : CanStop p.kind p.stop
   pub asks : side ≡ side_that_asks p.kind → (length p.asks ≡ p.count) × AllCarried p.kind p.asks
@@ -76,12 +75,12 @@ abbrev pub HasSeat : Side → Planned → Option DeviceSeat → Type 0
 HasSeat side p None = side ≡ side_that_asks p.kind
 HasSeat side p (Some s) = (kind_at s ≡ p.kind) × (p.count ≤ left_at s)
 
--- a worker that asks was made for this plan: its start-up is the kind's, and its table has a place for each request that may be open
+-- a worker that asks was made for this plan: its start-up is that of the plan's channel, and its table has a place for each request that may be open
 pub record AsksFor (p : Planned) (w : Asking Talked Reply) : Type 0 where
   pub can : AllByRecursion (IsAskable p.kind) p.asks
-  pub talk : w.talk ≡ record { kind = p.kind; asks = p.asks }
+  pub talk : w.talk ≡ record { kind = p.kind; sub = p.sub; subs = p.subs; asks = p.asks }
   pub relid : w.relid ≡ p.relid
-  pub starts : w.starts ≡ length (startup p.kind)
+  pub starts : w.starts ≡ length (startup p.kind p.sub p.subs)
   pub window : length w.table ≡ p.window
 
 -- and one that serves, with this seat
@@ -93,7 +92,7 @@ pub record ServesFor (p : Planned) (seat : DeviceSeat) (w : Serving Talked Devic
   pub serve : w.serve ≡ count_of p.stop p.count
   pub held : w.desk.held ≡ held_of p.stop p.count
   pub stops : w.stops ≡ is_some p.stop
-  pub starts : w.starts ≡ length (filter (has_answer_on p.kind) (startup p.kind))
+  pub starts : w.starts ≡ length (filter (has_answer_on p.kind) (startup p.kind p.sub p.subs))
   pub come : w.come ≡ p.count
 
 -- a worker was made for this plan: without a seat it asks, and with one it serves

@@ -20,6 +20,7 @@ use crate::worker::{ChannelRequester, ChannelServer, ChannelWorker};
 use bus_script::Ask;
 use bus_talk::KindTalk;
 use chan_state::Stop;
+use chan_talk::Talk;
 use contact::Kind;
 use io_edge::Side;
 use requester::Requester;
@@ -29,18 +30,6 @@ use scsi_disk::DiskRequest;
 use server::Server;
 use std::alloc::{AllocError, Global};
 use util_ic::IcAsk;
-
-// How many requests of a start-up have answers.
-fn starts_of(kind: Kind) -> u32
-    ensures value { result ≡ length (filter (has_answer_on kind) (startup kind)) }
-    ensures few { result ≤ 4 }
-{
-    match kind {
-        Kind::Beat | Kind::Down => 1,
-        Kind::Disk => 4,
-        Kind::Net => 0,
-    }
-}
 
 // A heartbeat or a shutdown can be asked on its channel. It does nothing.
 fn service_can(kind: Kind, ask: IcAsk)
@@ -103,9 +92,12 @@ fn make_asker(
     end: End<TableSeat>,
     relid: u32,
     kind: Kind,
+    sub: u32,
+    subs: u32,
     window: u32,
     asks: Vec<Ask>,
 ) -> Result<ChannelRequester, AllocError>
+    requires subs { subs ≤ 3 }
     requires window { (1 ≤ window) × (window ≤ 64) }
     requires few { length asks.items ≤ 4096 }
     requires asks { AllCarried kind asks.items }
@@ -113,14 +105,15 @@ fn make_asker(
     requires size { (512 ≤ end.state.machine.cells) × (end.state.machine.cells ≤ 8192) }
     requires side { side ≡ end.state.machine.side }
     ensures can { IfOk result (λ w. AllByRecursion (IsAskable kind) asks.items) }
-    ensures talk { IfOk result (λ w. w.talk ≡ record { kind = kind; asks = asks.items }) }
+    ensures talk { IfOk result (λ w. w.talk ≡ record { kind = kind; sub = sub; subs = subs; asks = asks.items }) }
     ensures relid { IfOk result (λ w. w.relid ≡ relid) }
-    ensures starts { IfOk result (λ w. w.starts ≡ length (startup kind)) }
+    ensures starts { IfOk result (λ w. w.starts ≡ length (startup kind sub subs)) }
     ensures window { IfOk result (λ w. length w.table ≡ window) }
     ensures end { IfOk result (λ w. (w.end.state ≡ end.state) × (w.end.seat ≡ end.seat)) }
 {
     all_can(kind, &asks);
-    Requester::make(alloc, KindTalk::make(kind, asks), end, side, relid, window)
+    let talk = KindTalk::make(kind, sub, subs, asks);
+    Requester::make(alloc, talk, end, side, relid, window)
 }
 
 // How many of so many requests are served.
@@ -152,9 +145,12 @@ fn make_server(
     seat: DeviceSeat,
     relid: u32,
     kind: Kind,
+    sub: u32,
+    subs: u32,
     count: u32,
     stop: Option<Stop>,
 ) -> Result<ChannelServer, AllocError>
+    requires subs { subs ≤ 3 }
     requires kind { kind_at seat ≡ kind }
     requires left { count ≤ left_at seat }
     requires few { count ≤ 4096 }
@@ -164,11 +160,11 @@ fn make_server(
     ensures relid { IfOk result (λ w. w.desk.relid ≡ relid) }
     ensures talk { IfOk result (λ w. (w.desk.talk.kind ≡ kind) × (w.desk.seat ≡ seat) × (w.desk.before ≡ served_at seat)) }
     ensures orders { IfOk result (λ w. (w.serve ≡ count_of (stop_of stop) count) × (w.desk.held ≡ held_of (stop_of stop) count) × (w.stops ≡ is_some (stop_of stop)) × (w.come ≡ count)) }
-    ensures starts { IfOk result (λ w. w.starts ≡ length (filter (has_answer_on kind) (startup kind))) }
+    ensures starts { IfOk result (λ w. w.starts ≡ length (filter (has_answer_on kind) (startup kind sub subs))) }
     ensures end { IfOk result (λ w. (w.end.state ≡ end.state) × (w.end.seat ≡ end.seat)) }
 {
-    let talk = KindTalk::make(kind, Vec::new(alloc));
-    let starts = starts_of(kind);
+    let talk = KindTalk::make(kind, sub, subs, Vec::new(alloc));
+    let starts = talk.starts();
     let serve = serve_count(stop, count);
     let held = is_held(stop, count);
     let stops = stop.is_some();
@@ -210,8 +206,8 @@ pub(crate) fn make_worker(
     let Order {
         relid,
         kind,
-        sub: _,
-        subs: _,
+        sub,
+        subs,
         window,
         count,
         stop,
@@ -219,11 +215,32 @@ pub(crate) fn make_worker(
     } = order;
     match seat {
         None => {
-            let asker = make_asker(alloc, side, end, relid, kind, window, asks)?;
+            let asker = make_asker(
+                alloc,
+                side,
+                end,
+                relid,
+                kind,
+                u32::from(sub),
+                subs,
+                window,
+                asks,
+            )?;
             Ok(ChannelWorker::Asks(asker))
         }
         Some(seat) => {
-            let server = make_server(alloc, side, end, seat, relid, kind, count, stop)?;
+            let server = make_server(
+                alloc,
+                side,
+                end,
+                seat,
+                relid,
+                kind,
+                u32::from(sub),
+                subs,
+                count,
+                stop,
+            )?;
             Ok(ChannelWorker::Serves(server))
         }
     }

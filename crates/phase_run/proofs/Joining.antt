@@ -1,6 +1,5 @@
 -- Two workers that ended make a run of their channel.
 use Rattle.std.proofs.Common.{◌≡◌, ℕ, List, map, length, ap, ◌∙◌, subst}
-use Rattle.std.specs.Prelude.{◌==◌}
 use Rattle.std.specs.List.{AllByRecursion}
 use Rattle.std.proofs.lemmas.List.{length-map}
 use Rattle.chan_run.specs.declared.event.Event.{Event}
@@ -10,14 +9,13 @@ use Rattle.bus_script.specs.declared.outcome.Reply.{Reply}
 use Rattle.bus_speech.specs.declared.want.Want.TheVariants.{Script}
 use Rattle.bus_speech.specs.Wants.{IsAskable}
 use Rattle.bus_speech.specs.Speeches.{speech_of}
-use Rattle.bus_speech.proofs.SpeechLaws.{keeps, script_asks}
+use Rattle.bus_speech.proofs.SpeechLaws.{keeps, start_is_fixed, script_asks}
 use Rattle.work_model.specs.Server.{answered}
 use Rattle.work_model.specs.Channel.{AskerEnds, ServerEnds, count_of, held_of, IsChannelRun as Runs}
 use Rattle.work_model.proofs.Ends.{joins}
 use Rattle.bus_model.specs.Served.{Served}
 use Rattle.bus_model.specs.Orders.{Order, plan_of}
 use Rattle.bus_model.specs.Channel.{replies_to}
-use Rattle.bus_model.proofs.ChannelMade.{fixed_if}
 
 -- the ends of both workers, for what the phase orders
 pub record BothEnd (order : Order) (asker server : List (Event (List ℕ))) (calls : List Served) (told : List Reply) : Type 0 where
@@ -29,7 +27,7 @@ pub record BothEnd (order : Order) (asker server : List (Event (List ℕ))) (cal
 run_of : (order : Order) (asker server : List (Event (List ℕ))) (calls : List Served) (told : List Reply) → BothEnd order asker server calls told
     → Runs (speech_of order.kind) (plan_of order) (sent_of asker) (got_of asker) (sent_of server) (got_of server) calls told
 run_of order asker server calls told both =
-    joins (speech_of order.kind) (keeps order.kind) (plan_of order) (record { fixed = fixed_if order.kind (order.sub == 0); asks = script_asks order.kind order.asks both.can }) asker server calls told both.one both.asker_ends both.server_ends
+    joins (speech_of order.kind) (keeps order.kind) (plan_of order) (record { fixed = start_is_fixed order.kind order.sub order.subs; asks = script_asks order.kind order.asks both.can }) asker server calls told both.one both.asker_ends both.server_ends
 
 -- the replies that were read are those of the calls that were answered, in order
 pub told_is : (order : Order) (asker server : List (Event (List ℕ))) (calls : List Served) (told : List Reply) → BothEnd order asker server calls told → told ≡ map (λ c. c.reply) (replies_to order calls)

@@ -1,13 +1,13 @@
 -- The two workers of a channel are made.
 use Rattle.std.proofs.Common.{◌≡◌, ◌≤◌, ◌+◌, ◌*◌, ℕ, length, filter, List, [], Option, Some, None, is_some, Bool, true, false, Result, Ok, Err, refl, ap, sym, ◌∙◌, subst, arith}
-use Rattle.std.specs.Prelude.{IfOk, ◌==◌, if◌then◌else◌}
+use Rattle.std.specs.Prelude.{IfOk}
 use Rattle.std.specs.List.{AllByRecursion}
 use Rattle.script_lines.specs.declared.line.Ask.{Ask}
 use Rattle.bus_speech.specs.Speeches.{has_answer_on}
 use Rattle.bus_speech.specs.Talks.{Talked, asks_of}
 use Rattle.bus_speech.specs.Wants.{startup, IsAskable}
 use Rattle.bus_script.specs.declared.outcome.Reply.{Reply}
-use Rattle.bus_model.specs.Orders.{Order}
+use Rattle.bus_model.specs.Orders.{Order, startup_of}
 use Rattle.requester.specs.Asking.{Asking}
 use Rattle.server.specs.Serving.{Serving}
 use Rattle.contact.specs.declared.kind.Kind.{Kind}
@@ -31,14 +31,33 @@ use Rattle.end_work.proofs.Opening.{asks_length, starts_all}
 use Rattle.phase_run.specs.Agreeing.{HasCells}
 use Rattle.phase_run.specs.Pairs.{Pairing, AreOnChannel, MadeFor, OpensWith, IsNewSeat}
 
--- where the one that serves made room for the start-up and the requests, it made room for all that the other one asks
-room_for : (kind : Kind) (asks : List Ask) (a : Asking Talked Reply) (s : Serving Talked DeviceSeat Ask Reply) → a.talk ≡ record { kind = kind; asks = asks } → s.starts ≡ length (filter (has_answer_on kind) (startup kind)) → s.come ≡ length asks
-    → length (asks_of a.talk) ≤ s.starts + s.come
-room_for kind asks a s talk starts come = omega (arith, asks_length kind asks a.talk talk, starts_all kind, starts, come)
+-- a plan is one for the channel of an order
+pub record IsFor (order : Order) (p : Planned) : Type 0 where
+  pub kind : p.kind ≡ order.kind
+  pub sub : p.sub ≡ order.sub
+  pub subs : p.subs ≡ order.subs
 
--- the start-up of a first channel
-starts_at : Kind → ℕ → ℕ
-starts_at kind sub = length (filter (has_answer_on kind) (if sub == 0 then startup kind else []))
+-- what is ordered of a channel
+abbrev pub ordered : Kind → ℕ → ℕ → List Ask → Option (ℕ × Bool) → Order
+ordered kind sub subs asks stop = record { kind = kind; sub = sub; subs = subs; asks = asks; stop = stop }
+
+-- a plan with its kind and numbers is for it
+pub plan_for : (kind : Kind) (sub subs : ℕ) (asks : List Ask) (stop : Option (ℕ × Bool)) {p : Planned} {relid window count : ℕ} {stop' : Option (ℕ × Bool)} {asks' : List Ask}
+    → p ≡ record { relid = relid; kind = kind; sub = sub; subs = subs; window = window; count = count; stop = stop'; asks = asks' } → IsFor (ordered kind sub subs asks stop) p
+plan_for kind sub subs asks stop is = subst (IsFor (ordered kind sub subs asks stop)) (sym is) (record { kind = refl; sub = refl; subs = refl })
+
+-- the talk of such a channel
+abbrev talked : Kind → ℕ → ℕ → List Ask → Talked
+talked kind sub subs asks = record { kind = kind; sub = sub; subs = subs; asks = asks }
+
+-- how many requests of its start-up have answers
+answered_starts : Kind → ℕ → ℕ → ℕ
+answered_starts kind sub subs = length (filter (has_answer_on kind) (startup kind sub subs))
+
+-- where the one that serves made room for the start-up and the requests, it made room for all that the other one asks
+room_for : (order : Order) (a : Asking Talked Reply) (s : Serving Talked DeviceSeat Ask Reply) → a.talk ≡ talked order.kind order.sub order.subs order.asks → s.starts ≡ length (filter (has_answer_on order.kind) (startup_of order)) → s.come ≡ length order.asks
+    → length (asks_of a.talk) ≤ s.starts + s.come
+room_for order a s talk starts come = omega (arith, asks_length order.kind order.sub order.subs order.asks a.talk talk, starts_all order.kind order.sub order.subs, starts, come)
 
 unstopped : (stop : Option (ℕ × Bool)) → is_some stop ≡ false → stop ≡ None
 unstopped None e = refl
@@ -51,66 +70,61 @@ goes_on kind (Some k) side can = let other : Guest ≡ Host = sym (ap side_that_
 
 -- so the plans agree
 plans_agree : (order : Order) (seat : DeviceSeat) (a : Asking Talked Reply) (s : Serving Talked DeviceSeat Ask Reply) → MadeFor order seat a s → s.come ≡ length order.asks → PlansAgree a s
-unfolding starts_at
 plans_agree order seat a s made come = record {
   kind = ap (λ (t : Talked). t.kind) made.talk ∙ sym made.answers;
-  room = room_for order.kind order.asks a s made.talk (made.starts ∙ ap (starts_at order.kind) made.primary) come;
+  room = room_for order a s made.talk made.starts come;
   calls = λ go.
       let all : s.serve ≡ length order.asks = made.serve ∙ ap (λ k. count_of k (length order.asks)) (unstopped order.stop (sym made.stops ∙ go)) in
       omega (arith, all, ap (λ (t : Talked). length t.asks) made.talk);
 }
 
 -- both were made for one order
-made_for : (order : Order) (seat : DeviceSeat) (g h : Planned) (a : Asking Talked Reply) (s : Serving Talked DeviceSeat Ask Reply) → order.sub ≡ 0 → g.kind ≡ order.kind → g.asks ≡ order.asks → h.kind ≡ order.kind → h.count ≡ length order.asks → h.stop ≡ order.stop
+made_for : (order : Order) (seat : DeviceSeat) (g h : Planned) (a : Asking Talked Reply) (s : Serving Talked DeviceSeat Ask Reply) → IsFor order g → g.asks ≡ order.asks → IsFor order h → h.count ≡ length order.asks → h.stop ≡ order.stop
     → served_at seat ≡ [] → AsksFor g a → ServesFor h seat s → MadeFor order seat a s
-unfolding starts_at
-made_for order seat g h a s primary g_kind g_asks h_kind h_count h_stop fresh asked served = record {
-  can = subst (λ k. AllByRecursion (IsAskable k) order.asks) g_kind (subst (AllByRecursion (IsAskable g.kind)) g_asks asked.can);
-  primary = primary;
-  talk = asked.talk ∙ ap (λ k. talked k g.asks) g_kind ∙ ap (talked order.kind) g_asks;
-  answers = served.answers ∙ h_kind;
+unfolding answered_starts
+made_for order seat g h a s g_for g_asks h_for h_count h_stop fresh asked served = record {
+  can = subst (λ k. AllByRecursion (IsAskable k) order.asks) g_for.kind (subst (AllByRecursion (IsAskable g.kind)) g_asks asked.can);
+  talk = asked.talk ∙ ap (λ k. talked k g.sub g.subs g.asks) g_for.kind ∙ ap (λ n. talked order.kind n g.subs g.asks) g_for.sub ∙ ap (λ n. talked order.kind order.sub n g.asks) g_for.subs ∙ ap (talked order.kind order.sub order.subs) g_asks;
+  answers = served.answers ∙ h_for.kind;
   seat_is = served.seat_is;
   before = served.before ∙ fresh;
   serve = served.serve ∙ ap (λ k. count_of k h.count) h_stop ∙ ap (count_of order.stop) h_count;
   held = served.held ∙ ap (λ k. held_of k h.count) h_stop ∙ ap (held_of order.stop) h_count;
   stops = served.stops ∙ ap is_some h_stop;
-  starts = served.starts ∙ ap (λ k. length (filter (has_answer_on k) (startup k))) h_kind ∙ sym (ap (starts_at order.kind) primary);
+  starts = served.starts ∙ ap (λ k. answered_starts k h.sub h.subs) h_for.kind ∙ ap (λ n. answered_starts order.kind n h.subs) h_for.sub ∙ ap (answered_starts order.kind order.sub) h_for.subs;
 }
-  where
-    talked : Kind → List Ask → Talked
-    talked k l = record { kind = k; asks = l }
 
 -- a guest that serves, and a host that asks
-pub guest_roles : (order : Order) (seat : Option DeviceSeat) (g h : Planned) (guest host : ChannelWorker) → IsNewSeat order.kind (length order.asks) seat → order.sub ≡ 0 → g.kind ≡ order.kind → g.count ≡ length order.asks → g.stop ≡ order.stop → h.kind ≡ order.kind → h.asks ≡ order.asks
+pub guest_roles : (order : Order) (seat : Option DeviceSeat) (g h : Planned) (guest host : ChannelWorker) → IsNewSeat order.kind (length order.asks) seat → IsFor order g → g.count ≡ length order.asks → g.stop ≡ order.stop → IsFor order h → h.asks ≡ order.asks
     → IsMade g seat guest → IsMade h None host → AreRoles guest host
-guest_roles order None g h guest host new primary g_kind g_count g_stop h_kind h_asks made asked = absurd new
-guest_roles order (Some seat) g h (Asks a) host new primary g_kind g_count g_stop h_kind h_asks made asked = absurd made
-guest_roles order (Some seat) g h (Serves s) (Asks a) new primary g_kind g_count g_stop h_kind h_asks made asked =
-    plans_agree order seat a s (made_for order seat h g a s primary h_kind h_asks g_kind g_count g_stop new.1 asked made) (made.come ∙ g_count)
-guest_roles order (Some seat) g h (Serves s) (Serves t) new primary g_kind g_count g_stop h_kind h_asks made asked = absurd asked
+guest_roles order None g h guest host new g_for g_count g_stop h_for h_asks made asked = absurd new
+guest_roles order (Some seat) g h (Asks a) host new g_for g_count g_stop h_for h_asks made asked = absurd made
+guest_roles order (Some seat) g h (Serves s) (Asks a) new g_for g_count g_stop h_for h_asks made asked =
+    plans_agree order seat a s (made_for order seat h g a s h_for h_asks g_for g_count g_stop new.1 asked made) (made.come ∙ g_count)
+guest_roles order (Some seat) g h (Serves s) (Serves t) new g_for g_count g_stop h_for h_asks made asked = absurd asked
 
-pub guest_opens : (order : Order) (seat : Option DeviceSeat) (g h : Planned) (guest host : ChannelWorker) → side_that_asks order.kind ≡ Host → IsNewSeat order.kind (length order.asks) seat → order.sub ≡ 0 → g.kind ≡ order.kind → g.count ≡ length order.asks → g.stop ≡ order.stop → h.kind ≡ order.kind → h.asks ≡ order.asks
+pub guest_opens : (order : Order) (seat : Option DeviceSeat) (g h : Planned) (guest host : ChannelWorker) → side_that_asks order.kind ≡ Host → IsNewSeat order.kind (length order.asks) seat → IsFor order g → g.count ≡ length order.asks → g.stop ≡ order.stop → IsFor order h → h.asks ≡ order.asks
     → IsMade g seat guest → IsMade h None host → OpensWith order seat (record { guest = guest; host = host })
-guest_opens order None g h guest host side new primary g_kind g_count g_stop h_kind h_asks made asked = absurd new
-guest_opens order (Some seat) g h (Asks a) host side new primary g_kind g_count g_stop h_kind h_asks made asked = absurd made
-guest_opens order (Some seat) g h (Serves s) (Asks a) side new primary g_kind g_count g_stop h_kind h_asks made asked = (side, made_for order seat h g a s primary h_kind h_asks g_kind g_count g_stop new.1 asked made)
-guest_opens order (Some seat) g h (Serves s) (Serves t) side new primary g_kind g_count g_stop h_kind h_asks made asked = absurd asked
+guest_opens order None g h guest host side new g_for g_count g_stop h_for h_asks made asked = absurd new
+guest_opens order (Some seat) g h (Asks a) host side new g_for g_count g_stop h_for h_asks made asked = absurd made
+guest_opens order (Some seat) g h (Serves s) (Asks a) side new g_for g_count g_stop h_for h_asks made asked = (side, made_for order seat h g a s h_for h_asks g_for g_count g_stop new.1 asked made)
+guest_opens order (Some seat) g h (Serves s) (Serves t) side new g_for g_count g_stop h_for h_asks made asked = absurd asked
 
 -- a guest that asks, and a host that serves
-pub host_roles : (order : Order) (seat : Option DeviceSeat) (g h : Planned) (guest host : ChannelWorker) → IsNewSeat order.kind (length order.asks) seat → order.sub ≡ 0 → h.kind ≡ order.kind → h.count ≡ length order.asks → h.stop ≡ order.stop → g.kind ≡ order.kind → g.asks ≡ order.asks
+pub host_roles : (order : Order) (seat : Option DeviceSeat) (g h : Planned) (guest host : ChannelWorker) → IsNewSeat order.kind (length order.asks) seat → IsFor order h → h.count ≡ length order.asks → h.stop ≡ order.stop → IsFor order g → g.asks ≡ order.asks
     → IsMade h seat host → IsMade g None guest → AreRoles guest host
-host_roles order None g h guest host new primary h_kind h_count h_stop g_kind g_asks made asked = absurd new
-host_roles order (Some seat) g h guest (Asks a) new primary h_kind h_count h_stop g_kind g_asks made asked = absurd made
-host_roles order (Some seat) g h (Asks a) (Serves s) new primary h_kind h_count h_stop g_kind g_asks made asked =
-    plans_agree order seat a s (made_for order seat g h a s primary g_kind g_asks h_kind h_count h_stop new.1 asked made) (made.come ∙ h_count)
-host_roles order (Some seat) g h (Serves t) (Serves s) new primary h_kind h_count h_stop g_kind g_asks made asked = absurd asked
+host_roles order None g h guest host new h_for h_count h_stop g_for g_asks made asked = absurd new
+host_roles order (Some seat) g h guest (Asks a) new h_for h_count h_stop g_for g_asks made asked = absurd made
+host_roles order (Some seat) g h (Asks a) (Serves s) new h_for h_count h_stop g_for g_asks made asked =
+    plans_agree order seat a s (made_for order seat g h a s g_for g_asks h_for h_count h_stop new.1 asked made) (made.come ∙ h_count)
+host_roles order (Some seat) g h (Serves t) (Serves s) new h_for h_count h_stop g_for g_asks made asked = absurd asked
 
-pub host_opens : (order : Order) (seat : Option DeviceSeat) (g h : Planned) (guest host : ChannelWorker) → side_that_asks order.kind ≡ Guest → IsNewSeat order.kind (length order.asks) seat → order.sub ≡ 0 → h.kind ≡ order.kind → h.count ≡ length order.asks → h.stop ≡ order.stop → g.kind ≡ order.kind → g.asks ≡ order.asks
+pub host_opens : (order : Order) (seat : Option DeviceSeat) (g h : Planned) (guest host : ChannelWorker) → side_that_asks order.kind ≡ Guest → IsNewSeat order.kind (length order.asks) seat → IsFor order h → h.count ≡ length order.asks → h.stop ≡ order.stop → IsFor order g → g.asks ≡ order.asks
     → IsMade h seat host → IsMade g None guest → OpensWith order seat (record { guest = guest; host = host })
-host_opens order None g h guest host side new primary h_kind h_count h_stop g_kind g_asks made asked = absurd new
-host_opens order (Some seat) g h guest (Asks a) side new primary h_kind h_count h_stop g_kind g_asks made asked = absurd made
-host_opens order (Some seat) g h (Asks a) (Serves s) side new primary h_kind h_count h_stop g_kind g_asks made asked = (side, made_for order seat g h a s primary g_kind g_asks h_kind h_count h_stop new.1 asked made)
-host_opens order (Some seat) g h (Serves t) (Serves s) side new primary h_kind h_count h_stop g_kind g_asks made asked = absurd asked
+host_opens order None g h guest host side new h_for h_count h_stop g_for g_asks made asked = absurd new
+host_opens order (Some seat) g h guest (Asks a) side new h_for h_count h_stop g_for g_asks made asked = absurd made
+host_opens order (Some seat) g h (Asks a) (Serves s) side new h_for h_count h_stop g_for g_asks made asked = (side, made_for order seat g h a s g_for g_asks h_for h_count h_stop new.1 asked made)
+host_opens order (Some seat) g h (Serves t) (Serves s) side new h_for h_count h_stop g_for g_asks made asked = absurd asked
 
 -- a new end of a ring of so many pages
 pub is_new : (e : Seen TableSeat) (cells : ℕ) (side : Side) → e.state ≡ new_end cells side → e.state ≡ new_end e.state.machine.cells side

@@ -1,12 +1,11 @@
 -- What both workers of a pair come to, once they ended.
 use Rattle.std.proofs.Common.{◌≡◌, ◌≤◌, ◌+◌, ℕ, length, filter, arith, true, false, List, [], ◌++◌, map, Option, refl, sym, ap, ◌∙◌, subst}
-use Rattle.std.specs.Prelude.{◌==◌, if◌then◌else◌}
 use Rattle.std.proofs.lemmas.List.{length-map, append-nil}
 use Rattle.chan_run.specs.declared.event.Event.{Event}
 use Rattle.chan_run.specs.Laws.{AreOfOneRun}
 use Rattle.chan_run.specs.Runs.{sent_of, got_of}
 use Rattle.chan_run.proofs.Steps.{ends_exchanged}
-use Rattle.bus_model.specs.Orders.{Order, startup_of, plan_of}
+use Rattle.bus_model.specs.Orders.{Order, plan_of}
 use Rattle.bus_model.specs.Channel.{IsChannelRun, Carries, served_count, is_held, replies_to, sent_by, got_by, other}
 use Rattle.bus_model.proofs.FromLists.{serves_first_lem}
 use Rattle.bus_model.specs.Served.{Served}
@@ -70,7 +69,7 @@ is_whole_of (Room packets words left) is = absurd (cc (is))
 few_for : (a : Asking Talked Reply) (s : Serving Talked DeviceSeat Ask Reply) (asked : WorkerDone) → PlansAgree a s → LeavesAsked a asked → s.stops ≡ false → length (filter (is_asked (speech_of s.desk.talk.kind)) (sent_of asked.end.state.past)) ≤ s.serve
 few_for a s asked agree leaves go =
     let kind = a.talk.kind in
-    let few = few_asked (speech_of kind) (keeps kind) asked.ended (startup kind) (map Script a.talk.asks) asked.end.state.past asked.replies.items (start_is_fixed kind) leaves.asks in
+    let few = few_asked (speech_of kind) (keeps kind) asked.ended (startup kind a.talk.sub a.talk.subs) (map Script a.talk.asks) asked.end.state.past asked.replies.items (start_is_fixed kind a.talk.sub a.talk.subs) leaves.asks in
     omega (arith, ap (λ k. length (filter (is_asked (speech_of k)) (sent_of asked.end.state.past))) agree.kind, few, length-map a.talk.asks Script, agree.calls go)
 
 -- neither ended for want of room, or of a call
@@ -89,15 +88,10 @@ ends_all s Marked w e calls whole by = by.0
 ends_all s PeerMarked w e calls whole by = by.0
 ends_all s (Room packets words left) w e calls whole by = absurd (cc (whole))
 
--- the start-up of a first channel is that of its kind
-starts_up : (order : Order) → order.sub ≡ 0 → startup_of order ≡ startup order.kind
-starts_up order primary = ap (λ (n : ℕ). if n == 0 then startup order.kind else []) primary
-
 -- the end that asks, for what the phase orders
-asker_ends : (order : Order) (talk : Talked) (past : List (Event (List ℕ))) (told : List Reply) → order.sub ≡ 0 → talk ≡ record { kind = order.kind; asks = order.asks } → AsksAll (speech_of talk.kind) (asks_of talk) past told
+asker_ends : (order : Order) (talk : Talked) (past : List (Event (List ℕ))) (told : List Reply) → talk ≡ record { kind = order.kind; sub = order.sub; subs = order.subs; asks = order.asks } → AsksAll (speech_of talk.kind) (asks_of talk) past told
     → AskerEnds (speech_of order.kind) (plan_of order) past told
-asker_ends order talk past told primary is all =
-    subst (λ (t : Talked). AsksAll (speech_of t.kind) (asks_of t) past told) is all (plan_of order) (ap (λ (l : List Want). l ++ map Script order.asks) (starts_up order primary))
+asker_ends order talk past told is all = subst (λ (t : Talked). AsksAll (speech_of t.kind) (asks_of t) past told) is all (plan_of order) refl
 
 -- and the one that serves
 server_ends : (order : Order) (seat : DeviceSeat) (a : Asking Talked Reply) (s : Serving Talked DeviceSeat Ask Reply) (past : List (Event (List ℕ))) (calls : List Served) → MadeFor order seat a s
@@ -136,7 +130,7 @@ ran order seat a s asked served lists side at_side made ended =
     let both : BothEnd order asked.end.state.past served.end.state.past calls told = record {
       can = made.can;
       one = at.one;
-      asker_ends = asker_ends order a.talk asked.end.state.past told made.primary made.talk (asks_all _ asked.ended _ _ _ whole.0 ended.asker_leaves.asks);
+      asker_ends = asker_ends order a.talk asked.end.state.past told made.talk (asks_all _ asked.ended _ _ _ whole.0 ended.asker_leaves.asks);
       server_ends = server_ends order seat a s served.end.state.past calls made (ends_all _ served.ended _ _ _ whole.1 (subst (λ l. EndsBy (speech_of s.desk.talk.kind) served.ended s served.end l) none_before ended.server_leaves.serves));
     } in
     let carried : Carries (side_that_asks order.kind) order lists calls =

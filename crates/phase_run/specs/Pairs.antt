@@ -29,12 +29,11 @@ pub record Pairing : Type 0 where
   pub guest : ChannelWorker
   pub host : ChannelWorker
 
--- The workers were made for this order of a device's first channel, whose device has this seat: the one asks what is ordered, and the other serves as many
+-- The workers were made for this order of a channel, whose device has this seat: the one asks what is ordered, and the other serves as many
 -- requests, holds the answer to the last one where the order says so, and stops where the order does
 pub record MadeFor (order : Order) (seat : DeviceSeat) (asker : Asking Talked Reply) (server : Serving Talked DeviceSeat Ask Reply) : Type 0 where
   pub can : AllByRecursion (IsAskable order.kind) order.asks
-  pub primary : order.sub ≡ 0
-  pub talk : asker.talk ≡ record { kind = order.kind; asks = order.asks }
+  pub talk : asker.talk ≡ record { kind = order.kind; sub = order.sub; subs = order.subs; asks = order.asks }
   pub answers : server.desk.talk.kind ≡ order.kind
   pub seat_is : server.desk.seat ≡ seat
   pub before : server.desk.before ≡ []

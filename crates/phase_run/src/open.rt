@@ -5,7 +5,6 @@ ghost use Rattle.script_lines.specs.declared.line.Ask.TheVariants.{Ic as AskedIc
 ghost use Rattle.contact.specs.declared.kind.Kind.TheVariants.{Disk as DiskKind};
 ghost use Rattle.io_edge.specs.declared.side.Side.TheVariants.{Guest as GuestSide, Host as HostSide};
 ghost use Rattle.work_model.specs.Roles.{side_that_asks};
-ghost use Rattle.bus_model.specs.Orders.{only_order};
 ghost use Rattle.end_work.specs.Plans.{AllCarried, CanPlan, CanStop, HasSeat, IsMade, guest_planned, host_planned, stop_of};
 ghost use Rattle.end_work.specs.Seats.{served_at, kind_at, left_at, at_guest, at_host};
 ghost use Rattle.ring_seat.specs.Seats.{new_end};
@@ -76,14 +75,22 @@ fn ic_requests(alloc: Global, kind: Kind, asks: &[Ask]) -> Result<Vec<IcAsk>, Al
 }
 
 // The plan of a guest.
-fn guest_plan(relid: u32, kind: Kind, window: u32, count: u32, disk: Vec<DiskRequest>) -> GuestPlan
-    ensures { guest_planned result ≡ record { relid = relid; kind = kind; sub = 0; subs = 0; window = window; count = count; stop = None; asks = map AskedDisk disk.items } }
+fn guest_plan(
+    relid: u32,
+    kind: Kind,
+    sub: u16,
+    subs: u32,
+    window: u32,
+    count: u32,
+    disk: Vec<DiskRequest>,
+) -> GuestPlan
+    ensures { guest_planned result ≡ record { relid = relid; kind = kind; sub = sub; subs = subs; window = window; count = count; stop = None; asks = map AskedDisk disk.items } }
 {
     GuestPlan {
         relid,
         kind,
-        sub: 0,
-        subs: 0,
+        sub,
+        subs,
         window,
         count,
         disk,
@@ -94,18 +101,20 @@ fn guest_plan(relid: u32, kind: Kind, window: u32, count: u32, disk: Vec<DiskReq
 fn host_plan(
     relid: u32,
     kind: Kind,
+    sub: u16,
+    subs: u32,
     window: u32,
     count: u32,
     stop: Option<Stop>,
     asks: Vec<IcAsk>,
 ) -> HostPlan
-    ensures { host_planned result ≡ record { relid = relid; kind = kind; sub = 0; subs = 0; window = window; count = count; stop = stop_of stop; asks = map AskedIc asks.items } }
+    ensures { host_planned result ≡ record { relid = relid; kind = kind; sub = sub; subs = subs; window = window; count = count; stop = stop_of stop; asks = map AskedIc asks.items } }
 {
     HostPlan {
         relid,
         kind,
-        sub: 0,
-        subs: 0,
+        sub,
+        subs,
         window,
         count,
         stop,
@@ -201,6 +210,8 @@ fn open_service(
     alloc: Global,
     kind: Kind,
     relid: u32,
+    sub: u16,
+    subs: u32,
     pages: u32,
     window: u32,
     seat: GuestSeat,
@@ -209,18 +220,19 @@ fn open_service(
 ) -> Result<Pair, AllocError>
     requires host { side_that_asks kind ≡ HostSide }
     requires stop { CanStop kind (stop_of stop) }
+    requires subs { subs ≤ 3 }
     requires pages { (1 ≤ pages) × (pages ≤ 16) }
     requires window { (1 ≤ window) × (window ≤ 64) }
     requires few { length asks.now ≤ 4096 }
     requires asks { AllCarried kind asks.now }
     requires seat { IsNewSeat kind (length asks.now) (at_guest seat) }
-    ensures opens { IfOk result (OpensWith (only_order kind asks.now (stop_of stop)) (at_guest seat)) }
+    ensures opens { IfOk result (OpensWith (record { kind = kind; sub = sub; subs = subs; asks = asks.now; stop = stop_of stop }) (at_guest seat)) }
     ensures channel { IfOk result (AreOnChannel relid (512 * pages) window) }
 {
     let count = asks.len() as u32;
     let requests = ic_requests(alloc, kind, asks)?;
-    let guest = guest_plan(relid, kind, window, count, Vec::new(alloc));
-    let host = host_plan(relid, kind, window, count, stop, requests);
+    let guest = guest_plan(relid, kind, sub, subs, window, count, Vec::new(alloc));
+    let host = host_plan(relid, kind, sub, subs, window, count, stop, requests);
     make_pair(alloc, pages, seat, guest, HostSeat::None, host)
 }
 
@@ -229,6 +241,8 @@ fn open_disk(
     alloc: Global,
     kind: Kind,
     relid: u32,
+    sub: u16,
+    subs: u32,
     pages: u32,
     window: u32,
     seat: HostSeat,
@@ -237,27 +251,31 @@ fn open_disk(
 ) -> Result<Pair, AllocError>
     requires disk { kind ≡ DiskKind }
     requires stop { CanStop kind (stop_of stop) }
+    requires subs { subs ≤ 3 }
     requires pages { (1 ≤ pages) × (pages ≤ 16) }
     requires window { (1 ≤ window) × (window ≤ 64) }
     requires few { length asks.now ≤ 4096 }
     requires asks { AllCarried kind asks.now }
     requires seat { IsNewSeat kind (length asks.now) (at_host seat) }
-    ensures opens { IfOk result (OpensWith (only_order kind asks.now (stop_of stop)) (at_host seat)) }
+    ensures opens { IfOk result (OpensWith (record { kind = kind; sub = sub; subs = subs; asks = asks.now; stop = stop_of stop }) (at_host seat)) }
     ensures channel { IfOk result (AreOnChannel relid (512 * pages) window) }
 {
     let count = asks.len() as u32;
     let requests = disk_requests(alloc, kind, asks)?;
-    let guest = guest_plan(relid, kind, window, count, requests);
-    let host = host_plan(relid, kind, window, count, stop, Vec::new(alloc));
+    let guest = guest_plan(relid, kind, sub, subs, window, count, requests);
+    let host = host_plan(relid, kind, sub, subs, window, count, stop, Vec::new(alloc));
     make_pair(alloc, pages, GuestSeat::None, guest, seat, host)
 }
 
-/// Opens a channel whose rings have so many pages, with its two workers, and takes all memory that they need. The end that serves stops where this says,
+/// Opens a channel whose rings have so many pages, with its two workers, and takes all memory that they need. `sub` is its number among the channels of its
+/// device, of which `subs` are beside the first one: that one asks for them at the end of its start-up, and a sub-channel has no start-up. The end that serves stops where this says,
 /// which the channel of a disk alone can.
 pub fn open_pair(
     alloc: Global,
     kind: Kind,
     relid: u32,
+    sub: u16,
+    subs: u32,
     pages: u32,
     window: u32,
     seat: DeviceSeat,
@@ -266,27 +284,34 @@ pub fn open_pair(
 ) -> Result<Pair, AllocError>
     requires kind { kind_at seat ≡ kind }
     requires stop { CanStop kind (stop_of stop) }
+    requires subs { subs ≤ 3 }
     requires pages { (1 ≤ pages) × (pages ≤ 16) }
     requires window { (1 ≤ window) × (window ≤ 64) }
     requires few { length asks.now ≤ 4096 }
     requires asks { AllCarried kind asks.now }
     requires fresh { served_at seat ≡ [] }
     requires left { length asks.now ≤ left_at seat }
-    ensures opens { IfOk result (Opens (only_order kind asks.now (stop_of stop)) seat) }
+    ensures opens { IfOk result (Opens (record { kind = kind; sub = sub; subs = subs; asks = asks.now; stop = stop_of stop }) seat) }
     ensures channel { IfOk result (AreOnChannel relid (512 * pages) window) }
 {
     match seat {
         DeviceSeat::Beat(seat) => {
             let seat = GuestSeat::Beat(seat);
-            open_service(alloc, kind, relid, pages, window, seat, asks, stop)
+            open_service(
+                alloc, kind, relid, sub, subs, pages, window, seat, asks, stop,
+            )
         }
         DeviceSeat::Down(seat) => {
             let seat = GuestSeat::Down(seat);
-            open_service(alloc, kind, relid, pages, window, seat, asks, stop)
+            open_service(
+                alloc, kind, relid, sub, subs, pages, window, seat, asks, stop,
+            )
         }
         DeviceSeat::Disk(seat) => {
             let seat = HostSeat::Disk(seat);
-            open_disk(alloc, kind, relid, pages, window, seat, asks, stop)
+            open_disk(
+                alloc, kind, relid, sub, subs, pages, window, seat, asks, stop,
+            )
         }
     }
 }

@@ -1,18 +1,16 @@
 use Rattle.std.proofs.Common.{◌≡◌, ◌∙◌, ◌*◌, ap, refl, sym, subst, length, arith, None}
 use Rattle.io_edge.specs.declared.side.Side.TheVariants.{Guest, Host}
-use Rattle.bus_model.specs.Orders.{only_order}
 use Rattle.work_model.specs.Roles.{side_that_asks}
 use Rattle.end_work.specs.Plans.{AllCarried, CanPlan, Planned, guest_planned, host_planned, stop_of}
 use Rattle.end_work.specs.Seats.{at_host}
-use Rattle.phase_run.proofs.Making.{host_roles, host_opens, made_opens, on_channel}
+use Rattle.phase_run.proofs.Making.{ordered, plan_for, host_roles, host_opens, made_opens, on_channel}
 use Rattle.phase_run.proofs.open.open_disk.Goals as goal
 
 pub make_pair-requires-clause-guest : goal.make_pair-requires-clause-guest
 make_pair-requires-clause-guest c = subst (CanPlan Guest) (sym c.guest_plan-guest.ensures) (record {
   window = c.requires.window;
   few = c.requires.few;
-  primary = refl;
-  subs = omega arith;
+  subs = c.requires.subs;
   stop = tt;
   asks = λ side. (ap length c.in_ok-requests.ensures, subst (AllCarried c.args.kind) (sym c.in_ok-requests.ensures) c.requires.asks);
 })
@@ -21,24 +19,23 @@ pub make_pair-requires-clause-host : goal.make_pair-requires-clause-host
 make_pair-requires-clause-host c = subst (CanPlan Host) (sym c.host_plan-host.ensures) (record {
   window = c.requires.window;
   few = c.requires.few;
-  primary = refl;
-  subs = omega arith;
+  subs = c.requires.subs;
   stop = c.requires.stop;
   asks = λ side. let no : Host ≡ Guest = side ∙ ap side_that_asks c.requires.disk in absurd (cc);
 })
 
 pub make_pair-requires-clause-roles : goal.make_pair-requires-clause-roles
 make_pair-requires-clause-roles c guest host asked served =
-    host_roles (only_order c.args.kind c.args.asks.now (stop_of c.args.stop)) (at_host c.args.seat) (guest_planned c.guest_plan-guest.result) (host_planned c.host_plan-host.result) guest host c.requires.seat refl
-    (ap (λ (p : Planned). p.kind) c.host_plan-host.ensures) (ap (λ (p : Planned). p.count) c.host_plan-host.ensures) (ap (λ (p : Planned). p.stop) c.host_plan-host.ensures)
-    (ap (λ (p : Planned). p.kind) c.guest_plan-guest.ensures) (ap (λ (p : Planned). p.asks) c.guest_plan-guest.ensures ∙ c.in_ok-requests.ensures) served asked
+    host_roles (ordered c.args.kind c.args.sub c.args.subs c.args.asks.now (stop_of c.args.stop)) (at_host c.args.seat) (guest_planned c.guest_plan-guest.result) (host_planned c.host_plan-host.result) guest host c.requires.seat
+    (plan_for c.args.kind c.args.sub c.args.subs c.args.asks.now (stop_of c.args.stop) c.host_plan-host.ensures) (ap (λ (p : Planned). p.count) c.host_plan-host.ensures) (ap (λ (p : Planned). p.stop) c.host_plan-host.ensures)
+    (plan_for c.args.kind c.args.sub c.args.subs c.args.asks.now (stop_of c.args.stop) c.guest_plan-guest.ensures) (ap (λ (p : Planned). p.asks) c.guest_plan-guest.ensures ∙ c.in_ok-requests.ensures) served asked
 
 pub returns-clause-opens : goal.returns-clause-opens
 returns-clause-opens c =
-    made_opens (only_order c.args.kind c.args.asks.now (stop_of c.args.stop)) (at_host c.args.seat) (guest_planned c.guest_plan-guest.result) (host_planned c.host_plan-host.result) None (at_host c.args.seat) c.make_pair.result
-    (λ guest host asked served. host_opens (only_order c.args.kind c.args.asks.now (stop_of c.args.stop)) (at_host c.args.seat) (guest_planned c.guest_plan-guest.result) (host_planned c.host_plan-host.result) guest host (ap side_that_asks c.requires.disk) c.requires.seat refl
-    (ap (λ (p : Planned). p.kind) c.host_plan-host.ensures) (ap (λ (p : Planned). p.count) c.host_plan-host.ensures) (ap (λ (p : Planned). p.stop) c.host_plan-host.ensures)
-    (ap (λ (p : Planned). p.kind) c.guest_plan-guest.ensures) (ap (λ (p : Planned). p.asks) c.guest_plan-guest.ensures ∙ c.in_ok-requests.ensures) served asked)
+    made_opens (ordered c.args.kind c.args.sub c.args.subs c.args.asks.now (stop_of c.args.stop)) (at_host c.args.seat) (guest_planned c.guest_plan-guest.result) (host_planned c.host_plan-host.result) None (at_host c.args.seat) c.make_pair.result
+    (λ guest host asked served. host_opens (ordered c.args.kind c.args.sub c.args.subs c.args.asks.now (stop_of c.args.stop)) (at_host c.args.seat) (guest_planned c.guest_plan-guest.result) (host_planned c.host_plan-host.result) guest host (ap side_that_asks c.requires.disk) c.requires.seat
+    (plan_for c.args.kind c.args.sub c.args.subs c.args.asks.now (stop_of c.args.stop) c.host_plan-host.ensures) (ap (λ (p : Planned). p.count) c.host_plan-host.ensures) (ap (λ (p : Planned). p.stop) c.host_plan-host.ensures)
+    (plan_for c.args.kind c.args.sub c.args.subs c.args.asks.now (stop_of c.args.stop) c.guest_plan-guest.ensures) (ap (λ (p : Planned). p.asks) c.guest_plan-guest.ensures ∙ c.in_ok-requests.ensures) served asked)
     c.make_pair.ensures.guest c.make_pair.ensures.host
 
 pub returns-clause-channel : goal.returns-clause-channel
