@@ -9,7 +9,7 @@ use Rattle.page_kept.specs.declared.kept.Kept.{Kept}
 use Rattle.page_kept.specs.declared.owner.Owner.{Owner}
 use Rattle.page_kept.specs.declared.owner.Owner.TheVariants.{Has, Lent, Held, Away}
 use Rattle.page_kept.specs.Items.{packets, values, item_of}
-use Rattle.page_kept.specs.Layouts.{other_end, Layout}
+use Rattle.page_kept.specs.Layouts.{Layout}
 use Rattle.page_kept.specs.Kept.{copy_in}
 use Rattle.page_kept.specs.Stepped.{word_in, with_word, page_stored, page_loaded_at, page_loaded}
 use Rattle.page_kept.specs.Keepers.{CanStore, MayStore, Keeper, keeper}

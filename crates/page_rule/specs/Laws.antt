@@ -1,13 +1,13 @@
 -- What the rule of pages says, in plain words, and that each move keeps it.
-use Rattle.std.specs.Prelude.{◌≡◌, ℕ, ◌+◌, ◌<◌, ◌≤◌, ◌==◌, ◌*◌, true, false, length, List, [], ◌∷◌, ◌++◌, Some, slice_set}
+use Rattle.std.specs.Prelude.{◌≡◌, ℕ, ◌+◌, ◌^◌, ◌<◌, ◌≤◌, ◌==◌, ◌*◌, false, length, List, [], ◌∷◌, ◌++◌, Some, slice_set}
 use Rattle.io_edge.specs.declared.side.Side.{Side}
 use Rattle.page_kept.specs.declared.due.Due.TheVariants.{Clear, Loads}
 use Rattle.page_kept.specs.declared.item.Item.{Item}
 use Rattle.page_kept.specs.declared.kept.Kept.{Kept}
 use Rattle.page_kept.specs.declared.owner.Owner.TheVariants.{Has, Lent, Held}
 use Rattle.page_kept.specs.Items.{packets}
-use Rattle.page_kept.specs.Layouts.{other_end, Loan, Layout}
-use Rattle.page_kept.specs.Kept.{first_owner, owner_in, pages_sent, pages_took}
+use Rattle.page_kept.specs.Layouts.{Loan, Layout}
+use Rattle.page_kept.specs.Kept.{first_owner, pages_sent, pages_took}
 use Rattle.page_kept.specs.Stepped.{word_in, page_stored, page_loaded}
 use Rattle.page_kept.specs.Counts.{is_ask, nth}
 use Rattle.page_kept.specs.Keepers.{Keeper, keeper, asked, taken, ended, back, MaySend, MayStore}
@@ -16,6 +16,10 @@ use Rattle.page_rule.specs.Pages.{PagesOwned}
 -- an end of a new channel
 abbrev pub new_keeper : Layout → Side → Keeper
 new_keeper l x = record { sent = []; took = []; got = []; owner = λ q. first_owner x (l.home q); copy = λ q w. 0; due = Clear }
+
+-- a packet in band with id 1, which is an RNDIS packet whose message is the first 512 bytes of section 0
+abbrev pub small_request : List ℕ
+small_request = (6 + 2 * 2 ^ 16 + 7 * 2 ^ 32) ∷ 1 ∷ 107 ∷ (512 * 2 ^ 32) ∷ 0 ∷ 0 ∷ 0 ∷ []
 
 -- The pages of an end are listed, with 512 words a page in its copy. Each page that a packet names is in the list, and 1 to 512 words of it are lent
 pub record Lawful (l : Layout) (k : Kept) : Type 0 where

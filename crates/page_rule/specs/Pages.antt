@@ -1,5 +1,5 @@
 -- What two ends of a channel with data pages have to do with each other. It speaks of what each end sent and took, of its pages, and of the page words.
-use Rattle.std.specs.Prelude.{◌≡◌, ◌⊎◌, ℕ, ◌<◌, ◌≤◌, Bool, false, ◌&&◌, ◌==◌, ltb, leb, cond, List, [], ◌∷◌, ◌++◌, Option, Some, None}
+use Rattle.std.specs.Prelude.{◌≡◌, ◌⊎◌, ℕ, ◌<◌, ◌≤◌, Bool, false, ◌&&◌, ◌==◌, ltb, leb, cond, List, [], ◌∷◌, ◌++◌, Some, None}
 use Rattle.io_edge.specs.declared.side.Side.{Side}
 use Rattle.page_kept.specs.declared.due.Due.{Due}
 use Rattle.page_kept.specs.declared.due.Due.TheVariants.{Clear, Loads}

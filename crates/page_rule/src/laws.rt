@@ -1,11 +1,12 @@
 //! Laws of pages: each function does nothing, and its contract is a law.
-ghost use Rattle.std.specs.Prelude.{◌≡◌, ℕ, List};
+ghost use Rattle.std.specs.Prelude.{◌≡◌, ℕ, List, Some};
 ghost use Rattle.io_edge.specs.declared.side.Side.{Side};
+ghost use Rattle.io_edge.specs.declared.side.Side.TheVariants.{Guest};
 ghost use Rattle.page_kept.specs.declared.kept.Kept.{Kept};
-ghost use Rattle.page_kept.specs.Layouts.{other_end, Layout};
-ghost use Rattle.page_kept.specs.Keepers.{Keeper};
+ghost use Rattle.page_kept.specs.Layouts.{other_end, Layout, layout};
+ghost use Rattle.page_kept.specs.Keepers.{Keeper, MaySend};
 ghost use Rattle.page_rule.specs.Pages.{PagesOwned};
-ghost use Rattle.page_rule.specs.Laws.{new_keeper, Says, Keeps};
+ghost use Rattle.page_rule.specs.Laws.{new_keeper, small_request, Says, Keeps};
 
 /// Each packet that an end sends or takes, and each page word that it stores or loads, keeps the rule of pages.
 pub fn moves_keep_the_rule()
@@ -22,4 +23,10 @@ pub fn new_channels_meet_it()
 /// with nothing to load got the front of its peer's items, with their page words.
 pub fn rule_says()
     ensures { (l : Layout) (s : Side) (W : ℕ → ℕ → ℕ) (x y : Keeper) → PagesOwned l s W x y → Says l s W x y }
+{}
+
+/// The guest of a new channel with a page may send a packet that lends the page: what a send asks can be met.
+pub fn first_request_lends()
+    ensures lends { (layout 1).lends small_request ≡ Some record { page = 0; words = 64 } }
+    ensures may { MaySend (layout 1) (new_keeper (layout 1) Guest) small_request }
 {}
