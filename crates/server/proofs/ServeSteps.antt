@@ -1,5 +1,5 @@
 -- The serving worker's steps keep what it keeps.
-use Rattle.std.proofs.Common.{◌≡◌, ℕ, ◌+◌, ◌≤◌, List, [], ◌∷◌, ◌++◌, length, filter, drop, refl, sym, ap, ◌∙◌, subst, arith, Option, Some, None, is_some, Bool, true, false, inl, inr, ◌⊎◌, length-append}
+use Rattle.std.proofs.Common.{◌≡◌, ℕ, ◌+◌, ◌-◌, ◌≤◌, List, [], ◌∷◌, ◌++◌, length, filter, drop, refl, sym, ap, ◌∙◌, subst, arith, Option, Some, None, is_some, Bool, true, false, inl, inr, ◌⊎◌, length-append}
 use Rattle.std.specs.Prelude.{◌&&◌, ◌||◌, ◌<◌, ◌==◌, not, zero, suc, take, if◌then◌else◌, slice_get}
 use Rattle.std.specs.Option.{option_map_or}
 use Rattle.std.proofs.lemmas.List.{append-nil, drop-append-le, drop_all, drop_more, take-append-le, take-append-drop, take_all, take_more}
@@ -24,7 +24,7 @@ use Rattle.work_model.proofs.Serving.{server_took, server_served, server_passed,
 use Rattle.channel_port.specs.Line.{SleepsFor}
 use Rattle.channel_port.specs.Owed.{is_nil, need_of, MetFull}
 use Rattle.channel_port.specs.Rooms.{SentAtMost, AskedOver, ServeLacksFor}
-use Rattle.server.specs.Serving.{Desk, Serving, IsServing, Rests, ServesPacket, Orders, EndsAll, BreaksOff, CallsEach, AnswersAll, LetsGo, EndsBy, LeavesOff, LacksRoom, ServesOn, has_served, is_asked, lacks_call, marked_by}
+use Rattle.server.specs.Serving.{Desk, Serving, IsServing, Rests, ServesPacket, Orders, EndsAll, BreaksOff, CallsEach, AnswersAll, LetsGo, EndsBy, LeavesOff, LacksRoom, ServesOn, has_done, has_served, is_asked, lacks_call, marked_by}
 use Rattle.channel_port.specs.declared.ended.Ended.{Ended}
 use Rattle.channel_port.specs.declared.ended.Ended.TheVariants.{Marked as EndedMarked, PeerMarked, Room}
 
@@ -55,7 +55,7 @@ module _ {T S A Q R : Type 0} (s : Speech (List ℕ) A Q R) (keeps : Keeps s) (w
 
   -- a packet was taken
   pub took_kept : (end' : Seen TableSeat) (missing' : ℕ) (p : List ℕ) → end'.state.past ≡ Got p ∷ w.end.state.past → end'.state.got ≡ w.end.state.got ++ p ∷ [] → end'.state.machine.asleep ≡ false
-      → w.missing ≤ missing' + (if s.is_request p && s.waits p then 1 else 0) → IsServing s w → IsServing s (record w { end = end'; missing = missing' })
+      → missing' ≡ w.missing - (if s.is_request p && s.waits p then 1 else 0) → IsServing s w → IsServing s (record w { end = end'; missing = missing' })
   took_kept end' missing' p is more awake less h =
       let got = w.end.state.got in
       let rest : drop w.served end'.state.got ≡ drop w.served got ++ p ∷ [] = ap (drop w.served) more ∙ drop-append-le w.served got (p ∷ []) h.within in
@@ -64,7 +64,8 @@ module _ {T S A Q R : Type 0} (s : Speech (List ℕ) A Q R) (keeps : Keeps s) (w
         kept = subst (λ l. ServerKept s w.desk.held w.serve l w.desk.calls w.desk.owed w.desk.left (drop w.served end'.state.got)) (sym is)
             (subst (λ l. ServerKept s w.desk.held w.serve (Got p ∷ w.end.state.past) w.desk.calls w.desk.owed w.desk.left l) (sym rest) k);
         within = omega (arith, h.within, ap length more, length-append got (p ∷ []));
-        started = omega (arith, h.started, less, waited_more p (got_of w.end.state.past), ap (λ l. length (filter s.waits (filter s.is_request (got_of l)))) is);
+        few = h.few;
+        missing_is = omega (arith, h.missing_is, less, waited_more p (got_of w.end.state.past), ap (λ l. length (filter s.waits (filter s.is_request (got_of l)))) is);
         saw = ap has_seen is ∙ h.saw;
         rests = λ e. not_both end'.state.machine.asleep awake e;
         each = λ go. ap (λ l. length (filter (is_asked s) l)) (ap (take w.served) more ∙ take-append-le w.served got (p ∷ []) h.within) ∙ h.each go;
@@ -80,7 +81,8 @@ module _ {T S A Q R : Type 0} (s : Speech (List ℕ) A Q R) (keeps : Keeps s) (w
         kept = subst (λ l. ServerKept s w.desk.held w.serve l w.desk.calls w.desk.owed w.desk.left (drop w.served end'.state.got)) (sym is)
             (subst (λ l. ServerKept s w.desk.held w.serve (e ∷ w.end.state.past) w.desk.calls w.desk.owed w.desk.left (drop w.served l)) (sym got) k);
         within = omega (arith, h.within, ap length got);
-        started = omega (arith, h.started, ap (λ l. length (filter s.waits (filter s.is_request (got_of l)))) is, ap (λ l. length (filter s.waits (filter s.is_request l))) same');
+        few = h.few;
+        missing_is = omega (arith, h.missing_is, ap (λ l. length (filter s.waits (filter s.is_request (got_of l)))) is, ap (λ l. length (filter s.waits (filter s.is_request l))) same');
         saw = ap has_seen is ∙ saw;
         rests = λ b. not_both end'.state.machine.asleep awake b;
         each = λ go. ap (λ l. length (filter (is_asked s) (take w.served l))) got ∙ h.each go;
@@ -94,7 +96,8 @@ module _ {T S A Q R : Type 0} (s : Speech (List ℕ) A Q R) (keeps : Keeps s) (w
         kept = subst (λ l. ServerKept s w.desk.held w.serve l w.desk.calls w.desk.owed w.desk.left (drop w.served end'.state.got)) (sym is)
             (subst (λ l. ServerKept s w.desk.held w.serve w.end.state.past w.desk.calls w.desk.owed w.desk.left (drop w.served l)) (sym got) h.kept);
         within = omega (arith, h.within, ap length got);
-        started = omega (arith, h.started, ap (λ l. length (filter s.waits (filter s.is_request (got_of l)))) is);
+        few = h.few;
+        missing_is = omega (arith, h.missing_is, ap (λ l. length (filter s.waits (filter s.is_request (got_of l)))) is);
         saw = ap has_seen is ∙ h.saw;
         rests = rests;
         each = λ go. ap (λ l. length (filter (is_asked s) (take w.served l))) got ∙ h.each go;
@@ -111,7 +114,8 @@ module _ {T S A Q R : Type 0} (s : Speech (List ℕ) A Q R) (keeps : Keeps s) (w
         kept = subst (λ l. ServerKept s w.desk.held w.serve l w.desk.calls (drop 1 w.desk.owed) w.desk.left (drop w.served end'.state.got)) (sym is)
             (subst (λ l. ServerKept s w.desk.held w.serve (Sent p ∷ w.end.state.past) w.desk.calls (drop 1 w.desk.owed) w.desk.left (drop w.served l)) (sym got) k);
         within = omega (arith, h.within, ap length got);
-        started = omega (arith, h.started, ap (λ l. length (filter s.waits (filter s.is_request (got_of l)))) is);
+        few = omega (arith, h.few, ap length first);
+        missing_is = omega (arith, h.missing_is, ap (λ l. length (filter s.waits (filter s.is_request (got_of l)))) is);
         saw = ap has_seen is ∙ h.saw;
         rests = λ b. not_both end'.state.machine.asleep awake b;
         each = λ go. ap (λ l. length (filter (is_asked s) (take w.served l))) got ∙ h.each go;
@@ -165,10 +169,10 @@ module _ {T S A Q R : Type 0} (s : Speech (List ℕ) A Q R) (keeps : Keeps s) (w
       let grown : take (w.served + 1) got ≡ take w.served got ++ p ∷ [] = take_more got w.served [] (omega (arith, less)) ∙ ap (λ x. take w.served got ++ x ∷ []) (get_or_from_slice_get got w.served p [] at) in
       omega (arith, ap (λ l. length (filter (is_asked s) l)) grown, asked_more p (take w.served got), h.each go, calls_one p w.desk.calls calls' owed' w.desk.left left' (has_call p at not_lacks go) one)
 
-  pub served_kept : (desk' : Desk T S Q R) (p : List ℕ) → w.served + 1 ≤ length w.end.state.got → slice_get w.end.state.got w.served ≡ Some p → w.desk.owed ≡ [] → lacks_call s w ≡ false → desk'.held ≡ w.desk.held
+  pub served_kept : (desk' : Desk T S Q R) (p : List ℕ) → w.served + 1 ≤ length w.end.state.got → slice_get w.end.state.got w.served ≡ Some p → w.desk.owed ≡ [] → lacks_call s w ≡ false → length desk'.owed ≤ 2 → desk'.held ≡ w.desk.held
       → ServesPacket s desk'.held p w.desk.left w.desk.calls desk'.calls desk'.owed desk'.left → w.end.state.machine.asleep ≡ false
       → IsServing s w → IsServing s (record w { desk = desk'; served = w.served + 1 })
-  served_kept desk' p less at none not_lacks held one awake h =
+  served_kept desk' p less at none not_lacks few held one awake h =
       let got = w.end.state.got in
       let first : drop w.served got ≡ p ∷ drop (w.served + 1) got = drop_more got w.served [] (omega (arith, less)) ∙ ap (λ x. x ∷ drop (w.served + 1) got) (get_or_from_slice_get got w.served p [] at) in
       let k : ServerKept s w.desk.held w.serve w.end.state.past w.desk.calls [] w.desk.left (p ∷ drop (w.served + 1) got) =
@@ -179,7 +183,8 @@ module _ {T S A Q R : Type 0} (s : Speech (List ℕ) A Q R) (keeps : Keeps s) (w
         kept = subst (λ b. ServerKept s b w.serve w.end.state.past desk'.calls desk'.owed desk'.left (drop (w.served + 1) got)) (sym held)
             (served_left w.end.state.past w.desk.calls desk'.calls desk'.owed w.desk.left desk'.left p (drop (w.served + 1) got) one' k);
         within = omega (arith, less);
-        started = h.started;
+        few = few;
+        missing_is = h.missing_is;
         saw = h.saw;
         rests = λ b. not_both w.end.state.machine.asleep awake b;
         each = each_served p desk'.calls desk'.owed desk'.left less at not_lacks one' h;
@@ -250,7 +255,7 @@ module _ {T S A Q R : Type 0} (s : Speech (List ℕ) A Q R) (keeps : Keeps s) (w
 
   -- what is owed is let go
   pub lets_go : MetFull w.desk.owed w.end → IsServing s w → LetsGo s w w.end w.desk.calls
-  lets_go full h = record { served = h.kept.served; first = (drop w.served w.end.state.got, h.kept.got_is); missing = w.desk.owed; serves = h.kept.serves; full = full }
+  lets_go full h = record { served = h.kept.served; first = (drop w.served w.end.state.got, h.kept.got_is); missing = w.desk.owed; serves = h.kept.serves; few = h.few; full = full }
 
   the_stop : (o : Option (ℕ × Bool)) → true ≡ is_some o → (after : ℕ × Bool) × (o ≡ Some after)
   the_stop None e = absurd (cc)
@@ -264,7 +269,7 @@ module _ {T S A Q R : Type 0} (s : Speech (List ℕ) A Q R) (keeps : Keeps s) (w
         after = after.0;
         stop = after.1;
         count = served_all w.desk.left (drop w.served w.end.state.got) served h.kept ∙ is.serve;
-        started = omega (arith, h.started, started, is.starts);
+        started = omega (arith, h.missing_is, started, is.starts);
       })
 
   -- the other end had ended
@@ -301,8 +306,8 @@ module _ {T S A Q R : Type 0} (s : Speech (List ℕ) A Q R) (keeps : Keeps s) (w
 
   -- it sleeps
   pub rests_at : (end' : Seen TableSeat) (want' : Option ℕ) → want' ≡ need_of w.desk.owed → SleepsFor want' end' → end'.state.got ≡ w.end.state.got → (is_nil w.desk.owed ≡ true → w.served ≡ length w.end.state.got)
-      → Rests (record w { end = end'; want = want' })
-  rests_at end' want' want armed got all = record { want = want; armed = armed; served = λ e. all e ∙ ap length (sym got) }
+      → (is_nil w.desk.owed ≡ true → has_done w ≡ false) → Rests (record w { end = end'; want = want' })
+  rests_at end' want' want armed got all more = record { want = want; armed = armed; served = λ e. all e ∙ ap length (sym got); more = more }
 
   -- a mark ends it, whether the other end's mark was seen or not
   pub ends_by : (seen : Bool) → EndsAll s w w.end.state.past w.desk.calls → AnswersAll s w w.end.state.past w.desk.calls → has_marked w.end.state.past ≡ true → has_seen w.end.state.past ≡ seen → EndsBy s (marked_by seen) w w.end w.desk.calls
@@ -321,7 +326,8 @@ module _ {T S A Q R : Type 0} (s : Speech (List ℕ) A Q R) (keeps : Keeps s) (w
   new_kept past got calls owed left served missing seen awake = record {
     kept = rw (past, got, calls, owed, left, served) (server_new s keeps w.desk.held w.serve);
     within = omega (arith, served);
-    started = omega (arith, missing);
+    few = omega (arith, ap length owed);
+    missing_is = let none : length (filter s.waits (filter s.is_request (got_of w.end.state.past))) ≡ 0 = ap (λ l. length (filter s.waits (filter s.is_request (got_of l)))) past in omega (arith, missing, none);
     saw = ap has_seen past ∙ sym seen;
     rests = λ e. not_both w.end.state.machine.asleep awake e;
     each = λ go. ap (λ n. length (filter (is_asked s) (take n w.end.state.got))) served ∙ ap length (sym calls);
@@ -334,12 +340,12 @@ module _ {T S A Q R : Type 0} (sp : T → Speech (List ℕ) A Q R) (keeps : (t :
   gave_by end' desk' p is first desk got awake h =
       subst (λ t. IsServing (sp t) (record w { end = end'; desk = desk' })) (sym (ap (λ (d : Desk T S Q R). d.talk) desk)) (gave_kept (sp w.desk.talk) (keeps w.desk.talk) w end' desk' p is first desk got awake h)
 
-  pub served_by : (desk' : Desk T S Q R) (p : List ℕ) → w.served + 1 ≤ length w.end.state.got → slice_get w.end.state.got w.served ≡ Some p → w.desk.owed ≡ [] → lacks_call (sp w.desk.talk) w ≡ false → desk'.held ≡ w.desk.held → desk'.talk ≡ w.desk.talk
+  pub served_by : (desk' : Desk T S Q R) (p : List ℕ) → w.served + 1 ≤ length w.end.state.got → slice_get w.end.state.got w.served ≡ Some p → w.desk.owed ≡ [] → lacks_call (sp w.desk.talk) w ≡ false → length desk'.owed ≤ 2 → desk'.held ≡ w.desk.held → desk'.talk ≡ w.desk.talk
       → ServesPacket (sp desk'.talk) desk'.held p w.desk.left w.desk.calls desk'.calls desk'.owed desk'.left → w.end.state.machine.asleep ≡ false
       → IsServing (sp w.desk.talk) w → IsServing (sp desk'.talk) (record w { desk = desk'; served = w.served + 1 })
-  served_by desk' p less at none not_lacks held talk one awake h =
+  served_by desk' p less at none not_lacks few held talk one awake h =
       subst (λ t. IsServing (sp t) (record w { desk = desk'; served = w.served + 1 })) (sym talk)
-      (served_kept (sp w.desk.talk) (keeps w.desk.talk) w desk' p less at none not_lacks held (subst (λ t. ServesPacket (sp t) desk'.held p w.desk.left w.desk.calls desk'.calls desk'.owed desk'.left) talk one) awake h)
+      (served_kept (sp w.desk.talk) (keeps w.desk.talk) w desk' p less at none not_lacks few held (subst (λ t. ServesPacket (sp t) desk'.held p w.desk.left w.desk.calls desk'.calls desk'.owed desk'.left) talk one) awake h)
 
 module _ {T S Q R : Type 0} (same : S → S → Type 0) where
   -- the same worker still
@@ -370,7 +376,7 @@ module _ {T S Q R : Type 0} (same : S → S → Type 0) where
   answers_on s u w past calls on h = record { serves = serves_on s u w (got_of past) (sent_of past) calls on h.serves; each = λ go. h.each (on.stops ∙ go) }
 
   gone_on : {A : Type 0} (s : Speech (List ℕ) A Q R) (u w : Serving T S Q R) (e : Seen TableSeat) (calls : List (Call Q R)) → ServesOn same u w → LetsGo s w e calls → LetsGo s u e calls
-  gone_on s u w e calls on h = record { served = h.served; first = h.first; missing = h.missing; serves = serves_on s u w h.served (sent_of e.state.past ++ h.missing) calls on h.serves; full = h.full }
+  gone_on s u w e calls on h = record { served = h.served; first = h.first; missing = h.missing; serves = serves_on s u w h.served (sent_of e.state.past ++ h.missing) calls on h.serves; few = h.few; full = h.full }
 
   -- what it gives at its end is what was asked of it at its beginning
   pub ends_on : {A : Type 0} (sp : T → Speech (List ℕ) A Q R) (how : Ended) (u w : Serving T S Q R) (e : Seen TableSeat) (calls : List (Call Q R)) → ServesOn same u w

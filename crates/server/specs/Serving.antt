@@ -37,7 +37,7 @@ pub record Desk (T S Q R : Type 0) : Type 0 where
   pub relid : ℕ
 
 -- the desk and the end; how many requests are to be served, whether this end stops then, how many requests of the start-up have answers, for how many
--- packets besides these it made room, and how many of the start-up's may still be missing; how many of the packets that were got are served; whether the other end's mark was seen; and what the last arm waits for
+-- packets besides these it made room, and how many of the start-up's are still missing; how many of the packets that were got are served; whether the other end's mark was seen; and what the last arm waits for
 pub record Serving (T S Q R : Type 0) : Type 0 where
   pub desk : Desk T S Q R
   pub end : Seen TableSeat
@@ -75,24 +75,30 @@ abbrev pub ServesPacket : {A Q R : Type 0} → Speech (List ℕ) A Q R → Bool 
 ServesPacket s held p None calls calls' owed left = (calls' ≡ calls) × (owed ≡ []) × (left ≡ None)
 ServesPacket {Q = Q} {R = R} s held p (Some m) calls calls' owed left = (cs : List (Call Q R)) × Serves s held (p ∷ []) m cs owed × (calls' ≡ calls ++ cs) × (left ≡ left_after s held (s.read p) (Some m))
 
--- asleep, with the need of the packet that waits as its want; where none waits all that was got is served
-pub record Rests {T S Q R : Type 0} (w : Serving T S Q R) : Type 0 where
-  pub want : w.want ≡ need_of w.desk.owed
-  pub armed : SleepsFor w.want w.end
-  pub served : is_nil w.desk.owed ≡ true → w.served ≡ length w.end.state.got
-
-pub record IsServing {T S A Q R : Type 0} (s : Speech (List ℕ) A Q R) (w : Serving T S Q R) : Type 0 where
-  pub kept : ServerKept s w.desk.held w.serve w.end.state.past w.desk.calls w.desk.owed w.desk.left (drop w.served w.end.state.got)
-  pub within : w.served ≤ length w.end.state.got
-  pub started : w.starts ≤ w.missing + length (filter s.waits (filter s.is_request (got_of w.end.state.past)))
-  pub saw : has_seen w.end.state.past ≡ w.seen
-  pub rests : w.end.state.machine.asleep ≡ true → Rests w
-  pub each : w.stops ≡ false → length (filter (is_asked s) (take w.served w.end.state.got)) ≡ length w.desk.calls
-
 -- all that is to be served was
 abbrev pub has_served : Option ℕ → Bool
 has_served None = true
 has_served (Some m) = m == 0
+
+-- the worker stops, no request of the start-up is missing, and all that is to be served was
+abbrev pub has_done : {T S Q R : Type 0} → Serving T S Q R → Bool
+has_done w = (w.stops && (w.missing == 0)) && has_served w.desk.left
+
+-- asleep, with the need of the packet that waits as its want; where none waits all that was got is served, and there is more to do than to stop
+pub record Rests {T S Q R : Type 0} (w : Serving T S Q R) : Type 0 where
+  pub want : w.want ≡ need_of w.desk.owed
+  pub armed : SleepsFor w.want w.end
+  pub served : is_nil w.desk.owed ≡ true → w.served ≡ length w.end.state.got
+  pub more : is_nil w.desk.owed ≡ true → has_done w ≡ false
+
+pub record IsServing {T S A Q R : Type 0} (s : Speech (List ℕ) A Q R) (w : Serving T S Q R) : Type 0 where
+  pub kept : ServerKept s w.desk.held w.serve w.end.state.past w.desk.calls w.desk.owed w.desk.left (drop w.served w.end.state.got)
+  pub within : w.served ≤ length w.end.state.got
+  pub few : length w.desk.owed ≤ 2
+  pub missing_is : w.missing ≡ w.starts - length (filter s.waits (filter s.is_request (got_of w.end.state.past)))
+  pub saw : has_seen w.end.state.past ≡ w.seen
+  pub rests : w.end.state.machine.asleep ≡ true → Rests w
+  pub each : w.stops ≡ false → length (filter (is_asked s) (take w.served w.end.state.got)) ≡ length w.desk.calls
 
 -- the packet that is served next asks the device, no call is left for it, and the worker doesn't stop behind its last call
 abbrev pub lacks_call : {T S A Q R : Type 0} → Speech (List ℕ) A Q R → Serving T S Q R → Bool
@@ -121,12 +127,13 @@ pub record AnswersAll {T S A Q R : Type 0} (s : Speech (List ℕ) A Q R) (w : Se
   pub serves : Serves s w.desk.held (got_of past) w.serve calls (sent_of past)
   pub each : CallsEach s w past calls
 
--- the first packets that came were served, and of what goes back for them the last packets are missing: the first of these found no room
+-- the first packets that came were served, and of what goes back for them the last packets are missing, at most two: the first of these found no room
 pub record LetsGo {T S A Q R : Type 0} (s : Speech (List ℕ) A Q R) (w : Serving T S Q R) (e : Seen TableSeat) (calls : List (Call Q R)) : Type 0 where
   pub served : List (List ℕ)
   pub first : IsFront served (got_of e.state.past)
   pub missing : List (List ℕ)
   pub serves : Serves s w.desk.held served w.serve calls (sent_of e.state.past ++ missing)
+  pub few : length missing ≤ 2
   pub full : MetFull missing e
 
 -- what a worker gives that ended so, with its end: it marked that, and had seen the other end's mark or not. Where it had not, all is answered; where it had,
@@ -153,10 +160,10 @@ pub record LacksCall {T S A Q R : Type 0} (s : Speech (List ℕ) A Q R) (packets
 abbrev pub Lacks : {T S A Q R : Type 0} → Speech (List ℕ) A Q R → ℕ → ℕ → Serving T S Q R → Type 0
 Lacks s packets words w = (LacksSend packets words w.desk.owed w.end ⊎ LacksTake packets words w.end) ⊎ LacksCall s packets words w
 
--- where it ends after the other end's mark it owes nothing, with all that came served; or the packet that it owes first found no room, which the other end
--- makes no more
+-- where it ends after the other end's mark it owes nothing, with all that came served; or it owes at most two packets, of which the first found no room,
+-- which the other end makes no more
 abbrev pub LeavesOff : {T S A Q R : Type 0} → Speech (List ℕ) A Q R → Serving T S Q R → Type 0
-LeavesOff s w = ((w.desk.owed ≡ []) × (w.served ≡ length w.end.state.got) × CallsEach s w w.end.state.past w.desk.calls) ⊎ MetFull w.desk.owed w.end
+LeavesOff s w = ((w.desk.owed ≡ []) × (w.served ≡ length w.end.state.got) × CallsEach s w w.end.state.past w.desk.calls) ⊎ (MetFull w.desk.owed w.end × (length w.desk.owed ≤ 2))
 
 -- How much it sent, and what it let go; and where it lacks room or a call, what the seat has left, and that more came than room or calls were made for
 abbrev pub LacksRoom : {T S A Q R : Type 0} → (S → ℕ) → Speech (List ℕ) A Q R → Ended → Serving T S Q R → Type 0

@@ -1,5 +1,5 @@
 //! Where the serving end serves one packet after another.
-ghost use Rattle.std.specs.Prelude.{◌≡◌, ◌<◌, ◌≤◌, ◌+◌, if◌then◌else◌, [], ◌∷◌, ◌++◌, drop, length, Some, None, true, false, IfOk, map, ◌&&◌, ◌==◌, ℕ, suc};
+ghost use Rattle.std.specs.Prelude.{◌≡◌, ◌<◌, ◌≤◌, ◌+◌, ◌-◌, if◌then◌else◌, [], ◌∷◌, ◌++◌, drop, length, Some, None, true, false, IfOk, map, ◌&&◌, ◌==◌, ℕ, suc};
 ghost use Rattle.ring_machine.specs.States.{IsPacket};
 ghost use Rattle.channel_port.specs.Owed.{is_nil, need_of, IsNeed};
 ghost use Rattle.server.specs.Serving.{ServesPacket, has_served, is_asked};
@@ -84,10 +84,10 @@ impl<T: Talk, S: Seat<T>> Desk<T, S> {
         }
     }
 
-    // How many requests of the start-up may be missing after this packet, where so many were before it. A packet is read only while some are.
+    // How many requests of the start-up are missing after this packet, where so many were before it. A packet is read only while some are.
     pub(crate) fn missing_after(&self, missing: u32, packet: &[u64]) -> u32
         requires { IsPacket packet.now }
-        ensures { missing ≤ result + (if (T.speech self.now.talk).is_request packet.now && (T.speech self.now.talk).waits packet.now then 1 else 0) }
+        ensures { result ≡ missing - (if (T.speech self.now.talk).is_request packet.now && (T.speech self.now.talk).waits packet.now then 1 else 0) }
     {
         if missing == 0 || !self.talk.is_waiting(packet) {
             return missing;

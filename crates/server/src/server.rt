@@ -8,7 +8,7 @@ ghost use Rattle.server.specs.Causes.{GivesOne, GivesOrTakes, ServeCause, TakesO
 ghost use Rattle.channel_port.specs.Line.{IsReady, HasTakeRoom, LacksTake, TookOne};
 ghost use Rattle.channel_port.specs.Owed.{is_nil, LacksSend, MetFull};
 ghost use Rattle.channel_port.specs.Rooms.{SentAtMost, ServeLacksFor, ServesInRoom};
-ghost use Rattle.server.specs.Serving.{EndsBy, Lacks, LacksRoom, Turns, GaveOne, ServeEnds, ServesOn, BreaksOff, calls_behind, has_served, is_asked, lacks_call, marked_by};
+ghost use Rattle.server.specs.Serving.{EndsBy, Lacks, LacksRoom, Turns, GaveOne, ServeEnds, ServesOn, BreaksOff, calls_behind, has_done, has_served, is_asked, lacks_call, marked_by};
 ghost use Rattle.channel_port.specs.declared.ended.Ended.TheVariants.{PeerMarked as PeerMarkedEnd, Room as RoomEnd};
 
 use crate::desk::Desk;
@@ -110,6 +110,7 @@ impl<T: Talk, S: Seat<T>> Server<T, S> {
         ensures took { TookOne result self.old.end.state self.new.end.state }
         ensures drained { result ≡ false → self.old.seen ≡ true → is_drained self.new.end.state.past ≡ true }
         ensures kept { (self.new.desk ≡ self.old.desk) × (self.new.served ≡ self.old.served) × (self.new.seen ≡ self.old.seen) }
+        ensures missing { result ≡ false → self.new.missing ≡ self.old.missing }
         ensures ready { IsReady self.new.end }
         ensures on { ServesOn S.same self.old self.new }
     {
@@ -165,6 +166,7 @@ impl<T: Talk, S: Seat<T>> Server<T, S> {
     fn rest(&mut self) -> Turn
         requires ready { IsReady self.old.end }
         requires served { is_nil self.old.desk.owed ≡ true → self.old.served ≡ length self.old.end.state.got }
+        requires more { is_nil self.old.desk.owed ≡ true → has_done self.old ≡ false }
         ensures turns { Turns S.left (T.speech self.new.desk.talk) result self.new }
         ensures cause { Arms result self.old.end.state.past self.new.end }
         ensures on { ServesOn S.same self.old self.new }
@@ -220,6 +222,7 @@ impl<T: Talk, S: Seat<T>> Server<T, S> {
     fn take_or_rest(&mut self) -> Turn
         requires ready { IsReady self.old.end }
         requires served { is_nil self.old.desk.owed ≡ true → self.old.served ≡ length self.old.end.state.got }
+        requires more { is_nil self.old.desk.owed ≡ true → has_done self.old ≡ false }
         ensures turns { Turns S.left (T.speech self.new.desk.talk) result self.new }
         ensures cause { TakesOrArms result self.old.end.state.past self.new.end }
         ensures on { ServesOn S.same self.old self.new }

@@ -29,5 +29,5 @@ pub returns-clause-room : goal.returns-clause-room
 returns-clause-room g c =
     let full = subst (λ w. MetFull w.desk.owed w.end) (sym c.self.view_is) c.requires.full in (
       marked_back (g.T.Talk.speech c.self.inside.desk.talk) (g.T.Talk.answers c.self.inside.desk.talk) (c.self.inside.starts + c.self.inside.come) c.self.inside.served (length c.self.inside.desk.owed) c.self.inside.port _ c.mark.ensures.past c.self.invariant.live.kept.order c.self.invariant.room,
-      inr (full_still c.self.inside.desk.owed _ _ c.mark.ensures.found full),
+      inr (full_still c.self.inside.desk.owed _ _ c.mark.ensures.found full, c.self.invariant.live.few),
     )

@@ -1,4 +1,4 @@
-use Rattle.std.proofs.Common.{refl, ap, ◌∙◌, length, subst, ◌+◌, ◌≤◌, sym}
+use Rattle.std.proofs.Common.{refl, ap, ◌∙◌, length, subst, ◌≡◌, ◌-◌, ◌+◌, sym}
 use Rattle.std.specs.Prelude.{if◌then◌else◌, ◌&&◌}
 use Rattle.chan_run.specs.declared.event.Event.TheVariants.{Empty}
 use Rattle.chan_run.specs.Runs.{sent_of}
@@ -19,7 +19,7 @@ invariant_of-self-2 g c =
     let s = (g.T.Talk.speech c.self.inside.desk.talk) in
     let t = c.if-not-take.ensures.took in
     let same = c.last.ensures.value c.self.inside.port.state.got t.0 t.2 in
-    let less = subst (λ q. c.self.inside.missing ≤ c.missing_after-self-inside.result + (if s.is_request q && s.waits q then 1 else 0)) same c.missing_after-self-inside.ensures in
+    let less = subst (λ q. c.missing_after-self-inside.result ≡ c.self.inside.missing - (if s.is_request q && s.waits q then 1 else 0)) same c.missing_after-self-inside.ensures in
     record {
       live = took_kept (g.T.Talk.speech c.self.inside.desk.talk) (g.T.Talk.keeps c.self.inside.desk.talk) _ _ _ t.0 t.1 t.2 c.take.ensures.ready.awake less c.self.invariant.live;
       room = serve_quiet (c.self.inside.starts + c.self.inside.come) c.self.inside.served (length c.self.inside.desk.owed) _ _ c.take.ensures.into c.take.ensures.stays.cells c.take.ensures.sent (ap sent_of t.1) c.self.invariant.room;
