@@ -1,6 +1,8 @@
 -- A history grows by what its seats served, and by nothing else.
-use Rattle.std.proofs.Common.{◌≡◌, ℕ, zero, suc, ◌+◌, ◌≤◌, ◌<◌, Bool, true, false, cond, List, [], ◌∷◌, length, nat_eq, refl, sym, ap, ◌∙◌, subst, arith}
+use Rattle.std.proofs.Common.{◌≡◌, ℕ, zero, suc, ◌+◌, ◌≤◌, ◌<◌, Bool, true, false, cond, List, [], ◌∷◌, length, Some, None, nat_eq, refl, sym, ap, ◌∙◌, subst, arith}
 use Rattle.std.specs.List.{AllByRecursion}
+use Rattle.std.specs.Prelude.{slice_get}
+use Rattle.std.proofs.lemmas.List.{nil_from_length}
 use Rattle.std.proofs.lemmas.Bool.Decides.{nat_tests}
 use Rattle.scsi_disk.proofs.RoomLaws.{by_test}
 use Rattle.script_lines.specs.declared.line.Ask.{Ask}
@@ -79,6 +81,50 @@ module _ (P : Ask → Type 0) where
       let n = length before in
       let new = every grows.more n (length served) (asks_in 0 n grows.more served grows.seats all) in
       subst (AllByRecursion (λ e. P e.ask)) (sym grows.after_is) (each_append (λ (e : Recorded). P e.ask) before grows.more old (new.1 (omega (arith, grows.all, total_is 0 n grows.more served grows.seats))))
+
+-- the entries of so many seats, and those of a later one
+sums_apart : (m len seat n : ℕ) (more : List Recorded) → len ≤ m → sums seat n more len + length (served_from (seat + m) n more) ≤ sums seat n more (suc m)
+sums_apart zero zero seat n more le = let here : seat + 0 ≡ seat = omega arith in omega (arith, ap (λ k. length (served_from k n more)) here)
+sums_apart zero (suc len) seat n more le = absurd (omega (arith, le))
+sums_apart (suc m) zero seat n more le =
+    let here : seat + suc m ≡ seat + 1 + m = omega arith in
+    omega (arith, ap (λ k. length (served_from k n more)) here, sums_apart m zero (seat + 1) n more (omega arith))
+sums_apart (suc m) (suc len) seat n more le =
+    let here : seat + suc m ≡ seat + 1 + m = omega arith in
+    omega (arith, ap (λ k. length (served_from k n more)) here, sums_apart m len (seat + 1) n more (omega (arith, le)))
+
+any_asks : (seat n : ℕ) (more : List Recorded) (len : ℕ) → AsksIn (λ a. Unit {0}) seat n more len
+any_asks seat n more zero = tt
+any_asks seat n more (suc len) = (any (served_from seat n more), any_asks (seat + 1) n more len)
+  where
+    any : (served : List Served) → AllByRecursion (λ s. Unit {0}) served
+    any [] = tt
+    any (s ∷ served) = (tt, any served)
+
+-- no entry is of a seat past those that served
+pub none_besides : (before after : List Recorded) (served : List (List Served)) (grows : Grows before after served) (seat : ℕ) → length served ≤ seat → served_from seat (length before) grows.more ≡ []
+none_besides before after served grows seat le =
+    let n = length before in
+    let whole = (every (λ a. Unit {0}) grows.more n (suc seat) (any_asks 0 n grows.more (suc seat))).0 in
+    let here : 0 + seat ≡ seat = omega arith in
+    nil_from_length (served_from seat n grows.more)
+    (omega (arith, whole, grows.all, total_is (λ a. Unit {0}) 0 n grows.more served grows.seats, sums_apart seat (length served) 0 n grows.more le, ap (λ k. length (served_from k n grows.more)) here))
+
+pub none_some : {X Y : Type 0} (x : X) → None ≡ Some x → Y
+none_some x e = absurd (cc)
+
+pub some_same : {X : Type 0} (x y : X) → Some x ≡ Some y → x ≡ y
+some_same x y e = cc
+
+-- the entries of each seat are what its channel served
+pub seat_entries : (seat n : ℕ) (more : List Recorded) (served : List (List Served)) (i : ℕ) (calls : List Served) → EachSeat seat n more served → slice_get served i ≡ Some calls → served_from (seat + i) n more ≡ calls
+seat_entries seat n more [] i calls each at = none_some calls at
+seat_entries seat n more (s ∷ served) zero calls each at =
+    let here : seat + 0 ≡ seat = omega arith in
+    ap (λ k. served_from k n more) here ∙ (each.0 ∙ some_same s calls at)
+seat_entries seat n more (s ∷ served) (suc i) calls each at =
+    let here : seat + suc i ≡ seat + 1 + i = omega arith in
+    ap (λ k. served_from k n more) here ∙ seat_entries (seat + 1) n more served i calls each.1 at
 
 module _ (Q : Reply → Type 0) where
   from_seat : (seat n : ℕ) (more : List Recorded) → AllByRecursion (λ e. Q e.reply) more → AllByRecursion (λ s. Q s.reply) (served_from seat n more)

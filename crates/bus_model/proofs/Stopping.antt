@@ -1,6 +1,6 @@
 -- What a rescind leaves of a channel's requests.
-use Rattle.std.proofs.Common.{◌≡◌, ℕ, zero, suc, ◌+◌, ◌-◌, ◌<◌, ◌≤◌, ◌==◌, Bool, true, false, cond, List, [], ◌∷◌, ◌++◌, length, length-append, map, take, drop, refl, ap, sym, ◌∙◌, arith, Option, Some, None}
-use Rattle.std.specs.Prelude.{min, nat_le, replicate, count_by, slice_index_or, if◌then◌else◌}
+use Rattle.std.proofs.Common.{◌≡◌, ℕ, zero, suc, ◌+◌, ◌-◌, ◌<◌, ◌≤◌, ◌==◌, Bool, true, false, cond, List, [], ◌∷◌, ◌++◌, length, length-append, map, take, drop, refl, ap, sym, ◌∙◌, subst, arith, Option, Some, None}
+use Rattle.std.specs.Prelude.{min, nat_le, replicate, count_by, slice_get, slice_index_or, if◌then◌else◌}
 use Rattle.std.specs.List.{AllByRecursion, flat_map}
 use Rattle.std.proofs.lemmas.List.Sums.{sum_by-append, sum_by-cons}
 use Rattle.std.proofs.lemmas.Bool.Decides.{nat_tests}
@@ -15,10 +15,11 @@ use Rattle.bus_script.specs.declared.outcome.LineResult.TheVariants.{Unserved}
 use Rattle.bus_model.specs.Served.{Served, done_of}
 use Rattle.bus_model.specs.Orders.{Order, order_of}
 use Rattle.bus_model.specs.Channel.{IsChannelRun, served_count, rescinded_of, outcomes_by, outcomes_of}
-use Rattle.bus_model.specs.Logs.{Recorded, total}
+use Rattle.bus_model.specs.Logs.{Recorded, Grows, served_from, total}
 use Rattle.bus_model.specs.Run.{Carried, IsCarried, seats_of, EachGrows}
 use Rattle.bus_model.specs.Laws.{Rescinds, UnservedNowhere, was_served}
-use Rattle.bus_model.proofs.Lists.{each_filter}
+use Rattle.bus_model.proofs.Lists.{IfThere, at_get, each_filter}
+use Rattle.bus_model.proofs.SeatLogs.{none_besides, none_some, seat_entries, some_same}
 use Rattle.bus_model.proofs.Arriving.{serves_each_lem}
 
 -- each request has exactly one outcome
@@ -182,20 +183,42 @@ seats_counted p (c ∷ channels) each =
     )
 
 grown_at : (d place : ℕ) (channels : List Carried) (before after : List (List Recorded)) → EachGrows place channels before after → d < length before
-    → length (slice_index_or after d []) ≡ length (slice_index_or before d []) + total (map (λ c. c.served) (seats_of (place + d) channels))
+    → Grows (slice_index_or before d []) (slice_index_or after d []) (map (λ c. c.served) (seats_of (place + d) channels))
 grown_at d place channels [] [] each low = absurd (omega (arith, low))
 grown_at d place channels [] (a ∷ after) each low = absurd each
 grown_at d place channels (b ∷ before) [] each low = absurd each
 grown_at zero place channels (b ∷ before) (a ∷ after) each low =
-    let here : place + 0 ≡ place = omega arith in
-    omega (arith, ap length each.0.after_is, length-append b each.0.more, each.0.all, ap (λ n. total (map (λ (c : Carried). c.served) (seats_of n channels))) here)
+    let here : place ≡ place + 0 = omega arith in
+    subst (λ n. Grows b a (map (λ c. c.served) (seats_of n channels))) here each.0
 grown_at (suc d) place channels (b ∷ before) (a ∷ after) each low =
     let here : place + 1 + d ≡ place + suc d = omega arith in
-    grown_at d (place + 1) channels before after each.1 (omega (arith, low)) ∙ ap (λ n. length (slice_index_or before d []) + total (map (λ (c : Carried). c.served) (seats_of n channels))) here
+    subst (λ n. Grows (slice_index_or before d []) (slice_index_or after d []) (map (λ c. c.served) (seats_of n channels))) here (grown_at d (place + 1) channels before after each.1 (omega (arith, low)))
+
+-- a channel among others, with what it served
+served_at : (channels : List Carried) (i : ℕ) (c : Carried) → slice_get channels i ≡ Some c → slice_get (map (λ c. c.served) channels) i ≡ Some c.served
+served_at [] i c at = none_some c at
+served_at (x ∷ channels) zero c at = ap (λ (c : Carried). Some c.served) (some_same x c at)
+served_at (x ∷ channels) (suc i) c at = served_at channels i c at
 
 pub unserved_nowhere_lem : UnservedNowhere
 unserved_nowhere_lem p before after runs told run device low =
     let here : 0 + device ≡ device = omega arith in
-    grown_at device 0 run.channels before after run.histories low
-    ∙ ap (λ n. length (slice_index_or before device []) + total (map (λ (c : Carried). c.served) (seats_of n run.channels))) here
-    ∙ ap (λ n. length (slice_index_or before device []) + n) (sym (seats_counted p (seats_of device run.channels) (each_filter (IsCarried p) (λ c. c.opening.device == device) run.channels run.each)))
+    let seats = seats_of device run.channels in
+    let b = slice_index_or before device [] in
+    let a = slice_index_or after device [] in
+    let grows : Grows b a (map (λ c. c.served) seats) = subst (λ n. Grows b a (map (λ c. c.served) (seats_of n run.channels))) here (grown_at device 0 run.channels before after run.histories low) in
+    let each = each_filter (IsCarried p) (λ c. c.opening.device == device) run.channels run.each in
+    let entries = entries_of_seat b a seats grows in
+    record {
+      more = grows.more;
+      after_is = grows.after_is;
+      entries = entries;
+      first = λ seat c at. ap (map (λ s. s.request)) (entries seat c at) ∙ (subst (IfThere (IsCarried p)) at (at_get (IsCarried p) seats seat each)).carried.serves;
+      besides = λ seat le. none_besides b a (map (λ c. c.served) seats) grows seat (omega (arith, le, length-map seats (λ (c : Carried). c.served)));
+      count = grows.all ∙ sym (seats_counted p seats each);
+    }
+  where
+    entries_of_seat : (b a : List Recorded) (seats : List Carried) (grows : Grows b a (map (λ c. c.served) seats)) (seat : ℕ) (c : Carried) → slice_get seats seat ≡ Some c → served_from seat (length b) grows.more ≡ c.served
+    entries_of_seat b a seats grows seat c at =
+        let here : seat ≡ 0 + seat = omega arith in
+        ap (λ k. served_from k (length b) grows.more) here ∙ seat_entries 0 (length b) grows.more (map (λ c. c.served) seats) seat c.served grows.seats (served_at seats seat c at)

@@ -1,5 +1,5 @@
 -- Laws of runs.
-use Rattle.std.specs.Prelude.{ℕ, ◌≡◌, ◌≤◌, ◌<◌, ◌+◌, ◌-◌, ◌*◌, min, Bool, true, false, List, [], ◌∷◌, ◌++◌, length, map, take, replicate, count_by, slice_index_or, Some, None, Ok}
+use Rattle.std.specs.Prelude.{ℕ, ◌≡◌, ◌≤◌, ◌<◌, ◌+◌, ◌-◌, ◌*◌, min, Bool, true, false, List, [], ◌∷◌, ◌++◌, length, map, take, replicate, count_by, slice_get, slice_index_or, Some, None, Ok}
 use Rattle.std.specs.List.{AllByRecursion, flat_map}
 use Rattle.chan_run.specs.Runs.{IsFront}
 use Rattle.script_lines.specs.Grammar.{script_of}
@@ -20,10 +20,10 @@ use Rattle.ring_model.specs.Lists.{Lists}
 use Rattle.work_model.specs.Outcome.{Outcome, Done as IsDone, RescindedServed as IsRescinded, Unserved as IsUnserved, lines_of}
 use Rattle.work_model.specs.Roles.{side_that_asks}
 use Rattle.bus_model.specs.Served.{Served, done_of}
-use Rattle.bus_model.specs.Orders.{Order}
+use Rattle.bus_model.specs.Orders.{Order, order_of}
 use Rattle.bus_model.specs.Channel.{IsChannelRun, Carries, served_count, is_held, replies_to, rescinded_of, outcomes_of}
-use Rattle.bus_model.specs.Logs.{Recorded}
-use Rattle.bus_model.specs.Run.{IsBusRun, PhaseRuns, Known, source_said, told_by}
+use Rattle.bus_model.specs.Logs.{Recorded, served_from}
+use Rattle.bus_model.specs.Run.{Carried, IsBusRun, PhaseRuns, Known, seats_of, source_said, told_by}
 use Rattle.bus_model.specs.declared.channel_run.ChannelRun.{ChannelRun}
 use Rattle.bus_model.specs.declared.history.DeviceHistory.{DeviceHistory}
 
@@ -88,10 +88,21 @@ was_served Unserved = false
 was_served Gone = false
 was_served Closed = false
 
--- What the report calls unserved is in no history: in a phase a device's history gets as many entries as its channels' requests have outcomes that were served
+-- What the report calls unserved is in no history: what a phase adds to a device's history are, seat by seat, the calls of that seat's channel, whose requests
+-- are the first of the channel's, as many as are served; no entry is of a seat without a channel, and there are as many entries as the requests of the
+-- device's channels have outcomes that were served
+pub record ServedAlone (p : Phase) (channels : List Carried) (device : ℕ) (before after : List Recorded) : Type 0 where
+  pub more : List Recorded
+  pub after_is : after ≡ before ++ more
+  pub entries : (seat : ℕ) (c : Carried) → slice_get (seats_of device channels) seat ≡ Some c → served_from seat (length before) more ≡ c.served
+  pub first : (seat : ℕ) (c : Carried) → slice_get (seats_of device channels) seat ≡ Some c
+      → map (λ s. s.request) (served_from seat (length before) more) ≡ take (served_count (order_of p c.opening)) (order_of p c.opening).asks
+  pub besides : (seat : ℕ) → length (seats_of device channels) ≤ seat → served_from seat (length before) more ≡ []
+  pub count : length more ≡ count_by was_served (flat_map (λ l. l) (told_by p channels device))
+
 abbrev pub UnservedNowhere : Type 0
 UnservedNowhere = (p : Phase) (before after : List (List Recorded)) (runs : List ChannelRun) (told : List LineResult) (run : PhaseRuns p before after runs told) (device : ℕ) → device < length before
-    → length (slice_index_or after device []) ≡ length (slice_index_or before device []) + count_by was_served (flat_map (λ l. l) (told_by p run.channels device))
+    → ServedAlone p run.channels device (slice_index_or before device []) (slice_index_or after device [])
 
 -- the outcome of a line, by the words of both ends
 abbrev pub line_of : Outcome Reply → LineResult
