@@ -1,6 +1,1 @@
-pub mod Over
-pub mod Sides
-pub mod Laws
-pub mod Rows
-pub mod Plain
 pub mod Path

@@ -1,13 +1,6 @@
-//! The control paths of a guest and its host, run together.
+//! The control path of a guest and its host: two queues, and a thread for the host in each part.
 #![tactic(auto)]
 
-mod laws;
 mod path;
 
-pub use laws::{
-    both_begin, both_done, both_over, end_tells_each, ends_at_lower, ends_well, few_on_their_way,
-    guest_fronts, guest_goes_on, guest_is_cut, guest_starts, guest_takes, host_fronts,
-    host_goes_on, host_is_cut, host_starts, host_takes, new_ones_agree, new_ones_stand, plain,
-    rescinded_are_released, rescinded_once, say_so, subs_are_released, subs_once,
-};
 pub use path::ControlPath;

@@ -11,6 +11,7 @@ mod offering;
 mod opening;
 mod proposing;
 mod rescinding;
+mod serving;
 mod tearing;
 mod turns;
 

@@ -1,2 +1,3 @@
 mod ListLaws
 mod EndLaws
+pub mod SideLaws

@@ -11,5 +11,6 @@ mod hearing;
 mod lists;
 mod opening;
 mod posting;
+mod serving;
 
 pub use control::HostControl;

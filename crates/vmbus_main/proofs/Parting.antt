@@ -1,5 +1,5 @@
 -- The parts of the control path, around the phases of a script.
-use Rattle.std.proofs.Common.{◌≡◌, ◌∙◌, ◌+◌, ◌<◌, ◌≤◌, ℕ, Bool, true, false, List, length, nat_lt, Some, if◌then◌else◌, IsTrue, ◌↔◌, inl, inr, refl, sym, ap, subst, arith}
+use Rattle.std.proofs.Common.{◌≡◌, ◌∙◌, ◌+◌, ◌<◌, ◌≤◌, ℕ, Bool, true, false, List, length, nat_lt, Some, Result, Ok, Err, IfOk, if◌then◌else◌, IsTrue, ◌↔◌, inl, inr, refl, sym, ap, subst, arith}
 use Rattle.std.proofs.lemmas.Bool.Decides.{nat_tests}
 use Rattle.std.proofs.lemmas.Bool.{cases_eq}
 use Rattle.contact.specs.declared.part.Part.TheVariants.{Contact, PhaseStart, PhaseEnd, Unload}
@@ -11,7 +11,8 @@ use Rattle.control_model.specs.Plan.{IsPlan, part_after}
 use Rattle.control_model.specs.Openings.{plan_of}
 use Rattle.control_model.proofs.ScriptLaws.{phases_are}
 use Rattle.control_model.specs.Guest.{new_guest}
-use Rattle.control_run.specs.Path.{PathSeen, Rests, Ran}
+use Rattle.control_run.specs.declared.path.ControlPath.{ControlPath}
+use Rattle.control_run.specs.Path.{Rests, Ran}
 use Rattle.vmbus_main.specs.Between.{part_at, IsBetween}
 
 some_of : {A : Type 0} (b : Bool) (x y : A) → (if b then Some x else Some y) ≡ Some (if b then x else y)
@@ -25,34 +26,43 @@ lt_false : (a b : ℕ) → b ≤ a → nat_lt a b ≡ false
 lt_false a b above = grind (arith, nat_tests)
 
 -- before the first phase
-pub first_between : (lines : List Line) (r : Runner) (old new : PathSeen) → RunsSoFar lines r → r.phase ≡ 0 → Rests old → old.guest ≡ new_guest (plan_of lines) → Ran old new Contact → IsBetween lines r new
+pub first_between : (lines : List Line) (r : Runner) (old new : ControlPath) → RunsSoFar lines r → r.phase ≡ 0 → Rests old → old.guest ≡ new_guest (plan_of lines) → Ran old new Contact → IsBetween lines r new
 first_between lines r old new so_far none rests fresh ran =
     let plan : old.guest.plan ≡ plan_of lines = ap (λ g. g.plan) fresh in
-    let planned : IsPlan (plan_of lines) = subst IsPlan plan rests.agree.planned in
+    let planned : IsPlan (plan_of lines) = subst IsPlan plan rests.guest.planned in
     let some : nat_lt 0 (length (plan_of lines).phases) ≡ true = lt_true 0 (length (plan_of lines).phases) (omega (arith, planned.some)) in
     let at : part_at (plan_of lines) r.phase ≡ PhaseStart 0 = rw (none, some) refl in
     record { ran = so_far; rests = ran.rests; plan = ran.plan ∙ plan; next = rw (ran.guest_part, at) refl }
 
+pub contacted_between : {E : Type 0} (lines : List Line) (r : Runner) (old : ControlPath) (res : Result ControlPath E) → RunsSoFar lines r → r.phase ≡ 0 → Rests old → old.guest ≡ new_guest (plan_of lines) → IfOk res (λ new. Ran old new Contact) → IfOk res (λ new. IsBetween lines r new)
+contacted_between lines r old (Ok new) so_far none rests fresh ran = first_between lines r old new so_far none rests fresh ran
+contacted_between lines r old (Err e) so_far none rests fresh ran = tt
+
 -- the next phase starts
-pub starts : (lines : List Line) (r : Runner) (p : PathSeen) → IsBetween lines r p → r.phase < length (parts lines) → part_after p.guest.plan p.guest.part ≡ Some (PhaseStart r.phase)
+pub starts : (lines : List Line) (r : Runner) (p : ControlPath) → IsBetween lines r p → r.phase < length (parts lines) → part_after p.guest.plan p.guest.part ≡ Some (PhaseStart r.phase)
 starts lines r p between more =
     let some : nat_lt r.phase (length (plan_of lines).phases) ≡ true = lt_true r.phase (length (plan_of lines).phases) (omega (arith, more, phases_are lines)) in
     let at : part_at (plan_of lines) r.phase ≡ PhaseStart r.phase = rw some refl in
     rw between.plan (between.next ∙ ap Some at)
 
 -- it ends
-pub ends : (old new : PathSeen) (phase : ℕ) → Ran old new (PhaseStart phase) → part_after new.guest.plan new.guest.part ≡ Some (PhaseEnd phase)
+pub ends : (old new : ControlPath) (phase : ℕ) → Ran old new (PhaseStart phase) → part_after new.guest.plan new.guest.part ≡ Some (PhaseEnd phase)
 ends old new phase ran = rw ran.guest_part refl
 
 -- and then one phase more has run
-pub next_between : (lines : List Line) (r s : Runner) (p q t : PathSeen) → IsBetween lines r p → Ran p q (PhaseStart r.phase) → Ran q t (PhaseEnd r.phase) → RunsSoFar lines s → s.phase ≡ r.phase + 1 → IsBetween lines s t
+pub next_between : (lines : List Line) (r s : Runner) (p q t : ControlPath) → IsBetween lines r p → Ran p q (PhaseStart r.phase) → Ran q t (PhaseEnd r.phase) → RunsSoFar lines s → s.phase ≡ r.phase + 1 → IsBetween lines s t
 next_between lines r s p q t between start end so_far more =
     let plan : t.guest.plan ≡ plan_of lines = end.plan ∙ start.plan ∙ between.plan in
     let at : part_after (plan_of lines) (Some (PhaseEnd r.phase)) ≡ Some (part_at (plan_of lines) (r.phase + 1)) = some_of (nat_lt (r.phase + 1) (length (plan_of lines).phases)) (PhaseStart (r.phase + 1)) Unload in
     record { ran = so_far; rests = end.rests; plan = plan; next = rw (end.guest_part, more) at }
 
+pub then_between : {E : Type 0} (lines : List Line) (r s : Runner) (p q : ControlPath) (phase : ℕ) (res : Result ControlPath E) → IsBetween lines r p → phase ≡ r.phase → Ran p q (PhaseStart phase) → RunsSoFar lines s → s.phase ≡ r.phase + 1 → IfOk res (λ t. Ran q t (PhaseEnd phase)) → IfOk res (λ t. IsBetween lines s t)
+then_between lines r s p q phase (Ok t) between is start so_far more end =
+    next_between lines r s p q t between (subst (λ (k : ℕ). Ran p q (PhaseStart k)) is start) (subst (λ (k : ℕ). Ran q t (PhaseEnd k)) is end) so_far more
+then_between lines r s p q phase (Err e) between is start so_far more end = tt
+
 -- behind the last phase it is the farewell
-pub farewell : (lines : List Line) (r : Runner) (p : PathSeen) → IsBetween lines r p → r.phase ≡ length (parts lines) → part_after p.guest.plan p.guest.part ≡ Some Unload
+pub farewell : (lines : List Line) (r : Runner) (p : ControlPath) → IsBetween lines r p → r.phase ≡ length (parts lines) → part_after p.guest.plan p.guest.part ≡ Some Unload
 farewell lines r p between all =
     let none : nat_lt r.phase (length (plan_of lines).phases) ≡ false = lt_false r.phase (length (plan_of lines).phases) (omega (arith, all, phases_are lines)) in
     let at : part_at (plan_of lines) r.phase ≡ Unload = rw none refl in

@@ -2,7 +2,7 @@
 use Rattle.std.specs.Prelude.{◌≡◌, List, Option, Some, None}
 use Rattle.script_lines.specs.declared.line.Line.{Line}
 use Rattle.control_model.specs.Openings.{plan_of}
-use Rattle.control_run.specs.Over.{IsOver}
+use Rattle.control_laws.specs.Over.{IsOver}
 use Rattle.vmbus_main.specs.declared.outcome.Controls.{Controls}
 
 -- Both controls were made from the script, and are done with the farewell. They have one version, the greatest that both know; each said all that it has

@@ -39,11 +39,11 @@ pub fn run_script<R: Threads + Wait + Sync, G: Gate>(
     ensures each { IfOk result (λ ran. length ran.results.items ≡ count_by prints script.now) }
 {
     let mut runner = Runner::make(alloc, script)?;
-    let mut path = contacted(alloc, script, &runner)?;
-    run_phases(rt, gate, alloc, script, &mut path, &mut runner)?;
-    path.run(Part::Unload)?;
+    let path = contacted(rt, alloc, script, &runner)?;
+    let path = run_phases(rt, gate, alloc, script, path, &mut runner)?;
+    let path = path.run(rt, alloc, Part::Unload)?;
     let ran = runner.end(alloc)?;
-    let (guest, host) = path.end();
+    let (guest, host) = path.end(rt);
     let Ran {
         settled,
         histories,
@@ -58,14 +58,18 @@ pub fn run_script<R: Threads + Wait + Sync, G: Gate>(
 }
 
 /// The control path of a script whose guest and host agreed on a version, and whose devices were offered.
-fn contacted(alloc: Global, script: &Script, runner: &Runner) -> Result<ControlPath, AllocError>
+fn contacted<R: Threads + Wait + Sync>(
+    rt: &R,
+    alloc: Global,
+    script: &Script,
+    runner: &Runner,
+) -> Result<ControlPath, AllocError>
     requires so_far { RunsSoFar script.now runner.now }
     requires none { runner.now.phase ≡ 0 }
     ensures { IfOk result (λ path. IsBetween script.now runner.now path) }
 {
-    let mut path = ControlPath::make(alloc, script)?;
-    path.run(Part::Contact)?;
-    Ok(path)
+    let path = ControlPath::make(alloc, script)?;
+    path.run(rt, alloc, Part::Contact)
 }
 
 /// Runs all phases.
@@ -74,17 +78,18 @@ fn run_phases<R: Threads + Wait + Sync, G: Gate>(
     gate: &G,
     alloc: Global,
     script: &Script,
-    path: &mut ControlPath,
+    path: ControlPath,
     runner: &mut Runner,
-) -> Result<(), AllocError>
-    requires { IsBetween script.now runner.old path.old }
-    ensures between { OnOk result (IsBetween script.now runner.new path.new) }
+) -> Result<ControlPath, AllocError>
+    requires { IsBetween script.now runner.old path }
+    ensures between { IfOk result (λ after. IsBetween script.now runner.new after) }
     ensures all { OnOk result (runner.new.phase ≡ length (parts script.now)) }
 {
+    let mut path = path;
     while has_phase(script, runner) {
-        run_next(rt, gate, alloc, script, path, runner)?;
+        path = run_next(rt, gate, alloc, script, path, runner)?;
     }
-    Ok(())
+    Ok(path)
 }
 
 /// Whether a phase of the script is left.
@@ -102,17 +107,16 @@ fn run_next<R: Threads + Wait + Sync, G: Gate>(
     gate: &G,
     alloc: Global,
     script: &Script,
-    path: &mut ControlPath,
+    path: ControlPath,
     runner: &mut Runner,
-) -> Result<(), AllocError>
-    requires between { IsBetween script.now runner.old path.old }
+) -> Result<ControlPath, AllocError>
+    requires between { IsBetween script.now runner.old path }
     requires more { runner.old.phase < length (parts script.now) }
-    ensures between { OnOk result (IsBetween script.now runner.new path.new) }
+    ensures between { IfOk result (λ after. IsBetween script.now runner.new after) }
     ensures one { OnOk result (runner.new.phase ≡ runner.old.phase + 1) }
 {
     let phase = runner.phase();
-    path.run(Part::PhaseStart(phase))?;
+    let path = path.run(rt, alloc, Part::PhaseStart(phase))?;
     runner.run_next(rt, gate, alloc, script)?;
-    path.run(Part::PhaseEnd(phase))?;
-    Ok(())
+    path.run(rt, alloc, Part::PhaseEnd(phase))
 }

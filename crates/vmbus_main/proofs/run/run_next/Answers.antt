@@ -1,8 +1,13 @@
 use Rattle.std.proofs.Common.{◌∙◌, Some, sym, ap}
 use Rattle.contact.specs.declared.part.Part.TheVariants.{PhaseStart}
-use Rattle.vmbus_main.proofs.Parting.{starts}
+use Rattle.vmbus_main.proofs.Parting.{starts, then_between}
 use Rattle.vmbus_main.proofs.run.run_next.Goals as goal
 
 pub run-requires-clause-part : goal.run-requires-clause-part
 run-requires-clause-part g c =
-    starts c.args.script.now c.args.runner.now c.args.path.now c.requires.between c.requires.more ∙ ap (λ k. Some (PhaseStart k)) (sym c.phase-phase.ensures)
+    λ κs lives. starts c.args.script.now c.args.runner.now c.args.path c.requires.between c.requires.more ∙ ap (λ k. Some (PhaseStart k)) (sym c.phase-phase.ensures)
+
+pub returns-clause-between : goal.returns-clause-between
+returns-clause-between g c =
+    then_between c.args.script.now c.args.runner.now c.run_next.new.self c.args.path c.in_ok-path.path c.phase-phase.result c.run-2.result c.requires.between c.phase-phase.ensures c.in_ok-path.ensures
+    c.in_ok-run_next.ensures.so_far c.in_ok-run_next.ensures.phase c.run-2.ensures

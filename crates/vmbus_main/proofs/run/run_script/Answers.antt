@@ -4,9 +4,9 @@ use Rattle.vmbus_main.proofs.run.run_script.Goals as goal
 
 pub run-requires-clause-part : goal.run-requires-clause-part
 run-requires-clause-part g c =
-    farewell c.args.script.now c.run_phases.new.runner c.run_phases.new.path c.in_ok-run_phases.ensures.between c.in_ok-run_phases.ensures.all
+    λ κs lives. farewell c.args.script.now c.run_phases.new.runner _ c.in_ok-path-2.ensures.between c.in_ok-path-2.ensures.all
 
 pub returns-clause-each : goal.returns-clause-each
 returns-clause-each g c =
     one_each_lem c.args.script.now c.in_ok-ran.ran.settled.items c.in_ok-ran.ran.histories.items c.in_ok-ran.ran.results.items
-    (c.in_ok-ran.ensures.run c.args.script.now c.in_ok-run_phases.ensures.between.ran c.in_ok-run_phases.ensures.all)
+    (c.in_ok-ran.ensures.run c.args.script.now c.in_ok-path-2.ensures.between.ran c.in_ok-path-2.ensures.all)

@@ -1,0 +1,659 @@
+-- A guest takes the next message that its host says.
+use Rattle.std.proofs.Common.{◌≡◌, ◌≢◌, ◌∙◌, ℕ, zero, suc, ◌+◌, ◌-◌, ◌<◌, ◌≤◌, ◌==◌, ◌&&◌, ◌||◌, not, true, false, Bool, nat_le, cond, if◌then◌else◌, List, [], ◌∷◌, ◌++◌, length, map, drop, replicate, slice_get, slice_set, Option, Some, None, Ok, refl, sym, ap, subst, append_assoc, length-append, arith}
+use Rattle.std.specs.Option.{option_to_list}
+use Rattle.std.specs.List.{AllByRecursion, flat_map}
+use Rattle.std.proofs.lemmas.Bool.{eq-eqb}
+use Rattle.std.proofs.lemmas.Bool.Decides.{nat_tests}
+use Rattle.std.proofs.lemmas.List.Concat.{flat_map-cons}
+use Rattle.std.proofs.lemmas.List.{append-nil, length-replicate}
+use Rattle.std.proofs.lemmas.List.Elements.{filter-append}
+use Rattle.contact.specs.declared.version.Version.{Version}
+use Rattle.contact.specs.declared.kind.Kind.{Kind}
+use Rattle.contact.specs.declared.kind.Kind.TheVariants.{Disk}
+use Rattle.contact.specs.Versions.{versions_tried}
+use Rattle.contact.specs.declared.part.Part.{Part}
+use Rattle.contact.specs.declared.part.Part.TheVariants.{Contact, PhaseStart, PhaseEnd, Unload}
+use Rattle.contact.specs.Classes.{class_id, offer, offers_from}
+use Rattle.chan_state.specs.declared.state.State.{State}
+use Rattle.chan_state.specs.declared.state.State.TheVariants.{Opening as IsOpening, Opened, Closing, Closed, Released}
+use Rattle.chan_state.specs.declared.event.Event.TheVariants.{WantOpen}
+use Rattle.vmbus_msg.specs.declared.msg.Msg.{Msg}
+use Rattle.control_model.specs.declared.opening.Opening.{Opening}
+use Rattle.control_model.specs.declared.channel.Channel.{Channel}
+use Rattle.control_model.specs.declared.change.Change.TheVariants.{Offered, Now}
+use Rattle.control_model.specs.declared.burst.Burst.TheVariants.{One}
+use Rattle.control_model.specs.declared.guest_wait.GuestWait.{GuestWait}
+use Rattle.control_model.specs.declared.guest_wait.GuestWait.TheVariants.{Nothing, Response, Offers, SubOffer, Created, Opened as AwaitsOpened, Torn, Rescinded, Unloaded}
+use Rattle.control_model.specs.declared.guest_turn.GuestTurn.{GuestTurn}
+use Rattle.control_model.specs.Plan.{BusPlan, is_sub, is_of_sub, first_subs, subs_next, subs_in, opening_at, closing_at, IsPlan, phase_of, closing_of}
+use Rattle.control_model.specs.Channels.{by_relid, lived, changed, is_handle, place_of_list}
+use Rattle.control_model.specs.Messages.{propose, respond, request, delivered, created, open_on, opened, offer_sub, close, teardown, torndown, rescind, release, farewell_taken, Sends}
+use Rattle.control_model.specs.Guest.{GuestSeen, idle, offered_channel, proposal, proposes, answered, device_offered, is_sub_offer, goes_behind, sub_offered, hears_offer, opens, created_for, hears_created, opens_next, opened_for, hears_result, torn_at, torn_then, torn_for, ended_for, hears_torndown, hears_rescind, lists_next, closes_next, guest_hears, waits_for_nothing}
+use Rattle.control_model.specs.Said.{answer_to, guest_opens, host_opens_all, guest_closes, host_closes, only_sub, ends_given_back}
+use Rattle.control_model.specs.GuestAt.{guest_from, host_from, opens_listed, answers_open, from_first_sub, gives_sub, gives_one, takes_one, end_to_say, end_to_hear, to_say, to_hear, GuestStands}
+use Rattle.control_model.specs.GuestAt.GuestStands.{fresh, proposes as IsProposing, asks, contacted, offers as IsOffering, lists, opens as IsOpened, started, closes as IsClosing, gives_back, gives_sub_back, ended, leaves, is_over}
+use Rattle.control_model.proofs.KindLaws.{kind_of_class}
+use Rattle.control_model.specs.Stand.{At, EndsAt, offered_before, offered_by, marked, end_state, guest_is, guest_ends, guest_before, Stand, Tries, Agreed, Meet}
+use Rattle.control_laws.proofs.NextOne.{guest_next_awaits, guest_next_stands, guest_next_sends}
+use Rattle.control_laws.proofs.Logs.{Logs}
+use Rattle.control_laws.proofs.Marks.{by_test, same, at_relid, marked_apart, marked_here, marked_there, stand_add, stand_mark, stand_join, stand_at}
+use Rattle.control_laws.proofs.Cutting.{all_weaker}
+use Rattle.control_laws.proofs.Counts.{count_next, unopened}
+use Rattle.control_laws.proofs.Plans.{facts, opening_from, opening_here, offered_here, done_more, place_more, end_facts, closing_here, ends_more, ends_place}
+use Rattle.control_laws.proofs.Lower.{lower_one}
+use Rattle.control_laws.proofs.Offering.{kind_same, one_more, all_alike}
+use Rattle.control_laws.proofs.Handles.{all_front, can_open, find_list, closing_handle}
+use Rattle.control_laws.proofs.Next.{Turned, heard_so, next_list}
+use Rattle.control_laws.proofs.NextEnd.{NextIs, next_is, heard_with, GuestEnds, guest_goes, guest_stands_so, guest_next}
+use Rattle.control_laws.proofs.Tried.{one_tried, next_tried, first_tried}
+use Rattle.control_laws.proofs.Saying.{drop_all, left_at, left_behind, lists_said, lists_heard, ends_left, ends_said, ends_heard}
+use Rattle.control_laws.proofs.Seats.{AreSubs, all_snoc, first_run, no_first, no_subs_next, sub_at}
+
+-- a guest
+abbrev pub a_guest : BusPlan → Logs → Option Part → GuestWait → Option Version → List Channel → GuestSeen
+a_guest plan logs part awaits version channels = record {
+  plan = plan;
+  part = part;
+  awaits = awaits;
+  version = version;
+  channels = channels;
+  posted = logs.posted;
+  fed = logs.fed;
+}
+
+-- a message is taken, and the guest goes on
+pub record GuestStep (plan : BusPlan) (g : GuestSeen) (m : Msg) : Type 0 where
+  pub turn : GuestTurn
+  pub hears : guest_hears g m ≡ Ok turn
+  pub goes : Turned plan g.part g.channels turn
+  pub says : (sent : List Msg) → Sends plan turn.burst sent → to_say plan g.part g.awaits ≡ sent ++ to_say plan g.part turn.awaits
+  pub heard : to_hear plan g.part g.awaits (length g.channels) ≡ m ∷ to_hear plan g.part turn.awaits (length (changed (changed g.channels turn.heard) turn.wished))
+
+-- VERSION_RESPONSE
+pub step_accepts : (plan : BusPlan) (logs : Logs) (v : Version) → IsPlan plan → Agreed plan v
+    → GuestStep plan (a_guest plan logs (Some Contact) (Response v) None []) (respond 1)
+step_accepts plan logs v planned agreed =
+    let g : GuestSeen = a_guest plan logs (Some Contact) (Response v) None [] in
+    let turn : GuestTurn = answered g v 1 in
+    let one = one_tried plan v agreed in
+    let within = agreed.within_host in
+    let has : nat_le v.0 plan.host.0 ≡ true = grind (arith, nat_tests, within) in
+    record {
+      turn = turn;
+      hears = refl;
+      goes = asks v 0 agreed (omega arith);
+      says = λ sent e. ap (λ vs. (map propose (drop 1 vs) ++ request ∷ []) ++ guest_from plan 0) one ∙ ap (λ s. s ++ guest_from plan 0) (sym e);
+      heard = ap (λ vs. (map (answer_to plan) vs ++ (offers_from 1 plan.kinds ++ delivered ∷ [])) ++ host_from plan 0) one ∙ ap (λ b. respond (if b then 1 else 0) ∷ ((offers_from 1 plan.kinds ++ delivered ∷ []) ++ host_from plan 0)) has;
+    }
+
+pub step_refuses : (plan : BusPlan) (logs : Logs) (v : Version) → IsPlan plan → Tries plan v → plan.host.0 < v.0
+    → GuestStep plan (a_guest plan logs (Some Contact) (Response v) None []) (respond 0)
+step_refuses plan logs v planned tries above =
+    let g : GuestSeen = a_guest plan logs (Some Contact) (Response v) None [] in
+    let low = lower_one plan v planned tries above in
+    let turn : GuestTurn = proposal g low.lower in
+    let next = next_tried plan v planned tries above low in
+    let first = first_tried plan low.lower planned low.tries in
+    let lacks : nat_le v.0 plan.host.0 ≡ false = grind (arith, nat_tests, above) in
+    record {
+      turn = turn;
+      hears = ap (λ x. Ok (proposes g x)) low.is;
+      goes = IsProposing low.lower low.tries;
+      says = λ sent e. ap (λ vs. (map propose (drop 1 vs) ++ request ∷ []) ++ guest_from plan 0) next ∙ ap (λ vs. (map propose vs ++ request ∷ []) ++ guest_from plan 0) first
+          ∙ ap (λ s. s ++ ((map propose (drop 1 (versions_tried low.lower.0 plan.host.0)) ++ request ∷ []) ++ guest_from plan 0)) (sym e);
+      heard = ap (λ vs. (map (answer_to plan) vs ++ (offers_from 1 plan.kinds ++ delivered ∷ [])) ++ host_from plan 0) next
+          ∙ ap (λ b. respond (if b then 1 else 0) ∷ ((map (answer_to plan) (versions_tried low.lower.0 plan.host.0) ++ (offers_from 1 plan.kinds ++ delivered ∷ [])) ++ host_from plan 0)) lacks;
+    }
+
+-- what is left of the devices behind some of them
+left_of : (kinds : List Kind) (n : ℕ) (kind : Kind) (left : List Kind) → drop n kinds ≡ kind ∷ left → (slice_get kinds n ≡ Some kind) × (drop (suc n) kinds ≡ left) × (suc n ≤ length kinds)
+left_of [] zero kind left is = absurd (cc)
+left_of [] (suc n) kind left is = absurd (cc)
+left_of (k ∷ kinds) zero kind left is = let first : k ≡ kind = cc in let rest : kinds ≡ left = cc in (ap Some first, rest, omega arith)
+left_of (k ∷ kinds) (suc n) kind left is = let rest = left_of kinds n kind left is in (rest.0, rest.1, omega (arith, rest.2))
+
+none_left : (kinds : List Kind) (n : ℕ) → n ≤ length kinds → drop n kinds ≡ [] → n ≡ length kinds
+none_left [] zero few is = refl
+none_left [] (suc n) few is = absurd (omega (arith, few))
+none_left (k ∷ kinds) zero few is = absurd (cc)
+none_left (k ∷ kinds) (suc n) few is = ap (λ m. suc m) (none_left kinds n (omega (arith, few)) is)
+
+-- OFFERCHANNEL
+step_offering : (plan : BusPlan) (logs : Logs) (v : Version) (n : ℕ) (kind : Kind) (left : List Kind) → Agreed plan v → drop n plan.kinds ≡ kind ∷ left → GuestStep plan (a_guest plan logs (Some Contact) Offers (Some v) (replicate n offered_channel)) (offer kind (n + 1) 0)
+step_offering plan logs v n kind left agreed is =
+    let guests : List Channel = replicate n offered_channel in
+    let g : GuestSeen = a_guest plan logs (Some Contact) Offers (Some v) guests in
+    let turn : GuestTurn = record (idle g) { heard = Offered offered_channel } in
+    let m : Msg = offer kind (n + 1) 0 in
+    let many : length guests ≡ n = length-replicate n offered_channel in
+    let next : suc n ≡ n + 1 = omega arith in
+    let there = left_of plan.kinds n kind left is in
+    let here = there.0 in
+    let takes : device_offered g kind 0 (n + 1) ≡ turn = rw (many, same (n + 1), here, kind_same kind) refl in
+    let long : length (guests ++ offered_channel ∷ []) ≡ n + 1 = omega (arith, many, length-append guests (offered_channel ∷ [])) in
+    let these : drop (length guests) plan.kinds ≡ kind ∷ left = ap (λ k. drop k plan.kinds) many ∙ is in
+    let those : drop (length (guests ++ offered_channel ∷ [])) plan.kinds ≡ left = ap (λ k. drop k plan.kinds) (long ∙ sym next) ∙ there.1 in
+    let more : guests ++ offered_channel ∷ [] ≡ replicate (suc n) offered_channel = one_more n offered_channel in
+    record {
+      turn = turn;
+      hears = ap (hears_offer g (class_id kind) 0 (n + 1)) (kind_of_class kind (class_id kind) refl) ∙ ap (λ t. Ok t) takes;
+      goes = subst (GuestStands plan (Some Contact) Offers (Some v)) (sym more) (asks v (suc n) agreed there.2);
+      says = λ sent e. ap (λ s. s ++ guest_from plan 0) (sym e);
+      heard = (λ i. (offers_from (many i + 1) (these i) ++ delivered ∷ []) ++ host_from plan 0) ∙ ap (λ xs. m ∷ ((xs ++ delivered ∷ []) ++ host_from plan 0)) (sym (λ i. offers_from (long i + 1) (those i)));
+    }
+
+-- ALLOFFERS_DELIVERED
+step_offered : (plan : BusPlan) (logs : Logs) (v : Version) (n : ℕ) → Agreed plan v → n ≤ length plan.kinds → drop n plan.kinds ≡ [] → GuestStep plan (a_guest plan logs (Some Contact) Offers (Some v) (replicate n offered_channel)) delivered
+step_offered plan logs v n agreed few is =
+    let guests : List Channel = replicate n offered_channel in
+    let all = none_left plan.kinds n few is in
+    let many : length guests ≡ length plan.kinds = length-replicate n offered_channel ∙ all in
+    let none : drop (length guests) plan.kinds ≡ [] = ap (λ k. drop k plan.kinds) many ∙ drop_all plan.kinds in
+    let whole : (length guests == length plan.kinds) ≡ true = eq-eqb (length guests) (length plan.kinds) many in
+    let g : GuestSeen = a_guest plan logs (Some Contact) Offers (Some v) guests in
+    record {
+      turn = record (idle g) { awaits = Nothing };
+      hears = rw whole refl;
+      goes = contacted v guests (record { agreed = agreed; stand = all_alike plan n offered_channel all });
+      says = λ sent e. ap (λ s. s ++ guest_from plan 0) (sym e);
+      heard = ap (λ ks. (offers_from (length guests + 1) ks ++ delivered ∷ []) ++ host_from plan 0) none;
+    }
+
+-- GPADL_CREATED
+pub step_listed : (plan : BusPlan) (logs : Logs) (v : Version) (guests : List Channel) (phase place : ℕ) (done : List Opening) (o : Opening) (left : List Opening) → IsPlan plan
+    → At plan phase place done o left → Meet plan v guests (offered_by plan phase done (o ∷ left)) (marked (guest_is Opened) done (guest_before plan phase))
+    → GuestStep plan (a_guest plan logs (Some (PhaseStart phase)) (Created place) (Some v) guests) (created o.relid o.gpadl)
+step_listed plan logs v guests phase place done o left planned at meet =
+    let g : GuestSeen = a_guest plan logs (Some (PhaseStart phase)) (Created place) (Some v) guests in
+    let m : Msg = created o.relid o.gpadl in
+    let count : ℕ = offered_by plan phase done (o ∷ left) in
+    let fact = facts plan phase place done o left planned at in
+    let mine = offered_here plan phase place done o left planned at in
+    let c : Channel = guest_before plan phase o.relid in
+    let now : Channel = guest_is IsOpening o in
+    let turn : GuestTurn = record (idle g) { awaits = AwaitsOpened place; wished = Now o.relid now; burst = One (open_on o) } in
+    let known : by_relid guests o.relid ≡ Some c = stand_at guests count (guest_is Opened) done o (guest_before plan phase) c meet.stand fact.fits.named mine fact.done_apart refl in
+    let here : drop place (phase_of plan phase) ≡ o ∷ left = left_at plan phase place done (o ∷ left) at.phase_is at.place_is in
+    let asked : created_for g place o.relid o.gpadl 0 c (Some o) ≡ opens g place o (lived c WantOpen) = rw (same o.relid, same o.gpadl) refl in
+    let after : Stand (slice_set guests (o.relid - 1) now) count (marked (guest_is Opened) done (marked (guest_is IsOpening) (o ∷ []) (guest_before plan phase))) =
+    stand_mark guests count (guest_is Opened) (guest_is IsOpening) done o (guest_before plan phase) (guest_before plan phase) meet.stand fact.fits.named mine fact.done_apart (λ q off. refl) in
+    record {
+      turn = turn;
+      hears = ap (hears_created g o.relid o.gpadl 0) known ∙ ap (λ x. Ok (created_for g place o.relid o.gpadl 0 c x)) (opening_here plan phase place done o left at) ∙ ap (λ t. Ok t) (asked ∙ ap (opens g place o) (can_open plan phase o.relid fact.not_before));
+      goes = IsOpened v (slice_set guests (o.relid - 1) now) phase place done o left at (record { agreed = meet.agreed; stand = after });
+      says = λ sent e.
+          let asks = sym e in
+          let behind = sym (left_behind plan phase place done o left at) in
+          let later : List Msg = flat_map guest_closes (closing_of plan phase) ++ guest_from plan (suc phase) in
+          ap (λ os. opens_listed os ++ later) here ∙ (λ i. asks i ++ (flat_map guest_opens (behind i) ++ later));
+      heard =
+          let later : List Msg = flat_map host_closes (closing_of plan phase) ++ host_from plan (suc phase) in
+          ap (λ os. host_opens_all os ++ later) here ∙ ap (λ os. m ∷ (answers_open os ++ later)) (sym here);
+    }
+
+-- OPENCHANNEL_RESULT: the channel is open
+record IsOpen (plan : BusPlan) (v : Version) (guests : List Channel) (phase place : ℕ) (done : List Opening) (o : Opening) (left : List Opening) : Type 0 where
+  known : by_relid guests o.relid ≡ Some (guest_is IsOpening o)
+  stand : Stand (slice_set guests (o.relid - 1) (guest_is Opened o)) (offered_by plan phase done (o ∷ left)) (marked (guest_is Opened) (done ++ o ∷ []) (guest_before plan phase))
+  next : opening_at plan phase (place + 1) ≡ slice_get left 0
+  answers : (later : List Msg) → answers_open (drop place (phase_of plan phase)) ++ later ≡ opened o.relid o.relid ∷ ((map offer_sub (subs_next (o ∷ left)) ++ host_opens_all left) ++ later)
+
+is_open : (plan : BusPlan) (v : Version) (guests : List Channel) (phase place : ℕ) (done : List Opening) (o : Opening) (left : List Opening) → IsPlan plan
+    → At plan phase place done o left → Meet plan v guests (offered_by plan phase done (o ∷ left)) (marked (guest_is Opened) done (marked (guest_is IsOpening) (o ∷ []) (guest_before plan phase))) → IsOpen plan v guests phase place done o left
+is_open plan v guests phase place done o left planned at meet =
+    let fact = facts plan phase place done o left planned at in
+    let mine = offered_here plan phase place done o left planned at in
+    let count : ℕ = offered_by plan phase done (o ∷ left) in
+    let base : ℕ → Channel = guest_before plan phase in
+    record {
+      known = stand_at guests count (guest_is Opened) done o (marked (guest_is IsOpening) (o ∷ []) base) (guest_is IsOpening o) meet.stand fact.fits.named mine fact.done_apart (marked_here (guest_is IsOpening) o [] base);
+      stand = stand_join guests count (guest_is Opened) done o (marked (guest_is IsOpening) (o ∷ []) base) base meet.stand fact.fits.named mine fact.done_apart (λ q off. sym (marked_there (guest_is IsOpening) o [] base q off));
+      next = opening_from plan phase (place + 1) (done ++ o ∷ []) left (done_more plan phase place done o left at) (place_more plan phase place done o left at);
+      answers = λ later. ap (λ os. answers_open os ++ later) (left_at plan phase place done (o ∷ left) at.phase_is at.place_is);
+    }
+
+-- the guest goes on with the next opening
+step_open_one : (plan : BusPlan) (logs : Logs) (v : Version) (guests : List Channel) (phase place : ℕ) (done : List Opening) (o : Opening) (left : List Opening) → IsPlan plan
+    → At plan phase place done o left → Meet plan v guests (offered_by plan phase done (o ∷ left)) (marked (guest_is Opened) done (marked (guest_is IsOpening) (o ∷ []) (guest_before plan phase)))
+    → (not (is_sub o) && is_of_sub (opening_at plan phase (place + 1))) ≡ false → GuestStep plan (a_guest plan logs (Some (PhaseStart phase)) (AwaitsOpened place) (Some v) guests) (opened o.relid o.relid)
+step_open_one plan logs v guests phase place done o left planned at meet none =
+    let g : GuestSeen = a_guest plan logs (Some (PhaseStart phase)) (AwaitsOpened place) (Some v) guests in
+    let m : Msg = opened o.relid o.relid in
+    let opened_so = is_open plan v guests phase place done o left planned at meet in
+    let now : Channel = guest_is Opened o in
+    let heard : GuestTurn = heard_so (AwaitsOpened place) v (Now o.relid now) in
+    let turn : GuestTurn = lists_next heard (place + 1) (opening_at plan phase (place + 1)) in
+    let asked : opened_for g heard place o.relid 0 (Some o) ≡ opens_next heard place o (opening_at plan phase (place + 1)) = rw (same o.relid) refl in
+    let on : opens_next heard place o (opening_at plan phase (place + 1)) ≡ turn = ap (λ b. if b then record heard { awaits = SubOffer (place + 1) } else turn) none in
+    let no_subs = no_subs_next o left (sym (ap (λ x. not (is_sub o) && is_of_sub x) opened_so.next) ∙ none) in
+    let more = count_next plan phase done o left in
+    let no_more = ap length no_subs in
+    let same_count : offered_by plan phase done (o ∷ left) ≡ offered_by plan phase (done ++ o ∷ []) left = omega (arith, more, no_more) in
+    let after = subst (λ n. Stand (slice_set guests (o.relid - 1) now) n (marked (guest_is Opened) (done ++ o ∷ []) (guest_before plan phase))) same_count opened_so.stand in
+    record {
+      turn = turn;
+      hears = ap (hears_result g o.relid 0) opened_so.known ∙ ap (λ x. Ok (opened_for g heard place o.relid 0 x)) (opening_here plan phase place done o left at) ∙ ap (λ t. Ok t) (asked ∙ on);
+      goes = next_list plan v guests phase (place + 1) (done ++ o ∷ []) left (AwaitsOpened place) (Now o.relid now) at.in_plan (done_more plan phase place done o left at) (place_more plan phase place done o left at) (record { agreed = meet.agreed; stand = after });
+      says = λ sent sends.
+          let later : List Msg = flat_map guest_closes (closing_of plan phase) ++ guest_from plan (suc phase) in
+          ap (λ os. flat_map guest_opens os ++ later) (left_behind plan phase place done o left at)
+          ∙ lists_said plan v phase (place + 1) (done ++ o ∷ []) left (AwaitsOpened place) (Now o.relid now) sent (done_more plan phase place done o left at) (place_more plan phase place done o left at) sends later;
+      heard =
+          let later : List Msg = flat_map host_closes (closing_of plan phase) ++ host_from plan (suc phase) in
+          opened_so.answers later ∙ ap (λ os. m ∷ ((map offer_sub os ++ host_opens_all left) ++ later)) no_subs
+          ∙ ap (λ xs. m ∷ (xs ++ later)) (lists_heard plan v phase (place + 1) (done ++ o ∷ []) left (AwaitsOpened place) (Now o.relid now) (done_more plan phase place done o left at) (place_more plan phase place done o left at));
+    }
+
+-- the offers of the device's sub-channels come before
+step_open_subs : (plan : BusPlan) (logs : Logs) (v : Version) (guests : List Channel) (phase place : ℕ) (done : List Opening) (o : Opening) (left : List Opening) → IsPlan plan
+    → At plan phase place done o left → Meet plan v guests (offered_by plan phase done (o ∷ left)) (marked (guest_is Opened) done (marked (guest_is IsOpening) (o ∷ []) (guest_before plan phase)))
+    → is_sub o ≡ false → is_of_sub (slice_get left 0) ≡ true → GuestStep plan (a_guest plan logs (Some (PhaseStart phase)) (AwaitsOpened place) (Some v) guests) (opened o.relid o.relid)
+step_open_subs plan logs v guests phase place done o [] planned at meet is_first is_next = absurd (cc)
+step_open_subs plan logs v guests phase place done o (p ∷ left) planned at meet is_first is_next =
+    let g : GuestSeen = a_guest plan logs (Some (PhaseStart phase)) (AwaitsOpened place) (Some v) guests in
+    let m : Msg = opened o.relid o.relid in
+    let opened_so = is_open plan v guests phase place done o (p ∷ left) planned at meet in
+    let now : Channel = guest_is Opened o in
+    let heard : GuestTurn = heard_so (AwaitsOpened place) v (Now o.relid now) in
+    let turn : GuestTurn = record heard { awaits = SubOffer (place + 1) } in
+    let next : opening_at plan phase (place + 1) ≡ Some p = opened_so.next in
+    let one : Option Opening → GuestTurn = λ x. lists_next heard (place + 1) x in
+    let asked : opened_for g heard place o.relid 0 (Some o) ≡ opens_next heard place o (opening_at plan phase (place + 1)) = rw (same o.relid) refl in
+    let on : opens_next heard place o (opening_at plan phase (place + 1)) ≡ turn =
+    ap (opens_next heard place o) next ∙ ap (λ b. if not b && is_sub p then turn else one (Some p)) is_first ∙ ap (λ b. if b then turn else one (Some p)) is_next in
+    let there : At plan phase (place + 1) (done ++ o ∷ []) p left = record { in_plan = at.in_plan; phase_is = done_more plan phase place done o (p ∷ left) at; place_is = place_more plan phase place done o (p ∷ left) at } in
+    let subs : AreSubs (p ∷ []) = (is_next, tt) in
+    let spot = sub_at plan phase (place + 1) done o [] p left planned there is_first subs in
+    let none : length (first_subs (o ∷ (p ∷ left))) ≡ 0 = ap (λ b. length (if b then o ∷ first_subs (p ∷ left) else [])) is_first in
+    let same_count : offered_by plan phase done (o ∷ (p ∷ left)) ≡ offered_by plan phase done [] + 0 = omega (arith, none) in
+    let after = subst (λ n. Stand (slice_set guests (o.relid - 1) now) n (marked (guest_is Opened) (done ++ o ∷ []) (guest_before plan phase))) same_count opened_so.stand in
+    record {
+      turn = turn;
+      hears = ap (hears_result g o.relid 0) opened_so.known ∙ ap (λ x. Ok (opened_for g heard place o.relid 0 x)) (opening_here plan phase place done o (p ∷ left) at) ∙ ap (λ t. Ok t) (asked ∙ on);
+      goes = IsOffering v (slice_set guests (o.relid - 1) now) phase (place + 1) done o [] p left there is_first subs (record { agreed = meet.agreed; stand = after });
+      says = λ sent e.
+          let later : List Msg = flat_map guest_closes (closing_of plan phase) ++ guest_from plan (suc phase) in
+          ap (λ os. flat_map guest_opens os ++ later) (left_behind plan phase place done o (p ∷ left) at ∙ sym spot.from_first)
+          ∙ ap (λ s. s ++ (flat_map guest_opens (from_first_sub (phase_of plan phase) (place + 1) (drop (place + 1) (phase_of plan phase))) ++ later)) (sym e);
+      heard =
+          let later : List Msg = flat_map host_closes (closing_of plan phase) ++ host_from plan (suc phase) in
+          let here = sym spot.here in
+          let back = sym spot.from_first in
+          opened_so.answers later ∙ ap (λ b. m ∷ ((map offer_sub (if b then [] else first_subs (p ∷ left)) ++ host_opens_all (p ∷ left)) ++ later)) is_first
+          ∙ (λ i. m ∷ ((map offer_sub (first_subs (here i)) ++ host_opens_all (back i)) ++ later));
+    }
+
+and_both : (a b : Bool) → (not a && b) ≡ true → (a ≡ false) × (b ≡ true)
+and_both true b e = absurd (cc)
+and_both false b e = (refl, e)
+
+pub step_open : (plan : BusPlan) (logs : Logs) (v : Version) (guests : List Channel) (phase place : ℕ) (done : List Opening) (o : Opening) (left : List Opening) → IsPlan plan
+    → At plan phase place done o left → Meet plan v guests (offered_by plan phase done (o ∷ left)) (marked (guest_is Opened) done (marked (guest_is IsOpening) (o ∷ []) (guest_before plan phase)))
+    → GuestStep plan (a_guest plan logs (Some (PhaseStart phase)) (AwaitsOpened place) (Some v) guests) (opened o.relid o.relid)
+step_open plan logs v guests phase place done o left planned at meet =
+    let next : opening_at plan phase (place + 1) ≡ slice_get left 0 = opening_from plan phase (place + 1) (done ++ o ∷ []) left (done_more plan phase place done o left at) (place_more plan phase place done o left at) in
+    by_test {P = GuestStep plan (a_guest plan logs (Some (PhaseStart phase)) (AwaitsOpened place) (Some v) guests) (opened o.relid o.relid)} (not (is_sub o) && is_of_sub (opening_at plan phase (place + 1)))
+    (λ e. let both = and_both (is_sub o) (is_of_sub (opening_at plan phase (place + 1))) e in step_open_subs plan logs v guests phase place done o left planned at meet both.0 (sym (ap is_of_sub next) ∙ both.1))
+    (λ e. step_open_one plan logs v guests phase place done o left planned at meet e)
+
+-- OFFERCHANNEL of a sub-channel: the channel is offered
+record IsOffered (plan : BusPlan) (logs : Logs) (v : Version) (guests : List Channel) (phase place : ℕ) (done : List Opening) (first : Opening) (offered : List Opening) (o : Opening) (left : List Opening) : Type 0 where
+  hears : guest_hears (a_guest plan logs (Some (PhaseStart phase)) (SubOffer place) (Some v) guests) (offer_sub o)
+      ≡ Ok (goes_behind (a_guest plan logs (Some (PhaseStart phase)) (SubOffer place) (Some v) guests) (heard_so (SubOffer place) v (Offered offered_channel)) place o)
+  stand : Stand (guests ++ offered_channel ∷ []) ((offered_by plan phase done [] + length offered) + 1) (marked (guest_is Opened) (done ++ first ∷ []) (guest_before plan phase))
+  next : opening_at plan phase (place + 1) ≡ slice_get left 0
+
+is_offered : (plan : BusPlan) (logs : Logs) (v : Version) (guests : List Channel) (phase place : ℕ) (done : List Opening) (first : Opening) (offered : List Opening) (o : Opening) (left : List Opening) → IsPlan plan
+    → At plan phase place (done ++ first ∷ offered) o left → is_sub first ≡ false → AreSubs (offered ++ o ∷ [])
+    → Meet plan v guests (offered_by plan phase done [] + length offered) (marked (guest_is Opened) (done ++ first ∷ []) (guest_before plan phase))
+    → IsOffered plan logs v guests phase place done first offered o left
+is_offered plan logs v guests phase place done first offered o left planned at is_first subs meet =
+    let g : GuestSeen = a_guest plan logs (Some (PhaseStart phase)) (SubOffer place) (Some v) guests in
+    let front : List Opening = done ++ first ∷ offered in
+    let spot = sub_at plan phase place done first offered o left planned at is_first subs in
+    let count : ℕ = offered_by plan phase done [] + length offered in
+    let base : ℕ → Channel = guest_before plan phase in
+    let heard : GuestTurn = heard_so (SubOffer place) v (Offered offered_channel) in
+    let many = meet.stand.many in
+    let relid_is = spot.relid_is in
+    let next_one : o.relid ≡ length guests + 1 = omega (arith, relid_is, many) in
+    let is_it : is_sub_offer g o Disk o.sub o.relid ≡ true = ap (λ n. (((o.relid == n) && (o.relid == o.relid)) && (o.sub == o.sub)) && true) (sym next_one) ∙ (λ i. ((same o.relid i && same o.relid i) && same o.sub i) && true) in
+    let takes : sub_offered g place Disk o.sub o.relid (Some o) ≡ goes_behind g heard place o = ap (λ b. if b then goes_behind g heard place o else idle g) is_it in
+    let in_plan = at.in_plan in
+    let fresh : (q : ℕ) → count < q → q ≤ count + 1 → marked (guest_is Opened) (done ++ first ∷ []) base q ≡ offered_channel = λ q above few.
+    marked_apart (guest_is Opened) (done ++ first ∷ []) base q (all_weaker (λ p. p.relid ≤ offered_by plan phase done []) (λ p. p.relid ≢ q) (λ p l e. absurd (omega (arith, l, e, above))) (done ++ first ∷ []) spot.known)
+    ∙ unopened plan guest_ends offered_channel phase q planned (omega (arith, in_plan)) (omega (arith, above)) in
+    record {
+      hears = ap (hears_offer g (class_id Disk) o.sub o.relid) (kind_of_class Disk (class_id Disk) refl) ∙ ap (λ x. Ok (sub_offered g place Disk o.sub o.relid x)) (opening_here plan phase place front o left at) ∙ ap (λ t. Ok t) takes;
+      stand = stand_add guests count 1 (marked (guest_is Opened) (done ++ first ∷ []) base) offered_channel meet.stand fresh;
+      next = opening_from plan phase (place + 1) (front ++ o ∷ []) left (done_more plan phase place front o left at) (place_more plan phase place front o left at);
+    }
+
+-- one more of them is offered
+step_offer_more : (plan : BusPlan) (logs : Logs) (v : Version) (guests : List Channel) (phase place : ℕ) (done : List Opening) (first : Opening) (offered : List Opening) (o : Opening) (left : List Opening) → IsPlan plan
+    → At plan phase place (done ++ first ∷ offered) o left → is_sub first ≡ false → AreSubs (offered ++ o ∷ [])
+    → Meet plan v guests (offered_by plan phase done [] + length offered) (marked (guest_is Opened) (done ++ first ∷ []) (guest_before plan phase)) → is_of_sub (slice_get left 0) ≡ true
+    → GuestStep plan (a_guest plan logs (Some (PhaseStart phase)) (SubOffer place) (Some v) guests) (offer_sub o)
+step_offer_more plan logs v guests phase place done first offered o [] planned at is_first subs meet is_next = absurd (cc)
+step_offer_more plan logs v guests phase place done first offered o (p ∷ left) planned at is_first subs meet is_next =
+    let g : GuestSeen = a_guest plan logs (Some (PhaseStart phase)) (SubOffer place) (Some v) guests in
+    let m : Msg = offer_sub o in
+    let os : List Opening = phase_of plan phase in
+    let front : List Opening = done ++ first ∷ offered in
+    let on = is_offered plan logs v guests phase place done first offered o (p ∷ left) planned at is_first subs meet in
+    let spot = sub_at plan phase place done first offered o (p ∷ left) planned at is_first subs in
+    let heard : GuestTurn = heard_so (SubOffer place) v (Offered offered_channel) in
+    let turn : GuestTurn = record heard { awaits = SubOffer (place + 1) } in
+    let other : GuestTurn = lists_next heard (place + 1 - o.sub) (opening_at plan phase (place + 1 - o.sub)) in
+    let next : is_of_sub (opening_at plan phase (place + 1)) ≡ true = ap is_of_sub on.next ∙ is_next in
+    let joined : front ++ o ∷ [] ≡ done ++ first ∷ (offered ++ o ∷ []) = append_assoc done (first ∷ offered) (o ∷ []) in
+    let there : At plan phase (place + 1) (done ++ first ∷ (offered ++ o ∷ [])) p left = subst (λ xs. At plan phase (place + 1) xs p left) joined
+    (record { in_plan = at.in_plan; phase_is = done_more plan phase place front o (p ∷ left) at; place_is = place_more plan phase place front o (p ∷ left) at }) in
+    let more : AreSubs ((offered ++ o ∷ []) ++ p ∷ []) = all_snoc (λ q. is_sub q ≡ true) (offered ++ o ∷ []) p subs is_next in
+    let spot2 = sub_at plan phase (place + 1) done first (offered ++ o ∷ []) p left planned there is_first more in
+    let sum = length-append offered (o ∷ []) in
+    let count : (offered_by plan phase done [] + length offered) + 1 ≡ offered_by plan phase done [] + length (offered ++ o ∷ []) = omega (arith, sum) in
+    let after = subst (λ n. Stand (guests ++ offered_channel ∷ []) n (marked (guest_is Opened) (done ++ first ∷ []) (guest_before plan phase))) count on.stand in
+    let same_front : from_first_sub os place (drop place os) ≡ from_first_sub os (place + 1) (drop (place + 1) os) = spot.from_first ∙ sym (append_assoc offered (o ∷ []) (p ∷ left)) ∙ sym spot2.from_first in
+    let here = spot.here in
+    let here2 = sym spot2.here in
+    let one = (all_front (λ q. is_sub q ≡ true) offered (o ∷ []) subs).1.0 in
+    record {
+      turn = turn;
+      hears = on.hears ∙ ap (λ b. Ok (if b then turn else other)) next;
+      goes = IsOffering v (guests ++ offered_channel ∷ []) phase (place + 1) done first (offered ++ o ∷ []) p left there is_first more (record { agreed = meet.agreed; stand = after });
+      says = λ sent e.
+          let later : List Msg = flat_map guest_closes (closing_of plan phase) ++ guest_from plan (suc phase) in
+          ap (λ xs. flat_map guest_opens xs ++ later) same_front ∙ ap (λ s. s ++ (flat_map guest_opens (from_first_sub os (place + 1) (drop (place + 1) os)) ++ later)) (sym e);
+      heard =
+          let later : List Msg = flat_map host_closes (closing_of plan phase) ++ host_from plan (suc phase) in
+          (λ i. (map offer_sub (first_subs (here i)) ++ host_opens_all (same_front i)) ++ later)
+          ∙ ap (λ b. (map offer_sub (if b then o ∷ first_subs (p ∷ left) else []) ++ host_opens_all (from_first_sub os (place + 1) (drop (place + 1) os))) ++ later) one
+          ∙ ap (λ xs. m ∷ ((map offer_sub (first_subs xs) ++ host_opens_all (from_first_sub os (place + 1) (drop (place + 1) os))) ++ later)) here2;
+    }
+
+-- all of them are, and the first one's page list is sent
+step_offer_last : (plan : BusPlan) (logs : Logs) (v : Version) (guests : List Channel) (phase place : ℕ) (done : List Opening) (first : Opening) (offered : List Opening) (o : Opening) (left : List Opening) → IsPlan plan
+    → At plan phase place (done ++ first ∷ offered) o left → is_sub first ≡ false → AreSubs (offered ++ o ∷ [])
+    → Meet plan v guests (offered_by plan phase done [] + length offered) (marked (guest_is Opened) (done ++ first ∷ []) (guest_before plan phase)) → is_of_sub (slice_get left 0) ≡ false
+    → GuestStep plan (a_guest plan logs (Some (PhaseStart phase)) (SubOffer place) (Some v) guests) (offer_sub o)
+step_offer_last plan logs v guests phase place done first offered o left planned at is_first subs meet last =
+    let g : GuestSeen = a_guest plan logs (Some (PhaseStart phase)) (SubOffer place) (Some v) guests in
+    let m : Msg = offer_sub o in
+    let os : List Opening = phase_of plan phase in
+    let on = is_offered plan logs v guests phase place done first offered o left planned at is_first subs meet in
+    let spot = sub_at plan phase place done first offered o left planned at is_first subs in
+    let behind : List Opening = offered ++ o ∷ left in
+    let front : List Opening = done ++ first ∷ [] in
+    let back : ℕ = place + 1 - o.sub in
+    let heard : GuestTurn = heard_so (SubOffer place) v (Offered offered_channel) in
+    let turn : GuestTurn = lists_next heard back (opening_at plan phase back) in
+    let other : GuestTurn = record heard { awaits = SubOffer (place + 1) } in
+    let next : is_of_sub (opening_at plan phase (place + 1)) ≡ false = ap is_of_sub on.next ∙ last in
+    let none = no_first left last in
+    let all : first_subs behind ≡ offered ++ o ∷ [] = ap first_subs (sym (append_assoc offered (o ∷ []) left)) ∙ first_run (offered ++ o ∷ []) left subs ∙ ap (λ xs. (offered ++ o ∷ []) ++ xs) none ∙ append-nil (offered ++ o ∷ []) in
+    let long = ap length all in
+    let sum = length-append offered (o ∷ []) in
+    let parts = ap length (filter-append is_sub done (first ∷ [])) in
+    let halves = length-append (subs_in done) (subs_in (first ∷ [])) in
+    let not_first : length (subs_in (first ∷ [])) ≡ 0 = ap (λ b. length (cond b (first ∷ []) [])) is_first in
+    let count : (offered_by plan phase done [] + length offered) + 1 ≡ offered_by plan phase front behind = omega (arith, long, sum, parts, halves, not_first) in
+    let after = subst (λ n. Stand (guests ++ offered_channel ∷ []) n (marked (guest_is Opened) front (guest_before plan phase))) count on.stand in
+    let one = (all_front (λ q. is_sub q ≡ true) offered (o ∷ []) subs).1.0 in
+    let here = spot.here in
+    let from = spot.from_first in
+    record {
+      turn = turn;
+      hears = on.hears ∙ ap (λ b. Ok (if b then other else turn)) next;
+      goes = next_list plan v guests phase back front behind (SubOffer place) (Offered offered_channel) at.in_plan spot.split spot.back (record { agreed = meet.agreed; stand = after });
+      says = λ sent sends.
+          let later : List Msg = flat_map guest_closes (closing_of plan phase) ++ guest_from plan (suc phase) in
+          ap (λ xs. flat_map guest_opens xs ++ later) from ∙ lists_said plan v phase back front behind (SubOffer place) (Offered offered_channel) sent spot.split spot.back sends later;
+      heard =
+          let later : List Msg = flat_map host_closes (closing_of plan phase) ++ host_from plan (suc phase) in
+          (λ i. (map offer_sub (first_subs (here i)) ++ host_opens_all (from i)) ++ later)
+          ∙ ap (λ b. (map offer_sub (if b then o ∷ first_subs left else []) ++ host_opens_all behind) ++ later) one
+          ∙ ap (λ xs. m ∷ ((map offer_sub xs ++ host_opens_all behind) ++ later)) none
+          ∙ ap (λ xs. m ∷ (xs ++ later)) (lists_heard plan v phase back front behind (SubOffer place) (Offered offered_channel) spot.split spot.back);
+    }
+
+pub step_sub_offered : (plan : BusPlan) (logs : Logs) (v : Version) (guests : List Channel) (phase place : ℕ) (done : List Opening) (first : Opening) (offered : List Opening) (o : Opening) (left : List Opening) → IsPlan plan
+    → At plan phase place (done ++ first ∷ offered) o left → is_sub first ≡ false → AreSubs (offered ++ o ∷ [])
+    → Meet plan v guests (offered_by plan phase done [] + length offered) (marked (guest_is Opened) (done ++ first ∷ []) (guest_before plan phase))
+    → GuestStep plan (a_guest plan logs (Some (PhaseStart phase)) (SubOffer place) (Some v) guests) (offer_sub o)
+step_sub_offered plan logs v guests phase place done first offered o left planned at is_first subs meet =
+    by_test {P = GuestStep plan (a_guest plan logs (Some (PhaseStart phase)) (SubOffer place) (Some v) guests) (offer_sub o)} (is_of_sub (slice_get left 0))
+    (λ e. step_offer_more plan logs v guests phase place done first offered o left planned at is_first subs meet e)
+    (λ e. step_offer_last plan logs v guests phase place done first offered o left planned at is_first subs meet e)
+
+-- GPADL_TORNDOWN and RESCIND_CHANNELOFFER: the channel of an opening is done with, and the guest goes on
+abbrev heard_end : GuestWait → Version → Opening → Option Msg → GuestTurn
+heard_end waits v o first = heard_with waits v (Now o.relid (guest_ends o)) first
+
+abbrev turn_end : BusPlan → List Channel → ℕ → ℕ → GuestTurn → GuestTurn
+turn_end plan guests phase place heard = closes_next heard guests (place + 1) (closing_at plan phase (place + 1))
+
+record GoesOn (plan : BusPlan) (v : Version) (guests : List Channel) (phase place : ℕ) (left : List Opening) (turn : GuestTurn) (first : Option Msg) (stands : ℕ → Channel) : Type 0 where
+  ends : GuestEnds plan phase v guests turn (guest_next_awaits (place + 1) left) stands (option_to_list first ++ guest_next_sends left)
+  says : (sent : List Msg) → Sends plan turn.burst sent → option_to_list first ++ (flat_map guest_closes left ++ guest_from plan (suc phase)) ≡ sent ++ (end_to_say (closing_of plan phase) turn.awaits ++ guest_from plan (suc phase))
+  heard : flat_map host_closes left ≡ end_to_hear (closing_of plan phase) turn.awaits
+
+goes_so : (plan : BusPlan) (v : Version) (guests : List Channel) (phase place : ℕ) (done : List Opening) (o : Opening) (left : List Opening) (waits : GuestWait) (first : Option Msg) → IsPlan plan → EndsAt plan phase place done o left
+    → Stand (changed guests (Now o.relid (guest_ends o))) (offered_before plan (suc phase)) (marked guest_ends (done ++ o ∷ []) (marked (guest_is Opened) left (guest_before plan phase))) → NextIs (guest_is Opened) guests left
+    → GoesOn plan v guests phase place left (turn_end plan guests phase place (heard_end waits v o first)) first (marked guest_ends (done ++ o ∷ []) (guest_next_stands left (guest_before plan phase)))
+goes_so plan v guests phase place done o left waits first planned at stand next =
+    let os : List Opening = closing_of plan phase in
+    let turn : GuestTurn = turn_end plan guests phase place (heard_end waits v o first) in
+    let later : List Msg = guest_from plan (suc phase) in
+    let more = ends_more plan phase place done o left at in
+    let behind = ends_place plan phase place done o left at in
+    let ends = guest_goes plan v guests phase (place + 1) (done ++ o ∷ []) left waits (Now o.relid (guest_ends o)) first planned at.in_plan more behind stand next in
+    let said = ends_said plan phase (place + 1) (done ++ o ∷ []) left at.in_plan more behind in
+    record {
+      ends = ends;
+      says = λ sent sends.
+          let is = ends.said sent sends in
+          ap (λ xs. option_to_list first ++ (xs ++ later)) said
+          ∙ ap (λ xs. option_to_list first ++ xs) (append_assoc (guest_next_sends left) (end_to_say os (guest_next_awaits (place + 1) left)) later)
+          ∙ sym (append_assoc (option_to_list first) (guest_next_sends left) (end_to_say os (guest_next_awaits (place + 1) left) ++ later))
+          ∙ ap (λ xs. xs ++ (end_to_say os (guest_next_awaits (place + 1) left) ++ later)) (sym is)
+          ∙ ap (λ w. sent ++ (end_to_say os w ++ later)) (sym ends.awaits);
+      heard = ends_heard plan phase (place + 1) (done ++ o ∷ []) left more behind ∙ ap (end_to_hear os) (sym ends.awaits);
+    }
+
+-- GPADL_TORNDOWN: the channel of an opening is closed
+abbrev closed_turn : Version → ℕ → Opening → GuestTurn
+closed_turn v place o = heard_with (Torn place) v (Now o.relid (guest_is Closed o)) None
+
+hears_torn : (plan : BusPlan) (logs : Logs) (v : Version) (guests : List Channel) (phase place : ℕ) (done : List Opening) (o : Opening) (left : List Opening) → IsPlan plan
+    → EndsAt plan phase place done o left → Meet plan v guests (offered_before plan (suc phase)) (marked guest_ends done (marked (guest_is Closing) (o ∷ []) (marked (guest_is Opened) left (guest_before plan phase))))
+    → guest_hears (a_guest plan logs (Some (PhaseEnd phase)) (Torn place) (Some v) guests) (torndown o.gpadl) ≡ Ok (torn_then (a_guest plan logs (Some (PhaseEnd phase)) (Torn place) (Some v) guests) (closed_turn v place o) place o.relid o)
+hears_torn plan logs v guests phase place done o left planned at meet =
+    let g : GuestSeen = a_guest plan logs (Some (PhaseEnd phase)) (Torn place) (Some v) guests in
+    let fact = end_facts plan phase place done o left planned at in
+    let base : ℕ → Channel = marked (guest_is Opened) left (guest_before plan phase) in
+    let stands : ℕ → Channel = marked guest_ends done (marked (guest_is Closing) (o ∷ []) base) in
+    let heard : ℕ → GuestTurn = λ relid. heard_with (Torn place) v (Now relid (guest_is Closed o)) None in
+    let closing : stands o.relid ≡ guest_is Closing o = marked_apart guest_ends done (marked (guest_is Closing) (o ∷ []) base) o.relid fact.done_apart ∙ marked_here (guest_is Closing) o [] base in
+    let known : slice_get guests (o.relid - 1) ≡ Some (guest_is Closing o) = sym (at_relid guests o.relid fact.fits.named) ∙ meet.stand.each o.relid fact.fits.named fact.known ∙ ap (λ c. Some c) closing in
+    let mine : is_handle o.gpadl (stands o.relid).gpadl ≡ true = ap (λ c. is_handle o.gpadl c.gpadl) closing ∙ same o.gpadl in
+    let found : place_of_list guests o.gpadl ≡ Some (o.relid - 1) = find_list guests (offered_before plan (suc phase)) stands o.relid o.gpadl meet.stand fact.fits.named fact.known mine (closing_handle plan phase done o left fact) in
+    let named = fact.fits.named in
+    let back : o.relid - 1 + 1 ≡ o.relid = omega (arith, named) in
+    ap (hears_torndown g o.gpadl) found ∙ ap (torn_at g o.gpadl (o.relid - 1)) known ∙ ap (λ r. Ok (torn_for g (heard r) place r (closing_at plan phase place))) back
+    ∙ ap (λ x. Ok (torn_for g (heard o.relid) place o.relid x)) (closing_here plan phase place done o left at)
+
+-- a first channel is done with then
+step_torn_first : (plan : BusPlan) (logs : Logs) (v : Version) (guests : List Channel) (phase place : ℕ) (done : List Opening) (o : Opening) (left : List Opening) → IsPlan plan
+    → EndsAt plan phase place done o left → o.rescinded ≡ false → is_sub o ≡ false
+    → Meet plan v guests (offered_before plan (suc phase)) (marked guest_ends done (marked (guest_is Closing) (o ∷ []) (marked (guest_is Opened) left (guest_before plan phase))))
+    → GuestStep plan (a_guest plan logs (Some (PhaseEnd phase)) (Torn place) (Some v) guests) (torndown o.gpadl)
+step_torn_first plan logs v guests phase place done o left planned at closed is_first meet =
+    let g : GuestSeen = a_guest plan logs (Some (PhaseEnd phase)) (Torn place) (Some v) guests in
+    let m : Msg = torndown o.gpadl in
+    let count : ℕ = offered_before plan (suc phase) in
+    let fact = end_facts plan phase place done o left planned at in
+    let base : ℕ → Channel = marked (guest_is Opened) left (guest_before plan phase) in
+    let kept : ends_given_back o ≡ false = ap (λ b. b || is_sub o) closed ∙ is_first in
+    let so : guest_ends o ≡ guest_is Closed o = ap (λ b. guest_is (end_state b) o) kept in
+    let turn : GuestTurn = turn_end plan guests phase place (heard_end (Torn place) v o None) in
+    let heard : Channel → GuestTurn = λ now. heard_with (Torn place) v (Now o.relid now) None in
+    let taken : GuestTurn = record (closed_turn v place o) { awaits = Rescinded place } in
+    let asked : torn_then g (closed_turn v place o) place o.relid o ≡ turn_end plan guests phase place (closed_turn v place o) =
+    ap (λ b. if b && is_sub o then taken else (if b then turn_end plan guests phase place (closed_turn v place o) else closed_turn v place o)) (same o.relid)
+    ∙ ap (λ b. if b then taken else turn_end plan guests phase place (closed_turn v place o)) is_first in
+    let after : Stand (slice_set guests (o.relid - 1) (guest_ends o)) count (marked guest_ends (done ++ o ∷ []) base) =
+    stand_join guests count guest_ends done o (marked (guest_is Closing) (o ∷ []) base) base meet.stand fact.fits.named fact.known fact.done_apart (λ q off. sym (marked_there (guest_is Closing) o [] base q off)) in
+    let next = next_is plan guests phase place guest_ends (guest_is Closing) (guest_is Opened) done o left (guest_before plan phase) planned at meet.stand in
+    let on = goes_so plan v guests phase place done o left (Torn place) None planned at after next in
+    let here = ends_left plan phase place done (o ∷ left) at.closing_is at.place_is in
+    record {
+      turn = turn;
+      hears = hears_torn plan logs v guests phase place done o left planned at meet ∙ ap (λ t. Ok t) asked ∙ ap (λ c. Ok (turn_end plan guests phase place (heard c))) (sym so);
+      goes = guest_stands_so plan phase v (Some (PhaseEnd phase)) guests turn (guest_next_awaits (place + 1) left) (marked guest_ends (done ++ o ∷ []) (guest_next_stands left (guest_before plan phase))) (option_to_list None ++ guest_next_sends left) on.ends
+          (guest_next plan v (changed (changed guests turn.heard) turn.wished) phase (place + 1) (done ++ o ∷ []) left planned at.in_plan (ends_more plan phase place done o left at) (ends_place plan phase place done o left at) (record { agreed = meet.agreed; stand = on.ends.guest }));
+      says = λ sent sends.
+          let later : List Msg = guest_from plan (suc phase) in
+          ap (λ os. gives_sub os ++ later) here ∙ ap (λ b. ((if b then release o.relid ∷ [] else []) ++ flat_map guest_closes left) ++ later) is_first ∙ on.says sent sends;
+      heard =
+          let later : List Msg = host_from plan (suc phase) in
+          ap (λ os. flat_map host_closes os ++ later) here ∙ ap (λ xs. xs ++ later) (flat_map-cons host_closes o left)
+          ∙ ap (λ b. ((if b then rescind o.relid ∷ [] else m ∷ only_sub o (rescind o.relid)) ++ flat_map host_closes left) ++ later) closed
+          ∙ ap (λ b. m ∷ (((if b then rescind o.relid ∷ [] else []) ++ flat_map host_closes left) ++ later)) is_first ∙ ap (λ xs. m ∷ (xs ++ later)) on.heard;
+    }
+
+-- a sub-channel is to be rescinded then
+step_torn_sub : (plan : BusPlan) (logs : Logs) (v : Version) (guests : List Channel) (phase place : ℕ) (done : List Opening) (o : Opening) (left : List Opening) → IsPlan plan
+    → EndsAt plan phase place done o left → o.rescinded ≡ false → is_sub o ≡ true
+    → Meet plan v guests (offered_before plan (suc phase)) (marked guest_ends done (marked (guest_is Closing) (o ∷ []) (marked (guest_is Opened) left (guest_before plan phase))))
+    → GuestStep plan (a_guest plan logs (Some (PhaseEnd phase)) (Torn place) (Some v) guests) (torndown o.gpadl)
+step_torn_sub plan logs v guests phase place done o left planned at closed sub meet =
+    let g : GuestSeen = a_guest plan logs (Some (PhaseEnd phase)) (Torn place) (Some v) guests in
+    let m : Msg = torndown o.gpadl in
+    let count : ℕ = offered_before plan (suc phase) in
+    let fact = end_facts plan phase place done o left planned at in
+    let base : ℕ → Channel = marked (guest_is Opened) left (guest_before plan phase) in
+    let turn : GuestTurn = record (closed_turn v place o) { awaits = Rescinded place } in
+    let asked : torn_then g (closed_turn v place o) place o.relid o ≡ turn =
+    ap (λ b. if b && is_sub o then turn else (if b then turn_end plan guests phase place (closed_turn v place o) else closed_turn v place o)) (same o.relid)
+    ∙ ap (λ b. if b then turn else turn_end plan guests phase place (closed_turn v place o)) sub in
+    let after : Stand (slice_set guests (o.relid - 1) (guest_is Closed o)) count (marked guest_ends done (marked (guest_is Closed) (o ∷ []) base)) =
+    stand_mark guests count guest_ends (guest_is Closed) done o (marked (guest_is Closing) (o ∷ []) base) base meet.stand fact.fits.named fact.known fact.done_apart (λ q off. sym (marked_there (guest_is Closing) o [] base q off)) in
+    let here = ends_left plan phase place done (o ∷ left) at.closing_is at.place_is in
+    record {
+      turn = turn;
+      hears = hears_torn plan logs v guests phase place done o left planned at meet ∙ ap (λ t. Ok t) asked;
+      goes = gives_sub_back v (slice_set guests (o.relid - 1) (guest_is Closed o)) phase place done o left at closed sub (record { agreed = meet.agreed; stand = after });
+      says = λ sent e.
+          let later : List Msg = guest_from plan (suc phase) in
+          ap (λ os. gives_sub os ++ later) here ∙ ap (λ b. ((if b then release o.relid ∷ [] else []) ++ flat_map guest_closes left) ++ later) sub ∙ ap (λ os. gives_one os ++ later) (sym here)
+          ∙ ap (λ s. s ++ (gives_one (drop place (closing_of plan phase)) ++ later)) (sym e);
+      heard =
+          let later : List Msg = host_from plan (suc phase) in
+          ap (λ os. flat_map host_closes os ++ later) here ∙ ap (λ xs. xs ++ later) (flat_map-cons host_closes o left)
+          ∙ ap (λ b. ((if b then rescind o.relid ∷ [] else m ∷ only_sub o (rescind o.relid)) ++ flat_map host_closes left) ++ later) closed
+          ∙ ap (λ b. m ∷ (((if b then rescind o.relid ∷ [] else []) ++ flat_map host_closes left) ++ later)) sub ∙ ap (λ os. m ∷ (takes_one os ++ later)) (sym here);
+    }
+
+pub step_torn : (plan : BusPlan) (logs : Logs) (v : Version) (guests : List Channel) (phase place : ℕ) (done : List Opening) (o : Opening) (left : List Opening) → IsPlan plan
+    → EndsAt plan phase place done o left → o.rescinded ≡ false
+    → Meet plan v guests (offered_before plan (suc phase)) (marked guest_ends done (marked (guest_is Closing) (o ∷ []) (marked (guest_is Opened) left (guest_before plan phase))))
+    → GuestStep plan (a_guest plan logs (Some (PhaseEnd phase)) (Torn place) (Some v) guests) (torndown o.gpadl)
+step_torn plan logs v guests phase place done o left planned at closed meet =
+    by_test {P = GuestStep plan (a_guest plan logs (Some (PhaseEnd phase)) (Torn place) (Some v) guests) (torndown o.gpadl)} (is_sub o)
+    (λ e. step_torn_sub plan logs v guests phase place done o left planned at closed e meet)
+    (λ e. step_torn_first plan logs v guests phase place done o left planned at closed e meet)
+
+-- RESCIND_CHANNELOFFER: the channel is open, or it is a sub-channel that was closed
+abbrev rescinded_so : Version → ℕ → Opening → Channel → GuestTurn
+rescinded_so v place o now = heard_with (Rescinded place) v (Now o.relid now) (Some (release o.relid))
+
+step_rescinds : (plan : BusPlan) (logs : Logs) (v : Version) (guests : List Channel) (phase place : ℕ) (done : List Opening) (o : Opening) (left : List Opening) (state : State) → IsPlan plan
+    → EndsAt plan phase place done o left → ends_given_back o ≡ true
+    → hears_rescind (a_guest plan logs (Some (PhaseEnd phase)) (Rescinded place) (Some v) guests) o.relid (Some (guest_is state o)) ≡ Ok (ended_for (a_guest plan logs (Some (PhaseEnd phase)) (Rescinded place) (Some v) guests) (rescinded_so v place o (guest_is Released o)) place o.relid (closing_at plan phase place))
+    → Meet plan v guests (offered_before plan (suc phase)) (marked guest_ends done (marked (guest_is state) (o ∷ []) (marked (guest_is Opened) left (guest_before plan phase))))
+    → GuestStep plan (a_guest plan logs (Some (PhaseEnd phase)) (Rescinded place) (Some v) guests) (rescind o.relid)
+step_rescinds plan logs v guests phase place done o left state planned at gone takes meet =
+    let g : GuestSeen = a_guest plan logs (Some (PhaseEnd phase)) (Rescinded place) (Some v) guests in
+    let m : Msg = rescind o.relid in
+    let first : Option Msg = Some (release o.relid) in
+    let count : ℕ = offered_before plan (suc phase) in
+    let fact = end_facts plan phase place done o left planned at in
+    let base : ℕ → Channel = marked (guest_is Opened) left (guest_before plan phase) in
+    let so : guest_ends o ≡ guest_is Released o = ap (λ b. guest_is (end_state b) o) gone in
+    let turn : GuestTurn = turn_end plan guests phase place (heard_end (Rescinded place) v o first) in
+    let known : by_relid guests o.relid ≡ Some (guest_is state o) = stand_at guests count guest_ends done o (marked (guest_is state) (o ∷ []) base) (guest_is state o) meet.stand fact.fits.named fact.known fact.done_apart (marked_here (guest_is state) o [] base) in
+    let asked : ended_for g (rescinded_so v place o (guest_ends o)) place o.relid (Some o) ≡ turn = ap (λ b. if b then turn else rescinded_so v place o (guest_ends o)) (same o.relid) in
+    let after : Stand (slice_set guests (o.relid - 1) (guest_ends o)) count (marked guest_ends (done ++ o ∷ []) base) =
+    stand_join guests count guest_ends done o (marked (guest_is state) (o ∷ []) base) base meet.stand fact.fits.named fact.known fact.done_apart (λ q off. sym (marked_there (guest_is state) o [] base q off)) in
+    let next = next_is plan guests phase place guest_ends (guest_is state) (guest_is Opened) done o left (guest_before plan phase) planned at meet.stand in
+    let on = goes_so plan v guests phase place done o left (Rescinded place) first planned at after next in
+    let here = ends_left plan phase place done (o ∷ left) at.closing_is at.place_is in
+    record {
+      turn = turn;
+      hears = ap (hears_rescind g o.relid) known ∙ takes
+          ∙ ap (λ c. Ok (ended_for g (rescinded_so v place o c) place o.relid (closing_at plan phase place))) (sym so)
+          ∙ ap (λ x. Ok (ended_for g (rescinded_so v place o (guest_ends o)) place o.relid x)) (closing_here plan phase place done o left at) ∙ ap (λ t. Ok t) asked;
+      goes = guest_stands_so plan phase v (Some (PhaseEnd phase)) guests turn (guest_next_awaits (place + 1) left) (marked guest_ends (done ++ o ∷ []) (guest_next_stands left (guest_before plan phase))) (option_to_list first ++ guest_next_sends left) on.ends
+          (guest_next plan v (changed (changed guests turn.heard) turn.wished) phase (place + 1) (done ++ o ∷ []) left planned at.in_plan (ends_more plan phase place done o left at) (ends_place plan phase place done o left at) (record { agreed = meet.agreed; stand = on.ends.guest }));
+      says = λ sent sends. ap (λ os. gives_one os ++ guest_from plan (suc phase)) here ∙ on.says sent sends;
+      heard = ap (λ os. takes_one os ++ host_from plan (suc phase)) here ∙ ap (λ xs. m ∷ (xs ++ host_from plan (suc phase))) on.heard;
+    }
+
+pub step_gives : (plan : BusPlan) (logs : Logs) (v : Version) (guests : List Channel) (phase place : ℕ) (done : List Opening) (o : Opening) (left : List Opening) → IsPlan plan
+    → EndsAt plan phase place done o left → o.rescinded ≡ true
+    → Meet plan v guests (offered_before plan (suc phase)) (marked guest_ends done (marked (guest_is Opened) (o ∷ left) (guest_before plan phase)))
+    → GuestStep plan (a_guest plan logs (Some (PhaseEnd phase)) (Rescinded place) (Some v) guests) (rescind o.relid)
+step_gives plan logs v guests phase place done o left planned at gone meet =
+    step_rescinds plan logs v guests phase place done o left Opened planned at (ap (λ b. b || is_sub o) gone) refl (record { agreed = meet.agreed; stand = meet.stand })
+
+pub step_gives_sub : (plan : BusPlan) (logs : Logs) (v : Version) (guests : List Channel) (phase place : ℕ) (done : List Opening) (o : Opening) (left : List Opening) → IsPlan plan
+    → EndsAt plan phase place done o left → o.rescinded ≡ false → is_sub o ≡ true
+    → Meet plan v guests (offered_before plan (suc phase)) (marked guest_ends done (marked (guest_is Closed) (o ∷ []) (marked (guest_is Opened) left (guest_before plan phase))))
+    → GuestStep plan (a_guest plan logs (Some (PhaseEnd phase)) (Rescinded place) (Some v) guests) (rescind o.relid)
+step_gives_sub plan logs v guests phase place done o left planned at closed sub meet =
+    step_rescinds plan logs v guests phase place done o left Closed planned at (ap (λ b. b || is_sub o) closed ∙ sub) refl meet
+
+-- UNLOAD_RESPONSE
+step_left : (plan : BusPlan) (logs : Logs) (v : Version) (guests : List Channel) → Meet plan v guests (offered_before plan (length plan.phases)) (guest_before plan (length plan.phases)) → GuestStep plan (a_guest plan logs (Some Unload) Unloaded (Some v) guests) farewell_taken
+step_left plan logs v guests meet =
+    let g : GuestSeen = a_guest plan logs (Some Unload) Unloaded (Some v) guests in
+    record {
+      turn = record (idle g) { awaits = Nothing };
+      hears = refl;
+      goes = is_over v guests meet;
+      says = λ sent e. ap (λ s. s ++ []) (sym e);
+      heard = refl;
+    }
+
+-- the message that a guest takes where it stands
+pub record GuestGoes (plan : BusPlan) (g : GuestSeen) : Type 0 where
+  pub next : Msg
+  pub step : GuestStep plan g next
+
+step_response : (plan : BusPlan) (logs : Logs) (v : Version) → IsPlan plan → Tries plan v → GuestGoes plan (a_guest plan logs (Some Contact) (Response v) None [])
+step_response plan logs v planned tries = by_test {P = GuestGoes plan (a_guest plan logs (Some Contact) (Response v) None [])} (nat_le v.0 plan.host.0)
+    (λ e. let within : v.0 ≤ plan.host.0 = grind (arith, nat_tests, e) in record { next = respond 1; step = step_accepts plan logs v planned (record { tried = tries; within_host = within }) })
+    (λ e. let above : plan.host.0 < v.0 = grind (arith, nat_tests, e) in record { next = respond 0; step = step_refuses plan logs v planned tries above })
+
+step_offers : (plan : BusPlan) (logs : Logs) (v : Version) (n : ℕ) (left : List Kind) → Agreed plan v → n ≤ length plan.kinds → drop n plan.kinds ≡ left → GuestGoes plan (a_guest plan logs (Some Contact) Offers (Some v) (replicate n offered_channel))
+step_offers plan logs v n [] agreed few is = record { next = delivered; step = step_offered plan logs v n agreed few is }
+step_offers plan logs v n (kind ∷ left) agreed few is = record { next = offer kind (n + 1) 0; step = step_offering plan logs v n kind left agreed is }
+
+-- each row in which a guest waits for a message
+pub guest_step : (plan : BusPlan) (logs : Logs) (part : Option Part) (awaits : GuestWait) (version : Option Version) (channels : List Channel) → IsPlan plan → GuestStands plan part awaits version channels → waits_for_nothing awaits ≡ false
+    → GuestGoes plan (a_guest plan logs part awaits version channels)
+guest_step plan logs part awaits version channels planned fresh waits = absurd (cc)
+guest_step plan logs part awaits version channels planned (IsProposing v tries) waits = step_response plan logs v planned tries
+guest_step plan logs part awaits version channels planned (asks v n agreed few) waits = step_offers plan logs v n (drop n plan.kinds) agreed few refl
+guest_step plan logs part awaits version channels planned (contacted v cs meet) waits = absurd (cc)
+guest_step plan logs part awaits version channels planned (IsOffering v cs phase place done first offered o left at is_first subs meet) waits = record { next = offer_sub o; step = step_sub_offered plan logs v cs phase place done first offered o left planned at is_first subs meet }
+guest_step plan logs part awaits version channels planned (lists v cs phase place done o left at meet) waits = record { next = created o.relid o.gpadl; step = step_listed plan logs v cs phase place done o left planned at meet }
+guest_step plan logs part awaits version channels planned (IsOpened v cs phase place done o left at meet) waits = record { next = opened o.relid o.relid; step = step_open plan logs v cs phase place done o left planned at meet }
+guest_step plan logs part awaits version channels planned (started v cs phase in_plan meet) waits = absurd (cc)
+guest_step plan logs part awaits version channels planned (IsClosing v cs phase place done o left at closed meet) waits = record { next = torndown o.gpadl; step = step_torn plan logs v cs phase place done o left planned at closed meet }
+guest_step plan logs part awaits version channels planned (gives_back v cs phase place done o left at gone meet) waits = record { next = rescind o.relid; step = step_gives plan logs v cs phase place done o left planned at gone meet }
+guest_step plan logs part awaits version channels planned (gives_sub_back v cs phase place done o left at closed sub meet) waits = record { next = rescind o.relid; step = step_gives_sub plan logs v cs phase place done o left planned at closed sub meet }
+guest_step plan logs part awaits version channels planned (ended v cs phase in_plan meet) waits = absurd (cc)
+guest_step plan logs part awaits version channels planned (leaves v cs meet) waits = record { next = farewell_taken; step = step_left plan logs v cs meet }
+guest_step plan logs part awaits version channels planned (is_over v cs meet) waits = absurd (cc)

@@ -1,0 +1,407 @@
+-- A host takes the next message that its guest says.
+use Rattle.std.proofs.Common.{◌≡◌, ◌≢◌, ◌∙◌, ℕ, suc, ◌+◌, ◌-◌, ◌<◌, ◌≤◌, ◌==◌, ◌&&◌, ◌||◌, nat_le, true, false, filter, List, [], ◌∷◌, ◌++◌, length, map, drop, slice_set, Option, Some, None, Ok, Err, if◌then◌else◌, refl, sym, ap, subst, append_assoc, arith}
+use Rattle.std.specs.Option.{option_to_list}
+use Rattle.std.specs.List.{AllByRecursion, flat_map}
+use Rattle.std.proofs.lemmas.Bool.Decides.{nat_tests}
+use Rattle.std.proofs.lemmas.List.Concat.{flat_map-cons}
+use Rattle.contact.specs.declared.version.Version.{Version}
+use Rattle.contact.specs.declared.kind.Kind.{Kind}
+use Rattle.contact.specs.declared.part.Part.{Part}
+use Rattle.contact.specs.Versions.{versions_tried}
+use Rattle.contact.specs.declared.part.Part.TheVariants.{Contact, PhaseStart, PhaseEnd, Unload}
+use Rattle.contact.specs.Classes.{offers_from}
+use Rattle.io_edge.specs.declared.side.Side.TheVariants.{Host as HostSide}
+use Rattle.chan_state.specs.declared.state.State.TheVariants.{Offered as IsOffered, Opened, Closing, Closed, Rescinded as IsRescinded, Released}
+use Rattle.chan_state.specs.declared.chan_state.ChanState.{ChanState}
+use Rattle.gpadl.specs.Assembly.{Assembly, is_live}
+use Rattle.vmbus_msg.specs.declared.msg.Msg.{Msg}
+use Rattle.control_model.specs.declared.opening.Opening.{Opening}
+use Rattle.control_model.specs.declared.burst.Burst.TheVariants.{One, Two, Opens}
+use Rattle.control_model.specs.declared.fault.ControlFault.TheVariants.{Gpadl}
+use Rattle.gpadl.specs.declared.fault.GpadlFault.TheVariants.{Handle}
+use Rattle.control_model.specs.declared.host_wait.HostWait.{HostWait}
+use Rattle.control_model.specs.declared.host_wait.HostWait.TheVariants.{Contact as AwaitsContact, Request, Open as AwaitsOpen, Close as AwaitsClose, Teardown as AwaitsTeardown, Release as AwaitsRelease, Unload as AwaitsUnload}
+use Rattle.control_model.specs.declared.host_next.HostNext.{HostNext}
+use Rattle.control_model.specs.Plan.{BusPlan, is_sub, subs_next, subs_behind, opening_at, closing_at, IsPlan, phase_of, closing_of}
+use Rattle.control_model.specs.Channels.{by_relid, stands}
+use Rattle.control_model.specs.Messages.{propose, respond, request, delivered, open_on, opened, offer_sub, close, teardown, torndown, rescind, release, farewell, Sends}
+use Rattle.control_model.specs.Host.{HostSeen, HostTurn, at_rest, hears_request, offered_life, with_offers, subs_offered, with_subs, opened_then, open_by, hears_open, hears_close, torn_one, torn_for, hears_teardown, hears_release, is_of, waits_list, stays, next_end, without, wants_rescind, rescinded_among, and_rescind, goes_next, hears_unload, host_hears}
+use Rattle.control_model.specs.Stand.{At, EndsAt, offered_before, offered_by, marked, end_state, host_is, host_ends, host_before, Stand, Tries, Agreed, Meet, handles}
+use Rattle.control_model.specs.Said.{answer_to, host_closes, guest_closes, only_sub, ends_given_back}
+use Rattle.control_model.specs.GuestAt.{guest_from, host_from, opens_listed, answers_open, gives_one}
+use Rattle.control_model.specs.HostAt.{host_start_to_say, tears_down, host_end_to_say, host_end_to_hear, host_to_say, host_to_hear, live_ones, lists_but, HostStands}
+use Rattle.control_model.specs.HostAt.HostStands.{answers, accepts as IsAccepting, contacted, tears, takes_back, is_over}
+use Rattle.control_laws.proofs.NextOne.{host_next_awaits, host_next_stands, host_next_done, host_next_sends}
+use Rattle.control_laws.proofs.Logs.{Logs}
+use Rattle.control_laws.proofs.Next.{pieces_of, next_wait}
+use Rattle.control_laws.proofs.Tried.{one_tried, next_tried}
+use Rattle.control_laws.proofs.Saying.{left_at, waits_so, ends_left, ends_behind, host_ends_said, host_ends_heard}
+use Rattle.control_laws.proofs.Marks.{by_test, same, marked_apart, marked_here, marked_there, stand_mark, stand_join, stand_add, stand_at}
+use Rattle.control_laws.proofs.Cutting.{all_weaker}
+use Rattle.control_laws.proofs.Counts.{count_next, done_known, unopened}
+use Rattle.control_laws.proofs.Plans.{facts, opening_here, offered_here, done_more, place_more, end_facts, closing_here, ends_more, ends_place}
+use Rattle.control_laws.proofs.NextEnd.{next_is, HostEnds, host_goes, host_stands_so, host_next}
+use Rattle.control_laws.proofs.Lower.{lower_one, accepts_it, refuses_it}
+use Rattle.control_laws.proofs.Offering.{all_mapped}
+use Rattle.control_laws.proofs.Handles.{can_open_host}
+use Rattle.control_laws.proofs.Live.{keeps, let_go, let_go_again, still_live}
+
+-- a host
+abbrev pub a_host : BusPlan → Logs → Option Part → HostWait → Option Version → List ChanState → Assembly → HostSeen
+a_host plan logs part awaits version channels lists = record {
+  plan = plan;
+  part = part;
+  awaits = awaits;
+  version = version;
+  channels = channels;
+  lists = lists;
+  posted = logs.posted;
+  fed = logs.fed;
+}
+
+-- a message is taken, and the host goes on
+pub record HostStep (plan : BusPlan) (h : HostSeen) (tried : List ℕ) (m : Msg) (pieces : List Msg) : Type 0 where
+  pub turn : HostTurn
+  pub hears : host_hears h m ≡ Ok turn
+  pub tried_then : List ℕ
+  pub pieces_then : List Msg
+  pub goes : HostStands plan h.part turn.awaits turn.version turn.channels turn.lists tried_then pieces_then
+  pub says : (sent : List Msg) → Sends plan turn.burst sent → host_to_say plan h.part h.awaits tried ≡ sent ++ host_to_say plan h.part turn.awaits tried_then
+  pub heard : host_to_hear plan h.part h.awaits tried pieces ≡ m ∷ host_to_hear plan h.part turn.awaits tried_then pieces_then
+
+-- INITIATE_CONTACT
+step_accepts : (plan : BusPlan) (logs : Logs) (v : Version) → Agreed plan v → HostStep plan (a_host plan logs (Some Contact) AwaitsContact None [] (live_ones [])) (versions_tried v.0 plan.host.0) (propose v.0) []
+step_accepts plan logs v agreed =
+    let h : HostSeen = a_host plan logs (Some Contact) AwaitsContact None [] (live_ones []) in
+    let within = agreed.within_host in
+    let yes = accepts_it plan v agreed.tried within in
+    let one = one_tried plan v agreed in
+    let has : nat_le v.0 plan.host.0 ≡ true = grind (arith, nat_tests, within) in
+    record {
+      turn = record (at_rest h) { awaits = Request; version = Some v; burst = One (respond 1) };
+      hears = rw yes refl;
+      tried_then = [];
+      pieces_then = [];
+      goes = IsAccepting v agreed;
+      says = λ sent e. ap (λ vs. (map (answer_to plan) vs ++ (offers_from 1 plan.kinds ++ delivered ∷ [])) ++ host_from plan 0) one ∙ ap (λ b. respond (if b then 1 else 0) ∷ ((offers_from 1 plan.kinds ++ delivered ∷ []) ++ host_from plan 0)) has
+          ∙ ap (λ s. s ++ ((offers_from 1 plan.kinds ++ delivered ∷ []) ++ host_from plan 0)) (sym e);
+      heard = ap (λ vs. (map propose vs ++ request ∷ []) ++ guest_from plan 0) one;
+    }
+
+step_refuses : (plan : BusPlan) (logs : Logs) (v : Version) → IsPlan plan → Tries plan v → plan.host.0 < v.0 → HostStep plan (a_host plan logs (Some Contact) AwaitsContact None [] (live_ones [])) (versions_tried v.0 plan.host.0) (propose v.0) []
+step_refuses plan logs v planned tries above =
+    let h : HostSeen = a_host plan logs (Some Contact) AwaitsContact None [] (live_ones []) in
+    let none = refuses_it plan v above in
+    let low = lower_one plan v planned tries above in
+    let next = next_tried plan v planned tries above low in
+    let lacks : nat_le v.0 plan.host.0 ≡ false = grind (arith, nat_tests, above) in
+    let later : List ℕ = versions_tried low.lower.0 plan.host.0 in
+    record {
+      turn = record (at_rest h) { burst = One (respond 0) };
+      hears = rw none refl;
+      tried_then = later;
+      pieces_then = [];
+      goes = answers low.lower low.tries;
+      says = λ sent e. ap (λ vs. (map (answer_to plan) vs ++ (offers_from 1 plan.kinds ++ delivered ∷ [])) ++ host_from plan 0) next
+          ∙ ap (λ b. respond (if b then 1 else 0) ∷ ((map (answer_to plan) later ++ (offers_from 1 plan.kinds ++ delivered ∷ [])) ++ host_from plan 0)) lacks
+          ∙ ap (λ s. s ++ ((map (answer_to plan) later ++ (offers_from 1 plan.kinds ++ delivered ∷ [])) ++ host_from plan 0)) (sym e);
+      heard = ap (λ vs. (map propose vs ++ request ∷ []) ++ guest_from plan 0) next;
+    }
+
+pub step_proposes : (plan : BusPlan) (logs : Logs) (v : Version) → IsPlan plan → Tries plan v → HostStep plan (a_host plan logs (Some Contact) AwaitsContact None [] (live_ones [])) (versions_tried v.0 plan.host.0) (propose v.0) []
+step_proposes plan logs v planned tries =
+    by_test {P = HostStep plan (a_host plan logs (Some Contact) AwaitsContact None [] (live_ones [])) (versions_tried v.0 plan.host.0) (propose v.0) []} (nat_le v.0 plan.host.0)
+    (λ e. let within : v.0 ≤ plan.host.0 = grind (arith, nat_tests, e) in step_accepts plan logs v (record { tried = tries; within_host = within }))
+    (λ e. let above : plan.host.0 < v.0 = grind (arith, nat_tests, e) in step_refuses plan logs v planned tries above)
+
+-- REQUESTOFFERS
+pub step_asks : (plan : BusPlan) (logs : Logs) (v : Version) → Agreed plan v → HostStep plan (a_host plan logs (Some Contact) Request (Some v) [] (live_ones [])) [] request []
+step_asks plan logs v agreed =
+    let h : HostSeen = a_host plan logs (Some Contact) Request (Some v) [] (live_ones []) in
+    let life : ChanState = record { side = HostSide; state = IsOffered } in
+    let hosts : List ChanState = map (λ (kind : Kind). life) plan.kinds in
+    record {
+      turn = hears_request h Request;
+      hears = refl;
+      tried_then = [];
+      pieces_then = [];
+      goes = contacted v hosts (record { agreed = agreed; stand = all_mapped plan life });
+      says = λ sent e. ap (λ s. s ++ host_from plan 0) (sym e);
+      heard = refl;
+    }
+
+-- OPENCHANNEL: behind a device's first channel its sub-channels are offered
+pub step_opens : (plan : BusPlan) (logs : Logs) (v : Version) (hosts : List ChanState) (phase place : ℕ) (done : List Opening) (o : Opening) (left : List Opening) → IsPlan plan
+    → At plan phase place done o left → Meet plan v hosts (offered_by plan phase done (o ∷ left)) (marked (host_is Opened) done (host_before plan phase))
+    → HostStep plan (a_host plan logs (Some (PhaseStart phase)) (AwaitsOpen place) (Some v) hosts (live_ones (handles (done ++ o ∷ [])))) [] (open_on o) []
+step_opens plan logs v hosts phase place done o left planned at meet =
+    let h : HostSeen = a_host plan logs (Some (PhaseStart phase)) (AwaitsOpen place) (Some v) hosts (live_ones (handles (done ++ o ∷ []))) in
+    let part : Option Part = Some (PhaseStart phase) in
+    let m : Msg = open_on o in
+    let answer : Msg = opened o.relid o.relid in
+    let subs : List Opening = subs_next (o ∷ left) in
+    let count : ℕ = offered_by plan phase done (o ∷ left) in
+    let fact = facts plan phase place done o left planned at in
+    let mine_known = offered_here plan phase place done o left planned at in
+    let life : ChanState = host_before plan phase o.relid in
+    let can = can_open_host plan phase o.relid fact.not_before in
+    let now : ChanState = host_is Opened o in
+    let later : HostWait = waits_list (place + 1) (opening_at plan phase (place + 1)) in
+    let here : drop place (phase_of plan phase) ≡ o ∷ left = left_at plan phase place done (o ∷ left) at.phase_is at.place_is in
+    let open_now : List ChanState = slice_set hosts (o.relid - 1) now in
+    let turn : HostTurn = record (at_rest h) { awaits = later; channels = with_subs open_now subs; burst = Opens answer part place } in
+    let known : by_relid hosts o.relid ≡ Some life = stand_at hosts count (host_is Opened) done o (host_before plan phase) life meet.stand fact.fits.named mine_known fact.done_apart refl in
+    let mine : is_of o.relid (opening_at plan phase place) ≡ true = ap (is_of o.relid) (opening_here plan phase place done o left at) ∙ same o.relid in
+    let waits : opened_then h (AwaitsOpen place) o.relid ≡ later = ap (λ b. if b then later else AwaitsOpen place) mine in
+    let stood : stands life Opened ≡ now = (λ i. record { side = can.side i; state = Opened }) in
+    let offers : subs_offered h (AwaitsOpen place) o.relid ≡ subs = ap (λ b. if b then subs_behind plan part place else []) mine ∙ ap subs_next here in
+    let sends : with_offers h (AwaitsOpen place) o.relid answer ≡ Opens answer part place = ap (λ b. if b then Opens answer part place else One answer) mine in
+    let joined : Stand open_now count (marked (host_is Opened) (done ++ o ∷ []) (host_before plan phase)) =
+    stand_join hosts count (host_is Opened) done o (host_before plan phase) (host_before plan phase) meet.stand fact.fits.named mine_known fact.done_apart (λ q off. refl) in
+    let all_known = join_all (λ p. p.relid ≤ count) done o (done_known plan phase place done o left planned at) mine_known in
+    let fresh : (q : ℕ) → count < q → q ≤ count + length subs → marked (host_is Opened) (done ++ o ∷ []) (host_before plan phase) q ≡ offered_life = λ q above few.
+    marked_apart (host_is Opened) (done ++ o ∷ []) (host_before plan phase) q (all_weaker (λ p. p.relid ≤ count) (λ p. p.relid ≢ q) (λ p l e. absurd (omega (arith, l, e, above))) (done ++ o ∷ []) all_known)
+    ∙ unopened plan host_ends offered_life phase q planned (let less = at.in_plan in omega (arith, less)) (omega (arith, above)) in
+    let more : Stand (with_subs open_now subs) (offered_by plan phase (done ++ o ∷ []) left) (marked (host_is Opened) (done ++ o ∷ []) (host_before plan phase)) =
+    subst (λ n. Stand (with_subs open_now subs) n (marked (host_is Opened) (done ++ o ∷ []) (host_before plan phase))) (count_next plan phase done o left) (stand_add open_now count (length subs) (marked (host_is Opened) (done ++ o ∷ []) (host_before plan phase)) offered_life joined fresh) in
+    let goes_on = waits_so plan phase (place + 1) (done ++ o ∷ []) left (done_more plan phase place done o left at) (place_more plan phase place done o left at) in
+    record {
+      turn = turn;
+      hears = ap (hears_open h o.relid o.relid) known ∙ ap (open_by h o.relid o.relid life) can.row
+          ∙ (λ i. Ok (record (at_rest h) { awaits = waits i; channels = with_subs (slice_set hosts (o.relid - 1) (stood i)) (offers i); burst = sends i }));
+      tried_then = [];
+      pieces_then = pieces_of (opening_at plan phase (place + 1));
+      goes = next_wait plan v (with_subs open_now subs) phase (place + 1) (done ++ o ∷ []) left planned at.in_plan (done_more plan phase place done o left at) (place_more plan phase place done o left at) (record { agreed = meet.agreed; stand = more });
+      says = λ sent e.
+          let rest : List Msg = flat_map host_closes (closing_of plan phase) ++ host_from plan (suc phase) in
+          let sent_is : sent ≡ answer ∷ map offer_sub subs = e ∙ ap (λ os. answer ∷ map offer_sub (subs_next os)) here in
+          ap (λ os. answers_open os ++ rest) here ∙ ap (λ xs. (answer ∷ (map offer_sub subs ++ xs)) ++ rest) goes_on.0
+          ∙ append_assoc (answer ∷ map offer_sub subs) (host_start_to_say (phase_of plan phase) later) rest
+          ∙ ap (λ xs. xs ++ (host_start_to_say (phase_of plan phase) later ++ rest)) (sym sent_is);
+      heard =
+          let rest : List Msg = flat_map guest_closes (closing_of plan phase) ++ guest_from plan (suc phase) in
+          ap (λ os. opens_listed os ++ rest) here ∙ ap (λ xs. m ∷ (xs ++ rest)) goes_on.1;
+    }
+  where
+    join_all : (P : Opening → Type 0) (done : List Opening) (o : Opening) → AllByRecursion P done → P o → AllByRecursion P (done ++ o ∷ [])
+    join_all P [] o all here = (here, tt)
+    join_all P (p ∷ done) o all here = (all.0, join_all P done o all.1 here)
+
+-- CLOSECHANNEL
+pub step_closes : (plan : BusPlan) (logs : Logs) (v : Version) (hosts : List ChanState) (phase place : ℕ) (done : List Opening) (o : Opening) (left : List Opening) → IsPlan plan
+    → EndsAt plan phase place done o left → o.rescinded ≡ false
+    → Meet plan v hosts (offered_before plan (suc phase)) (marked host_ends done (marked (host_is Opened) (o ∷ left) (host_before plan phase)))
+    → HostStep plan (a_host plan logs (Some (PhaseEnd phase)) (AwaitsClose place) (Some v) hosts (lists_but done (phase_of plan phase))) [] (close o.relid) []
+step_closes plan logs v hosts phase place done o left planned at closed meet =
+    let h : HostSeen = a_host plan logs (Some (PhaseEnd phase)) (AwaitsClose place) (Some v) hosts (lists_but done (phase_of plan phase)) in
+    let m : Msg = close o.relid in
+    let fact = end_facts plan phase place done o left planned at in
+    let base : ℕ → ChanState = marked (host_is Opened) left (host_before plan phase) in
+    let now : ChanState = host_is Closing o in
+    let turn : HostTurn = record (at_rest h) { awaits = AwaitsTeardown place; channels = slice_set hosts (o.relid - 1) now } in
+    let known : by_relid hosts o.relid ≡ Some (host_is Opened o) = stand_at hosts (offered_before plan (suc phase)) host_ends done o (marked (host_is Opened) (o ∷ left) (host_before plan phase)) (host_is Opened o) meet.stand fact.fits.named fact.known fact.done_apart (marked_here (host_is Opened) o left (host_before plan phase)) in
+    let mine : is_of o.relid (closing_at plan phase place) ≡ true = ap (is_of o.relid) (closing_here plan phase place done o left at) ∙ same o.relid in
+    let next : Stand (slice_set hosts (o.relid - 1) now) (offered_before plan (suc phase)) (marked host_ends done (marked (host_is Closing) (o ∷ []) base)) =
+    stand_mark hosts (offered_before plan (suc phase)) host_ends (host_is Closing) done o (marked (host_is Opened) (o ∷ left) (host_before plan phase)) base meet.stand fact.fits.named fact.known fact.done_apart (λ q off. sym (marked_there (host_is Opened) o left (host_before plan phase) q off)) in
+    record {
+      turn = turn;
+      hears = ap (hears_close h o.relid) known ∙ ap (λ b. Ok (record (at_rest h) { awaits = if b then AwaitsTeardown place else AwaitsClose place; channels = slice_set hosts (o.relid - 1) now })) mine;
+      tried_then = [];
+      pieces_then = [];
+      goes = tears v (slice_set hosts (o.relid - 1) now) phase place done o left at closed (record { agreed = meet.agreed; stand = next });
+      says = λ sent e. ap (λ s. s ++ (flat_map host_closes (drop place (closing_of plan phase)) ++ host_from plan (suc phase))) (sym e);
+      heard =
+          let later : List Msg = guest_from plan (suc phase) in
+          let here = ends_left plan phase place done (o ∷ left) at.closing_is at.place_is in
+          ap (λ os. flat_map guest_closes os ++ later) here ∙ ap (λ xs. xs ++ later) (flat_map-cons guest_closes o left)
+          ∙ ap (λ b. ((if b then release o.relid ∷ [] else m ∷ teardown o ∷ only_sub o (release o.relid)) ++ flat_map guest_closes left) ++ later) closed ∙ ap (λ os. m ∷ (tears_down os ++ later)) (sym here);
+    }
+
+-- what is left to say and to hear behind a channel that is done with
+record EndsSo (plan : BusPlan) (phase : ℕ) (left : List Opening) (next : HostNext) : Type 0 where
+  says : (answer : Option Msg) (sent : List Msg) → Sends plan (and_rescind answer next.rescinds) sent
+      → option_to_list answer ++ (flat_map host_closes left ++ host_from plan (suc phase)) ≡ sent ++ (host_end_to_say (closing_of plan phase) next.awaits ++ host_from plan (suc phase))
+  heard : flat_map guest_closes left ≡ host_end_to_hear (closing_of plan phase) next.awaits
+
+ends_so : (plan : BusPlan) (v : Version) (hosts : List ChanState) (phase place : ℕ) (done left : List Opening) (next : HostNext) → phase < length plan.phases → closing_of plan phase ≡ done ++ left → place ≡ length done
+    → HostEnds plan phase hosts (lists_but done (phase_of plan phase)) next (host_next_awaits place left) (marked host_ends done (host_next_stands left (host_before plan phase))) (lists_but (host_next_done done left) (phase_of plan phase)) (host_next_sends left) → EndsSo plan phase left next
+ends_so plan v hosts phase place done left next in_plan is at ends =
+    let os : List Opening = closing_of plan phase in
+    let later : List Msg = host_from plan (suc phase) in
+    record {
+      says = λ answer sent sends.
+          ap (λ xs. option_to_list answer ++ (xs ++ later)) (host_ends_said plan phase place done left in_plan is at)
+          ∙ ap (λ xs. option_to_list answer ++ xs) (append_assoc (host_next_sends left) (host_end_to_say os (host_next_awaits place left)) later)
+          ∙ sym (append_assoc (option_to_list answer) (host_next_sends left) (host_end_to_say os (host_next_awaits place left) ++ later))
+          ∙ ap (λ xs. xs ++ (host_end_to_say os (host_next_awaits place left) ++ later)) (sym (ends.said answer sent sends))
+          ∙ ap (λ w. sent ++ (host_end_to_say os w ++ later)) (sym ends.awaits);
+      heard = host_ends_heard plan phase place done left is at ∙ ap (host_end_to_hear os) (sym ends.awaits);
+    }
+
+-- GPADL_TEARDOWN: a first channel is done with then
+step_tears_first : (plan : BusPlan) (logs : Logs) (v : Version) (hosts : List ChanState) (phase place : ℕ) (done : List Opening) (o : Opening) (left : List Opening) → IsPlan plan
+    → EndsAt plan phase place done o left → o.rescinded ≡ false → is_sub o ≡ false
+    → Meet plan v hosts (offered_before plan (suc phase)) (marked host_ends done (marked (host_is Closing) (o ∷ []) (marked (host_is Opened) left (host_before plan phase))))
+    → HostStep plan (a_host plan logs (Some (PhaseEnd phase)) (AwaitsTeardown place) (Some v) hosts (lists_but done (phase_of plan phase))) [] (teardown o) []
+step_tears_first plan logs v hosts phase place done o left planned at closed is_first meet =
+    let os : List Opening = phase_of plan phase in
+    let h : HostSeen = a_host plan logs (Some (PhaseEnd phase)) (AwaitsTeardown place) (Some v) hosts (lists_but done os) in
+    let m : Msg = teardown o in
+    let count : ℕ = offered_before plan (suc phase) in
+    let fact = end_facts plan phase place done o left planned at in
+    let base : ℕ → ChanState = marked (host_is Opened) left (host_before plan phase) in
+    let kept : ends_given_back o ≡ false = ap (λ b. b || is_sub o) closed ∙ is_first in
+    let so : host_ends o ≡ host_is Closed o = ap (λ b. host_is (end_state b) o) kept in
+    let back = sym so in
+    let later : HostNext = next_end hosts (place + 1) (closing_at plan phase (place + 1)) in
+    let after : List ChanState = slice_set hosts (o.relid - 1) (host_ends o) in
+    let turn_with : ChanState → Assembly → HostNext → HostTurn = λ now lists next. goes_next (record (at_rest h) { channels = slice_set hosts (o.relid - 1) now; lists = lists }) (Some (torndown o.gpadl)) next in
+    let turn : HostTurn = turn_with (host_ends o) (lists_but (done ++ o ∷ []) os) later in
+    let known : by_relid hosts o.relid ≡ Some (host_is Closing o) = stand_at hosts count host_ends done o (marked (host_is Closing) (o ∷ []) base) (host_is Closing o) meet.stand fact.fits.named fact.known fact.done_apart (marked_here (host_is Closing) o [] base) in
+    let here_is = closing_here plan phase place done o left at in
+    let mine : is_of o.relid (closing_at plan phase place) ≡ true = ap (is_of o.relid) here_is ∙ same o.relid in
+    let taken : HostNext = record { awaits = AwaitsRelease place; rescinds = wants_rescind o (Some (host_is Closed o)) } in
+    let goes : torn_for h place o.relid (host_is Closed o) (closing_at plan phase place) ≡ later =
+    ap (torn_for h place o.relid (host_is Closed o)) here_is
+    ∙ ap (λ b. if b && is_sub o then taken else (if is_of o.relid (closing_at plan phase place) then later else stays h)) (same o.relid)
+    ∙ ap (λ b. if b then taken else (if is_of o.relid (closing_at plan phase place) then later else stays h)) is_first
+    ∙ ap (λ b. if b then later else stays h) mine in
+    let live : is_live (filter (keeps done) (handles os)) o.gpadl ≡ true = still_live plan phase place done o left planned at in
+    let gone = let_go done o os in
+    let stood : Stand after count (marked host_ends (done ++ o ∷ []) base) =
+    stand_join hosts count host_ends done o (marked (host_is Closing) (o ∷ []) base) base meet.stand fact.fits.named fact.known fact.done_apart (λ q off. sym (marked_there (host_is Closing) o [] base q off)) in
+    let next = next_is plan hosts phase place host_ends (host_is Closing) (host_is Opened) done o left (host_before plan phase) planned at meet.stand in
+    let ends = host_goes plan after hosts phase (place + 1) (done ++ o ∷ []) left planned at.in_plan (ends_more plan phase place done o left at) (ends_place plan phase place done o left at) stood next in
+    let on = ends_so plan v after phase (place + 1) (done ++ o ∷ []) left later at.in_plan (ends_more plan phase place done o left at) (ends_place plan phase place done o left at) ends in
+    let here = ends_left plan phase place done (o ∷ left) at.closing_is at.place_is in
+    record {
+      turn = turn;
+      hears = ap (hears_teardown h o.relid o.gpadl) known
+          ∙ ap (λ b. if b then Ok (turn_with (host_is Closed o) (without (lists_but done os) o.gpadl) (torn_for h place o.relid (host_is Closed o) (closing_at plan phase place))) else Err (Gpadl (Handle o.gpadl))) live
+          ∙ (λ i. Ok (turn_with (back i) (gone i) (goes i)));
+      tried_then = [];
+      pieces_then = [];
+      goes = host_stands_so plan phase v (Some (PhaseEnd phase)) after (lists_but (done ++ o ∷ []) os) later (host_next_awaits (place + 1) left) (marked host_ends (done ++ o ∷ []) (host_next_stands left (host_before plan phase))) (lists_but (host_next_done (done ++ o ∷ []) left) os) (host_next_sends left) ends
+          (host_next plan v (rescinded_among after later.rescinds) phase (place + 1) (done ++ o ∷ []) left planned at.in_plan (ends_more plan phase place done o left at) (ends_place plan phase place done o left at) (record { agreed = meet.agreed; stand = ends.host }));
+      says = λ sent sends.
+          let rest : List Msg = host_from plan (suc phase) in
+          ap (λ os. flat_map host_closes os ++ rest) here ∙ ap (λ xs. xs ++ rest) (flat_map-cons host_closes o left)
+          ∙ ap (λ b. ((if b then rescind o.relid ∷ [] else torndown o.gpadl ∷ only_sub o (rescind o.relid)) ++ flat_map host_closes left) ++ rest) closed
+          ∙ ap (λ b. torndown o.gpadl ∷ (((if b then rescind o.relid ∷ [] else []) ++ flat_map host_closes left) ++ rest)) is_first ∙ on.says (Some (torndown o.gpadl)) sent sends;
+      heard =
+          let rest : List Msg = guest_from plan (suc phase) in
+          ap (λ os. tears_down os ++ rest) here ∙ ap (λ b. m ∷ (((if b then release o.relid ∷ [] else []) ++ flat_map guest_closes left) ++ rest)) is_first ∙ ap (λ xs. m ∷ (xs ++ rest)) on.heard;
+    }
+
+-- a sub-channel is rescinded then
+step_tears_sub : (plan : BusPlan) (logs : Logs) (v : Version) (hosts : List ChanState) (phase place : ℕ) (done : List Opening) (o : Opening) (left : List Opening) → IsPlan plan
+    → EndsAt plan phase place done o left → o.rescinded ≡ false → is_sub o ≡ true
+    → Meet plan v hosts (offered_before plan (suc phase)) (marked host_ends done (marked (host_is Closing) (o ∷ []) (marked (host_is Opened) left (host_before plan phase))))
+    → HostStep plan (a_host plan logs (Some (PhaseEnd phase)) (AwaitsTeardown place) (Some v) hosts (lists_but done (phase_of plan phase))) [] (teardown o) []
+step_tears_sub plan logs v hosts phase place done o left planned at closed sub meet =
+    let os : List Opening = phase_of plan phase in
+    let h : HostSeen = a_host plan logs (Some (PhaseEnd phase)) (AwaitsTeardown place) (Some v) hosts (lists_but done os) in
+    let m : Msg = teardown o in
+    let count : ℕ = offered_before plan (suc phase) in
+    let fact = end_facts plan phase place done o left planned at in
+    let base : ℕ → ChanState = marked (host_is Opened) left (host_before plan phase) in
+    let taken : HostNext = record { awaits = AwaitsRelease place; rescinds = wants_rescind o (Some (host_is Closed o)) } in
+    let once : List ChanState = slice_set hosts (o.relid - 1) (host_is Closed o) in
+    let after : List ChanState = slice_set once (o.relid - 1) (host_is IsRescinded o) in
+    let turn_with : Assembly → HostNext → HostTurn = λ lists next. goes_next (record (at_rest h) { channels = once; lists = lists }) (Some (torndown o.gpadl)) next in
+    let whole : Assembly → HostTurn = λ lists. record { awaits = AwaitsRelease place; version = Some v; channels = after; lists = lists; burst = Two (torndown o.gpadl) (rescind o.relid) } in
+    let turn : HostTurn = whole (lists_but (done ++ o ∷ []) os) in
+    let known : by_relid hosts o.relid ≡ Some (host_is Closing o) = stand_at hosts count host_ends done o (marked (host_is Closing) (o ∷ []) base) (host_is Closing o) meet.stand fact.fits.named fact.known fact.done_apart (marked_here (host_is Closing) o [] base) in
+    let here_is = closing_here plan phase place done o left at in
+    let later : HostNext = next_end hosts (place + 1) (closing_at plan phase (place + 1)) in
+    let goes : torn_for h place o.relid (host_is Closed o) (closing_at plan phase place) ≡ taken =
+    ap (torn_for h place o.relid (host_is Closed o)) here_is
+    ∙ ap (λ b. if b && is_sub o then taken else (if is_of o.relid (closing_at plan phase place) then later else stays h)) (same o.relid)
+    ∙ ap (λ b. if b then taken else (if is_of o.relid (closing_at plan phase place) then later else stays h)) sub in
+    let live : is_live (filter (keeps done) (handles os)) o.gpadl ≡ true = still_live plan phase place done o left planned at in
+    let gone = let_go_again done o os in
+    let closed_so : Stand once count (marked host_ends done (marked (host_is Closed) (o ∷ []) base)) =
+    stand_mark hosts count host_ends (host_is Closed) done o (marked (host_is Closing) (o ∷ []) base) base meet.stand fact.fits.named fact.known fact.done_apart (λ q off. sym (marked_there (host_is Closing) o [] base q off)) in
+    let stood : Stand after count (marked host_ends done (marked (host_is IsRescinded) (o ∷ []) base)) =
+    stand_mark once count host_ends (host_is IsRescinded) done o (marked (host_is Closed) (o ∷ []) base) base closed_so fact.fits.named fact.known fact.done_apart (λ q off. sym (marked_there (host_is Closed) o [] base q off)) in
+    let here = ends_left plan phase place done (o ∷ left) at.closing_is at.place_is in
+    record {
+      turn = turn;
+      hears = ap (hears_teardown h o.relid o.gpadl) known
+          ∙ ap (λ b. if b then Ok (turn_with (without (lists_but done os) o.gpadl) (torn_for h place o.relid (host_is Closed o) (closing_at plan phase place))) else Err (Gpadl (Handle o.gpadl))) live
+          ∙ ap (λ n. Ok (turn_with (without (lists_but done os) o.gpadl) n)) goes ∙ ap (λ l. Ok (whole l)) gone;
+      tried_then = [];
+      pieces_then = [];
+      goes = takes_back v after phase place done o left at (ap (λ b. b || is_sub o) closed ∙ sub) (record { agreed = meet.agreed; stand = stood });
+      says = λ sent e.
+          let rest : List Msg = host_from plan (suc phase) in
+          ap (λ os. flat_map host_closes os ++ rest) here ∙ ap (λ xs. xs ++ rest) (flat_map-cons host_closes o left)
+          ∙ ap (λ b. ((if b then rescind o.relid ∷ [] else torndown o.gpadl ∷ only_sub o (rescind o.relid)) ++ flat_map host_closes left) ++ rest) closed
+          ∙ ap (λ b. torndown o.gpadl ∷ (((if b then rescind o.relid ∷ [] else []) ++ flat_map host_closes left) ++ rest)) sub
+          ∙ ap (λ os. torndown o.gpadl ∷ rescind o.relid ∷ (flat_map host_closes os ++ rest)) (sym (ends_behind plan phase place done o left at))
+          ∙ ap (λ s. s ++ (flat_map host_closes (drop (suc place) (closing_of plan phase)) ++ rest)) (sym e);
+      heard =
+          let rest : List Msg = guest_from plan (suc phase) in
+          ap (λ os. tears_down os ++ rest) here ∙ ap (λ b. m ∷ (((if b then release o.relid ∷ [] else []) ++ flat_map guest_closes left) ++ rest)) sub ∙ ap (λ os. m ∷ (gives_one os ++ rest)) (sym here);
+    }
+
+pub step_tears : (plan : BusPlan) (logs : Logs) (v : Version) (hosts : List ChanState) (phase place : ℕ) (done : List Opening) (o : Opening) (left : List Opening) → IsPlan plan
+    → EndsAt plan phase place done o left → o.rescinded ≡ false
+    → Meet plan v hosts (offered_before plan (suc phase)) (marked host_ends done (marked (host_is Closing) (o ∷ []) (marked (host_is Opened) left (host_before plan phase))))
+    → HostStep plan (a_host plan logs (Some (PhaseEnd phase)) (AwaitsTeardown place) (Some v) hosts (lists_but done (phase_of plan phase))) [] (teardown o) []
+step_tears plan logs v hosts phase place done o left planned at closed meet =
+    by_test {P = HostStep plan (a_host plan logs (Some (PhaseEnd phase)) (AwaitsTeardown place) (Some v) hosts (lists_but done (phase_of plan phase))) [] (teardown o) []} (is_sub o)
+    (λ e. step_tears_sub plan logs v hosts phase place done o left planned at closed e meet)
+    (λ e. step_tears_first plan logs v hosts phase place done o left planned at closed e meet)
+
+-- RELID_RELEASED
+pub step_releases : (plan : BusPlan) (logs : Logs) (v : Version) (hosts : List ChanState) (phase place : ℕ) (done : List Opening) (o : Opening) (left : List Opening) → IsPlan plan
+    → EndsAt plan phase place done o left → ends_given_back o ≡ true
+    → Meet plan v hosts (offered_before plan (suc phase)) (marked host_ends done (marked (host_is IsRescinded) (o ∷ []) (marked (host_is Opened) left (host_before plan phase))))
+    → HostStep plan (a_host plan logs (Some (PhaseEnd phase)) (AwaitsRelease place) (Some v) hosts (lists_but (done ++ o ∷ []) (phase_of plan phase))) [] (release o.relid) []
+step_releases plan logs v hosts phase place done o left planned at gone meet =
+    let h : HostSeen = a_host plan logs (Some (PhaseEnd phase)) (AwaitsRelease place) (Some v) hosts (lists_but (done ++ o ∷ []) (phase_of plan phase)) in
+    let m : Msg = release o.relid in
+    let fact = end_facts plan phase place done o left planned at in
+    let base : ℕ → ChanState = marked (host_is Opened) left (host_before plan phase) in
+    let so : host_ends o ≡ host_is Released o = ap (λ b. host_is (end_state b) o) gone in
+    let back = sym so in
+    let later : HostNext = next_end hosts (place + 1) (closing_at plan phase (place + 1)) in
+    let after : List ChanState = slice_set hosts (o.relid - 1) (host_ends o) in
+    let turn_with : ChanState → HostNext → HostTurn = λ now next. goes_next (record (at_rest h) { channels = slice_set hosts (o.relid - 1) now }) None next in
+    let turn : HostTurn = turn_with (host_ends o) later in
+    let known : by_relid hosts o.relid ≡ Some (host_is IsRescinded o) = stand_at hosts (offered_before plan (suc phase)) host_ends done o (marked (host_is IsRescinded) (o ∷ []) base) (host_is IsRescinded o) meet.stand fact.fits.named fact.known fact.done_apart (marked_here (host_is IsRescinded) o [] base) in
+    let mine : is_of o.relid (closing_at plan phase place) ≡ true = ap (is_of o.relid) (closing_here plan phase place done o left at) ∙ same o.relid in
+    let stood : Stand after (offered_before plan (suc phase)) (marked host_ends (done ++ o ∷ []) base) =
+    stand_join hosts (offered_before plan (suc phase)) host_ends done o (marked (host_is IsRescinded) (o ∷ []) base) base meet.stand fact.fits.named fact.known fact.done_apart (λ q off. sym (marked_there (host_is IsRescinded) o [] base q off)) in
+    let next = next_is plan hosts phase place host_ends (host_is IsRescinded) (host_is Opened) done o left (host_before plan phase) planned at meet.stand in
+    let ends = host_goes plan after hosts phase (place + 1) (done ++ o ∷ []) left planned at.in_plan (ends_more plan phase place done o left at) (ends_place plan phase place done o left at) stood next in
+    let on = ends_so plan v after phase (place + 1) (done ++ o ∷ []) left later at.in_plan (ends_more plan phase place done o left at) (ends_place plan phase place done o left at) ends in
+    record {
+      turn = turn;
+      hears = ap (hears_release h o.relid) known ∙ (λ i. Ok (turn_with (back i) (if mine i then later else stays h)));
+      tried_then = [];
+      pieces_then = [];
+      goes = host_stands_so plan phase v (Some (PhaseEnd phase)) after (lists_but (done ++ o ∷ []) (phase_of plan phase)) later (host_next_awaits (place + 1) left) (marked host_ends (done ++ o ∷ []) (host_next_stands left (host_before plan phase))) (lists_but (host_next_done (done ++ o ∷ []) left) (phase_of plan phase)) (host_next_sends left) ends
+          (host_next plan v (rescinded_among after later.rescinds) phase (place + 1) (done ++ o ∷ []) left planned at.in_plan (ends_more plan phase place done o left at) (ends_place plan phase place done o left at) (record { agreed = meet.agreed; stand = ends.host }));
+      says = λ sent sends.
+          let rest : List Msg = host_from plan (suc phase) in
+          ap (λ os. flat_map host_closes os ++ rest) (ends_behind plan phase place done o left at) ∙ on.says None sent sends;
+      heard =
+          let rest : List Msg = guest_from plan (suc phase) in
+          ap (λ os. gives_one os ++ rest) (ends_left plan phase place done (o ∷ left) at.closing_is at.place_is) ∙ ap (λ xs. m ∷ (xs ++ rest)) on.heard;
+    }
+
+-- UNLOAD
+pub step_leaves : (plan : BusPlan) (logs : Logs) (v : Version) (hosts : List ChanState) → Meet plan v hosts (offered_before plan (length plan.phases)) (host_before plan (length plan.phases)) → HostStep plan (a_host plan logs (Some Unload) AwaitsUnload (Some v) hosts (live_ones [])) [] farewell []
+step_leaves plan logs v hosts meet =
+    let h : HostSeen = a_host plan logs (Some Unload) AwaitsUnload (Some v) hosts (live_ones []) in
+    record {
+      turn = hears_unload h AwaitsUnload;
+      hears = refl;
+      tried_then = [];
+      pieces_then = [];
+      goes = is_over v hosts meet;
+      says = λ sent e. ap (λ s. s ++ []) (sym e);
+      heard = refl;
+    }

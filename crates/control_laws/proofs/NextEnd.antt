@@ -1,0 +1,203 @@
+-- At the end of a phase each side goes on with the opening at a place, if there is one.
+use Rattle.std.proofs.Common.{◌≡◌, ◌≢◌, ◌∙◌, ℕ, suc, ◌+◌, ◌-◌, ◌<◌, ◌==◌, ◌||◌, not, Bool, true, false, List, [], ◌∷◌, ◌++◌, filter, length, slice_get, slice_set, Option, Some, None, refl, sym, ap, subst}
+use Rattle.std.specs.Option.{option_to_list}
+use Rattle.std.specs.List.{AllByRecursion}
+use Rattle.std.proofs.lemmas.List.{append-nil}
+use Rattle.contact.specs.declared.version.Version.{Version}
+use Rattle.contact.specs.declared.part.Part.{Part}
+use Rattle.contact.specs.declared.part.Part.TheVariants.{PhaseEnd}
+use Rattle.chan_state.specs.declared.state.State.TheVariants.{Opened, Closing, Rescinded as IsRescinded}
+use Rattle.chan_state.specs.declared.chan_state.ChanState.{ChanState}
+use Rattle.gpadl.specs.Assembly.{Assembly}
+use Rattle.vmbus_msg.specs.declared.msg.Msg.{Msg}
+use Rattle.control_model.specs.declared.opening.Opening.{Opening}
+use Rattle.control_model.specs.declared.channel.Channel.{Channel}
+use Rattle.control_model.specs.declared.change.Change.{Change}
+use Rattle.control_model.specs.declared.change.Change.TheVariants.{Same}
+use Rattle.control_model.specs.declared.burst.Burst.{Burst}
+use Rattle.control_model.specs.declared.burst.Burst.TheVariants.{Empty, One}
+use Rattle.control_model.specs.declared.guest_wait.GuestWait.{GuestWait}
+use Rattle.control_model.specs.declared.guest_wait.GuestWait.TheVariants.{Torn}
+use Rattle.control_model.specs.declared.guest_turn.GuestTurn.{GuestTurn}
+use Rattle.control_model.specs.declared.host_wait.HostWait.{HostWait}
+use Rattle.control_model.specs.declared.host_wait.HostWait.TheVariants.{Release}
+use Rattle.control_model.specs.declared.host_next.HostNext.{HostNext}
+use Rattle.control_model.specs.declared.host_next.Rescind.{Rescind}
+use Rattle.control_model.specs.Plan.{BusPlan, is_sub, closing_of, closing_at, IsPlan, phase_of}
+use Rattle.control_model.specs.Channels.{by_relid, changed}
+use Rattle.control_model.specs.Messages.{close, teardown, rescind, Sends}
+use Rattle.control_model.specs.Guest.{and_close, closes, ends_one, closes_next}
+use Rattle.control_model.specs.Host.{without, wants_rescind, one_next, next_end, rescinded_among, without_its, and_rescind}
+use Rattle.control_model.specs.Stand.{EndsAt, offered_before, marked, guest_is, host_is, guest_ends, host_ends, guest_before, host_before, Stand, Meet, handles}
+use Rattle.control_model.specs.GuestAt.{GuestStands}
+use Rattle.control_model.specs.GuestAt.GuestStands.{closes as GuestCloses, gives_back, ended as GuestEnded}
+use Rattle.control_model.specs.HostAt.{HostStands, lists_but}
+use Rattle.control_model.specs.HostAt.HostStands.{closes as HostCloses, takes_back, ended as HostEnded}
+use Rattle.control_laws.proofs.NextOne.{guest_waits, guest_next_awaits, guest_marks, guest_next_stands, guest_sends, guest_next_sends, host_waits, host_next_awaits, host_marks, host_next_stands, host_done, host_next_done, host_sends, host_next_sends}
+use Rattle.control_laws.proofs.Marks.{same, differ, stand_like, stand_mark, stand_at, marked_here, marked_there}
+use Rattle.control_laws.proofs.Closing.{marked_closing}
+use Rattle.control_laws.proofs.Relids.{phase_relids}
+use Rattle.control_laws.proofs.Plans.{end_facts, ends_more, ends_place, closing_from}
+use Rattle.control_laws.proofs.Handles.{all_front}
+use Rattle.control_laws.proofs.Live.{let_go, none_live}
+use Rattle.control_laws.proofs.Next.{Turned}
+
+-- where all channels of a phase are done with, they stand as they do before the next one
+all_done : {X : Type 0} (plan : BusPlan) (channels : List X) (so : Opening → X) (phase : ℕ) (done : List Opening) (base : ℕ → X) → IsPlan plan → phase < length plan.phases → closing_of plan phase ≡ done
+    → Stand channels (offered_before plan (suc phase)) (marked so done base) → Stand channels (offered_before plan (suc phase)) (marked so (phase_of plan phase) base)
+all_done plan channels so phase done base planned in_plan full stand =
+    stand_like channels (offered_before plan (suc phase)) (marked so done base) (marked so (phase_of plan phase) base) stand
+    (λ q. sym (marked_closing so base q (phase_of plan phase) (phase_relids plan phase planned in_plan).distinct) ∙ ap (λ os. marked so os base q) full)
+
+-- the next channel that is done with was open when the turn began
+abbrev pub NextIs : {X : Type 0} → (Opening → X) → List X → List Opening → Type 0
+NextIs so channels [] = Unit {0}
+NextIs so channels (o ∷ left) = by_relid channels o.relid ≡ Some (so o)
+
+pub next_is : {X : Type 0} (plan : BusPlan) (channels : List X) (phase place : ℕ) (a b c : Opening → X) (done : List Opening) (o : Opening) (left : List Opening) (base : ℕ → X) → IsPlan plan
+    → EndsAt plan phase place done o left → Stand channels (offered_before plan (suc phase)) (marked a done (marked b (o ∷ []) (marked c left base))) → NextIs c channels left
+next_is plan channels phase place a b c done o [] base planned at stand = tt
+next_is plan channels phase place a b c done o (p ∷ left) base planned at stand =
+    let there : EndsAt plan phase (place + 1) (done ++ o ∷ []) p left = record { in_plan = at.in_plan; closing_is = ends_more plan phase place done o (p ∷ left) at; place_is = ends_place plan phase place done o (p ∷ left) at } in
+    let fact = end_facts plan phase (place + 1) (done ++ o ∷ []) p left planned there in
+    let apart = all_front (λ q. q.relid ≢ p.relid) done (o ∷ []) fact.done_apart in
+    stand_at channels (offered_before plan (suc phase)) a done p (marked b (o ∷ []) (marked c (p ∷ left) base)) (c p) stand fact.fits.named fact.known apart.0
+    (marked_there b o [] (marked c (p ∷ left) base) p.relid (λ e. apart.1.0 (sym e)) ∙ marked_here c p left base)
+
+-- a guest's turn before it goes on, in which it answers
+abbrev pub answer_of : Option Msg → Burst
+answer_of None = Empty
+answer_of (Some m) = One m
+
+abbrev pub heard_with : GuestWait → Version → Change → Option Msg → GuestTurn
+heard_with awaits v heard first = record { awaits = awaits; version = Some v; heard = heard; wished = Same; burst = answer_of first }
+
+-- how a guest stands after a turn
+pub record GuestEnds (plan : BusPlan) (phase : ℕ) (v : Version) (guests : List Channel) (turn : GuestTurn) (waits : GuestWait) (stands : ℕ → Channel) (says : List Msg) : Type 0 where
+  pub awaits : turn.awaits ≡ waits
+  pub version : turn.version ≡ Some v
+  pub guest : Stand (changed (changed guests turn.heard) turn.wished) (offered_before plan (suc phase)) stands
+  pub said : (sent : List Msg) → Sends plan turn.burst sent → sent ≡ says
+
+answers : (plan : BusPlan) (first : Option Msg) (sent : List Msg) → Sends plan (answer_of first) sent → sent ≡ option_to_list first ++ []
+answers plan None sent e = e
+answers plan (Some m) sent e = e
+
+answers_close : (plan : BusPlan) (first : Option Msg) (o : Opening) (sent : List Msg) → Sends plan (and_close (answer_of first) o) sent → sent ≡ option_to_list first ++ (close o.relid ∷ teardown o ∷ [])
+answers_close plan None o sent e = e
+answers_close plan (Some m) o sent e = e
+
+guest_one : (plan : BusPlan) (v : Version) (guests : List Channel) (phase place : ℕ) (done : List Opening) (o : Opening) (left : List Opening) (awaits : GuestWait) (heard : Change) (first : Option Msg) (b : Bool) → IsPlan plan → EndsAt plan phase place done o left
+    → Stand (changed guests heard) (offered_before plan (suc phase)) (marked guest_ends done (marked (guest_is Opened) (o ∷ left) (guest_before plan phase))) → by_relid guests o.relid ≡ Some (guest_is Opened o)
+    → GuestEnds plan phase v guests (ends_one (heard_with awaits v heard first) guests place o b) (guest_waits place b) (marked guest_ends done (guest_marks o left (guest_before plan phase) b)) (option_to_list first ++ guest_sends o b)
+guest_one plan v guests phase place done o left awaits heard first true planned at stand next = record { awaits = refl; version = refl; guest = stand; said = answers plan first }
+guest_one plan v guests phase place done o left awaits heard first false planned at stand next =
+    let fact = end_facts plan phase place done o left planned at in
+    let before : ℕ → Channel = guest_before plan phase in
+    let turn : Option Channel → GuestTurn = λ c. closes (record (heard_with awaits v heard first) { awaits = Torn place }) o c in
+    let marks : ℕ → Channel = marked guest_ends done (marked (guest_is Closing) (o ∷ []) (marked (guest_is Opened) left before)) in
+    let there : Stand (slice_set (changed guests heard) (o.relid - 1) (guest_is Closing o)) (offered_before plan (suc phase)) marks =
+    stand_mark (changed guests heard) (offered_before plan (suc phase)) guest_ends (guest_is Closing) done o (marked (guest_is Opened) (o ∷ left) before) (marked (guest_is Opened) left before) stand fact.fits.named fact.known fact.done_apart
+    (λ q off. sym (marked_there (guest_is Opened) o left before q off)) in
+    subst (λ c. GuestEnds plan phase v guests (turn c) (Torn place) marks (option_to_list first ++ (close o.relid ∷ teardown o ∷ []))) (sym next)
+    (record { awaits = refl; version = refl; guest = there; said = answers_close plan first o })
+
+guest_from_left : (plan : BusPlan) (v : Version) (guests : List Channel) (phase place : ℕ) (done left : List Opening) (awaits : GuestWait) (heard : Change) (first : Option Msg) → IsPlan plan → phase < length plan.phases → closing_of plan phase ≡ done ++ left → place ≡ length done
+    → Stand (changed guests heard) (offered_before plan (suc phase)) (marked guest_ends done (marked (guest_is Opened) left (guest_before plan phase))) → NextIs (guest_is Opened) guests left
+    → GuestEnds plan phase v guests (closes_next (heard_with awaits v heard first) guests place (slice_get left 0)) (guest_next_awaits place left) (marked guest_ends done (guest_next_stands left (guest_before plan phase))) (option_to_list first ++ guest_next_sends left)
+guest_from_left plan v guests phase place done [] awaits heard first planned in_plan is at stand next = record { awaits = refl; version = refl; guest = stand; said = answers plan first }
+guest_from_left plan v guests phase place done (o ∷ left) awaits heard first planned in_plan is at stand next =
+    guest_one plan v guests phase place done o left awaits heard first o.rescinded planned (record { in_plan = in_plan; closing_is = is; place_is = at }) stand next
+
+-- a guest goes on
+pub guest_goes : (plan : BusPlan) (v : Version) (guests : List Channel) (phase place : ℕ) (done left : List Opening) (awaits : GuestWait) (heard : Change) (first : Option Msg) → IsPlan plan → phase < length plan.phases → closing_of plan phase ≡ done ++ left → place ≡ length done
+    → Stand (changed guests heard) (offered_before plan (suc phase)) (marked guest_ends done (marked (guest_is Opened) left (guest_before plan phase))) → NextIs (guest_is Opened) guests left
+    → GuestEnds plan phase v guests (closes_next (heard_with awaits v heard first) guests place (closing_at plan phase place)) (guest_next_awaits place left) (marked guest_ends done (guest_next_stands left (guest_before plan phase))) (option_to_list first ++ guest_next_sends left)
+guest_goes plan v guests phase place done left awaits heard first planned in_plan is at stand next =
+    subst (λ x. GuestEnds plan phase v guests (closes_next (heard_with awaits v heard first) guests place x) (guest_next_awaits place left) (marked guest_ends done (guest_next_stands left (guest_before plan phase))) (option_to_list first ++ guest_next_sends left))
+    (sym (closing_from plan phase place done left is at)) (guest_from_left plan v guests phase place done left awaits heard first planned in_plan is at stand next)
+
+-- and stands so
+pub guest_stands_so : (plan : BusPlan) (phase : ℕ) (v : Version) (part : Option Part) (guests : List Channel) (turn : GuestTurn) (waits : GuestWait) (stands : ℕ → Channel) (says : List Msg) → GuestEnds plan phase v guests turn waits stands says
+    → GuestStands plan part waits (Some v) (changed (changed guests turn.heard) turn.wished) → Turned plan part guests turn
+guest_stands_so plan phase v part guests turn waits stands says ends there =
+    let channels : List Channel = changed (changed guests turn.heard) turn.wished in
+    subst (λ w. GuestStands plan part w turn.version channels) (sym ends.awaits) (subst (λ u. GuestStands plan part waits u channels) (sym ends.version) there)
+
+guest_next_one : (plan : BusPlan) (v : Version) (guests : List Channel) (phase place : ℕ) (done : List Opening) (o : Opening) (left : List Opening) (b : Bool) → o.rescinded ≡ b → EndsAt plan phase place done o left
+    → Meet plan v guests (offered_before plan (suc phase)) (marked guest_ends done (guest_marks o left (guest_before plan phase) b)) → GuestStands plan (Some (PhaseEnd phase)) (guest_waits place b) (Some v) guests
+guest_next_one plan v guests phase place done o left true is at meet = gives_back v guests phase place done o left at is meet
+guest_next_one plan v guests phase place done o left false is at meet = GuestCloses v guests phase place done o left at is meet
+
+pub guest_next : (plan : BusPlan) (v : Version) (guests : List Channel) (phase place : ℕ) (done left : List Opening) → IsPlan plan → phase < length plan.phases → closing_of plan phase ≡ done ++ left → place ≡ length done
+    → Meet plan v guests (offered_before plan (suc phase)) (marked guest_ends done (guest_next_stands left (guest_before plan phase))) → GuestStands plan (Some (PhaseEnd phase)) (guest_next_awaits place left) (Some v) guests
+guest_next plan v guests phase place done [] planned in_plan is at meet =
+    let full : closing_of plan phase ≡ done = is ∙ append-nil done in
+    GuestEnded v guests phase in_plan (record { agreed = meet.agreed; stand = all_done plan guests guest_ends phase done (guest_before plan phase) planned in_plan full meet.stand })
+guest_next plan v guests phase place done (o ∷ left) planned in_plan is at meet = guest_next_one plan v guests phase place done o left o.rescinded refl (record { in_plan = in_plan; closing_is = is; place_is = at }) meet
+
+-- how a host stands that goes on so
+pub record HostEnds (plan : BusPlan) (phase : ℕ) (hosts : List ChanState) (live : Assembly) (next : HostNext) (waits : HostWait) (stands : ℕ → ChanState) (lists : Assembly) (says : List Msg) : Type 0 where
+  pub awaits : next.awaits ≡ waits
+  pub host : Stand (rescinded_among hosts next.rescinds) (offered_before plan (suc phase)) stands
+  pub lists_are : without_its live next.rescinds ≡ lists
+  pub said : (answer : Option Msg) (sent : List Msg) → Sends plan (and_rescind answer next.rescinds) sent → sent ≡ option_to_list answer ++ says
+
+host_answers : (plan : BusPlan) (answer : Option Msg) (sent : List Msg) → Sends plan (and_rescind answer None) sent → sent ≡ option_to_list answer ++ []
+host_answers plan None sent e = e
+host_answers plan (Some m) sent e = e
+
+host_answers_too : (plan : BusPlan) (r : Rescind) (answer : Option Msg) (sent : List Msg) → Sends plan (and_rescind answer (Some r)) sent → sent ≡ option_to_list answer ++ (rescind r.relid ∷ [])
+host_answers_too plan r None sent e = e
+host_answers_too plan r (Some m) sent e = e
+
+host_one : (plan : BusPlan) (hosts channels : List ChanState) (phase place : ℕ) (done : List Opening) (o : Opening) (left : List Opening) (b : Bool) → IsPlan plan → EndsAt plan phase place done o left
+    → Stand hosts (offered_before plan (suc phase)) (marked host_ends done (marked (host_is Opened) (o ∷ left) (host_before plan phase))) → by_relid channels o.relid ≡ Some (host_is Opened o)
+    → HostEnds plan phase hosts (lists_but done (phase_of plan phase)) (one_next channels place o b) (host_waits place b) (marked host_ends done (host_marks o left (host_before plan phase) b)) (lists_but (host_done done o b) (phase_of plan phase)) (host_sends o b)
+host_one plan hosts channels phase place done o left false planned at stand next = record { awaits = refl; host = stand; lists_are = refl; said = host_answers plan }
+host_one plan hosts channels phase place done o left true planned at stand next =
+    let fact = end_facts plan phase place done o left planned at in
+    let before : ℕ → ChanState = host_before plan phase in
+    let r : Rescind = record { relid = o.relid; life = host_is IsRescinded o; gpadl = o.gpadl } in
+    let marks : ℕ → ChanState = marked host_ends done (marked (host_is IsRescinded) (o ∷ []) (marked (host_is Opened) left before)) in
+    let there : Stand (slice_set hosts (o.relid - 1) (host_is IsRescinded o)) (offered_before plan (suc phase)) marks =
+    stand_mark hosts (offered_before plan (suc phase)) host_ends (host_is IsRescinded) done o (marked (host_is Opened) (o ∷ left) before) (marked (host_is Opened) left before) stand fact.fits.named fact.known fact.done_apart
+    (λ q off. sym (marked_there (host_is Opened) o left before q off)) in
+    let way : Option ChanState → HostNext = λ c. record { awaits = Release place; rescinds = wants_rescind o c } in
+    subst (λ c. HostEnds plan phase hosts (lists_but done (phase_of plan phase)) (way c) (Release place) marks (lists_but (done ++ o ∷ []) (phase_of plan phase)) (rescind o.relid ∷ [])) (sym next)
+    (record { awaits = refl; host = there; lists_are = let_go done o (phase_of plan phase); said = host_answers_too plan r })
+
+host_from_left : (plan : BusPlan) (hosts channels : List ChanState) (phase place : ℕ) (done left : List Opening) → IsPlan plan → phase < length plan.phases → closing_of plan phase ≡ done ++ left → place ≡ length done
+    → Stand hosts (offered_before plan (suc phase)) (marked host_ends done (marked (host_is Opened) left (host_before plan phase))) → NextIs (host_is Opened) channels left
+    → HostEnds plan phase hosts (lists_but done (phase_of plan phase)) (next_end channels place (slice_get left 0)) (host_next_awaits place left) (marked host_ends done (host_next_stands left (host_before plan phase))) (lists_but (host_next_done done left) (phase_of plan phase)) (host_next_sends left)
+host_from_left plan hosts channels phase place done [] planned in_plan is at stand next = record { awaits = refl; host = stand; lists_are = refl; said = host_answers plan }
+host_from_left plan hosts channels phase place done (o ∷ left) planned in_plan is at stand next =
+    host_one plan hosts channels phase place done o left o.rescinded planned (record { in_plan = in_plan; closing_is = is; place_is = at }) stand next
+
+-- a host goes on
+pub host_goes : (plan : BusPlan) (hosts channels : List ChanState) (phase place : ℕ) (done left : List Opening) → IsPlan plan → phase < length plan.phases → closing_of plan phase ≡ done ++ left → place ≡ length done
+    → Stand hosts (offered_before plan (suc phase)) (marked host_ends done (marked (host_is Opened) left (host_before plan phase))) → NextIs (host_is Opened) channels left
+    → HostEnds plan phase hosts (lists_but done (phase_of plan phase)) (next_end channels place (closing_at plan phase place)) (host_next_awaits place left) (marked host_ends done (host_next_stands left (host_before plan phase))) (lists_but (host_next_done done left) (phase_of plan phase)) (host_next_sends left)
+host_goes plan hosts channels phase place done left planned in_plan is at stand next =
+    subst (λ x. HostEnds plan phase hosts (lists_but done (phase_of plan phase)) (next_end channels place x) (host_next_awaits place left) (marked host_ends done (host_next_stands left (host_before plan phase))) (lists_but (host_next_done done left) (phase_of plan phase)) (host_next_sends left))
+    (sym (closing_from plan phase place done left is at)) (host_from_left plan hosts channels phase place done left planned in_plan is at stand next)
+
+-- and stands so
+pub host_stands_so : (plan : BusPlan) (phase : ℕ) (v : Version) (part : Option Part) (hosts : List ChanState) (live : Assembly) (next : HostNext) (waits : HostWait) (stands : ℕ → ChanState) (lists : Assembly) (says : List Msg) → HostEnds plan phase hosts live next waits stands lists says
+    → HostStands plan part waits (Some v) (rescinded_among hosts next.rescinds) lists [] [] → HostStands plan part next.awaits (Some v) (rescinded_among hosts next.rescinds) (without_its live next.rescinds) [] []
+host_stands_so plan phase v part hosts live next waits stands lists says ends there =
+    let channels : List ChanState = rescinded_among hosts next.rescinds in
+    subst (λ w. HostStands plan part w (Some v) channels (without_its live next.rescinds) [] []) (sym ends.awaits) (subst (λ l. HostStands plan part waits (Some v) channels l [] []) (sym ends.lists_are) there)
+
+host_next_one : (plan : BusPlan) (v : Version) (hosts : List ChanState) (phase place : ℕ) (done : List Opening) (o : Opening) (left : List Opening) (b : Bool) → o.rescinded ≡ b → EndsAt plan phase place done o left
+    → Meet plan v hosts (offered_before plan (suc phase)) (marked host_ends done (host_marks o left (host_before plan phase) b)) → HostStands plan (Some (PhaseEnd phase)) (host_waits place b) (Some v) hosts (lists_but (host_done done o b) (phase_of plan phase)) [] []
+host_next_one plan v hosts phase place done o left true is at meet = takes_back v hosts phase place done o left at (ap (λ b. b || is_sub o) is) meet
+host_next_one plan v hosts phase place done o left false is at meet = HostCloses v hosts phase place done o left at is meet
+
+pub host_next : (plan : BusPlan) (v : Version) (hosts : List ChanState) (phase place : ℕ) (done left : List Opening) → IsPlan plan → phase < length plan.phases → closing_of plan phase ≡ done ++ left → place ≡ length done
+    → Meet plan v hosts (offered_before plan (suc phase)) (marked host_ends done (host_next_stands left (host_before plan phase))) → HostStands plan (Some (PhaseEnd phase)) (host_next_awaits place left) (Some v) hosts (lists_but (host_next_done done left) (phase_of plan phase)) [] []
+host_next plan v hosts phase place done [] planned in_plan is at meet =
+    let full : closing_of plan phase ≡ done = is ∙ append-nil done in
+    subst (λ l. HostStands plan (Some (PhaseEnd phase)) (host_next_awaits place []) (Some v) hosts l [] []) (sym (none_live plan phase done is))
+    (HostEnded v hosts phase in_plan (record { agreed = meet.agreed; stand = all_done plan hosts host_ends phase done (host_before plan phase) planned in_plan full meet.stand }))
+host_next plan v hosts phase place done (o ∷ left) planned in_plan is at meet = host_next_one plan v hosts phase place done o left o.rescinded refl (record { in_plan = in_plan; closing_is = is; place_is = at }) meet

@@ -1,0 +1,346 @@
+-- A channel that is given back at the end of a phase is taken back once, and given back once; a sub-channel is offered once.
+use Rattle.std.proofs.Common.{◌≡◌, ◌≢◌, ◌∙◌, ℕ, zero, suc, ◌+◌, ◌<◌, ◌≤◌, ◌==◌, ◌&&◌, ◌||◌, nat_lt, Bool, true, false, cond, List, [], ◌∷◌, ◌++◌, filter, length, map, drop, slice_index_or, Some, if◌then◌else◌, refl, sym, ap, subst, arith}
+use Rattle.std.specs.List.{AllByRecursion, flat_map}
+use Rattle.std.proofs.lemmas.Bool.{eqb-true}
+use Rattle.std.proofs.lemmas.Bool.Decides.{nat_tests}
+use Rattle.std.proofs.lemmas.Grind.{flat_map-append}
+use Rattle.std.proofs.lemmas.List.{append-nil, map-append}
+use Rattle.std.proofs.lemmas.List.Concat.{flat_map-cons}
+use Rattle.std.proofs.lemmas.List.Elements.{filter-append}
+use Rattle.contact.specs.declared.kind.Kind.{Kind}
+use Rattle.contact.specs.Versions.{versions_tried}
+use Rattle.contact.specs.Classes.{offer, offers_from}
+use Rattle.vmbus_msg.specs.declared.msg.Msg.{Msg}
+use Rattle.gpadl.specs.Cut.{bodies, cut}
+use Rattle.control_model.specs.declared.opening.Opening.{Opening}
+use Rattle.control_model.specs.Plan.{BusPlan, is_sub, first_subs, subs_next, subs_in, in_closing_order, opening_at, IsPlan, phase_of, closing_of}
+use Rattle.control_model.specs.Messages.{propose, request, delivered, pages_from, open_on, offer_sub, close, teardown, torndown, rescind, release, farewell, farewell_taken}
+use Rattle.control_model.specs.Said.{answer_to, guest_contacts, host_contacts, guest_opens, host_opens_all, guest_closes, host_closes, only_sub, guest_in_phase, host_in_phase, from_3_0, ends_given_back}
+use Rattle.control_model.specs.Stand.{offered_before, EndsAt}
+use Rattle.control_laws.specs.Laws.{is_rescind_of, is_release_of, is_offer_of, RescindedOnce, SubsOnce}
+use Rattle.control_laws.proofs.Marks.{by_test, same, differ}
+use Rattle.control_laws.proofs.Closing.{all_closing, closing_mid}
+use Rattle.control_laws.proofs.Cutting.{all_weaker, mid_all}
+use Rattle.control_laws.proofs.Relids.{phase_relids, offered_grows, subs_before}
+use Rattle.control_laws.proofs.Plans.{cut_at, facts, end_facts, not_given_back}
+use Rattle.control_laws.proofs.Seats.{starts_first, phase_seated}
+
+and_none : (a : Bool) → (a && false) ≡ false
+and_none true = refl
+and_none false = refl
+
+or_true : (a : Bool) → (a || true) ≡ true
+or_true true = refl
+or_true false = refl
+
+-- messages of which none passes
+none_among : (p : Msg → Bool) (f : ℕ → Msg) (vs : List ℕ) → ((v : ℕ) → p (f v) ≡ false) → filter p (map f vs) ≡ []
+none_among p f [] none = refl
+none_among p f (v ∷ vs) none = rw (none v) (none_among p f vs none)
+
+none_of_each : (p : Msg → Bool) (f : Opening → List Msg) (os : List Opening) → ((o : Opening) → filter p (f o) ≡ []) → filter p (flat_map f os) ≡ []
+none_of_each p f [] none = refl
+none_of_each p f (o ∷ os) none =
+    let one = none o in
+    let rest = none_of_each p f os none in
+    ap (filter p) (flat_map-cons f o os) ∙ filter-append p (f o) (flat_map f os) ∙ (λ i. one i ++ rest i)
+
+-- of all phases one has messages that pass
+phases_none : (p : Msg → Bool) (says : List Opening → List Msg) (phases : List (List Opening)) → ((j : ℕ) → j < length phases → filter p (says (slice_index_or phases j [])) ≡ []) → filter p (flat_map says phases) ≡ []
+phases_none p says [] none = refl
+phases_none p says (os ∷ phases) none =
+    let first = none 0 (omega arith) in
+    let rest = phases_none p says phases (λ j less. none (suc j) (omega (arith, less))) in
+    ap (filter p) (flat_map-cons says os phases) ∙ filter-append p (says os) (flat_map says phases) ∙ (λ i. first i ++ rest i)
+
+phases_once : (p : Msg → Bool) (says : List Opening → List Msg) (whole : List Msg) (phases : List (List Opening)) (k : ℕ) → k < length phases
+    → ((j : ℕ) → j < length phases → j ≢ k → filter p (says (slice_index_or phases j [])) ≡ []) → filter p (says (slice_index_or phases k [])) ≡ whole → filter p (flat_map says phases) ≡ whole
+phases_once p says whole [] k less none once = absurd (omega (arith, less))
+phases_once p says whole (os ∷ phases) zero less none once =
+    let rest = phases_none p says phases (λ j few. none (suc j) (omega (arith, few)) (λ e. absurd (omega (arith, e)))) in
+    ap (filter p) (flat_map-cons says os phases) ∙ filter-append p (says os) (flat_map says phases) ∙ (λ i. once i ++ rest i) ∙ append-nil whole
+phases_once p says whole (os ∷ phases) (suc k) less none once =
+    let first = none 0 (omega arith) (λ e. absurd (omega (arith, e))) in
+    let rest = phases_once p says whole phases k (omega (arith, less)) (λ j few off. none (suc j) (omega (arith, few)) (λ e. off (omega (arith, e)))) once in
+    ap (filter p) (flat_map-cons says os phases) ∙ filter-append p (says os) (flat_map says phases) ∙ (λ i. first i ++ rest i)
+
+-- a channel is given back at this opening's end
+abbrev Gives : ℕ → Opening → Bool
+Gives relid o = (o.relid == relid) && ends_given_back o
+
+-- a side whose closings say one message of a channel that is given back, and of no other one
+module _ (relid : ℕ) (p : Msg → Bool) (ends : Opening → List Msg) (taken : Msg) (passes : (o : Opening) → filter p (ends o) ≡ cond (Gives relid o) (taken ∷ []) []) where
+  none_ends : (os : List Opening) → AllByRecursion (λ o. Gives relid o ≡ false) os → filter p (flat_map ends os) ≡ []
+  none_ends [] all = refl
+  none_ends (o ∷ os) all =
+      let one : filter p (ends o) ≡ [] = passes o ∙ ap (λ b. cond b (taken ∷ []) []) all.0 in
+      let rest = none_ends os all.1 in
+      ap (filter p) (flat_map-cons ends o os) ∙ filter-append p (ends o) (flat_map ends os) ∙ (λ i. one i ++ rest i)
+
+  one_end : (done : List Opening) (o : Opening) (left : List Opening) → AllByRecursion (λ o. Gives relid o ≡ false) done → AllByRecursion (λ o. Gives relid o ≡ false) left → Gives relid o ≡ true → filter p (flat_map ends (done ++ o ∷ left)) ≡ taken ∷ []
+  one_end done o left before behind here =
+      let a = none_ends done before in
+      let one : filter p (ends o) ≡ taken ∷ [] = passes o ∙ ap (λ b. cond b (taken ∷ []) []) here in
+      let c = none_ends left behind in
+      ap (filter p) (flat_map-append ends done (o ∷ left)) ∙ filter-append p (flat_map ends done) (flat_map ends (o ∷ left)) ∙ ap (λ xs. filter p (flat_map ends done) ++ filter p xs) (flat_map-cons ends o left)
+      ∙ ap (λ xs. filter p (flat_map ends done) ++ xs) (filter-append p (ends o) (flat_map ends left)) ∙ (λ i. a i ++ (one i ++ c i))
+
+-- no other opening gives it back
+other_gives : (plan : BusPlan) (phase place j : ℕ) (done : List Opening) (o : Opening) (left : List Opening) → IsPlan plan → phase_of plan phase ≡ done ++ o ∷ left → phase < length plan.phases → ends_given_back o ≡ true → j < length plan.phases → j ≢ phase
+    → AllByRecursion (λ q. Gives o.relid q ≡ false) (phase_of plan j)
+other_gives plan phase place j done o left planned is in_plan gone few off =
+    by_test {P = AllByRecursion (λ q. Gives o.relid q ≡ false) (phase_of plan j)} (nat_lt j phase)
+    (λ e.
+    let less : j < phase = grind (arith, nat_tests, e) in
+    all_weaker (λ q. AllByRecursion (λ p. p.relid ≡ q.relid → ends_given_back q ≡ false) (phase_of plan phase)) (λ q. Gives o.relid q ≡ false)
+    (λ q all. by_test {P = Gives o.relid q ≡ false} (q.relid == o.relid)
+    (λ f. let none = mid_all (λ p. p.relid ≡ q.relid → ends_given_back q ≡ false) done o left (subst (AllByRecursion (λ p. p.relid ≡ q.relid → ends_given_back q ≡ false)) is all) (sym (eqb-true q.relid o.relid f)) in ap (λ b. (q.relid == o.relid) && b) none ∙ and_none (q.relid == o.relid))
+    (λ f. ap (λ b. b && ends_given_back q) f)) (phase_of plan j) (not_given_back plan j phase planned less in_plan))
+    (λ e.
+    let more : phase < j = grind (arith, nat_tests, e, off) in
+    let all = mid_all (λ q. AllByRecursion (λ p. p.relid ≡ q.relid → ends_given_back q ≡ false) (phase_of plan j)) done o left (subst (AllByRecursion (λ q. AllByRecursion (λ p. p.relid ≡ q.relid → ends_given_back q ≡ false) (phase_of plan j))) is (not_given_back plan phase j planned more few)) in
+    all_weaker (λ p. p.relid ≡ o.relid → ends_given_back o ≡ false) (λ q. Gives o.relid q ≡ false)
+    (λ q none. by_test {P = Gives o.relid q ≡ false} (q.relid == o.relid)
+    (λ f. let wrong : true ≡ false = sym gone ∙ none (eqb-true q.relid o.relid f) in absurd (cc))
+    (λ f. ap (λ b. b && ends_given_back q) f)) (phase_of plan j) all)
+
+apart_gives : (relid : ℕ) (os : List Opening) → AllByRecursion (λ p. p.relid ≢ relid) os → AllByRecursion (λ q. Gives relid q ≡ false) os
+apart_gives relid os apart = all_weaker (λ p. p.relid ≢ relid) (λ q. Gives relid q ≡ false) (λ q off. ap (λ b. b && ends_given_back q) (differ q.relid relid off)) os apart
+
+given_once : (plan : BusPlan) (phase place : ℕ) (o : Opening) (p : Msg → Bool) (starts : List Opening → List Msg) (ends : Opening → List Msg) (taken : Msg) → IsPlan plan → opening_at plan phase place ≡ Some o → ends_given_back o ≡ true
+    → ((os : List Opening) → filter p (starts os) ≡ []) → ((q : Opening) → filter p (ends q) ≡ cond (Gives o.relid q) (taken ∷ []) [])
+    → filter p (flat_map (λ os. starts os ++ flat_map ends (in_closing_order os)) plan.phases) ≡ taken ∷ []
+given_once plan phase place o p starts ends taken planned is gone none_starts passes =
+    let cut = cut_at plan phase place o is in
+    let says : List Opening → List Msg = λ os. starts os ++ flat_map ends (in_closing_order os) in
+    let in_plan = cut.at.in_plan in
+    let mid = closing_mid cut.done o cut.left in
+    let closing : closing_of plan phase ≡ mid.done ++ o ∷ mid.left = ap in_closing_order cut.at.phase_is ∙ mid.is in
+    let there : EndsAt plan phase (length mid.done) mid.done o mid.left = record { in_plan = in_plan; closing_is = closing; place_is = refl } in
+    let fact = end_facts plan phase (length mid.done) mid.done o mid.left planned there in
+    let here : Gives o.relid o ≡ true = ap (λ b. b && ends_given_back o) (same o.relid) ∙ gone in
+    let one = one_end o.relid p ends taken passes mid.done o mid.left (apart_gives o.relid mid.done fact.done_apart) (apart_gives o.relid mid.left fact.left_apart) here in
+    phases_once p says (taken ∷ []) plan.phases phase in_plan
+    (λ j few off.
+    let none = none_starts (phase_of plan j) in
+    let rest = none_ends o.relid p ends taken passes (closing_of plan j) (all_closing (λ q. Gives o.relid q ≡ false) (phase_of plan j) (other_gives plan phase place j cut.done o cut.left planned cut.at.phase_is in_plan gone few off)) in
+    filter-append p (starts (phase_of plan j)) (flat_map ends (closing_of plan j)) ∙ (λ i. none i ++ rest i))
+    (let none = none_starts (phase_of plan phase) in
+    filter-append p (starts (phase_of plan phase)) (flat_map ends (closing_of plan phase)) ∙ (λ i. none i ++ filter p (flat_map ends (closing i))) ∙ one)
+
+-- between the contact and the farewell
+between : (p : Msg → Bool) (front mid back whole : List Msg) → filter p front ≡ [] → filter p back ≡ [] → filter p mid ≡ whole → filter p (front ++ (mid ++ back)) ≡ whole ++ []
+between p front mid back whole none_front none_back is =
+    filter-append p front (mid ++ back) ∙ ap (λ xs. xs ++ filter p (mid ++ back)) none_front ∙ filter-append p mid back ∙ (λ i. is i ++ none_back i)
+
+if_said : (p : Msg → Bool) (m : Msg) (b : Bool) → p m ≡ false → filter p (if b then m ∷ [] else []) ≡ []
+if_said p m true off = rw off refl
+if_said p m false off = refl
+
+-- the host takes it back
+none_offered : (relid r : ℕ) (kinds : List Kind) → filter (is_rescind_of relid) (offers_from r kinds) ≡ []
+none_offered relid r [] = refl
+none_offered relid r (kind ∷ kinds) = none_offered relid (r + 1) kinds
+
+host_contact : (relid : ℕ) (plan : BusPlan) → filter (is_rescind_of relid) (host_contacts plan) ≡ []
+host_contact relid plan =
+    let p : Msg → Bool = is_rescind_of relid in
+    let tried : List ℕ = versions_tried plan.guest.0 plan.host.0 in
+    let a = none_among p (answer_to plan) tried (λ v. refl) in
+    let b = none_offered relid 1 plan.kinds in
+    filter-append p (map (answer_to plan) tried) (offers_from 1 plan.kinds ++ delivered ∷ []) ∙ ap (λ xs. filter p (map (answer_to plan) tried) ++ xs) (filter-append p (offers_from 1 plan.kinds) (delivered ∷ []))
+    ∙ (λ i. a i ++ (b i ++ []))
+
+no_sub_offer : (relid : ℕ) (os : List Opening) → filter (is_rescind_of relid) (map offer_sub os) ≡ []
+no_sub_offer relid [] = refl
+no_sub_offer relid (o ∷ os) = no_sub_offer relid os
+
+host_starts : (relid : ℕ) (os : List Opening) → filter (is_rescind_of relid) (host_opens_all os) ≡ []
+host_starts relid [] = refl
+host_starts relid (o ∷ os) =
+    let a = no_sub_offer relid (subs_next (o ∷ os)) in
+    let b = host_starts relid os in
+    filter-append (is_rescind_of relid) (map offer_sub (subs_next (o ∷ os))) (host_opens_all os) ∙ (λ i. a i ++ b i)
+
+-- of one channel
+it_passes : (r relid : ℕ) (m : ℕ → Msg) → cond (r == relid) (m r ∷ []) [] ≡ cond ((r == relid) && true) (m relid ∷ []) []
+it_passes r relid m = by_test {P = cond (r == relid) (m r ∷ []) [] ≡ cond ((r == relid) && true) (m relid ∷ []) []} (r == relid)
+    (λ e. ap (λ b. cond b (m r ∷ []) []) e ∙ ap (λ q. m q ∷ []) (eqb-true r relid e) ∙ sym (ap (λ b. cond (b && true) (m relid ∷ []) []) e))
+    (λ e. ap (λ b. cond b (m r ∷ []) []) e ∙ sym (ap (λ b. cond (b && true) (m relid ∷ []) []) e))
+
+none_passes : (r relid : ℕ) (m : Msg) → [] ≡ cond ((r == relid) && false) (m ∷ []) []
+none_passes r relid m = sym (ap (λ b. cond b (m ∷ []) []) (and_none (r == relid)))
+
+host_passes : (relid : ℕ) (o : Opening) (b c : Bool) → filter (is_rescind_of relid) (if b then rescind o.relid ∷ [] else torndown o.gpadl ∷ (if c then rescind o.relid ∷ [] else [])) ≡ cond ((o.relid == relid) && (b || c)) (rescind relid ∷ []) []
+host_passes relid o true c = it_passes o.relid relid rescind
+host_passes relid o false true = it_passes o.relid relid rescind
+host_passes relid o false false = none_passes o.relid relid (rescind relid)
+
+-- the guest gives it back
+guest_contact : (relid : ℕ) (plan : BusPlan) → filter (is_release_of relid) (guest_contacts plan) ≡ []
+guest_contact relid plan =
+    let p : Msg → Bool = is_release_of relid in
+    let tried : List ℕ = versions_tried plan.guest.0 plan.host.0 in
+    let a = none_among p propose tried (λ v. refl) in
+    filter-append p (map propose tried) (request ∷ []) ∙ (λ i. a i ++ [])
+
+no_body : (relid most handle number : ℕ) (frames : List ℕ) → filter (is_release_of relid) (bodies most handle number frames) ≡ []
+no_body relid zero handle number frames = refl
+no_body relid (suc most) handle number [] = refl
+no_body relid (suc most) handle number (frame ∷ frames) = no_body relid most handle (number + 1) (drop 28 (frame ∷ frames))
+
+no_cut : (relid r handle : ℕ) (pages : List ℕ) → filter (is_release_of relid) (cut r handle pages) ≡ []
+no_cut relid r handle [] = refl
+no_cut relid r handle (page ∷ pages) = no_body relid (length pages) handle 0 (drop 26 (page ∷ pages))
+
+guest_starts : (relid : ℕ) (o : Opening) → filter (is_release_of relid) (guest_opens o) ≡ []
+guest_starts relid o =
+    let a = no_cut relid o.relid o.gpadl (pages_from o) in
+    filter-append (is_release_of relid) (cut o.relid o.gpadl (pages_from o)) (open_on o ∷ []) ∙ (λ i. a i ++ [])
+
+guest_passes : (relid : ℕ) (o : Opening) (b c : Bool) → filter (is_release_of relid) (if b then release o.relid ∷ [] else close o.relid ∷ teardown o ∷ (if c then release o.relid ∷ [] else [])) ≡ cond ((o.relid == relid) && (b || c)) (release relid ∷ []) []
+guest_passes relid o true c = it_passes o.relid relid release
+guest_passes relid o false true = it_passes o.relid relid release
+guest_passes relid o false false = none_passes o.relid relid (release relid)
+
+host_once : (plan : BusPlan) (phase place : ℕ) (o : Opening) → IsPlan plan → opening_at plan phase place ≡ Some o → ends_given_back o ≡ true → filter (is_rescind_of o.relid) (flat_map host_in_phase plan.phases) ≡ rescind o.relid ∷ []
+host_once plan phase place o planned is gone = given_once plan phase place o (is_rescind_of o.relid) host_opens_all host_closes (rescind o.relid) planned is gone (host_starts o.relid) (λ q. host_passes o.relid q q.rescinded (is_sub q))
+
+guest_once : (plan : BusPlan) (phase place : ℕ) (o : Opening) → IsPlan plan → opening_at plan phase place ≡ Some o → ends_given_back o ≡ true → filter (is_release_of o.relid) (flat_map guest_in_phase plan.phases) ≡ release o.relid ∷ []
+guest_once plan phase place o planned is gone =
+    given_once plan phase place o (is_release_of o.relid) (flat_map guest_opens) guest_closes (release o.relid) planned is gone (λ os. none_of_each (is_release_of o.relid) guest_opens os (guest_starts o.relid)) (λ q. guest_passes o.relid q q.rescinded (is_sub q))
+
+host_said_once : (plan : BusPlan) (phase place : ℕ) (o : Opening) (posted : List Msg) → IsPlan plan → opening_at plan phase place ≡ Some o → ends_given_back o ≡ true → posted ≡ host_contacts plan ++ (flat_map host_in_phase plan.phases ++ from_3_0 plan (farewell_taken ∷ []))
+    → filter (is_rescind_of o.relid) posted ≡ rescind o.relid ∷ []
+host_said_once plan phase place o posted planned is gone said =
+    ap (filter (is_rescind_of o.relid)) said ∙ between (is_rescind_of o.relid) (host_contacts plan) (flat_map host_in_phase plan.phases) (from_3_0 plan (farewell_taken ∷ [])) (rescind o.relid ∷ []) (host_contact o.relid plan)
+    (if_said (is_rescind_of o.relid) farewell_taken _ refl) (host_once plan phase place o planned is gone)
+
+guest_said_once : (plan : BusPlan) (phase place : ℕ) (o : Opening) (posted : List Msg) → IsPlan plan → opening_at plan phase place ≡ Some o → ends_given_back o ≡ true → posted ≡ guest_contacts plan ++ (flat_map guest_in_phase plan.phases ++ from_3_0 plan (farewell ∷ []))
+    → filter (is_release_of o.relid) posted ≡ release o.relid ∷ []
+guest_said_once plan phase place o posted planned is gone said =
+    ap (filter (is_release_of o.relid)) said ∙ between (is_release_of o.relid) (guest_contacts plan) (flat_map guest_in_phase plan.phases) (from_3_0 plan (farewell ∷ [])) (release o.relid ∷ []) (guest_contact o.relid plan)
+    (if_said (is_release_of o.relid) farewell _ refl) (guest_once plan phase place o planned is gone)
+
+pub once_law : RescindedOnce
+once_law plan g h phase place o planned over is gone =
+    let given : ends_given_back o ≡ true = ap (λ b. b || is_sub o) gone in
+    (host_said_once plan phase place o h.posted planned is given over.host_said, guest_said_once plan phase place o g.posted planned is given over.guest_said)
+
+-- the host offers a sub-channel: of all that it says only the offers of sub-channels count
+none_before : (relid r : ℕ) (kinds : List Kind) → r + length kinds ≤ relid → filter (is_offer_of relid) (offers_from r kinds) ≡ []
+none_before relid r [] few = refl
+none_before relid r (kind ∷ kinds) few =
+    ap (λ b. cond b (offer kind r 0 ∷ filter (is_offer_of relid) (offers_from (r + 1) kinds)) (filter (is_offer_of relid) (offers_from (r + 1) kinds))) (differ r relid (λ e. absurd (omega (arith, e, few))))
+    ∙ none_before relid (r + 1) kinds (omega (arith, few))
+
+offers_contact : (relid : ℕ) (plan : BusPlan) → length plan.kinds < relid → filter (is_offer_of relid) (host_contacts plan) ≡ []
+offers_contact relid plan above =
+    let p : Msg → Bool = is_offer_of relid in
+    let tried : List ℕ = versions_tried plan.guest.0 plan.host.0 in
+    let a = none_among p (answer_to plan) tried (λ v. refl) in
+    let b = none_before relid 1 plan.kinds (omega (arith, above)) in
+    filter-append p (map (answer_to plan) tried) (offers_from 1 plan.kinds ++ delivered ∷ []) ∙ ap (λ xs. filter p (map (answer_to plan) tried) ++ xs) (filter-append p (offers_from 1 plan.kinds) (delivered ∷ []))
+    ∙ (λ i. a i ++ (b i ++ []))
+
+no_offer : (relid : ℕ) (o : Opening) (b c : Bool) → filter (is_offer_of relid) (if b then rescind o.relid ∷ [] else torndown o.gpadl ∷ (if c then rescind o.relid ∷ [] else [])) ≡ []
+no_offer relid o true c = refl
+no_offer relid o false true = refl
+no_offer relid o false false = refl
+
+join : (t : Bool) (m : Msg) (xs ys zs : List Msg) → xs ++ ys ≡ zs → cond t (m ∷ xs) xs ++ ys ≡ cond t (m ∷ zs) zs
+join true m xs ys zs e = ap (λ ns. m ∷ ns) e
+join false m xs ys zs e = e
+
+module _ (relid : ℕ) where
+  abbrev offers_in : List Opening → List Msg
+  offers_in os = filter (is_offer_of relid) (map offer_sub os)
+
+  abbrev offers_all : List Opening → List Msg
+  offers_all os = filter (is_offer_of relid) (host_opens_all os)
+
+  offers_one : (o : Opening) (os : List Opening) (b : Bool) → is_sub o ≡ b → offers_in (first_subs os) ++ offers_all os ≡ offers_in (subs_in os) → offers_in (first_subs (o ∷ os)) ++ (offers_in (subs_next (o ∷ os)) ++ offers_all os) ≡ offers_in (subs_in (o ∷ os))
+  offers_one o os true e rest =
+      let a = ap (λ b. offers_in (if b then o ∷ first_subs os else [])) e in
+      let c = ap (λ b. offers_in (if b then [] else first_subs os)) e in
+      let d = ap (λ b. offers_in (cond b (o ∷ subs_in os) (subs_in os))) e in
+      (λ i. a i ++ (c i ++ offers_all os)) ∙ join (o.relid == relid) (offer_sub o) (offers_in (first_subs os)) (offers_all os) (offers_in (subs_in os)) rest ∙ sym d
+  offers_one o os false e rest =
+      let a = ap (λ b. offers_in (if b then o ∷ first_subs os else [])) e in
+      let c = ap (λ b. offers_in (if b then [] else first_subs os)) e in
+      let d = ap (λ b. offers_in (cond b (o ∷ subs_in os) (subs_in os))) e in
+      (λ i. a i ++ (c i ++ offers_all os)) ∙ rest ∙ sym d
+
+  offers_so : (os : List Opening) → offers_in (first_subs os) ++ offers_all os ≡ offers_in (subs_in os)
+  offers_so [] = refl
+  offers_so (o ∷ os) =
+      ap (λ xs. offers_in (first_subs (o ∷ os)) ++ xs) (filter-append (is_offer_of relid) (map offer_sub (subs_next (o ∷ os))) (host_opens_all os)) ∙ offers_one o os (is_sub o) refl (offers_so os)
+
+  no_sub_one : (o : Opening) (os : List Opening) (b : Bool) → (b ≡ true → o.relid ≢ relid) → offers_in (subs_in os) ≡ [] → offers_in (cond b (o ∷ subs_in os) (subs_in os)) ≡ []
+  no_sub_one o os true off rest = ap (λ t. cond t (offer_sub o ∷ offers_in (subs_in os)) (offers_in (subs_in os))) (differ o.relid relid (off refl)) ∙ rest
+  no_sub_one o os false off rest = rest
+
+  no_subs : (os : List Opening) → AllByRecursion (λ q. is_sub q ≡ true → q.relid ≢ relid) os → offers_in (subs_in os) ≡ []
+  no_subs [] all = refl
+  no_subs (o ∷ os) all = no_sub_one o os (is_sub o) all.0 (no_subs os all.1)
+
+  one_sub : (done : List Opening) (o : Opening) (left : List Opening) → o.relid ≡ relid → is_sub o ≡ true → AllByRecursion (λ q. is_sub q ≡ true → q.relid ≢ relid) done → AllByRecursion (λ q. is_sub q ≡ true → q.relid ≢ relid) left
+      → offers_in (subs_in (done ++ o ∷ left)) ≡ offer_sub o ∷ []
+  one_sub done o left is sub before behind =
+      let a = no_subs done before in
+      let c = no_subs left behind in
+      let here : (o.relid == relid) ≡ true = ap (λ r. o.relid == r) (sym is) ∙ same o.relid in
+      ap offers_in (filter-append is_sub done (o ∷ left)) ∙ ap (filter (is_offer_of relid)) (map-append offer_sub (subs_in done) (subs_in (o ∷ left))) ∙ filter-append (is_offer_of relid) (map offer_sub (subs_in done)) (map offer_sub (subs_in (o ∷ left)))
+      ∙ ap (λ b. offers_in (subs_in done) ++ offers_in (cond b (o ∷ subs_in left) (subs_in left))) sub ∙ ap (λ t. offers_in (subs_in done) ++ cond t (offer_sub o ∷ offers_in (subs_in left)) (offers_in (subs_in left))) here
+      ∙ (λ i. a i ++ (offer_sub o ∷ c i))
+
+  phase_offers : (plan : BusPlan) (j : ℕ) → IsPlan plan → j < length plan.phases → filter (is_offer_of relid) (host_in_phase (phase_of plan j)) ≡ offers_in (subs_in (phase_of plan j)) ++ []
+  phase_offers plan j planned few =
+      let os : List Opening = phase_of plan j in
+      let none = starts_first os (phase_seated plan j planned few) in
+      let starts : offers_all os ≡ offers_in (subs_in os) = sym (ap (λ xs. offers_in xs ++ offers_all os) none) ∙ offers_so os in
+      let ends = none_of_each (is_offer_of relid) host_closes (closing_of plan j) (λ q. no_offer relid q q.rescinded (is_sub q)) in
+      filter-append (is_offer_of relid) (host_opens_all os) (flat_map host_closes (closing_of plan j)) ∙ (λ i. starts i ++ ends i)
+
+-- no other sub-channel has its relid
+other_relids : (plan : BusPlan) (phase j : ℕ) (o : Opening) → IsPlan plan → phase < length plan.phases → offered_before plan phase < o.relid → o.relid ≤ offered_before plan (suc phase) → j < length plan.phases → j ≢ phase
+    → AllByRecursion (λ q. is_sub q ≡ true → q.relid ≢ o.relid) (phase_of plan j)
+other_relids plan phase j o planned in_plan low high few off =
+    by_test {P = AllByRecursion (λ q. is_sub q ≡ true → q.relid ≢ o.relid) (phase_of plan j)} (nat_lt j phase)
+    (λ e.
+    let less : j < phase = grind (arith, nat_tests, e) in
+    all_weaker (λ q. is_sub q ≡ true → (length plan.kinds < q.relid) × (q.relid ≤ offered_before plan phase)) (λ q. is_sub q ≡ true → q.relid ≢ o.relid)
+    (λ q bounds sub is. let most = (bounds sub).1 in absurd (omega (arith, most, low, is))) (phase_of plan j) (subs_before plan j phase planned less (omega (arith, in_plan))))
+    (λ e.
+    let more : phase < j = grind (arith, nat_tests, e, off) in
+    let up = offered_grows plan (suc phase) j more (omega (arith, few)) in
+    all_weaker (λ p. (is_sub p ≡ false → p.relid ≤ length plan.kinds) × (is_sub p ≡ true → offered_before plan j < p.relid)) (λ q. is_sub q ≡ true → q.relid ≢ o.relid)
+    (λ q fresh sub is. let far = fresh.1 sub in absurd (omega (arith, far, up, high, is))) (phase_of plan j) (phase_relids plan j planned few).fresh)
+
+offered_once : (plan : BusPlan) (phase place : ℕ) (o : Opening) → IsPlan plan → opening_at plan phase place ≡ Some o → is_sub o ≡ true → (length plan.kinds < o.relid) × (filter (is_offer_of o.relid) (flat_map host_in_phase plan.phases) ≡ offer_sub o ∷ [])
+offered_once plan phase place o planned is sub =
+    let cut = cut_at plan phase place o is in
+    let in_plan = cut.at.in_plan in
+    let fact = facts plan phase place cut.done o cut.left planned cut.at in
+    let fresh : AllByRecursion (λ p. (is_sub p ≡ false → p.relid ≤ length plan.kinds) × (is_sub p ≡ true → offered_before plan phase < p.relid)) (cut.done ++ o ∷ cut.left) =
+    subst (AllByRecursion (λ p. (is_sub p ≡ false → p.relid ≤ length plan.kinds) × (is_sub p ≡ true → offered_before plan phase < p.relid))) cut.at.phase_is (phase_relids plan phase planned in_plan).fresh in
+    let low = (mid_all (λ p. (is_sub p ≡ false → p.relid ≤ length plan.kinds) × (is_sub p ≡ true → offered_before plan phase < p.relid)) cut.done o cut.left fresh).1 sub in
+    let apart : (os : List Opening) → AllByRecursion (λ p. p.relid ≢ o.relid) os → AllByRecursion (λ q. is_sub q ≡ true → q.relid ≢ o.relid) os = λ os all. all_weaker (λ p. p.relid ≢ o.relid) (λ q. is_sub q ≡ true → q.relid ≢ o.relid) (λ q off it. off) os all in
+    let one = one_sub o.relid cut.done o cut.left refl sub (apart cut.done fact.done_apart) (apart cut.left fact.left_apart) in (
+      omega (arith, low),
+      phases_once (is_offer_of o.relid) host_in_phase (offer_sub o ∷ []) plan.phases phase in_plan
+          (λ j few off.
+          let none = no_subs o.relid (phase_of plan j) (other_relids plan phase j o planned in_plan low fact.known few off) in
+          phase_offers o.relid plan j planned few ∙ (λ i. none i ++ []))
+          (phase_offers o.relid plan phase planned in_plan ∙ ap (λ os. offers_in o.relid (subs_in os) ++ []) cut.at.phase_is ∙ (λ i. one i ++ [])),
+    )
+
+pub subs_once_law : SubsOnce
+subs_once_law plan g h phase place o planned over is sub =
+    let given : ends_given_back o ≡ true = ap (λ b. o.rescinded || b) sub ∙ or_true o.rescinded in
+    let offers = offered_once plan phase place o planned is sub in (
+      ap (filter (is_offer_of o.relid)) over.host_said ∙ between (is_offer_of o.relid) (host_contacts plan) (flat_map host_in_phase plan.phases) (from_3_0 plan (farewell_taken ∷ [])) (offer_sub o ∷ []) (offers_contact o.relid plan offers.0)
+          (if_said (is_offer_of o.relid) farewell_taken _ refl) offers.1,
+      host_said_once plan phase place o h.posted planned is given over.host_said,
+      guest_said_once plan phase place o g.posted planned is given over.guest_said,
+    )

@@ -1,0 +1,282 @@
+-- What a plan says of an opening at its place.
+use Rattle.std.proofs.Common.{◌≡◌, ◌≢◌, ◌∙◌, ℕ, zero, suc, ◌+◌, ◌<◌, ◌≤◌, ◌||◌, Bool, true, false, cond, if◌then◌else◌, List, [], ◌∷◌, ◌++◌, length, map, take, drop, get_or, slice_get, slice_index_or, Option, Some, None, All, refl, sym, ap, subst, append_assoc, length-append, arith}
+use Rattle.std.specs.List.{AllByRecursion, range_with_len}
+use Rattle.std.proofs.lemmas.List.{append-nil}
+use Rattle.std.proofs.lemmas.List.Elements.{All-get_or}
+use Rattle.control_model.specs.declared.opening.Opening.{Opening}
+use Rattle.control_model.specs.declared.channel.Channel.{Channel}
+use Rattle.control_model.specs.Plan.{BusPlan, is_sub, first_subs, firsts, subs_in, in_closing_order, opening_at, closing_of, closing_at, IsOpening, Rising, Follows, RescindsEnd, all_openings, first_gpadl, list_pages, IsPlan, phase_of}
+use Rattle.control_model.specs.Channels.{is_handle}
+use Rattle.control_model.specs.Said.{ends_given_back}
+use Rattle.control_model.specs.Stand.{At, EndsAt, offered_before, offered_by, guest_ends, guest_before}
+use Rattle.control_laws.proofs.Marks.{by_test, differ, marked_has}
+use Rattle.control_laws.proofs.Closing.{all_closing, Distinct, distinct_closing, distinct_mid}
+use Rattle.control_laws.proofs.Cutting.{all_weaker, mid_all, openings_more, openings_cut, by_all}
+use Rattle.control_laws.proofs.Relids.{phase_relids, subs_before, sub_place}
+
+-- the first of what follows
+pub get_from : {X : Type 0} (xs ys : List X) → slice_get (xs ++ ys) (length xs) ≡ slice_get ys 0
+get_from [] ys = refl
+get_from (x ∷ xs) ys = get_from xs ys
+
+pub opening_from : (plan : BusPlan) (phase place : ℕ) (done left : List Opening) → phase_of plan phase ≡ done ++ left → place ≡ length done → opening_at plan phase place ≡ slice_get left 0
+opening_from plan phase place done left is at = ap (λ os. slice_get os place) is ∙ ap (λ n. slice_get (done ++ left) n) at ∙ get_from done left
+
+pub opening_here : (plan : BusPlan) (phase place : ℕ) (done : List Opening) (o : Opening) (left : List Opening) → At plan phase place done o left → opening_at plan phase place ≡ Some o
+opening_here plan phase place done o left at = opening_from plan phase place done (o ∷ left) at.phase_is at.place_is
+
+-- one more is done
+pub done_more : (plan : BusPlan) (phase place : ℕ) (done : List Opening) (o : Opening) (left : List Opening) → At plan phase place done o left → phase_of plan phase ≡ (done ++ o ∷ []) ++ left
+done_more plan phase place done o left at = at.phase_is ∙ sym (append_assoc done (o ∷ []) left)
+
+pub place_more : (plan : BusPlan) (phase place : ℕ) (done : List Opening) (o : Opening) (left : List Opening) → At plan phase place done o left → place + 1 ≡ length (done ++ o ∷ [])
+place_more plan phase place done o left at = omega (arith, at.place_is, length-append done (o ∷ []))
+
+-- handles follow each other
+pub record FollowsBehind (gpadl : ℕ) (os : List Opening) : Type 0 where
+  pub page : ℕ
+  pub follows : Follows gpadl page os
+
+behind : (gpadl page : ℕ) (xs ys : List Opening) → Follows gpadl page (xs ++ ys) → FollowsBehind (gpadl + length xs) ys
+behind gpadl page [] ys follows = record { page = page; follows = subst (λ g. Follows g page ys) (omega arith) follows }
+behind gpadl page (x ∷ xs) ys follows =
+    let rest = behind (gpadl + 1) (page + list_pages x.ring_pages) xs ys follows.2 in
+    record { page = rest.page; follows = subst (λ g. Follows g rest.page ys) (omega arith) rest.follows }
+
+ahead : (gpadl page : ℕ) (xs ys : List Opening) → Follows gpadl page (xs ++ ys) → Follows gpadl page xs
+ahead gpadl page [] ys follows = tt
+ahead gpadl page (x ∷ xs) ys follows = (follows.0, follows.1, ahead (gpadl + 1) (page + list_pages x.ring_pages) xs ys follows.2)
+
+within : (low high gpadl page : ℕ) (xs : List Opening) → low ≤ gpadl → gpadl + length xs ≤ high → Follows gpadl page xs → AllByRecursion (λ p. (low ≤ p.gpadl) × (p.gpadl < high)) xs
+within low high gpadl page [] less most follows = tt
+within low high gpadl page (x ∷ xs) less most follows =
+    let e = follows.0 in
+    ((omega (arith, e, less), omega (arith, e, most)), within low high (gpadl + 1) (page + list_pages x.ring_pages) xs (omega (arith, less)) (omega (arith, most)) follows.2)
+
+-- an opening that a plan has, with those before and behind it
+pub record CutAt (plan : BusPlan) (phase place : ℕ) (o : Opening) : Type 0 where
+  pub before : List Opening
+  pub done : List Opening
+  pub left : List Opening
+  pub after : List Opening
+  pub at : At plan phase place done o left
+  pub whole : all_openings plan.phases ≡ before ++ ((done ++ o ∷ left) ++ after)
+  pub before_is : before ≡ all_openings (take phase plan.phases)
+  pub after_is : after ≡ all_openings (drop (suc phase) plan.phases)
+
+record CutList (place : ℕ) (o : Opening) (os : List Opening) : Type 0 where
+  done : List Opening
+  left : List Opening
+  is : os ≡ done ++ o ∷ left
+  place_is : place ≡ length done
+
+cut_list : (os : List Opening) (place : ℕ) (o : Opening) → slice_get os place ≡ Some o → CutList place o os
+cut_list [] place o is = absurd (cc)
+cut_list (p ∷ os) zero o is = let this : p ≡ o = cc in record { done = []; left = os; is = ap (λ x. x ∷ os) this; place_is = refl }
+cut_list (p ∷ os) (suc place) o is = let rest = cut_list os place o is in record { done = p ∷ rest.done; left = rest.left; is = ap (λ xs. p ∷ xs) rest.is; place_is = ap (λ n. suc n) rest.place_is }
+
+some_phase : (phases : List (List Opening)) (phase place : ℕ) (o : Opening) → slice_get (slice_index_or phases phase []) place ≡ Some o → phase < length phases
+some_phase [] phase place o is = absurd (cc)
+some_phase (os ∷ phases) zero place o is = omega arith
+some_phase (os ∷ phases) (suc phase) place o is = let rest = some_phase phases phase place o is in omega (arith, rest)
+
+pub cut_at : (plan : BusPlan) (phase place : ℕ) (o : Opening) → opening_at plan phase place ≡ Some o → CutAt plan phase place o
+cut_at plan phase place o is =
+    let cut = cut_list (phase_of plan phase) place o is in
+    let less = some_phase plan.phases phase place o is in
+    let behind : List Opening = all_openings (drop (suc phase) plan.phases) in
+    let front : List Opening = all_openings (take phase plan.phases) in
+    record {
+      before = front;
+      done = cut.done;
+      left = cut.left;
+      after = behind;
+      at = record { in_plan = less; phase_is = cut.is; place_is = cut.place_is };
+      whole = openings_cut plan.phases phase less ∙ ap (λ os. front ++ (os ++ behind)) cut.is;
+      before_is = refl;
+      after_is = refl;
+    }
+
+-- the first handle of a phase
+abbrev first_of : BusPlan → ℕ → ℕ
+first_of plan k = first_gpadl + length (all_openings (take k plan.phases))
+
+first_more : (plan : BusPlan) (k : ℕ) → k < length plan.phases → first_of plan (suc k) ≡ first_of plan k + length (phase_of plan k)
+first_more plan k less =
+    let e : length (all_openings (take (suc k) plan.phases)) ≡ length (all_openings (take k plan.phases)) + length (phase_of plan k) = ap length (openings_more plan.phases k less) ∙ length-append (all_openings (take k plan.phases)) (phase_of plan k) in
+    omega (arith, e)
+
+phase_follows : (plan : BusPlan) (k : ℕ) → IsPlan plan → k < length plan.phases → FollowsBehind (first_of plan k) (phase_of plan k)
+phase_follows plan k planned less =
+    let all : Follows first_gpadl 0 (all_openings (take k plan.phases) ++ (phase_of plan k ++ all_openings (drop (suc k) plan.phases))) = subst (Follows first_gpadl 0) (openings_cut plan.phases k less) planned.follow in
+    let rest = behind first_gpadl 0 (all_openings (take k plan.phases)) (phase_of plan k ++ all_openings (drop (suc k) plan.phases)) all in
+    record { page = rest.page; follows = ahead (first_of plan k) rest.page (phase_of plan k) (all_openings (drop (suc k) plan.phases)) rest.follows }
+
+-- the page lists of earlier phases have lower handles
+abbrev IsLow : ℕ → Option ℕ → Type 0
+IsLow n None = Unit {0}
+IsLow n (Some h) = h < n
+
+low_more : (n m : ℕ) (h : Option ℕ) → n ≤ m → IsLow n h → IsLow m h
+low_more n m None less low = tt
+low_more n m (Some h) less low = omega (arith, less, low)
+
+lows : (plan : BusPlan) (k : ℕ) (relid : ℕ) → IsPlan plan → k ≤ length plan.phases → IsLow (first_of plan k) (guest_before plan k relid).gpadl
+lows plan zero relid planned few = tt
+lows plan (suc k) relid planned few =
+    let less : k < length plan.phases = omega (arith, few) in
+    let more = first_more plan k less in
+    let here = phase_follows plan k planned less in
+    let mine = within (first_of plan k) (first_of plan (suc k)) (first_of plan k) here.page (phase_of plan k) (omega arith) (omega (arith, more)) here.follows in
+    marked_has guest_ends (λ (c : Channel). IsLow (first_of plan (suc k)) c.gpadl) (phase_of plan k) (guest_before plan k) relid
+    (all_weaker (λ p. (first_of plan k ≤ p.gpadl) × (p.gpadl < first_of plan (suc k))) (λ p. p.gpadl < first_of plan (suc k)) (λ p b. b.1) (phase_of plan k) mine)
+    (low_more (first_of plan k) (first_of plan (suc k)) (guest_before plan k relid).gpadl (omega (arith, more)) (lows plan k relid planned (omega (arith, less))))
+
+not_low : (n m : ℕ) (h : Option ℕ) → n ≤ m → IsLow n h → is_handle m h ≡ false
+not_low n m None less low = refl
+not_low n m (Some h) less low = differ h m (λ e. absurd (omega (arith, e, less, low)))
+
+-- an opening of an earlier phase with the relid of a later one wasn't rescinded
+earlier_all : (phases : List (List Opening)) (j k : ℕ) → RescindsEnd phases → j < k → k < length phases → All (λ q. All (λ p. p.relid ≡ q.relid → q.rescinded ≡ false) (slice_index_or phases k [])) (slice_index_or phases j [])
+earlier_all [] j k ends less few = absurd (omega (arith, few))
+earlier_all (os ∷ later) j zero ends less few = absurd (omega (arith, less))
+earlier_all (os ∷ later) zero (suc k) ends less few = λ i q in_os. All-get_or (λ ps. All (λ p. p.relid ≡ (get_or os i q).relid → (get_or os i q).rescinded ≡ false) ps) later k [] (omega (arith, few)) (ends.0 i q in_os)
+earlier_all (os ∷ later) (suc j) (suc k) ends less few = earlier_all later j k ends.1 (omega (arith, less)) (omega (arith, few))
+
+pub earlier_ends : (plan : BusPlan) (j k : ℕ) → IsPlan plan → j < k → k < length plan.phases → AllByRecursion (λ q. AllByRecursion (λ p. p.relid ≡ q.relid → q.rescinded ≡ false) (phase_of plan k)) (phase_of plan j)
+earlier_ends plan j k planned less few =
+    all_weaker (λ q. All (λ p. p.relid ≡ q.relid → q.rescinded ≡ false) (phase_of plan k)) (λ q. AllByRecursion (λ p. p.relid ≡ q.relid → q.rescinded ≡ false) (phase_of plan k))
+    (λ q all. by_all (λ p. p.relid ≡ q.relid → q.rescinded ≡ false) (phase_of plan k) all)
+    (phase_of plan j) (by_all (λ q. All (λ p. p.relid ≡ q.relid → q.rescinded ≡ false) (phase_of plan k)) (phase_of plan j) (earlier_all plan.phases j k planned.ends less few))
+
+pub phase_rises : (plan : BusPlan) (k : ℕ) → IsPlan plan → k < length plan.phases → Rising 1 (firsts (phase_of plan k))
+phase_rises plan k planned less = All-get_or (λ os. Rising 1 (firsts os)) plan.phases k [] less planned.rising
+
+-- handles of a phase are no two the same
+handles_distinct : (gpadl page : ℕ) (os : List Opening) → Follows gpadl page os → Distinct (λ o. o.gpadl) os
+handles_distinct gpadl page [] follows = tt
+handles_distinct gpadl page (o ∷ os) follows =
+    let mine = follows.0 in
+    let rest = within (gpadl + 1) (gpadl + 1 + length os) (gpadl + 1) (page + list_pages o.ring_pages) os (omega arith) (omega arith) follows.2 in
+    (all_weaker (λ p. (gpadl + 1 ≤ p.gpadl) × (p.gpadl < gpadl + 1 + length os)) (λ p. p.gpadl ≢ o.gpadl) (λ p b e. let low = b.0 in absurd (omega (arith, low, e, mine))) os rest, handles_distinct (gpadl + 1) (page + list_pages o.ring_pages) os follows.2)
+
+-- what a plan says of all openings of a phase, in some order
+pub record PhaseHas (plan : BusPlan) (phase : ℕ) (os : List Opening) : Type 0 where
+  pub fits : AllByRecursion IsOpening os
+  pub known : AllByRecursion (λ p. p.relid ≤ offered_before plan (suc phase)) os
+  pub relids : Distinct (λ p. p.relid) os
+  pub handles : Distinct (λ p. p.gpadl) os
+  pub not_before : (j : ℕ) → j < phase → AllByRecursion (λ q. AllByRecursion (λ p. p.relid ≡ q.relid → ends_given_back q ≡ false) os) (phase_of plan j)
+  pub before_handles : AllByRecursion (λ p. (relid : ℕ) → is_handle p.gpadl (guest_before plan phase relid).gpadl ≡ false) os
+
+-- a sub-channel's relid isn't that of an opening of a later phase
+or_false : (a b : Bool) → a ≡ false → b ≡ false → (a || b) ≡ false
+or_false true b e f = absurd (cc)
+or_false false b e f = f
+
+pub not_given_back : (plan : BusPlan) (j k : ℕ) → IsPlan plan → j < k → k < length plan.phases → AllByRecursion (λ q. AllByRecursion (λ p. p.relid ≡ q.relid → ends_given_back q ≡ false) (phase_of plan k)) (phase_of plan j)
+not_given_back plan j k planned less few =
+    let ps : List Opening = phase_of plan k in
+    let later = (phase_relids plan k planned few).fresh in
+    let low = subs_before plan j k planned less (omega (arith, few)) in
+    let ends = earlier_ends plan j k planned less few in
+    both (λ q. AllByRecursion (λ p. p.relid ≡ q.relid → q.rescinded ≡ false) ps) (λ q. is_sub q ≡ true → (length plan.kinds < q.relid) × (q.relid ≤ offered_before plan k)) (λ q. AllByRecursion (λ p. p.relid ≡ q.relid → ends_given_back q ≡ false) ps)
+    (λ q all sub. both (λ p. p.relid ≡ q.relid → q.rescinded ≡ false) (λ p. (is_sub p ≡ false → p.relid ≤ length plan.kinds) × (is_sub p ≡ true → offered_before plan k < p.relid)) (λ p. p.relid ≡ q.relid → ends_given_back q ≡ false)
+    (λ p gone fresh e. or_false q.rescinded (is_sub q) (gone e) (by_test {P = is_sub q ≡ false} (is_sub q)
+    (λ t. let bounds = sub t in let above = bounds.0 in let below = bounds.1 in by_test {P = is_sub q ≡ false} (is_sub p)
+    (λ it. let far = fresh.1 it in absurd (omega (arith, far, below, e)))
+    (λ it. let near = fresh.0 it in absurd (omega (arith, near, above, e))))
+    (λ t. t))) ps all later) (phase_of plan j) ends low
+  where
+    both : (P Q R : Opening → Type 0) → ((o : Opening) → P o → Q o → R o) → (os : List Opening) → AllByRecursion P os → AllByRecursion Q os → AllByRecursion R os
+    both P Q R f [] p q = tt
+    both P Q R f (o ∷ os) p q = (f o p.0 q.0, both P Q R f os p.1 q.1)
+
+pub phase_has : (plan : BusPlan) (phase : ℕ) → IsPlan plan → phase < length plan.phases → PhaseHas plan phase (phase_of plan phase)
+phase_has plan phase planned less =
+    let here = phase_follows plan phase planned less in
+    let ids = phase_relids plan phase planned less in
+    let mine = within (first_of plan phase) (first_of plan phase + length (phase_of plan phase)) (first_of plan phase) here.page (phase_of plan phase) (omega arith) (omega arith) here.follows in
+    record {
+      fits = by_all IsOpening (phase_of plan phase) (All-get_or (λ os. All (λ p. IsOpening p) os) plan.phases phase [] less planned.fits);
+      known = ids.known;
+      relids = ids.distinct;
+      handles = handles_distinct (first_of plan phase) here.page (phase_of plan phase) here.follows;
+      not_before = λ j before. not_given_back plan j phase planned before less;
+      before_handles = all_weaker (λ p. (first_of plan phase ≤ p.gpadl) × (p.gpadl < first_of plan phase + length (phase_of plan phase))) (λ p. (relid : ℕ) → is_handle p.gpadl (guest_before plan phase relid).gpadl ≡ false)
+          (λ p b relid. let low = b.0 in not_low (first_of plan phase) p.gpadl (guest_before plan phase relid).gpadl (omega (arith, low)) (lows plan phase relid planned (omega (arith, less)))) (phase_of plan phase) mine;
+    }
+
+pub closing_has : (plan : BusPlan) (phase : ℕ) → IsPlan plan → phase < length plan.phases → PhaseHas plan phase (closing_of plan phase)
+closing_has plan phase planned less =
+    let os : List Opening = phase_of plan phase in
+    let has = phase_has plan phase planned less in
+    record {
+      fits = all_closing IsOpening os has.fits;
+      known = all_closing (λ p. p.relid ≤ offered_before plan (suc phase)) os has.known;
+      relids = distinct_closing (λ p. p.relid) os has.relids;
+      handles = distinct_closing (λ p. p.gpadl) os has.handles;
+      not_before = λ j before. all_weaker (λ q. AllByRecursion (λ p. p.relid ≡ q.relid → ends_given_back q ≡ false) os) (λ q. AllByRecursion (λ p. p.relid ≡ q.relid → ends_given_back q ≡ false) (in_closing_order os)) (λ q all. all_closing (λ p. p.relid ≡ q.relid → ends_given_back q ≡ false) os all) (phase_of plan j) (has.not_before j before);
+      before_handles = all_closing (λ p. (relid : ℕ) → is_handle p.gpadl (guest_before plan phase relid).gpadl ≡ false) os has.before_handles;
+    }
+
+-- all that a plan says of an opening
+pub record Facts (plan : BusPlan) (phase : ℕ) (done : List Opening) (o : Opening) (left : List Opening) : Type 0 where
+  pub fits : IsOpening o
+  pub known : o.relid ≤ offered_before plan (suc phase)
+  pub done_apart : AllByRecursion (λ p. p.relid ≢ o.relid) done
+  pub left_apart : AllByRecursion (λ p. p.relid ≢ o.relid) left
+  pub done_handles : AllByRecursion (λ p. p.gpadl ≢ o.gpadl) done
+  pub left_handles : AllByRecursion (λ p. p.gpadl ≢ o.gpadl) left
+  pub not_before : (j : ℕ) → j < phase → AllByRecursion (λ q. q.relid ≡ o.relid → ends_given_back q ≡ false) (phase_of plan j)
+  pub before_handles : (relid : ℕ) → is_handle o.gpadl (guest_before plan phase relid).gpadl ≡ false
+
+facts_in : (plan : BusPlan) (phase : ℕ) (done : List Opening) (o : Opening) (left : List Opening) → PhaseHas plan phase (done ++ o ∷ left) → Facts plan phase done o left
+facts_in plan phase done o left has =
+    let apart = distinct_mid (λ p. p.relid) done o left has.relids in
+    let other = distinct_mid (λ p. p.gpadl) done o left has.handles in
+    record {
+      fits = mid_all IsOpening done o left has.fits;
+      known = mid_all (λ p. p.relid ≤ offered_before plan (suc phase)) done o left has.known;
+      done_apart = apart.0;
+      left_apart = apart.1;
+      done_handles = other.0;
+      left_handles = other.1;
+      not_before = λ j less. all_weaker (λ q. AllByRecursion (λ p. p.relid ≡ q.relid → ends_given_back q ≡ false) (done ++ o ∷ left)) (λ q. q.relid ≡ o.relid → ends_given_back q ≡ false) (λ q all e. mid_all (λ p. p.relid ≡ q.relid → ends_given_back q ≡ false) done o left all (sym e)) (phase_of plan j) (has.not_before j less);
+      before_handles = mid_all (λ p. (relid : ℕ) → is_handle p.gpadl (guest_before plan phase relid).gpadl ≡ false) done o left has.before_handles;
+    }
+
+pub facts : (plan : BusPlan) (phase place : ℕ) (done : List Opening) (o : Opening) (left : List Opening) → IsPlan plan → At plan phase place done o left → Facts plan phase done o left
+facts plan phase place done o left planned at = facts_in plan phase done o left (subst (PhaseHas plan phase) at.phase_is (phase_has plan phase planned at.in_plan))
+
+-- the same of one in closing order
+pub end_facts : (plan : BusPlan) (phase place : ℕ) (done : List Opening) (o : Opening) (left : List Opening) → IsPlan plan → EndsAt plan phase place done o left → Facts plan phase done o left
+end_facts plan phase place done o left planned at = facts_in plan phase done o left (subst (PhaseHas plan phase) at.closing_is (closing_has plan phase planned at.in_plan))
+
+-- places in closing order
+pub closing_from : (plan : BusPlan) (phase place : ℕ) (done left : List Opening) → closing_of plan phase ≡ done ++ left → place ≡ length done → closing_at plan phase place ≡ slice_get left 0
+closing_from plan phase place done left is at = ap (λ os. slice_get os place) is ∙ ap (λ n. slice_get (done ++ left) n) at ∙ get_from done left
+
+pub closing_here : (plan : BusPlan) (phase place : ℕ) (done : List Opening) (o : Opening) (left : List Opening) → EndsAt plan phase place done o left → closing_at plan phase place ≡ Some o
+closing_here plan phase place done o left at = closing_from plan phase place done (o ∷ left) at.closing_is at.place_is
+
+pub ends_more : (plan : BusPlan) (phase place : ℕ) (done : List Opening) (o : Opening) (left : List Opening) → EndsAt plan phase place done o left → closing_of plan phase ≡ (done ++ o ∷ []) ++ left
+ends_more plan phase place done o left at = at.closing_is ∙ sym (append_assoc done (o ∷ []) left)
+
+pub ends_place : (plan : BusPlan) (phase place : ℕ) (done : List Opening) (o : Opening) (left : List Opening) → EndsAt plan phase place done o left → place + 1 ≡ length (done ++ o ∷ [])
+ends_place plan phase place done o left at = omega (arith, at.place_is, length-append done (o ∷ []))
+
+-- the channel of an opening that is left was offered, while its phase starts
+sub_of_first : (o : Opening) (left : List Opening) (b : Bool) → is_sub o ≡ b → length (subs_in (o ∷ [])) ≤ length (first_subs (o ∷ left))
+sub_of_first o left true e = let here = ap (λ b. length (if b then o ∷ first_subs left else [])) e in let one = ap (λ b. length (cond b (o ∷ []) [])) e in omega (arith, here, one)
+sub_of_first o left false e = let one = ap (λ b. length (cond b (o ∷ []) [])) e in omega (arith, one)
+
+pub offered_here : (plan : BusPlan) (phase place : ℕ) (done : List Opening) (o : Opening) (left : List Opening) → IsPlan plan → At plan phase place done o left → o.relid ≤ offered_by plan phase done (o ∷ left)
+offered_here plan phase place done o left planned at =
+    let P : List Opening → Type 0 = λ os. map (λ p. p.relid) (subs_in os) ≡ range_with_len (offered_before plan phase + 1) (length (subs_in os)) in
+    let ids = phase_relids plan phase planned at.in_plan in
+    let mine : P (done ++ o ∷ left) = subst P at.phase_is ids.subs_are in
+    let few : AllByRecursion (λ p. is_sub p ≡ false → p.relid ≤ length plan.kinds) (done ++ o ∷ left) = subst (AllByRecursion (λ p. is_sub p ≡ false → p.relid ≤ length plan.kinds)) at.phase_is (all_weaker (λ p. (is_sub p ≡ false → p.relid ≤ length plan.kinds) × (is_sub p ≡ true → offered_before plan phase < p.relid)) (λ p. is_sub p ≡ false → p.relid ≤ length plan.kinds) (λ p f. f.0) (phase_of plan phase) ids.fresh) in
+    by_test {P = o.relid ≤ offered_by plan phase done (o ∷ left)} (is_sub o)
+    (λ e. let spot = sub_place (offered_before plan phase + 1) done o left e mine in let more = sub_of_first o left (is_sub o) refl in let one = ap (λ b. length (cond b (o ∷ []) [])) e in omega (arith, spot, more, one))
+    (λ e. let low = mid_all (λ p. is_sub p ≡ false → p.relid ≤ length plan.kinds) done o left few e in omega (arith, low))

@@ -1,5 +1,0 @@
-use Rattle.control_run.proofs.Going.{begin_law}
-use Rattle.control_run.proofs.laws.both_begin.Goals as goal
-
-pub returns : goal.returns
-returns c = begin_law

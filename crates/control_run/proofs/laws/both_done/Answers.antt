@@ -1,5 +1,0 @@
-use Rattle.control_run.proofs.Going.{done_law}
-use Rattle.control_run.proofs.laws.both_done.Goals as goal
-
-pub returns : goal.returns
-returns c = done_law

@@ -1,5 +1,0 @@
-use Rattle.control_run.proofs.Going.{ends_law}
-use Rattle.control_run.proofs.laws.ends_well.Goals as goal
-
-pub returns : goal.returns
-returns c = ends_law

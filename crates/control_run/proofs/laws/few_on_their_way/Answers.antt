@@ -1,5 +1,0 @@
-use Rattle.control_run.proofs.Going.{few_law}
-use Rattle.control_run.proofs.laws.few_on_their_way.Goals as goal
-
-pub returns : goal.returns
-returns c = few_law

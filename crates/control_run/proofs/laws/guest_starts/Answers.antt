@@ -1,5 +1,0 @@
-use Rattle.control_run.proofs.Going.{guest_starts}
-use Rattle.control_run.proofs.laws.guest_starts.Goals as goal
-
-pub returns : goal.returns
-returns c = guest_starts

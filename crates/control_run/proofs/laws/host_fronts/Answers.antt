@@ -1,5 +1,0 @@
-use Rattle.control_run.proofs.Going.{host_fronts}
-use Rattle.control_run.proofs.laws.host_fronts.Goals as goal
-
-pub returns : goal.returns
-returns c = host_fronts

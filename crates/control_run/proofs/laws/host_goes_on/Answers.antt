@@ -1,5 +1,0 @@
-use Rattle.control_run.proofs.Going.{host_law}
-use Rattle.control_run.proofs.laws.host_goes_on.Goals as goal
-
-pub returns : goal.returns
-returns c = host_law

@@ -1,5 +1,0 @@
-use Rattle.control_run.proofs.Never.{host_is_cut}
-use Rattle.control_run.proofs.laws.host_is_cut.Goals as goal
-
-pub returns : goal.returns
-returns c = host_is_cut

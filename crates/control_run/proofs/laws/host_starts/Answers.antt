@@ -1,5 +1,0 @@
-use Rattle.control_run.proofs.Going.{host_starts}
-use Rattle.control_run.proofs.laws.host_starts.Goals as goal
-
-pub returns : goal.returns
-returns c = host_starts

@@ -1,5 +1,0 @@
-use Rattle.control_run.proofs.Going.{new_ones_law}
-use Rattle.control_run.proofs.laws.new_ones_agree.Goals as goal
-
-pub returns : goal.returns
-returns c = new_ones_law

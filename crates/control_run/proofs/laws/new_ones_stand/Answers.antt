@@ -1,5 +1,0 @@
-use Rattle.control_run.proofs.Going.{new_ones_stand}
-use Rattle.control_run.proofs.laws.new_ones_stand.Goals as goal
-
-pub returns : goal.returns
-returns c = new_ones_stand

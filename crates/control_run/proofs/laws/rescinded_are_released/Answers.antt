@@ -1,5 +1,0 @@
-use Rattle.control_run.proofs.Rescinded.{released_law}
-use Rattle.control_run.proofs.laws.rescinded_are_released.Goals as goal
-
-pub returns : goal.returns
-returns c = released_law

@@ -1,5 +1,0 @@
-use Rattle.control_run.proofs.Once.{once_law}
-use Rattle.control_run.proofs.laws.rescinded_once.Goals as goal
-
-pub returns : goal.returns
-returns c = once_law
