@@ -90,9 +90,9 @@ pub fn ends_well()
     ensures { EndsWell }
 {}
 
-/// At the end there is a channel for each device, and it stands alike at both sides: one that was
-/// rescinded is given back, each other one that was ever opened is closed, and each one that wasn't
-/// is offered.
+/// At the end there is a channel for each device and for each sub-channel that a phase opened, and it
+/// stands alike at both sides: one that was rescinded is given back, and so is each sub-channel; each
+/// other one that was ever opened is closed, and each one that wasn't is offered.
 pub fn end_tells_each()
     ensures { EndTellsEach }
 {}

@@ -1,6 +1,7 @@
 -- A path in a part.
-use Rattle.std.proofs.Common.{◌≡◌, ◌≢◌, ◌∙◌, ◌&&◌, ◌||◌, not, Bool, true, false, ℕ, List, [], ◌∷◌, ◌++◌, Option, Some, None, is_some, is_none, Result, Ok, Err, IfOk, refl, sym, ap, subst, inl, inr}
+use Rattle.std.proofs.Common.{◌≡◌, ◌≢◌, ◌∙◌, ◌&&◌, ◌||◌, not, Bool, true, false, ℕ, List, [], ◌∷◌, ◌++◌, length, Option, Some, None, is_some, is_none, Result, Ok, Err, IfOk, IfErr, refl, sym, ap, subst, inl, inr}
 use Rattle.std.specs.List.{AllByRecursion}
+use Rattle.std.proofs.lemmas.List.{append-nil}
 use Rattle.contact.specs.declared.part.Part.{Part}
 use Rattle.contact.specs.declared.part.Part.TheVariants.{Unload}
 use Rattle.vmbus_msg.specs.declared.msg.Msg.{Msg}
@@ -17,14 +18,17 @@ use Rattle.control_laws.proofs.Ending.{over_law}
 use Rattle.control_laws.proofs.Going.{new_ones_stand}
 use Rattle.control_model.specs.GuestAt.{GuestAt}
 use Rattle.control_model.specs.HostAt.{HostAt}
-use Rattle.mail_box.specs.Mail.{Post, Fetch}
+use Rattle.mail_box.specs.Mail.{Mail, Post, Fetch, Closed, Closes}
+use Rattle.control_serve.proofs.Steps.{all_fed}
 use Rattle.control_serve.specs.declared.part_done.PartDone.{PartDone}
-use Rattle.control_serve.specs.Sides.{Serves, Served}
+use Rattle.control_serve.specs.declared.part_left.PartLeft.{PartLeft}
+use Rattle.control_serve.specs.Sides.{Side, Serves, Served, AtRest}
 use Rattle.part_run.specs.Ends.{Hears, IsExplained}
 use Rattle.guest_end.specs.AsSide.{guest_side, GuestFollows}
 use Rattle.host_end.specs.AsSide.{host_side, HostFollows}
 use Rattle.control_run.specs.declared.path.ControlPath.{ControlPath}
-use Rattle.control_run.specs.Path.{AreNew, Rests, Ran, joined, WantMemory}
+use Rattle.control_run.specs.declared.want.PathWant.{PathWant}
+use Rattle.control_run.specs.Path.{AreNew, Rests, Ran, joined, WantMemory, EndsInWant, RanInWant}
 
 -- what all messages are is so of each
 of_each : (P : Msg → Type 0) (xs front rest : List Msg) (m : Msg) → AllByRecursion P xs → xs ≡ front ++ m ∷ rest → P m
@@ -101,12 +105,13 @@ are_new plan g h guest host planned = let is : g.plan ≡ plan = ap (λ (x : Gue
     record { planned = planned; guest = guest ∙ sym (ap new_guest is); host = host ∙ sym (ap new_host is) }
 
 -- they rest over two new queues with the names of what both say
-pub new_rests : (g : GuestSeen) (h : HostSeen) (guest_post : Post) (host_fetch : Fetch) (host_post : Post) (guest_fetch : Fetch) (n m : ℕ) (to_host to_guest : List Msg) (last back : Msg) → AreNew g h
+pub new_rests : (g : GuestSeen) (h : HostSeen) (guest_post : Post) (host_fetch : Fetch) (host_post : Post) (guest_fetch : Fetch) (guest_box host_box : Mail) (n m : ℕ) (to_host to_guest : List Msg) (last back : Msg) → AreNew g h
     → to_host ≡ said_by_guest g.plan → last ≡ farewell_taken → to_guest ≡ said_by_host g.plan → back ≡ farewell
     → guest_post ≡ record { queue = guest_post.queue; size = n; named = to_host; last = last; put = [] } → host_fetch ≡ record { queue = guest_post.queue; size = n; named = to_host; last = last; taken = [] }
     → host_post ≡ record { queue = host_post.queue; size = m; named = to_guest; last = back; put = [] } → guest_fetch ≡ record { queue = host_post.queue; size = m; named = to_guest; last = back; taken = [] }
-    → Rests (record { guest = g; host = h; guest_post = guest_post; guest_fetch = guest_fetch; host_post = host_post; host_fetch = host_fetch })
-new_rests g h gp hf hp gf n m to_host to_guest last back new n1 l1 n2 l2 post1 fetch1 post2 fetch2 =
+    → guest_box ≡ record { size = 64; queue = [] } → host_box ≡ record { size = 64; queue = [] }
+    → Rests (record { guest = g; host = h; guest_post = guest_post; guest_fetch = guest_fetch; host_post = host_post; host_fetch = host_fetch; guest_box = guest_box; host_box = host_box })
+new_rests g h gp hf hp gf gb hb n m to_host to_guest last back new n1 l1 n2 l2 post1 fetch1 post2 fetch2 box1 box2 =
     let plan : h.plan ≡ g.plan = ap (λ (x : HostSeen). x.plan) new.host in
     record {
       guest = record { planned = new.planned; at = subst (GuestAt g.plan) (sym new.guest) (new_ones_stand g.plan).0 };
@@ -142,14 +147,16 @@ new_rests g h gp hf hp gf n m to_host to_guest last back new n1 l1 n2 l2 post1 f
       };
       to_host = sym (ap (λ (f : Fetch). f.queue) fetch1);
       to_guest = sym (ap (λ (f : Fetch). f.queue) fetch2);
+      guest_box = box1;
+      host_box = box2;
     }
 
 -- a part was run, and no side refused
-pub has_run : (old : ControlPath) (part : Part) (guest : PartDone GuestSeen) (host : PartDone HostSeen) → Rests old → GuestFollows guest.control → HostFollows host.control
-    → Served part (guest_side old.guest) old.guest_fetch old.guest_post (guest_side guest.control) guest.fetch guest.post guest.fault
-    → Served part (host_side old.host) old.host_fetch old.host_post (host_side host.control) host.fetch host.post host.fault
-    → guest.fault ≡ None → host.fault ≡ None → Ran old (joined guest host) part
-has_run old part guest host rests guest_follows host_follows g h no_guest no_host =
+pub has_run : (old : ControlPath) (part : Part) (guest : PartLeft GuestSeen) (host : PartLeft HostSeen) → Rests old → GuestFollows guest.done.control → HostFollows host.done.control
+    → Served part (guest_side old.guest) old.guest_fetch old.guest_post (guest_side guest.done.control) guest.done.fetch guest.done.post guest.done.fault
+    → Served part (host_side old.host) old.host_fetch old.host_post (host_side host.done.control) host.done.fetch host.done.post host.done.fault
+    → guest.local ≡ record { size = 64; queue = [] } → host.local ≡ record { size = 64; queue = [] } → guest.done.fault ≡ None → host.done.fault ≡ None → Ran old (joined guest host) part
+has_run old part guest host rests guest_follows host_follows g h guest_box host_box no_guest no_host =
     let guest_ends = g.done no_guest in
     let host_ends = h.done no_host in record {
       rests = record {
@@ -157,12 +164,14 @@ has_run old part guest host rests guest_follows host_follows g h no_guest no_hos
         host = host_follows;
         plan = h.continues.script.plan ∙ (rests.plan ∙ sym g.continues.script.plan);
         part = host_ends.1 ∙ sym guest_ends.1;
-        guest_ready = guest_may guest.control guest_ends.0;
-        host_ready = host_may host.control host_ends.0;
-        guest_rests = subst (Serves (guest_side guest.control) guest.fetch guest.post []) no_guest g.serves;
-        host_rests = subst (Serves (host_side host.control) host.fetch host.post []) no_host h.serves;
+        guest_ready = guest_may guest.done.control guest_ends.0;
+        host_ready = host_may host.done.control host_ends.0;
+        guest_rests = subst (Serves (guest_side guest.done.control) guest.done.fetch guest.done.post []) no_guest g.serves;
+        host_rests = subst (Serves (host_side host.done.control) host.done.fetch host.done.post []) no_host h.serves;
         to_host = g.post_queue ∙ (rests.to_host ∙ sym h.fetch_queue);
         to_guest = h.post_queue ∙ (rests.to_guest ∙ sym g.fetch_queue);
+        guest_box = guest_box;
+        host_box = host_box;
       };
       plan = g.continues.script.plan;
       guest_part = guest_ends.1;
@@ -188,12 +197,21 @@ pub to_guest_still : (old : ControlPath) (part : Part) (guest : PartDone GuestSe
 to_guest_still old part guest host rests g h = h.post_queue ∙ (rests.to_guest ∙ sym g.fetch_queue)
 
 -- where the path goes on, the part was run
-pub ran_where_ok : {E : Type 0} (old : ControlPath) (part : Part) (guest : PartDone GuestSeen) (host : PartDone HostSeen) (r : Result ControlPath E) → Rests old → GuestFollows guest.control → HostFollows host.control
+pub ran_where_ok : {E : Type 0} (old : ControlPath) (part : Part) (guest : PartLeft GuestSeen) (host : PartLeft HostSeen) (r : Result ControlPath E) → Rests old → GuestFollows guest.done.control → HostFollows host.done.control
+    → Served part (guest_side old.guest) old.guest_fetch old.guest_post (guest_side guest.done.control) guest.done.fetch guest.done.post guest.done.fault
+    → Served part (host_side old.host) old.host_fetch old.host_post (host_side host.done.control) host.done.fetch host.done.post host.done.fault
+    → guest.local ≡ record { size = 64; queue = [] } → host.local ≡ record { size = 64; queue = [] }
+    → IfOk r (λ p. p ≡ joined guest host) → IfOk r (λ p. guest.done.fault ≡ None) → IfOk r (λ p. host.done.fault ≡ None) → IfOk r (λ p. Ran old p part)
+ran_where_ok old part guest host (Ok p) rests gf hf g h gb hb is no_guest no_host = subst (λ (x : ControlPath). Ran old x part) (sym is) (has_run old part guest host rests gf hf g h gb hb no_guest no_host)
+ran_where_ok old part guest host (Err e) rests gf hf g h gb hb is no_guest no_host = tt
+
+-- where it doesn't, a side wanted memory in it
+pub wanted_where_err : {A : Type 0} (old : ControlPath) (part : Part) (guest : PartDone GuestSeen) (host : PartDone HostSeen) (r : Result A PathWant)
     → Served part (guest_side old.guest) old.guest_fetch old.guest_post (guest_side guest.control) guest.fetch guest.post guest.fault
     → Served part (host_side old.host) old.host_fetch old.host_post (host_side host.control) host.fetch host.post host.fault
-    → IfOk r (λ p. p ≡ joined guest host) → IfOk r (λ p. guest.fault ≡ None) → IfOk r (λ p. host.fault ≡ None) → IfOk r (λ p. Ran old p part)
-ran_where_ok old part guest host (Ok p) rests gf hf g h is no_guest no_host = subst (λ (x : ControlPath). Ran old x part) (sym is) (has_run old part guest host rests gf hf g h no_guest no_host)
-ran_where_ok old part guest host (Err e) rests gf hf g h is no_guest no_host = tt
+    → IfErr r (λ want. EndsInWant guest host want.ends) → IfErr r (λ want. RanInWant old part want.ends)
+wanted_where_err old part guest host (Ok p) g h ends = tt
+wanted_where_err old part guest host (Err want) g h ends = record { guest_left = guest; host_left = host; guest = g; host = h; ends_so = ends }
 
 -- a fault of one of them is explained
 pub wants_of_one : (a b : Option ControlFault) → (is_none a && is_none b) ≡ false → IsExplained a b → IsExplained b a → WantMemory a b
@@ -201,3 +219,16 @@ wants_of_one a b some x y = wants a b (λ p q. true_not_false ((λ i. is_none (s
   where
     true_not_false : true ≡ false → ⊥
     true_not_false e = absurd (cc e)
+
+-- what is as long as a front of it is that front
+none_behind : (front rest : List Msg) → front ≡ front ++ rest → length rest ≡ 0
+none_behind [] rest e = sym (ap length e)
+none_behind (x ∷ front) rest e = none_behind front rest (cc e)
+
+-- all that passed through a queue is what its one side posted, and the other was fed it
+pub got_all : (s other : Side) (fetch fetch' : Fetch) (post post' : Post) (q : Closed) → AtRest s fetch post → AtRest other fetch' post' → Closes post fetch' q → other.fed ≡ s.posted
+    → (q.put ≡ s.posted) × (q.left ≡ 0)
+got_all s other fetch fetch' post post' q h h' closes fed =
+    let put : q.put ≡ s.posted = closes.put ∙ (sym (append-nil post.put) ∙ (h.put ∙ append-nil s.posted)) in
+    let taken : q.taken ≡ s.posted = closes.taken ∙ (all_fed other fetch' post' [] h' ∙ fed) in
+    (put, sym closes.left ∙ none_behind s.posted closes.rest (sym put ∙ (closes.whole ∙ ap (λ l. l ++ closes.rest) taken)))

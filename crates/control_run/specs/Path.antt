@@ -1,5 +1,5 @@
 -- Both controls of a control path and their ends of the queues between them.
-use Rattle.std.specs.Prelude.{◌≡◌, ◌⊎◌, true, Option, Some}
+use Rattle.std.specs.Prelude.{◌≡◌, ◌⊎◌, true, [], Option, Some}
 use Rattle.contact.specs.declared.part.Part.{Part}
 use Rattle.control_model.specs.declared.fault.ControlFault.{ControlFault}
 use Rattle.control_model.specs.declared.fault.ControlFault.TheVariants.{Memory}
@@ -7,7 +7,10 @@ use Rattle.control_model.specs.Plan.{IsPlan}
 use Rattle.control_model.specs.Guest.{new_guest, GuestSeen, can_begin, guest_done}
 use Rattle.control_model.specs.Host.{new_host, HostSeen, host_can_begin, host_done}
 use Rattle.control_serve.specs.declared.part_done.PartDone.{PartDone}
-use Rattle.control_serve.specs.Sides.{AtRest}
+use Rattle.control_serve.specs.declared.part_left.PartLeft.{PartLeft}
+use Rattle.control_serve.specs.Sides.{AtRest, Served}
+use Rattle.part_run.specs.declared.ends.Ends.{Ends}
+use Rattle.mail_box.specs.Mail.{Closes}
 use Rattle.guest_end.specs.AsSide.{guest_side, GuestFollows}
 use Rattle.host_end.specs.AsSide.{host_side, HostFollows}
 use Rattle.control_run.specs.declared.path.ControlPath.{ControlPath}
@@ -19,7 +22,7 @@ pub record AreNew (g : GuestSeen) (h : HostSeen) : Type 0 where
   pub host : h ≡ new_host g.plan
 
 -- Between two parts: both controls stand by one plan as what they were fed brings them, and may begin the part that comes next. All that each posted was put, and
--- all that it fetched it was fed; and each fetches what the other puts
+-- all that it fetched it was fed; each fetches what the other puts; and both boxes are empty
 pub record Rests (p : ControlPath) : Type 0 where
   pub guest : GuestFollows p.guest
   pub host : HostFollows p.host
@@ -31,6 +34,8 @@ pub record Rests (p : ControlPath) : Type 0 where
   pub host_rests : AtRest (host_side p.host) p.host_fetch p.host_post
   pub to_host : p.guest_post.queue ≡ p.host_fetch.queue
   pub to_guest : p.host_post.queue ≡ p.guest_fetch.queue
+  pub guest_box : p.guest_box ≡ record { size = 64; queue = [] }
+  pub host_box : p.host_box ≡ record { size = 64; queue = [] }
 
 -- a part was run: both are done with it, and rest
 pub record Ran (old new : ControlPath) (part : Part) : Type 0 where
@@ -42,9 +47,36 @@ pub record Ran (old new : ControlPath) (part : Part) : Type 0 where
   pub host_done : host_done new.host ≡ true
 
 -- the path of what a part leaves
-abbrev pub joined : PartDone GuestSeen → PartDone HostSeen → ControlPath
-joined guest host = record { guest = guest.control; host = host.control; guest_post = guest.post; guest_fetch = guest.fetch; host_post = host.post; host_fetch = host.fetch }
+abbrev pub joined : PartLeft GuestSeen → PartLeft HostSeen → ControlPath
+joined guest host = record {
+  guest = guest.done.control;
+  host = host.done.control;
+  guest_post = guest.done.post;
+  guest_fetch = guest.done.fetch;
+  host_post = host.done.post;
+  host_fetch = host.done.fetch;
+  guest_box = guest.local;
+  host_box = host.local;
+}
 
 -- one of the two faults is want of memory
 abbrev pub WantMemory : Option ControlFault → Option ControlFault → Type 0
 WantMemory guest host = (guest ≡ Some Memory) ⊎ (host ≡ Some Memory)
+
+-- what both sides left was ended, because one of them wanted memory
+pub record EndsInWant (of_guest : PartDone GuestSeen) (of_host : PartDone HostSeen) (ends : Ends GuestSeen HostSeen) : Type 0 where
+  pub guest : ends.guest ≡ of_guest.control
+  pub host : ends.host ≡ of_host.control
+  pub guest_fault : ends.guest_fault ≡ of_guest.fault
+  pub host_fault : ends.host_fault ≡ of_host.fault
+  pub to_host : Closes of_guest.post of_host.fetch ends.to_host
+  pub to_guest : Closes of_host.post of_guest.fetch ends.to_guest
+  pub wants : WantMemory ends.guest_fault ends.host_fault
+
+-- both sides of a path served the part over their ends of both queues, and one of them wanted memory in it
+pub record RanInWant (old : ControlPath) (part : Part) (ends : Ends GuestSeen HostSeen) : Type 0 where
+  pub guest_left : PartDone GuestSeen
+  pub host_left : PartDone HostSeen
+  pub guest : Served part (guest_side old.guest) old.guest_fetch old.guest_post (guest_side guest_left.control) guest_left.fetch guest_left.post guest_left.fault
+  pub host : Served part (host_side old.host) old.host_fetch old.host_post (host_side host_left.control) host_left.fetch host_left.post host_left.fault
+  pub ends_so : EndsInWant guest_left host_left ends

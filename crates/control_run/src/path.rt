@@ -1,5 +1,5 @@
 //! A control path: the controls of a guest and of its host, and the queues between them.
-ghost use Rattle.std.specs.Prelude.{◌≡◌, [], Some, None, IfOk, OnErr};
+ghost use Rattle.std.specs.Prelude.{◌≡◌, [], Some, None, IfOk, IfErr};
 ghost use Rattle.contact.specs.declared.part.Part.TheVariants.{Unload};
 ghost use Rattle.control_model.specs.Plan.{part_after};
 ghost use Rattle.control_model.specs.Openings.{plan_of};
@@ -11,12 +11,13 @@ ghost use Rattle.control_laws.specs.Over.{IsOver};
 ghost use Rattle.control_serve.specs.Sides.{Serves};
 ghost use Rattle.guest_end.specs.AsSide.{guest_side};
 ghost use Rattle.host_end.specs.AsSide.{host_side};
-ghost use Rattle.control_run.specs.Path.{AreNew, joined, Rests, Ran, WantMemory};
+ghost use Rattle.mail_box.specs.Mail.{Closes};
+ghost use Rattle.control_run.specs.Path.{AreNew, joined, Rests, Ran, EndsInWant, RanInWant};
 
+use crate::{PathOver, PathWant};
 use bus_script::Script;
 use contact::Part;
-use control_model::ControlFault;
-use control_serve::PartDone;
+use control_serve::PartLeft;
 use guest_end::GuestControl;
 use host_end::HostControl;
 use mail_box::{FetchEnd, MailBox, Named, PostEnd};
@@ -39,6 +40,9 @@ pub struct ControlPath {
     guest_fetch: FetchEnd,
     host_post: PostEnd,
     host_fetch: FetchEnd,
+    // For what each control answers in a part; empty between two parts.
+    guest_box: MailBox,
+    host_box: MailBox,
 }
 
 impl ControlPath {
@@ -56,20 +60,15 @@ impl ControlPath {
     /// Runs the next part: the host's control serves it on a thread, and the guest's on this one.
     /// Both are done with the part then, and what each was fed is a front of what the other posted.
     ///
-    /// The one error is want of memory: of this call, or because a control wanted memory. A control
-    /// refuses for no other reason, but for the message that ends the other side's early.
-    pub fn run<R: Threads + Wait + Sync>(
-        self,
-        rt: &R,
-        alloc: Global,
-        part: Part,
-    ) -> Result<ControlPath, AllocError>
+    /// It takes no memory but what a control takes. The one error is that a control wanted memory: a
+    /// control refuses for no other reason, but for the message that ends the other side's early. Then
+    /// both queues are ended.
+    pub fn run<R: Threads + Wait + Sync>(self, rt: &R, part: Part) -> Result<ControlPath, PathWant>
         requires rests { Rests self }
         requires part { part_after self.guest.plan self.guest.part ≡ Some part }
-        ensures { IfOk result (λ path. Ran self path part) }
+        ensures ran { IfOk result (λ path. Ran self path part) }
+        ensures wants { IfErr result (λ want. RanInWant self part want.ends) }
     {
-        let guest_box = MailBox::make(alloc, BOX_SIZE)?;
-        let host_box = MailBox::make(alloc, BOX_SIZE)?;
         let ControlPath {
             guest,
             host,
@@ -77,6 +76,8 @@ impl ControlPath {
             guest_fetch,
             host_post,
             host_fetch,
+            guest_box,
+            host_box,
         } = self;
         let guest = Seat {
             control: guest,
@@ -98,17 +99,27 @@ impl ControlPath {
     /// greatest that both know; each said all that it has to say for its plan, and was fed what the
     /// other said; and at both each channel that was rescinded is given back, each other one that was
     /// ever opened is closed, and each one that wasn't is offered.
-    pub fn end<R: Wait>(self, rt: &R) -> (GuestControl, HostControl)
+    /// What passed through each queue is all that its one side posted and the other was fed.
+    pub fn end<R: Wait>(self, rt: &R) -> PathOver
         requires rests { Rests self }
         requires last { self.guest.part ≡ Some Unload }
-        ensures guest { result.0 ≡ self.guest }
-        ensures host { result.1 ≡ self.host }
-        ensures plan { result.1.plan ≡ result.0.plan }
-        ensures over { IsOver result.0.plan result.0 result.1 }
+        ensures guest { result.guest ≡ self.guest }
+        ensures host { result.host ≡ self.host }
+        ensures plan { result.host.plan ≡ result.guest.plan }
+        ensures over { IsOver result.guest.plan result.guest result.host }
+        ensures to_host { Closes self.guest_post self.host_fetch result.to_host }
+        ensures to_guest { Closes self.host_post self.guest_fetch result.to_guest }
+        ensures host_got { (result.to_host.put ≡ result.guest.posted) × (result.to_host.left ≡ 0) }
+        ensures guest_got { (result.to_guest.put ≡ result.host.posted) × (result.to_guest.left ≡ 0) }
     {
-        MailBox::unite(rt, self.guest_post, self.host_fetch);
-        MailBox::unite(rt, self.host_post, self.guest_fetch);
-        (self.guest, self.host)
+        let to_host = MailBox::close(rt, self.guest_post, self.host_fetch);
+        let to_guest = MailBox::close(rt, self.host_post, self.guest_fetch);
+        PathOver {
+            guest: self.guest,
+            host: self.host,
+            to_host,
+            to_guest,
+        }
     }
 }
 
@@ -129,6 +140,8 @@ fn join<N: Named, M: Named>(
     let to_guest = MailBox::make(alloc, BOX_SIZE)?;
     let (guest_post, host_fetch) = to_host.split::<N>();
     let (host_post, guest_fetch) = to_guest.split::<M>();
+    let guest_box = MailBox::make(alloc, BOX_SIZE)?;
+    let host_box = MailBox::make(alloc, BOX_SIZE)?;
     Ok(ControlPath {
         guest,
         host,
@@ -136,6 +149,8 @@ fn join<N: Named, M: Named>(
         guest_fetch,
         host_post,
         host_fetch,
+        guest_box,
+        host_box,
     })
 }
 
@@ -143,19 +158,23 @@ fn join<N: Named, M: Named>(
 // memory.
 fn go_on<R: Wait>(
     rt: &R,
-    guest: PartDone<GuestControl>,
-    host: PartDone<HostControl>,
-) -> Result<ControlPath, AllocError>
-    requires guest { Serves (guest_side guest.control) guest.fetch guest.post [] guest.fault }
-    requires host { Serves (host_side host.control) host.fetch host.post [] host.fault }
-    requires to_host { guest.post.queue ≡ host.fetch.queue }
-    requires to_guest { host.post.queue ≡ guest.fetch.queue }
-    requires one { host.control.plan ≡ guest.control.plan }
+    guest: PartLeft<GuestControl>,
+    host: PartLeft<HostControl>,
+) -> Result<ControlPath, PathWant>
+    requires guest { Serves (guest_side guest.done.control) guest.done.fetch guest.done.post [] guest.done.fault }
+    requires host { Serves (host_side host.done.control) host.done.fetch host.done.post [] host.done.fault }
+    requires to_host { guest.done.post.queue ≡ host.done.fetch.queue }
+    requires to_guest { host.done.post.queue ≡ guest.done.fetch.queue }
+    requires one { host.done.control.plan ≡ guest.done.control.plan }
     ensures path { IfOk result (λ p. p ≡ joined guest host) }
-    ensures guest_fault { IfOk result (λ p. guest.fault ≡ None) }
-    ensures host_fault { IfOk result (λ p. host.fault ≡ None) }
-    ensures wants { OnErr result (WantMemory guest.fault host.fault) }
+    ensures guest_fault { IfOk result (λ p. guest.done.fault ≡ None) }
+    ensures host_fault { IfOk result (λ p. host.done.fault ≡ None) }
+    ensures wants { IfErr result (λ want. EndsInWant guest.done host.done want.ends) }
 {
+    let guest_box = guest.local;
+    let host_box = host.local;
+    let guest = guest.done;
+    let host = host.done;
     if guest.fault.is_none() && host.fault.is_none() {
         return Ok(ControlPath {
             guest: guest.control,
@@ -164,15 +183,10 @@ fn go_on<R: Wait>(
             guest_fetch: guest.fetch,
             host_post: host.post,
             host_fetch: host.fetch,
+            guest_box,
+            host_box,
         });
     }
     let ends = settle(rt, guest, host);
-    Err(want_of_memory(ends.guest_fault, ends.host_fault))
-}
-
-// The one cause of a fault on a path.
-fn want_of_memory(_guest: Option<ControlFault>, _host: Option<ControlFault>) -> AllocError
-    requires { WantMemory _guest _host }
-{
-    AllocError
+    Err(PathWant { ends })
 }

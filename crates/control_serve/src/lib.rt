@@ -3,8 +3,10 @@
 
 mod control;
 mod part_done;
+mod part_left;
 mod serving;
 
 pub use control::Control;
 pub use part_done::PartDone;
+pub use part_left::PartLeft;
 pub use serving::{Serving, Turn, serve};

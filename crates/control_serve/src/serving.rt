@@ -3,12 +3,12 @@ ghost use Rattle.std.specs.Prelude.{◌≡◌, false, [], Some};
 ghost use Rattle.control_serve.specs.Sides.{AtRest, Served};
 ghost use Rattle.control_serve.specs.Standing.{Stands, HasTaken, IsAtEnd, IsSame, Moves};
 
-use crate::{Control, PartDone};
+use crate::{Control, PartDone, PartLeft};
 use contact::Part;
 use control_model::ControlFault;
 use mail_box::{FetchEnd, MailBox, Nothing, PostEnd};
+use std::hint;
 use std::sync::Wait;
-use std::thread;
 use vmbus_msg::Msg;
 
 /// What a move did.
@@ -133,30 +133,49 @@ impl<C: Control> Serving<C> {
         }
     }
 
+    /// Sleeps until the other side makes room for the message that is to be put next, or, where none
+    /// is, until it puts one. It may return for no reason. A move of the other side behind a turn that
+    /// did nothing ends the sleep, also where it came before.
+    pub fn wait<R: Wait>(&self, rt: &R) {
+        if self.held.is_some() {
+            self.post.wait_for_room(rt);
+        } else {
+            self.fetch.wait_for_mail(rt);
+        }
+    }
+
     /// The end of a part.
-    pub fn end(self) -> PartDone<C>
+    pub fn end(self) -> PartLeft<C>
         requires stands { Stands C.seen C.follows self }
         requires end { IsAtEnd C.seen self }
-        ensures control { result.control ≡ self.control }
-        ensures fetch { result.fetch ≡ self.fetch }
-        ensures post { result.post ≡ self.post }
-        ensures fault { result.fault ≡ self.fault }
+        ensures control { result.done.control ≡ self.control }
+        ensures fetch { result.done.fetch ≡ self.fetch }
+        ensures post { result.done.post ≡ self.post }
+        ensures fault { result.done.fault ≡ self.fault }
+        ensures local { result.local ≡ record { size = 64; queue = [] } }
     {
-        PartDone {
-            control: self.control,
-            fetch: self.fetch,
-            post: self.post,
-            fault: self.fault,
+        PartLeft {
+            done: PartDone {
+                control: self.control,
+                fetch: self.fetch,
+                post: self.post,
+                fault: self.fault,
+            },
+            local: self.local,
         }
     }
 }
+
+/// How often in a row a control that finds nothing to do looks again before its thread is parked.
+const LOOKS: u32 = 64;
 
 /// Serves a part, which may wait for the other side.
 ///
 /// It begins the part and feeds the control each message that it fetches. All answers to one message
 /// are put before the next one is fetched, and it ends where the control is done with the part. Where
 /// the control refuses, it ends too: without memory it puts the message that ends this side's early,
-/// which the other side refuses, and after any other refusal it puts nothing.
+/// which the other side refuses, and after any other refusal it puts nothing. A thread that waits
+/// parks after a short while.
 pub fn serve<C: Control, R: Wait>(
     rt: &R,
     control: C,
@@ -164,20 +183,26 @@ pub fn serve<C: Control, R: Wait>(
     fetch: FetchEnd,
     post: PostEnd,
     local: MailBox,
-) -> PartDone<C>
+) -> PartLeft<C>
     requires follows { C.follows control }
     requires part { C.can_begin control part }
     requires rest { AtRest (C.seen control) fetch post }
     requires local { local ≡ record { size = 64; queue = [] } }
-    ensures follows { C.follows result.control }
-    ensures served { Served part (C.seen control) fetch post (C.seen result.control) result.fetch result.post result.fault }
+    ensures follows { C.follows result.done.control }
+    ensures served { Served part (C.seen control) fetch post (C.seen result.done.control) result.done.fetch result.done.post result.done.fault }
+    ensures local { result.local ≡ record { size = 64; queue = [] } }
 {
     let mut serving = Serving::begin(control, part, fetch, post, local);
+    let mut looks = 0;
     for _ in rt.forever() {
         match serving.turn(rt) {
             Turn::Ended => return serving.end(),
-            Turn::Idle => thread::yield_now(),
-            Turn::Moved => (),
+            Turn::Moved => looks = 0,
+            Turn::Idle if looks < LOOKS => {
+                looks += 1;
+                hint::spin_loop();
+            }
+            Turn::Idle => serving.wait(rt),
         }
     }
     unreachable!()

@@ -60,6 +60,6 @@ impl GuestControl {
         ensures follows { GuestFollows result.control }
         ensures served { Served part (guest_side self) fetch post (guest_side result.control) result.fetch result.post result.fault }
     {
-        serve(rt, self, part, fetch, post, local)
+        serve(rt, self, part, fetch, post, local).done
     }
 }

@@ -60,6 +60,6 @@ impl HostControl {
         ensures follows { HostFollows result.control }
         ensures served { Served part (host_side self) fetch post (host_side result.control) result.fetch result.post result.fault }
     {
-        serve(rt, self, part, fetch, post, local)
+        serve(rt, self, part, fetch, post, local).done
     }
 }

@@ -1,10 +1,13 @@
 //! A box of control messages: first in, first out.
 ghost use Rattle.std.specs.Prelude.{◌≡◌, List, ◌<◌, ◌≤◌, [], ◌∷◌, ◌++◌, length, IfOk, IfErr, OnOk, MatchOption};
 ghost use Rattle.vmbus_msg.specs.declared.msg.Msg.{Msg};
+ghost use Rattle.mail_box.specs.Mail.{Closes};
 
+use crate::closed::ClosedQueue;
 use crate::ends::{FetchEnd, PostEnd};
 use crate::full::MailFull;
-use crate::rule::{Both, Named, Queue, Rest, Roles, Token};
+use crate::line::Line;
+use crate::rule::{Named, Queue, Roles, Token};
 use std::alloc::{AllocError, Global};
 use std::collections::VecDeque;
 use std::marker::Model;
@@ -20,8 +23,8 @@ pub struct MailBox {
     size: u32,
     mail: VecDeque<Msg>,
     // The queue of a split box has two owners from the start, so that splitting takes no memory.
-    post: Arc<Queue>,
-    fetch: Arc<Queue>,
+    post: Arc<Line>,
+    fetch: Arc<Line>,
     pass: Token,
 }
 
@@ -37,7 +40,7 @@ impl Model for MailBox {
 
     ghost view = { λ b. record { size = b.size; queue = b.mail.items } };
 
-    ghost invariant = { λ b. (length b.mail.items ≤ b.size) × (b.size ≤ deque_capacity b.mail) × (ruled_capacity (arc_value b.post) ≡ b.size) × IsPassOf (arc_value b.post) b.pass × (arc_value b.fetch ≡ arc_value b.post) × (known b.pass ≡ log true true [] no_last [] []) };
+    ghost invariant = { λ b. (length b.mail.items ≤ b.size) × (b.size ≤ deque_capacity b.mail) × (ruled_capacity (arc_value b.post).queue ≡ b.size) × IsPassOf (arc_value b.post).queue b.pass × (arc_value b.fetch ≡ arc_value b.post) × (known b.pass ≡ log true true [] no_last [] []) };
 }
 
 impl MailBox {
@@ -48,7 +51,7 @@ impl MailBox {
     {
         let mail = VecDeque::with_capacity(alloc, size as usize)?;
         let (queue, pass) = Queue::ruled(alloc, size as usize)?;
-        let post = Arc::new(alloc, queue)?;
+        let post = Arc::new(alloc, Line::over(queue))?;
         let fetch = Arc::try_clone(&post)?;
         Ok(MailBox {
             size,
@@ -95,11 +98,11 @@ impl MailBox {
             fetch,
             mut pass,
         } = self;
-        let other = post.another::<Roles<N>>(&mut pass);
+        let other = post.queue.another::<Roles<N>>(&mut pass);
         (
-            PostEnd { queue: post, pass },
+            PostEnd { line: post, pass },
             FetchEnd {
-                queue: fetch,
+                line: fetch,
                 pass: other,
             },
         )
@@ -112,12 +115,15 @@ impl MailBox {
         requires one { post.queue ≡ fetch.queue }
         ensures { (rest : List Msg) × (post.put ≡ fetch.taken ++ rest) × (length rest ≡ result) }
     {
-        let PostEnd { queue, mut pass } = post;
-        let FetchEnd {
-            queue: _,
-            pass: other,
-        } = fetch;
-        queue.absorb::<Both>(&mut pass, other);
-        queue.len_as::<Rest, R>(rt, &mut pass) as u32
+        MailBox::close(rt, post, fetch).left()
+    }
+
+    /// Ends both ends of one queue, and tells what passed through it: all that was put, all that was
+    /// taken, and how many messages were put and not taken. The call may wait for another thread.
+    pub fn close<R: Wait>(rt: &R, post: PostEnd, fetch: FetchEnd) -> ClosedQueue
+        requires one { post.queue ≡ fetch.queue }
+        ensures { Closes post fetch result }
+    {
+        ClosedQueue::of(rt, post, fetch)
     }
 }

@@ -1,7 +1,7 @@
 -- A part of one side, from its seat to what it leaves.
 use Rattle.std.specs.Prelude.{◌≡◌, []}
 use Rattle.contact.specs.declared.part.Part.{Part}
-use Rattle.control_serve.specs.declared.part_done.PartDone.{PartDone}
+use Rattle.control_serve.specs.declared.part_left.PartLeft.{PartLeft}
 use Rattle.control_serve.specs.Sides.{Side, AtRest, Served}
 use Rattle.part_run.specs.declared.seat.Seat.{Seat}
 
@@ -13,7 +13,8 @@ module _ {C : Type 0} (seen : C → Side) (follows : C → Type 0) where
     pub rest : AtRest (seen seat.control) seat.fetch seat.post
     pub local : seat.local ≡ record { size = 64; queue = [] }
 
-  -- a side served a part
-  pub record Leaves (part : Part) (seat : Seat C) (done : PartDone C) : Type 0 where
-    pub follows_on : follows done.control
-    pub served : Served part (seen seat.control) seat.fetch seat.post (seen done.control) done.fetch done.post done.fault
+  -- a side served a part, and its box is empty again
+  pub record Leaves (part : Part) (seat : Seat C) (left : PartLeft C) : Type 0 where
+    pub follows_on : follows left.done.control
+    pub served : Served part (seen seat.control) seat.fetch seat.post (seen left.done.control) left.done.fetch left.done.post left.done.fault
+    pub local : left.local ≡ record { size = 64; queue = [] }

@@ -12,7 +12,7 @@ use Rattle.part_run.specs.Parts.{Leaves}
 module _ {C : Type 0} (seen : C → Side) (follows : C → Type 0) where
   -- a part was served, or all comes back
   abbrev pub Comes : Part → Seat C → Start C → Type 0
-  Comes part seat (Ran done) = Leaves seen follows part seat done
+  Comes part seat (Ran left) = Leaves seen follows part seat left
   Comes part seat (Back back) = back ≡ seat
 
   -- a thread has it, or it came

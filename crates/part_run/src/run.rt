@@ -5,7 +5,7 @@ ghost use Rattle.part_run.specs.Starting.{Comes};
 use crate::Seat;
 use crate::start::{Begun, Start, begin_there};
 use contact::Part;
-use control_serve::{Control, PartDone, Serving, Turn};
+use control_serve::{Control, PartLeft, Serving, Turn};
 use std::snapshot::Snapshot;
 use std::sync::Wait;
 use std::sync::atomic::AtomicBool;
@@ -19,7 +19,7 @@ pub fn run_part<G: Control, H: Control + Send, R: Threads + Wait + Sync>(
     guest: Seat<G>,
     host: Seat<H>,
     part: Part,
-) -> (PartDone<G>, PartDone<H>)
+) -> (PartLeft<G>, PartLeft<H>)
     requires guest { IsReady G.seen G.follows G.can_begin guest part }
     requires host { IsReady H.seen H.follows H.can_begin host part }
     ensures guest { Leaves G.seen G.follows part guest result.0 }
@@ -45,7 +45,7 @@ fn run_in<'s, E, G: Control, H: Control + Send + 's, R: Threads + Wait + Sync>(
     guest: Seat<G>,
     host: Seat<H>,
     part: Part,
-) -> (PartDone<G>, PartDone<H>)
+) -> (PartLeft<G>, PartLeft<H>)
     requires guest { IsReady G.seen G.follows G.can_begin guest part }
     requires host { IsReady H.seen H.follows H.can_begin host part }
     ensures guest { Leaves G.seen G.follows part guest result.0 }
@@ -68,7 +68,7 @@ fn host_left<H: Control, R: Wait>(
     seat: &Snapshot<Seat<H>>,
     left: Start<H>,
     part: Part,
-) -> PartDone<H>
+) -> PartLeft<H>
     requires ready { IsReady H.seen H.follows H.can_begin seat.now.value part }
     requires comes { Comes H.seen H.follows part seat.now.value left }
     ensures { Leaves H.seen H.follows part seat.now.value result }
@@ -86,7 +86,7 @@ fn both_here<G: Control, H: Control, R: Wait>(
     seat: &Snapshot<Seat<H>>,
     left: Start<H>,
     part: Part,
-) -> (PartDone<G>, PartDone<H>)
+) -> (PartLeft<G>, PartLeft<H>)
     requires guest { IsReady G.seen G.follows G.can_begin guest part }
     requires ready { IsReady H.seen H.follows H.can_begin seat.now.value part }
     requires comes { Comes H.seen H.follows part seat.now.value left }
@@ -105,7 +105,7 @@ fn by_turns<G: Control, H: Control, R: Wait>(
     guest: Seat<G>,
     host: Seat<H>,
     part: Part,
-) -> (PartDone<G>, PartDone<H>)
+) -> (PartLeft<G>, PartLeft<H>)
     requires guest { IsReady G.seen G.follows G.can_begin guest part }
     requires host { IsReady H.seen H.follows H.can_begin host part }
     ensures guest { Leaves G.seen G.follows part guest result.0 }

@@ -2,7 +2,7 @@
 ghost use Rattle.part_run.specs.Parts.{IsReady, Leaves};
 
 use contact::Part;
-use control_serve::{Control, PartDone, serve};
+use control_serve::{Control, PartLeft, serve};
 use mail_box::{FetchEnd, MailBox, PostEnd};
 use std::sync::Wait;
 
@@ -21,7 +21,7 @@ pub struct Seat<C: Control> {
 
 impl<C: Control> Seat<C> {
     /// Serves a part here, which may wait for the other side.
-    pub fn serve<R: Wait>(self, rt: &R, part: Part) -> PartDone<C>
+    pub fn serve<R: Wait>(self, rt: &R, part: Part) -> PartLeft<C>
         requires { IsReady C.seen C.follows C.can_begin self part }
         ensures { Leaves C.seen C.follows part self result }
     {

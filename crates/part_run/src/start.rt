@@ -4,7 +4,7 @@ ghost use Rattle.part_run.specs.Parts.{IsReady};
 
 use crate::Seat;
 use contact::Part;
-use control_serve::{Control, PartDone};
+use control_serve::{Control, PartLeft};
 use std::snapshot::Snapshot;
 use std::sync::Wait;
 use std::sync::atomic::{AtomicBool, Ordering};
@@ -13,7 +13,7 @@ use std::thread::{Promise, PromisedHandle, Scope, Threads};
 /// What the start of a part gives: it was served, or all comes back.
 #[derive(Drop)]
 pub(crate) enum Start<C: Control> {
-    Ran(PartDone<C>),
+    Ran(PartLeft<C>),
     Back(Seat<C>),
 }
 
