@@ -111,19 +111,24 @@ disk_kind IsBeat is = absurd (cc)
 disk_kind IsDown is = absurd (cc)
 disk_kind (IsDisk blocks subs) is = refl
 
--- no number but 0 is from 0 to 0
-zero_within : (o : Option ℕ) → unwrap_or (within 0 0 o) 0 ≡ 0
-zero_within None = refl
-zero_within (Some n) = by_test (nat_le 0 n && nat_le n 0)
-    (λ e. ap (λ (b : Bool). unwrap_or (cond b (Some n) None) 0) e ∙ (let both = both_true (nat_le 0 n) (nat_le n 0) e in grind (arith, nat_tests, both.1)))
-    (λ e. ap (λ (b : Bool). unwrap_or (cond b (Some n) None) 0) e)
+-- a number from 0 to 3 is 3 at most, and it is the number itself or 0
+three_within : (o : Option ℕ) → unwrap_or (within 0 3 o) 0 ≤ 3
+three_within None = omega arith
+three_within (Some n) = by_test (nat_le 0 n && nat_le n 3)
+    (λ e. omega (arith, ap (λ (b : Bool). unwrap_or (cond b (Some n) None) 0) e, (let both = both_true (nat_le 0 n) (nat_le n 3) e in let most : n ≤ 3 = grind (arith, nat_tests, both.1) in most)))
+    (λ e. omega (arith, ap (λ (b : Bool). unwrap_or (cond b (Some n) None) 0) e))
+
+no_more_within : (n : ℕ) → unwrap_or (within 0 3 (Some n)) 0 ≤ n
+no_more_within n = by_test (nat_le 0 n && nat_le n 3)
+    (λ e. omega (arith, ap (λ (b : Bool). unwrap_or (cond b (Some n) None) 0) e))
+    (λ e. omega (arith, ap (λ (b : Bool). unwrap_or (cond b (Some n) None) 0) e))
 
 -- a device that is offered in its ranges
 device_right : (offering : Offering) → offers_in_range offering ≡ true → OfferInRange offering → IsDevice (spec_of offering)
 device_right OfBeat holds range = tt
 device_right OfDown holds range = tt
 device_right (OfDisk None subs) holds range = absurd (cc)
-device_right (OfDisk (Some blocks) subs) holds range = (range.0, range.1, zero_within subs)
+device_right (OfDisk (Some blocks) subs) holds range = (range.0, range.1, three_within subs)
 
 -- and its channels
 room_is : (before : List Line) (offering : Offering) → has_room before offering ≡ true → channels before + channels_of (spec_of offering) ≤ 16
@@ -131,7 +136,7 @@ room_is before OfBeat room = grind (arith, nat_tests, room)
 room_is before OfDown room = grind (arith, nat_tests, room)
 room_is before (OfDisk blocks None) room = absurd (cc)
 room_is before (OfDisk blocks (Some subs)) room =
-    let most : channels before + (1 + subs) ≤ 16 = grind (arith, nat_tests, room) in omega (arith, most, zero_within (Some subs))
+    let most : channels before + (1 + subs) ≤ 16 = grind (arith, nat_tests, room) in omega (arith, most, no_more_within subs)
 
 -- a block of a device that was offered
 block_is : (before : List Line) (device lba : Option ℕ) → is_block before device lba ≡ true → unwrap_or lba 0 < blocks_at (unwrap_or device 0) (offered before)

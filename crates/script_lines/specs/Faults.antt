@@ -186,11 +186,11 @@ repeat_fault before device (Rescind name after held) = unless (not (option_map_o
 repeat_fault before device (Close name) = unless (not (option_map_or (is_closed_here before) device false)) Repeat
 repeat_fault before device Phase = None
 
--- a disk has 1 to 65,536 blocks, and no channel but the first
+-- a disk has 1 to 65,536 blocks, and at most 3 channels beside its first one
 abbrev pub offers_in_range : Offering → Bool
 offers_in_range OfBeat = true
 offers_in_range OfDown = true
-offers_in_range (OfDisk blocks subs) = is_some blocks && is_some (within 0 0 subs)
+offers_in_range (OfDisk blocks subs) = is_some blocks && is_some (within 0 3 subs)
 
 -- a block of the device
 abbrev pub is_block : List Line → Option ℕ → Option ℕ → Bool

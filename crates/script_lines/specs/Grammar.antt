@@ -28,7 +28,7 @@ or_zero version = unwrap_or version (record { 0 = 0 })
 abbrev pub spec_of : Offering → DeviceSpec
 spec_of OfBeat = IsBeat
 spec_of OfDown = IsDown
-spec_of (OfDisk blocks subs) = IsDisk (unwrap_or blocks 0) (unwrap_or (within 0 0 subs) 0)
+spec_of (OfDisk blocks subs) = IsDisk (unwrap_or blocks 0) (unwrap_or (within 0 3 subs) 0)
 
 -- what a line that speaks of this device becomes; one that is passed over becomes none
 abbrev pub what_of : Option ℕ → Said → Option What

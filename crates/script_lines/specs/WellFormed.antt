@@ -17,11 +17,11 @@ use Rattle.script_lines.specs.declared.said.Said.TheVariants.{Nothing, Contact, 
 use Rattle.script_lines.specs.Requests.{AskInRange, IsCarried}
 use Rattle.script_lines.specs.Parts.{parts, this_part, offered, offered_by, named_by, asks_in, is_ask, is_settings, rescinds, shuts, rescinded_in, closed_in, channels, channels_of, device_of, kind_of, kind_asked, blocks_at, has_bad}
 
--- a disk has 1 to 65,536 blocks, and no channel but the first
+-- a disk has 1 to 65,536 blocks, and at most 3 channels beside its first one
 abbrev pub IsDevice : DeviceSpec → Type 0
 IsDevice IsBeat = Unit {0}
 IsDevice IsDown = Unit {0}
-IsDevice (IsDisk blocks subs) = (1 ≤ blocks) × (blocks ≤ 65536) × (subs ≡ 0)
+IsDevice (IsDisk blocks subs) = (1 ≤ blocks) × (blocks ≤ 65536) × (subs ≤ 3)
 
 -- a line that speaks of a device speaks of one that is offered, and a request of one of its kind; a bad block is one of its disk, and numbers are in their ranges
 abbrev pub IsRight : List DeviceSpec → What → Type 0

@@ -14,7 +14,9 @@ mod row;
 mod said;
 mod script;
 
+pub use disk_ask::DiskAsk;
 pub use law::first_wrong_line;
 pub use line::{Ask, DeviceSpec, Line, What};
 pub use reading::parse;
+pub use request::request_of;
 pub use script::Script;

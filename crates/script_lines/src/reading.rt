@@ -38,9 +38,7 @@ pub fn parse(alloc: Global, bytes: &[u8]) -> Result<Script, ParseFault>
         number += 1;
         rest = after;
     }
-    Ok(Script {
-        lines: draft.lines(),
-    })
+    Ok(Script::of(draft.lines()))
 }
 
 /// Adds a line to those before it, where nothing stands against it.
@@ -113,7 +111,7 @@ fn spec_of(offering: Offering) -> DeviceSpec
         Offering::Down => DeviceSpec::Down,
         Offering::Disk { blocks, subs } => DeviceSpec::Disk {
             blocks: u64::from(blocks.unwrap_or(0)),
-            subs: within(0, 0, subs).unwrap_or(0),
+            subs: within(0, 3, subs).unwrap_or(0),
         },
     }
 }

@@ -227,7 +227,7 @@ fn offers_in_range(offering: Offering) -> bool
 {
     match offering {
         Offering::Beat | Offering::Down => true,
-        Offering::Disk { blocks, subs } => blocks.is_some() && within(0, 0, subs).is_some(),
+        Offering::Disk { blocks, subs } => blocks.is_some() && within(0, 3, subs).is_some(),
     }
 }
 

@@ -8,7 +8,7 @@ use std::marker::Model;
 /// The lines with words of a script, in order. Contracts see the list of them.
 #[derive(Drop)]
 pub struct Script {
-    pub(crate) lines: Vec<Line>,
+    lines: Vec<Line>,
 }
 
 impl Model for Script {
@@ -24,6 +24,14 @@ impl Model for Script {
 }
 
 impl Script {
+    /// The script of these lines, which are one.
+    pub fn of(lines: Vec<Line>) -> Script
+        requires { IsScript lines.items }
+        ensures { result ≡ lines.items }
+    {
+        Script { lines }
+    }
+
     /// The lines with words, in order. Each is right among the devices that the script offers, at
     /// most 16 of them; settings stand first, a phase has at most 4,096 requests, and a device is
     /// rescinded at most once, and closed at most once.

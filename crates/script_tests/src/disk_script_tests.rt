@@ -47,12 +47,12 @@ fn check_ask(rt: &impl Abort, script: &Script, at: usize, number: u32, cdb: [u8;
 fn reads_disk_lines(rt: HostRuntime) {
     let script = script_of(
         &rt,
-        b"offer disk d 65536 0\nbad d 65535\nready d\ninquiry d\ncapacity d\nflush d\nread d 4294967295 4\nwrite d 66051 1 Fe\nwrite d 0 0 00\n",
+        b"offer disk d 65536 3\nbad d 65535\nready d\ninquiry d\ncapacity d\nflush d\nread d 4294967295 4\nwrite d 66051 1 Fe\nwrite d 0 0 00\n",
     );
     check(&rt, script.lines().len() == 9);
     let disk = DeviceSpec::Disk {
         blocks: 65_536,
-        subs: 0,
+        subs: 3,
     };
     check_offer(&rt, &script, 0, b"d", disk);
     let bad = What::Bad {
@@ -69,8 +69,13 @@ fn reads_disk_lines(rt: HostRuntime) {
     check_ask(&rt, &script, 8, 9, WRITE_NONE, &[]);
 }
 
-const ACCEPTED: [(&[u8], usize); 4] = [
+const ACCEPTED: [(&[u8], usize); 6] = [
     (b"offer disk disk 1 0\nbad disk 0\nread disk 0 4\n", 3),
+    (b"offer disk a 64 3\noffer disk b 64 1\n", 2),
+    (
+        b"offer disk a 64 3\noffer disk b 64 3\noffer disk c 64 3\noffer disk e 64 2\noffer hb f\n",
+        5,
+    ),
     (
         b"offer disk a 64 0\noffer disk b 64 0\nbad a 9\nbad b 9\nbad a 10\n",
         5,
@@ -109,7 +114,7 @@ fn refuses_disk_forms(rt: HostRuntime) {
     check_forms(&rt, &NO_FORM);
 }
 
-const REFUSED_OFFERS: [(&[u8], u32, Why6); 13] = [
+const REFUSED_OFFERS: [(&[u8], u32, Why6); 14] = [
     (b"offer disk d 64 16\n", 1, Why6::Limit),
     (b"offer disk d 0 99999999999999999999\n", 1, Why6::Limit),
     (b"offer hb d\noffer disk d 0 15\n", 2, Why6::Limit),
@@ -117,8 +122,17 @@ const REFUSED_OFFERS: [(&[u8], u32, Why6); 13] = [
     (b"offer hb d\nbeat d 1\noffer disk d 0 14\n", 3, Why6::Order),
     (b"offer hb d\noffer disk d 0 4\n", 2, Why6::Repeat),
     (b"offer disk d 64 15\n", 1, Why6::Range),
-    (b"offer disk a 64 3\noffer disk b 64 3\n", 1, Why6::Range),
-    (b"offer disk d 64 1\n", 1, Why6::Range),
+    (
+        b"offer disk a 64 3\noffer disk b 64 3\noffer disk c 64 3\noffer disk e 64 3\noffer hb f\n",
+        5,
+        Why6::Limit,
+    ),
+    (
+        b"offer disk a 64 3\noffer disk b 64 3\noffer disk c 64 3\noffer hb f\noffer disk e 64 3\n",
+        5,
+        Why6::Limit,
+    ),
+    (b"offer disk d 64 4\n", 1, Why6::Range),
     (b"offer disk d 0 0\n", 1, Why6::Range),
     (b"offer disk d 65537 0\n", 1, Why6::Range),
     (b"offer disk d 18446744073709551616 0\n", 1, Why6::Range),

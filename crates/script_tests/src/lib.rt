@@ -8,4 +8,6 @@ mod check;
 #[cfg(test)]
 mod disk_script_tests;
 #[cfg(test)]
+mod load_script_tests;
+#[cfg(test)]
 mod rescind_script_tests;
