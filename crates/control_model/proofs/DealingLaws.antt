@@ -1,80 +1,198 @@
--- The openings of a phase, one after the other.
-use Rattle.std.proofs.Common.{◌≡◌, ◌∙◌, ℕ, suc, ◌+◌, Bool, true, false, cond, List, [], ◌∷◌, ◌++◌, filter, length, map, refl, sym, ap, subst, arith, length-append}
+-- The openings of a phase, one device after the other.
+use Rattle.std.proofs.Common.{◌≡◌, ◌∙◌, ℕ, zero, suc, ◌+◌, ◌≤◌, ◌==◌, not, Bool, true, false, cond, if◌then◌else◌, List, [], ◌∷◌, ◌++◌, length, nat_eq, refl, sym, ap, subst, arith, length-append, append_assoc}
 use Rattle.std.proofs.lemmas.List.{append-nil}
-use Rattle.std.specs.List.{range_with_len}
+use Rattle.std.proofs.lemmas.List.Elements.{filter-append}
+use Rattle.std.proofs.lemmas.Bool.Decides.{nat_tests}
+use Rattle.script_lines.specs.declared.line.DeviceSpec.{DeviceSpec}
+use Rattle.script_phases.specs.Openings.{Opening as PhaseOpening, subs_of, subs_from, channels_from, opened_from, others}
 use Rattle.control_model.specs.declared.opening.Opening.{Opening}
 use Rattle.control_model.specs.declared.planning.Next.{Next}
 use Rattle.control_model.specs.Plan.{list_pages}
 use Rattle.control_model.specs.Openings.{openings_from, pages_in}
-use Rattle.control_model.specs.Dealing.{Dealt, first_channel}
-use Rattle.control_model.proofs.PlanLaws.{range_more}
+use Rattle.control_model.specs.Dealing.{Dealt, channels_if}
 
-filter_at : (x : ℕ) (all xs ys : List ℕ) (b : Bool) → all ≡ xs ++ ys → cond b (x ∷ all) all ≡ cond b (x ∷ xs) xs ++ ys
-filter_at x all xs ys true e = ap (λ (zs : List ℕ). x ∷ zs) e
-filter_at x all xs ys false e = e
-
-filter_append : (p : ℕ → Bool) (xs ys : List ℕ) → filter p (xs ++ ys) ≡ filter p xs ++ filter p ys
-filter_append p [] ys = refl
-filter_append p (x ∷ xs) ys = filter_at x (filter p (xs ++ ys)) (filter p xs) (filter p ys) (p x) (filter_append p xs ys)
-
--- the numbers that pass, with one more
-chosen_more : (p : ℕ → Bool) (n : ℕ) (b : Bool) → p n ≡ b → filter p (range_with_len 0 (n + 1)) ≡ filter p (range_with_len 0 n) ++ cond b (n ∷ []) []
-chosen_more p n b e =
-    ap (filter p) (range_more 0 n ∙ ap (λ k. range_with_len 0 n ++ k ∷ []) (let z : 0 + n ≡ n = omega arith in z)) ∙ filter_append p (range_with_len 0 n) (n ∷ []) ∙ ap (λ c. filter p (range_with_len 0 n) ++ cond c (n ∷ []) []) e
-
--- one opening more
-openings_more : (sizes : ℕ → ℕ) (rescinded : ℕ → Bool) (gpadl page : ℕ) (ds : List ℕ) (d : ℕ) → openings_from sizes rescinded gpadl page (map first_channel (ds ++ d ∷ []))
-    ≡ openings_from sizes rescinded gpadl page (map first_channel ds) ++ record { relid = d + 1; sub = 0; ring_pages = sizes d; gpadl = gpadl + length ds; first_page = page + pages_in sizes (map first_channel ds); rescinded = rescinded d } ∷ []
-openings_more sizes rescinded gpadl page [] d =
-    let O : ℕ → ℕ → List Opening = λ g p. record { relid = d + 1; sub = 0; ring_pages = sizes d; gpadl = g; first_page = p; rescinded = rescinded d } ∷ [] in
+-- openings of two lists of channels
+pub openings_append : (sizes : ℕ → ℕ) (rescinded : ℕ → Bool) (gpadl page : ℕ) (xs ys : List PhaseOpening) → openings_from sizes rescinded gpadl page (xs ++ ys) ≡ openings_from sizes rescinded gpadl page xs ++ openings_from sizes rescinded (gpadl + length xs) (page + pages_in sizes xs) ys
+openings_append sizes rescinded gpadl page [] ys =
     let a : gpadl ≡ gpadl + 0 = omega arith in
     let b : page ≡ page + 0 = omega arith in
-    ap (λ g. O g page) a ∙ ap (O (gpadl + 0)) b
-openings_more sizes rescinded gpadl page (x ∷ ds) d =
-    let first : Opening = record { relid = x + 1; sub = 0; ring_pages = sizes x; gpadl = gpadl; first_page = page; rescinded = rescinded x } in
-    let rest : List Opening = openings_from sizes rescinded (gpadl + 1) (page + list_pages (sizes x)) (map first_channel ds) in
-    let O : ℕ → ℕ → List Opening = λ g p. first ∷ (rest ++ record { relid = d + 1; sub = 0; ring_pages = sizes d; gpadl = g; first_page = p; rescinded = rescinded d } ∷ []) in
-    let a : (gpadl + 1) + length ds ≡ gpadl + suc (length ds) = omega arith in
-    let b : (page + list_pages (sizes x)) + pages_in sizes (map first_channel ds) ≡ page + (list_pages (sizes x) + pages_in sizes (map first_channel ds)) = omega arith in
-    ap (λ (os : List Opening). first ∷ os) (openings_more sizes rescinded (gpadl + 1) (page + list_pages (sizes x)) ds d)
-    ∙ ap (λ g. O g ((page + list_pages (sizes x)) + pages_in sizes (map first_channel ds))) a ∙ ap (O (gpadl + suc (length ds))) b
+    (λ i. openings_from sizes rescinded (a i) (b i) ys)
+openings_append sizes rescinded gpadl page (x ∷ xs) ys =
+    let size : ℕ = list_pages (sizes x.device) in
+    let first : Opening = record { relid = x.relid; sub = x.sub; ring_pages = sizes x.device; gpadl = gpadl; first_page = page; rescinded = rescinded x.device } in
+    let rest : List Opening = openings_from sizes rescinded (gpadl + 1) (page + size) xs in
+    let a : (gpadl + 1) + length xs ≡ gpadl + suc (length xs) = omega arith in
+    let b : (page + size) + pages_in sizes xs ≡ page + (size + pages_in sizes xs) = omega arith in
+    ap (λ (os : List Opening). first ∷ os) (openings_append sizes rescinded (gpadl + 1) (page + size) xs ys) ∙ (λ i. first ∷ (rest ++ openings_from sizes rescinded (a i) (b i) ys))
 
-pages_more : (sizes : ℕ → ℕ) (ds : List ℕ) (d : ℕ) → pages_in sizes (map first_channel (ds ++ d ∷ [])) ≡ pages_in sizes (map first_channel ds) + list_pages (sizes d)
-pages_more sizes [] d = omega arith
-pages_more sizes (x ∷ ds) d = let rest = pages_more sizes ds d in omega (arith, rest)
+pub pages_append : (sizes : ℕ → ℕ) (xs ys : List PhaseOpening) → pages_in sizes (xs ++ ys) ≡ pages_in sizes xs + pages_in sizes ys
+pages_append sizes [] ys = omega arith
+pages_append sizes (x ∷ xs) ys = let rest = pages_append sizes xs ys in omega (arith, rest)
+
+-- sub-channels are no first channels
+not_first : (sub : ℕ) → 1 ≤ sub → nat_eq sub 0 ≡ false
+not_first sub some = grind (arith, nat_tests, some)
+
+subs_others : (device sub relid n : ℕ) (spec : DeviceSpec) → 1 ≤ sub → length (others (subs_from device spec sub relid n)) ≡ n
+subs_others device sub relid zero spec some = refl
+subs_others device sub relid (suc n) spec some =
+    let o : PhaseOpening = record { relid = relid; device = device; spec = spec; sub = sub } in
+    let rest = others (subs_from device spec (sub + 1) (relid + 1) n) in
+    ap (λ b. length (cond (not b) (o ∷ rest) rest)) (not_first sub some) ∙ ap (λ k. suc k) (subs_others device (sub + 1) (relid + 1) n spec (omega arith))
+
+pub channels_others : (device relid : ℕ) (spec : DeviceSpec) → length (others (channels_from device spec relid)) ≡ subs_of spec
+channels_others device relid spec = subs_others device 1 relid (subs_of spec) spec (omega arith)
+
+-- with one device more
+pub other_one : (a : ℕ) (xs ys : List PhaseOpening) → length (others xs) ≡ a → length (others (xs ++ ys)) ≡ a + length (others ys)
+other_one a xs ys is =
+    let parts = ap length (filter-append (λ (o : PhaseOpening). not (o.sub == 0)) xs ys) in
+    let sum = length-append (others xs) (others ys) in
+    omega (arith, is, parts, sum)
+
+opened_one : (device next : ℕ) (k : DeviceSpec) (rest more : ℕ → List PhaseOpening) (x : ℕ → List PhaseOpening) (b : Bool)
+    → ((n : ℕ) → more n ≡ rest n ++ x (n + length (others (rest n))))
+    → (if b then channels_from device k next ++ more (next + subs_of k) else more next)
+    ≡ (if b then channels_from device k next ++ rest (next + subs_of k) else rest next) ++ x (next + length (others (if b then channels_from device k next ++ rest (next + subs_of k) else rest next)))
+opened_one device next k rest more x true each =
+    let mine = channels_others device next k in
+    let count = other_one (subs_of k) (channels_from device k next) (rest (next + subs_of k)) mine in
+    let place : (next + subs_of k) + length (others (rest (next + subs_of k))) ≡ next + length (others (channels_from device k next ++ rest (next + subs_of k))) = omega (arith, count) in
+    ap (λ ys. channels_from device k next ++ ys) (each (next + subs_of k)) ∙ sym (append_assoc (channels_from device k next) (rest (next + subs_of k)) (x ((next + subs_of k) + length (others (rest (next + subs_of k))))))
+    ∙ ap (λ n. (channels_from device k next ++ rest (next + subs_of k)) ++ x n) place
+opened_one device next k rest more x false each = each next
+
+pub opened_more : (p : ℕ → Bool) (device next : ℕ) (specs : List DeviceSpec) (spec : DeviceSpec)
+    → opened_from p device next (specs ++ spec ∷ []) ≡ opened_from p device next specs ++ channels_if (p (device + length specs)) (device + length specs) spec (next + length (others (opened_from p device next specs)))
+opened_more p device next [] spec =
+    let a : device ≡ device + 0 = omega arith in
+    let b : next ≡ next + 0 = omega arith in
+    one (p device) ∙ (λ i. channels_if (p (a i)) (a i) spec (b i))
+  where
+    one : (t : Bool) → (if t then channels_from device spec next ++ [] else []) ≡ channels_if t device spec next
+    one true = append-nil (channels_from device spec next)
+    one false = refl
+opened_more p device next (k ∷ specs) spec =
+    let place : (device + 1) + length specs ≡ device + suc (length specs) = omega arith in
+    let x : ℕ → List PhaseOpening = λ n. channels_if (p (device + suc (length specs))) (device + suc (length specs)) spec n in
+    opened_one device next k (λ n. opened_from p (device + 1) n specs) (λ n. opened_from p (device + 1) n (specs ++ spec ∷ [])) x (p device)
+    (λ n. opened_more p (device + 1) n specs spec ∙ (λ i. opened_from p (device + 1) n specs ++ channels_if (p (place i)) (place i) spec (n + length (others (opened_from p (device + 1) n specs)))))
+
+-- the channels of one device have its rings, and are rescinded with it
+subs_so : (sizes : ℕ → ℕ) (rescinded : ℕ → Bool) (gpadl page device sub relid n : ℕ) (spec : DeviceSpec) → openings_from sizes rescinded gpadl page (subs_from device spec sub relid n) ≡ openings_from (λ d. sizes device) (λ d. rescinded device) gpadl page (subs_from device spec sub relid n)
+subs_so sizes rescinded gpadl page device sub relid zero spec = refl
+subs_so sizes rescinded gpadl page device sub relid (suc n) spec =
+    ap (λ (os : List Opening). record { relid = relid; sub = sub; ring_pages = sizes device; gpadl = gpadl; first_page = page; rescinded = rescinded device } ∷ os) (subs_so sizes rescinded (gpadl + 1) (page + list_pages (sizes device)) device (sub + 1) (relid + 1) n spec)
+
+subs_pages : (sizes : ℕ → ℕ) (device sub relid n : ℕ) (spec : DeviceSpec) → pages_in sizes (subs_from device spec sub relid n) ≡ pages_in (λ d. sizes device) (subs_from device spec sub relid n)
+subs_pages sizes device sub relid zero spec = refl
+subs_pages sizes device sub relid (suc n) spec = ap (λ k. list_pages (sizes device) + k) (subs_pages sizes device (sub + 1) (relid + 1) n spec)
+
+if_so : (sizes : ℕ → ℕ) (rescinded : ℕ → Bool) (gpadl page device relid : ℕ) (spec : DeviceSpec) (b : Bool) → openings_from sizes rescinded gpadl page (channels_if b device spec relid) ≡ openings_from (λ d. sizes device) (λ d. rescinded device) gpadl page (channels_if b device spec relid)
+if_so sizes rescinded gpadl page device relid spec false = refl
+if_so sizes rescinded gpadl page device relid spec true =
+    ap (λ (os : List Opening). record { relid = device + 1; sub = 0; ring_pages = sizes device; gpadl = gpadl; first_page = page; rescinded = rescinded device } ∷ os) (subs_so sizes rescinded (gpadl + 1) (page + list_pages (sizes device)) device 1 relid (subs_of spec) spec)
+
+if_pages : (sizes : ℕ → ℕ) (device relid : ℕ) (spec : DeviceSpec) (b : Bool) → pages_in sizes (channels_if b device spec relid) ≡ pages_in (λ d. sizes device) (channels_if b device spec relid)
+if_pages sizes device relid spec false = refl
+if_pages sizes device relid spec true = ap (λ k. list_pages (sizes device) + k) (subs_pages sizes device 1 relid (subs_of spec) spec)
 
 -- what was dealt so far
-pub record Deals (sizes : ℕ → ℕ) (rescinded : ℕ → Bool) (gpadl page : ℕ) (ds : List ℕ) (os : List Opening) (next : Next) : Type 0 where
-  pub openings : os ≡ openings_from sizes rescinded gpadl page (map first_channel ds)
-  pub next_gpadl : next.gpadl ≡ gpadl + length ds
-  pub next_page : next.page ≡ page + pages_in sizes (map first_channel ds)
-
-on : (sizes : ℕ → ℕ) (rescinded : ℕ → Bool) (gpadl page n : ℕ) (ds : List ℕ) (b : Bool) (size : ℕ) (gone : Bool) (os os' : List Opening) (next next' : Next) → Deals sizes rescinded gpadl page ds os next → sizes n ≡ size → rescinded n ≡ gone → Dealt b n size gone os next os' next' → Deals sizes rescinded gpadl page (ds ++ cond b (n ∷ []) []) os' next'
-on sizes rescinded gpadl page n ds false size gone os os' next next' so_far is gives dealt =
-    let same : ds ++ [] ≡ ds = append-nil ds in
-    record {
-      openings = dealt.0 ∙ so_far.openings ∙ ap (λ (l : List ℕ). openings_from sizes rescinded gpadl page (map first_channel l)) (sym same);
-      next_gpadl = ap (λ (x : Next). x.gpadl) dealt.1 ∙ so_far.next_gpadl ∙ ap (λ (l : List ℕ). gpadl + length l) (sym same);
-      next_page = ap (λ (x : Next). x.page) dealt.1 ∙ so_far.next_page ∙ ap (λ (l : List ℕ). page + pages_in sizes (map first_channel l)) (sym same);
-    }
-on sizes rescinded gpadl page n ds true size gone os os' next next' so_far is gives dealt =
-    let O : ℕ → Bool → ℕ → ℕ → List Opening = λ s r g p. record { relid = n + 1; sub = 0; ring_pages = s; gpadl = g; first_page = p; rescinded = r } ∷ [] in
-    let old : os ++ O size gone next.gpadl next.page ≡ openings_from sizes rescinded gpadl page (map first_channel ds) ++ O size gone next.gpadl next.page = ap (λ (l : List Opening). l ++ O size gone next.gpadl next.page) so_far.openings in
-    let new : O size gone next.gpadl next.page ≡ O (sizes n) (rescinded n) (gpadl + length ds) (page + pages_in sizes (map first_channel ds)) =
-    ap (λ s. O s gone next.gpadl next.page) (sym is) ∙ ap (λ r. O (sizes n) r next.gpadl next.page) (sym gives) ∙ ap (λ g. O (sizes n) (rescinded n) g next.page) so_far.next_gpadl ∙ ap (O (sizes n) (rescinded n) (gpadl + length ds)) so_far.next_page in
-    let count : length (ds ++ n ∷ []) ≡ length ds + 1 = length-append ds (n ∷ []) in
-    let pages = pages_more sizes ds n in
-    let g = ap (λ (x : Next). x.gpadl) dealt.1 in
-    let p : next'.page ≡ next.page + list_pages size = ap (λ (x : Next). x.page) dealt.1 in
-    let sized : list_pages size ≡ list_pages (sizes n) = ap list_pages (sym is) in
-    record {
-      openings = dealt.0 ∙ old ∙ ap (λ (l : List Opening). openings_from sizes rescinded gpadl page (map first_channel ds) ++ l) new ∙ sym (openings_more sizes rescinded gpadl page ds n);
-      next_gpadl = omega (arith, g, so_far.next_gpadl, count);
-      next_page = omega (arith, p, so_far.next_page, pages, sized);
-    }
+pub record Deals (sizes : ℕ → ℕ) (rescinded p : ℕ → Bool) (before : Next) (specs : List DeviceSpec) (os : List Opening) (next : Next) : Type 0 where
+  pub openings : os ≡ openings_from sizes rescinded before.gpadl before.page (opened_from p 0 before.relid specs)
+  pub gpadl : next.gpadl ≡ before.gpadl + length (opened_from p 0 before.relid specs)
+  pub page : next.page ≡ before.page + pages_in sizes (opened_from p 0 before.relid specs)
+  pub relid : next.relid ≡ before.relid + length (others (opened_from p 0 before.relid specs))
 
 -- the next device is dealt with
-pub deals_on : (sizes : ℕ → ℕ) (rescinded p : ℕ → Bool) (gpadl page n : ℕ) (b : Bool) (size : ℕ) (gone : Bool) (os os' : List Opening) (next next' : Next) → Deals sizes rescinded gpadl page (filter p (range_with_len 0 n)) os next → p n ≡ b → sizes n ≡ size → rescinded n ≡ gone → Dealt b n size gone os next os' next'
-    → Deals sizes rescinded gpadl page (filter p (range_with_len 0 (n + 1))) os' next'
-deals_on sizes rescinded p gpadl page n b size gone os os' next next' so_far test is gives dealt =
-    subst (λ (ds : List ℕ). Deals sizes rescinded gpadl page ds os' next') (sym (chosen_more p n b test)) (on sizes rescinded gpadl page n (filter p (range_with_len 0 n)) b size gone os os' next next' so_far is gives dealt)
+deals_on_so : (sizes : ℕ → ℕ) (rescinded p : ℕ → Bool) (before : Next) (specs : List DeviceSpec) (spec : DeviceSpec) (n : ℕ) (os os' : List Opening) (next next' : Next) → n ≡ length specs → Deals sizes rescinded p before specs os next
+    → Dealt (channels_if (p n) n spec next.relid) (sizes n) (rescinded n) os next os' next' → Deals sizes rescinded p before (specs ++ spec ∷ []) os' next'
+deals_on_so sizes rescinded p before specs spec n os os' next next' is so_far dealt =
+    let place : 0 + length specs ≡ n = omega (arith, is) in
+    let xs : List PhaseOpening = opened_from p 0 before.relid specs in
+    let ys : List PhaseOpening = channels_if (p n) n spec next.relid in
+    let more : opened_from p 0 before.relid (specs ++ spec ∷ []) ≡ xs ++ ys = opened_more p 0 before.relid specs spec ∙ (λ i. xs ++ channels_if (p (place i)) (place i) spec (sym so_far.relid i)) in
+    let mine = if_so sizes rescinded (before.gpadl + length xs) (before.page + pages_in sizes xs) n next.relid spec (p n) in
+    let pages = if_pages sizes n next.relid spec (p n) in
+    let both = length-append xs ys in
+    let all_pages = pages_append sizes xs ys in
+    let parts = ap length (filter-append (λ (o : PhaseOpening). not (o.sub == 0)) xs ys) in
+    let sum = length-append (others xs) (others ys) in
+    let g = so_far.gpadl in
+    let q = so_far.page in
+    let openings : os' ≡ openings_from sizes rescinded before.gpadl before.page (xs ++ ys) =
+    dealt.openings ∙ (λ i. so_far.openings i ++ openings_from (λ d. sizes n) (λ d. rescinded n) (g i) (q i) ys) ∙ ap (λ (zs : List Opening). openings_from sizes rescinded before.gpadl before.page xs ++ zs) (sym mine) ∙ sym (openings_append sizes rescinded before.gpadl before.page xs ys) in
+    let P : List PhaseOpening → Type 0 = λ cs. (os' ≡ openings_from sizes rescinded before.gpadl before.page cs) × (next'.gpadl ≡ before.gpadl + length cs) × (next'.page ≡ before.page + pages_in sizes cs) × (next'.relid ≡ before.relid + length (others cs)) in
+    let whole : P (xs ++ ys) = (openings, omega (arith, dealt.gpadl, so_far.gpadl, both), omega (arith, dealt.page, so_far.page, pages, all_pages), omega (arith, dealt.relid, so_far.relid, parts, sum)) in
+    let there = subst P (sym more) whole in
+    record { openings = there.0; gpadl = there.1; page = there.2; relid = there.3 }
+
+pub deals_on : (sizes : ℕ → ℕ) (rescinded p : ℕ → Bool) (before : Next) (specs : List DeviceSpec) (spec : DeviceSpec) (n ring_pages : ℕ) (opened gone : Bool) (os os' : List Opening) (next next' : Next) → n ≡ length specs → opened ≡ p n → ring_pages ≡ sizes n → gone ≡ rescinded n
+    → Deals sizes rescinded p before specs os next → Dealt (channels_if opened n spec next.relid) ring_pages gone os next os' next' → Deals sizes rescinded p before (specs ++ spec ∷ []) os' next'
+deals_on sizes rescinded p before specs spec n ring_pages opened gone os os' next next' is a b c so_far dealt =
+    deals_on_so sizes rescinded p before specs spec n os os' next next' is so_far (subst (λ x. Dealt (channels_if (p n) n spec next.relid) (sizes n) x os next os' next') c (subst (λ x. Dealt (channels_if (p n) n spec next.relid) x gone os next os' next') b (subst (λ x. Dealt (channels_if x n spec next.relid) ring_pages gone os next os' next') a dealt)))
+
+-- the channels of one device, one after the other
+
+-- one sub-channel more
+subs_more : (device sub relid i : ℕ) (spec : DeviceSpec) → subs_from device spec sub relid (suc i) ≡ subs_from device spec sub relid i ++ record { relid = relid + i; device = device; spec = spec; sub = sub + i } ∷ []
+subs_more device sub relid zero spec =
+    let a : relid ≡ relid + 0 = omega arith in
+    let b : sub ≡ sub + 0 = omega arith in
+    (λ i. record { relid = a i; device = device; spec = spec; sub = b i } ∷ [])
+subs_more device sub relid (suc i) spec =
+    let first : PhaseOpening = record { relid = relid; device = device; spec = spec; sub = sub } in
+    let a : (relid + 1) + i ≡ relid + suc i = omega arith in
+    let b : (sub + 1) + i ≡ sub + suc i = omega arith in
+    ap (λ (cs : List PhaseOpening). first ∷ cs) (subs_more device (sub + 1) (relid + 1) i spec)
+    ∙ (λ j. first ∷ (subs_from device spec (sub + 1) (relid + 1) i ++ record { relid = a j; device = device; spec = spec; sub = b j } ∷ []))
+
+abbrev pub first_of : ℕ → DeviceSpec → PhaseOpening
+first_of device spec = record { relid = device + 1; device = device; spec = spec; sub = 0 }
+
+-- what opening one channel leaves: its opening, and what comes next
+abbrev pub Opened : ℕ → ℕ → ℕ → Bool → List Opening → Next → List Opening → Next → Type 0
+Opened relid sub ring_pages rescinded os next os' next' =
+    (os' ≡ os ++ record { relid = relid; sub = sub; ring_pages = ring_pages; gpadl = next.gpadl; first_page = next.page; rescinded = rescinded } ∷ [])
+    × (next' ≡ record { gpadl = next.gpadl + 1; page = next.page + list_pages ring_pages; relid = next.relid })
+
+pub dealt_none : (device ring_pages relid : ℕ) (spec : DeviceSpec) (rescinded : Bool) (os : List Opening) (next : Next) → Dealt (channels_if false device spec relid) ring_pages rescinded os next os next
+dealt_none device ring_pages relid spec rescinded os next = record { openings = sym (append-nil os); gpadl = omega arith; page = omega arith; relid = omega arith }
+
+pub dealt_first : (device ring_pages relid : ℕ) (spec : DeviceSpec) (rescinded : Bool) (os os' : List Opening) (next next' : Next) → Opened (device + 1) 0 ring_pages rescinded os next os' next'
+    → Dealt (first_of device spec ∷ subs_from device spec 1 relid 0) ring_pages rescinded os next os' next'
+dealt_first device ring_pages relid spec rescinded os os' next next' opened = record {
+  openings = opened.0;
+  gpadl = ap (λ (n : Next). n.gpadl) opened.1;
+  page = let e = ap (λ (n : Next). n.page) opened.1 in omega (arith, e);
+  relid = let e = ap (λ (n : Next). n.relid) opened.1 in omega (arith, e);
+}
+
+-- a sub-channel more: it takes the next relid
+pub dealt_on : (device ring_pages relid i : ℕ) (spec : DeviceSpec) (rescinded : Bool) (os os' os'' : List Opening) (next next' next'' : Next) → relid ≡ next.relid → Dealt (first_of device spec ∷ subs_from device spec 1 relid i) ring_pages rescinded os next os' next'
+    → Opened next'.relid (i + 1) ring_pages rescinded os' (record { gpadl = next'.gpadl; page = next'.page; relid = next'.relid + 1 }) os'' next'' → Dealt (first_of device spec ∷ subs_from device spec 1 relid (i + 1)) ring_pages rescinded os next os'' next''
+dealt_on device ring_pages relid i spec rescinded os os' os'' next next' next'' from so_far opened =
+    let xs : List PhaseOpening = first_of device spec ∷ subs_from device spec 1 relid i in
+    let y : PhaseOpening = record { relid = relid + i; device = device; spec = spec; sub = 1 + i } in
+    let one : i + 1 ≡ suc i = omega arith in
+    let more : first_of device spec ∷ subs_from device spec 1 relid (i + 1) ≡ xs ++ y ∷ [] = ap (λ n. first_of device spec ∷ subs_from device spec 1 relid n) one ∙ ap (λ (cs : List PhaseOpening). first_of device spec ∷ cs) (subs_more device 1 relid i spec) in
+    let count = subs_others device 1 relid i spec (omega arith) in
+    let r : next'.relid ≡ relid + i = let e = so_far.relid in omega (arith, e, from, count) in
+    let s : i + 1 ≡ 1 + i = omega arith in
+    let g = so_far.gpadl in
+    let q = so_far.page in
+    let sizes : ℕ → ℕ = λ d. ring_pages in
+    let gone : ℕ → Bool = λ d. rescinded in
+    let openings : os'' ≡ os ++ openings_from sizes gone next.gpadl next.page (xs ++ y ∷ []) =
+    opened.0 ∙ (λ j. so_far.openings j ++ record { relid = r j; sub = s j; ring_pages = ring_pages; gpadl = g j; first_page = q j; rescinded = rescinded } ∷ [])
+    ∙ append_assoc os (openings_from sizes gone next.gpadl next.page xs) _ ∙ ap (λ (zs : List Opening). os ++ zs) (sym (openings_append sizes gone next.gpadl next.page xs (y ∷ []))) in
+    let P : List PhaseOpening → Type 0 = λ cs. (os'' ≡ os ++ openings_from sizes gone next.gpadl next.page cs) × (next''.gpadl ≡ next.gpadl + length cs) × (next''.page ≡ next.page + pages_in sizes cs) in
+    let both = length-append xs (y ∷ []) in
+    let all_pages = pages_append sizes xs (y ∷ []) in
+    let a = ap (λ (n : Next). n.gpadl) opened.1 in
+    let b = ap (λ (n : Next). n.page) opened.1 in
+    let d = ap (λ (n : Next). n.relid) opened.1 in
+    let whole : P (xs ++ y ∷ []) = (openings, omega (arith, a, g, both), omega (arith, b, q, all_pages)) in
+    let there = subst P (sym more) whole in
+    let others_now = subs_others device 1 relid (i + 1) spec (omega arith) in
+    record { openings = there.0; gpadl = there.1; page = there.2; relid = omega (arith, d, r, from, others_now) }

@@ -1,9 +1,9 @@
 pub mod PlanLaws
 pub mod VersionLaws
 pub mod KindLaws
-pub mod FirstLaws
 pub mod DealingLaws
 pub mod CuttingLaws
 pub mod PhaseLaws
 pub mod ScriptLaws
 pub mod SubLaws
+pub mod OpenedLaws

@@ -1,22 +1,22 @@
 -- The openings of all phases, one phase after the other.
-use Rattle.std.proofs.Common.{◌≡◌, ◌∙◌, ℕ, zero, suc, ◌+◌, ◌-◌, ◌<◌, ◌≤◌, Bool, true, false, cond, not, ◌&&◌, ◌||◌, nat_lt, nat_le, List, [], ◌∷◌, ◌++◌, length, map, filter, take, drop, get_or, slice_range, Some, None, refl, sym, ap, arith, append_assoc}
+use Rattle.std.proofs.Common.{◌≡◌, ◌∙◌, ℕ, zero, suc, ◌+◌, ◌-◌, ◌<◌, ◌≤◌, Bool, true, false, cond, not, ◌&&◌, ◌||◌, nat_lt, nat_le, List, [], ◌∷◌, ◌++◌, length, map, if◌then◌else◌, take, drop, get_or, slice_range, Some, None, refl, sym, ap, arith, append_assoc}
 use Rattle.std.proofs.lemmas.List.{take-take, drop-take, take-append-drop}
 use Rattle.std.proofs.lemmas.List.FromFn.{get_or-map-range_with_len}
 use Rattle.std.proofs.lemmas.List.Folds.{list_any-append}
 use Rattle.std.proofs.lemmas.Bool.Decides.{nat_tests}
-use Rattle.std.specs.List.{AllByRecursion, list_any, position, position_or_len, range_with_len}
+use Rattle.std.specs.List.{list_any, position, position_or_len, range_with_len}
 use Rattle.script_lines.specs.declared.line.Line.{Line}
+use Rattle.script_lines.specs.declared.line.DeviceSpec.{DeviceSpec}
 use Rattle.script_lines.specs.Parts.{parts, offered}
 use Rattle.script_phases.specs.Says.{is_rescinded}
-use Rattle.script_phases.specs.Openings.{Opening as PhaseOpening, Phase, is_opened, subs_of, opened_from, others, phases, phases_from}
+use Rattle.script_phases.specs.Openings.{Opening as PhaseOpening, Phase, is_opened, subs_of, channels_from, opened_from, others, phases, phases_from}
 use Rattle.script_phases.proofs.Saying.{rescind_same, opened_by_lines}
 use Rattle.control_model.specs.declared.opening.Opening.{Opening}
 use Rattle.control_model.specs.declared.planning.Next.{Next}
 use Rattle.control_model.specs.declared.planning.Served.{Served}
 use Rattle.control_model.specs.Plan.{first_gpadl}
 use Rattle.control_model.specs.Openings.{openings_from, pages_in, numbered}
-use Rattle.control_model.specs.Dealing.{served_of, speaks_to, first_channel, ends, ended_before, rescinded_in, opens, opens_one, size_in, no_device, rest_of}
-use Rattle.control_model.proofs.FirstLaws.{OpenAs, open_firsts}
+use Rattle.control_model.specs.Dealing.{served_of, speaks_to, ends, ended_before, rescinded_in, opens, opens_one, size_in, no_device, rest_of}
 
 -- a test that passes among the first n, by the place of the first one that passes
 and_none : (a b : Bool) → b ≡ false → (a && b) ≡ false
@@ -50,13 +50,14 @@ ended_by k len n false e = refl
 ended_is : (p : Line → Bool) (lines : List Line) (n : ℕ) → ended_before (position p lines) n ≡ list_any p (take n lines)
 ended_is p lines n = ended_by (position_or_len p lines) (length lines) n (nat_lt (position_or_len p lines) (length lines)) refl ∙ sym (any_take p lines n)
 
--- two tests that answer alike below a number
-same_chosen : (p q : ℕ → Bool) (a n : ℕ) → ((k : ℕ) → k < a + n → p k ≡ q k) → filter p (range_with_len a n) ≡ filter q (range_with_len a n)
-same_chosen p q a zero same = refl
-same_chosen p q a (suc n) same =
-    let rest = same_chosen p q (a + 1) n (λ k few. same k (omega (arith, few))) in
-    let here = same a (omega arith) in
-    ap (λ b. cond b (a ∷ filter p (range_with_len (a + 1) n)) (filter p (range_with_len (a + 1) n))) here ∙ ap (λ l. cond (q a) (a ∷ l) l) rest
+-- two tests that answer alike below a number open the same channels
+same_opened : (p q : ℕ → Bool) (device next : ℕ) (specs : List DeviceSpec) → ((k : ℕ) → k < device + length specs → p k ≡ q k) → opened_from p device next specs ≡ opened_from q device next specs
+same_opened p q device next [] same = refl
+same_opened p q device next (k ∷ specs) same =
+    let on = same_opened p q (device + 1) (next + subs_of k) specs (λ n few. same n (omega (arith, few))) in
+    let off = same_opened p q (device + 1) next specs (λ n few. same n (omega (arith, few))) in
+    let here = same device (omega arith) in
+    (λ i. if here i then channels_from device k next ++ on i else off i)
 
 -- the phases that are left
 abbrev pub left : List Line → ℕ → ℕ → ℕ → List Line → List Phase
@@ -65,31 +66,30 @@ left lines start number next earlier = phases_from (offered lines) number next e
 -- what was made so far, and what is left
 pub record SoFar (lines : List Line) (devices : List Served) (start : ℕ) (made : List (List Opening)) (next : Next) : Type 0 where
   pub number : ℕ
-  pub relid : ℕ
   pub earlier : List Line
-  pub all : numbered (size_in devices) first_gpadl 0 (phases lines) ≡ made ++ numbered (size_in devices) next.gpadl next.page (left lines start number relid earlier)
+  pub all : numbered (size_in devices) first_gpadl 0 (phases lines) ≡ made ++ numbered (size_in devices) next.gpadl next.page (left lines start number next.relid earlier)
   pub ended : (device : ℕ) → list_any (λ l. ends device l.what) earlier ≡ list_any (λ l. ends device l.what) (take start lines)
 
-pub none_so_far : (lines : List Line) (devices : List Served) (made : List (List Opening)) → made ≡ [] → SoFar lines devices 0 made (record { gpadl = first_gpadl; page = 0 })
-none_so_far lines devices made none =
+pub none_so_far : (lines : List Line) (devices : List Served) (made : List (List Opening)) (relid : ℕ) → made ≡ [] → relid ≡ length (offered lines) + 1 → SoFar lines devices 0 made (record { gpadl = first_gpadl; page = 0; relid = relid })
+none_so_far lines devices made relid none is =
     let yes : nat_le 0 (length lines) ≡ true = grind (arith, nat_tests) in
     let whole : rest_of lines 0 ≡ parts lines = rw yes refl in
     record {
       number = 0;
-      relid = length (offered lines) + 1;
       earlier = [];
       all = ap (λ r. numbered (size_in devices) first_gpadl 0 (phases_from (offered lines) 0 (length (offered lines) + 1) [] r)) (sym whole)
-          ∙ ap (λ l. l ++ numbered (size_in devices) first_gpadl 0 (left lines 0 0 (length (offered lines) + 1) [])) (sym none);
+          ∙ ap (λ l. l ++ numbered (size_in devices) first_gpadl 0 (left lines 0 0 (length (offered lines) + 1) [])) (sym none)
+          ∙ ap (λ r. made ++ numbered (size_in devices) first_gpadl 0 (left lines 0 0 r [])) (sym is);
       ended = λ device. refl;
     }
 
--- the devices that are opened are those that the definition says
-opened_same : (lines part earlier : List Line) (devices : List Served) (start : ℕ) → devices ≡ map (served_of lines) (range_with_len 0 (length devices)) → ((device : ℕ) → list_any (λ l. ends device l.what) earlier ≡ list_any (λ l. ends device l.what) (take start lines))
-    → filter (opens devices part start) (range_with_len 0 (length devices)) ≡ filter (is_opened earlier part) (range_with_len 0 (length devices))
-opened_same lines part earlier devices start table ended =
-    same_chosen (opens devices part start) (is_opened earlier part) 0 (length devices) (λ k few.
+-- the channels that are opened are those that the definition says
+opened_same : (lines part earlier : List Line) (devices : List Served) (start next : ℕ) → length devices ≡ length (offered lines) → devices ≡ map (served_of lines) (range_with_len 0 (length devices)) → ((device : ℕ) → list_any (λ l. ends device l.what) earlier ≡ list_any (λ l. ends device l.what) (take start lines))
+    → opened_from (opens devices part start) 0 next (offered lines) ≡ opened_from (is_opened earlier part) 0 next (offered lines)
+opened_same lines part earlier devices start next count table ended =
+    same_opened (opens devices part start) (is_opened earlier part) 0 next (offered lines) (λ k few.
     let n = length devices in
-    let item : get_or devices k no_device ≡ served_of lines k = ap (λ (ds : List Served). get_or ds k no_device) table ∙ get_or-map-range_with_len (served_of lines) 0 n k k no_device (omega (arith, few)) (omega arith) in
+    let item : get_or devices k no_device ≡ served_of lines k = ap (λ (ds : List Served). get_or ds k no_device) table ∙ get_or-map-range_with_len (served_of lines) 0 n k k no_device (omega (arith, few, count)) (omega arith) in
     ap (λ (d : Served). opens_one part start d k) item
     ∙ (ap (λ b. not b && list_any (λ l. speaks_to k l.what) part) (ended_is (λ l. ends k l.what) lines start ∙ sym (ended k)) ∙ sym (opened_by_lines k earlier part)))
 
@@ -101,41 +101,36 @@ range_join lines start end from =
     ∙ ap (λ l. take start lines ++ l) (ap (λ k. drop start (take k lines)) (sym sum) ∙ drop-take start (end - start) lines)
 
 -- one phase more
-pub phase_on : (lines : List Line) (devices : List Served) (start end : ℕ) (made : List (List Opening)) (next next' : Next) (os : List Opening)
-    → length devices ≡ length (offered lines) → AllByRecursion (λ spec. subs_of spec ≡ 0) (offered lines)
-    → devices ≡ map (served_of lines) (range_with_len 0 (length devices)) → SoFar lines devices start made next → start ≤ end
+pub phase_on : (lines : List Line) (specs : List DeviceSpec) (devices : List Served) (start end : ℕ) (made : List (List Opening)) (next next' : Next) (os : List Opening)
+    → specs ≡ offered lines → length devices ≡ length specs → devices ≡ map (served_of lines) (range_with_len 0 (length devices)) → SoFar lines devices start made next → start ≤ end
     → rest_of lines start ≡ slice_range lines start end ∷ rest_of lines (end + 1)
     → ((device : ℕ) → list_any (λ l. ends device l.what) (take (end + 1) lines) ≡ list_any (λ l. ends device l.what) (take end lines))
-    → os ≡ openings_from (size_in devices) (rescinded_in (slice_range lines start end)) next.gpadl next.page (map first_channel (filter (opens devices (slice_range lines start end) start) (range_with_len 0 (length devices))))
-    → next'.gpadl ≡ next.gpadl + length (filter (opens devices (slice_range lines start end) start) (range_with_len 0 (length devices)))
-    → next'.page ≡ next.page + pages_in (size_in devices) (map first_channel (filter (opens devices (slice_range lines start end) start) (range_with_len 0 (length devices))))
+    → os ≡ openings_from (size_in devices) (rescinded_in (slice_range lines start end)) next.gpadl next.page (opened_from (opens devices (slice_range lines start end) start) 0 next.relid specs)
+    → next'.gpadl ≡ next.gpadl + length (opened_from (opens devices (slice_range lines start end) start) 0 next.relid specs)
+    → next'.page ≡ next.page + pages_in (size_in devices) (opened_from (opens devices (slice_range lines start end) start) 0 next.relid specs)
+    → next'.relid ≡ next.relid + length (others (opened_from (opens devices (slice_range lines start end) start) 0 next.relid specs))
     → SoFar lines devices (end + 1) (made ++ os ∷ []) next'
-phase_on lines devices start end made next next' os count none table so_far from cut end_is is gpadl page =
+phase_on lines specs devices start end made next next' os specs_are count table so_far from cut end_is is gpadl page relid =
     let S = size_in devices in
-    let specs = offered lines in
     let part = slice_range lines start end in
-    let coded = filter (opens devices part start) (range_with_len 0 (length devices)) in
-    let meant = filter (is_opened so_far.earlier part) (range_with_len 0 (length specs)) in
-    let same : meant ≡ coded = ap (λ n. filter (is_opened so_far.earlier part) (range_with_len 0 n)) (sym count) ∙ sym (opened_same lines part so_far.earlier devices start table so_far.ended) in
-    let channels : List PhaseOpening = opened_from (is_opened so_far.earlier part) 0 so_far.relid specs in
-    let firsts : OpenAs channels meant = open_firsts (is_opened so_far.earlier part) so_far.relid specs none in
-    let relid : ℕ = so_far.relid + length (others channels) in
-    let rest : List Phase = left lines (end + 1) (so_far.number + 1) relid (so_far.earlier ++ part) in
+    let coded : List PhaseOpening = opened_from (opens devices part start) 0 next.relid specs in
+    let meant : List PhaseOpening = opened_from (is_opened so_far.earlier part) 0 next.relid (offered lines) in
+    let same : meant ≡ coded = sym (opened_same lines part so_far.earlier devices start next.relid (count ∙ ap length specs_are) table so_far.ended) ∙ ap (opened_from (opens devices part start) 0 next.relid) (sym specs_are) in
+    let later : ℕ = next.relid + length (others meant) in
+    let rest : ℕ → List Phase = λ r. left lines (end + 1) (so_far.number + 1) r (so_far.earlier ++ part) in
     let coded_gone : ℕ → Bool = rescinded_in part in
     let meant_gone : ℕ → Bool = λ device. is_rescinded device part in
-    let gone : openings_from S meant_gone next.gpadl next.page channels ≡ openings_from S coded_gone next.gpadl next.page channels = (λ i. openings_from S (λ device. rescind_same device part i) next.gpadl next.page channels) in
-    let one : openings_from S meant_gone next.gpadl next.page channels ≡ os = gone ∙ (firsts.openings S coded_gone next.gpadl next.page ∙ (ap (λ (l : List ℕ). openings_from S coded_gone next.gpadl next.page (map first_channel l)) same ∙ sym is)) in
-    let g : next.gpadl + length channels ≡ next'.gpadl = ap (λ k. next.gpadl + k) (firsts.count ∙ ap length same) ∙ sym gpadl in
-    let p : next.page + pages_in S channels ≡ next'.page = ap (λ k. next.page + k) (firsts.pages S ∙ ap (λ (l : List ℕ). pages_in S (map first_channel l)) same) ∙ sym page in
-    let here : numbered S next.gpadl next.page (left lines start so_far.number so_far.relid so_far.earlier) ≡ os ∷ numbered S next'.gpadl next'.page rest =
-    ap (λ r. numbered S next.gpadl next.page (phases_from specs so_far.number so_far.relid so_far.earlier r)) cut
-    ∙ (ap (λ o. o ∷ numbered S (next.gpadl + length channels) (next.page + pages_in S channels) rest) one
-    ∙ (ap (λ k. os ∷ numbered S k (next.page + pages_in S channels) rest) g ∙ ap (λ k. os ∷ numbered S next'.gpadl k rest) p)) in
+    let one : openings_from S meant_gone next.gpadl next.page meant ≡ os = (λ i. openings_from S (λ device. rescind_same device part i) next.gpadl next.page (same i)) ∙ sym is in
+    let g : next.gpadl + length meant ≡ next'.gpadl = ap (λ (cs : List PhaseOpening). next.gpadl + length cs) same ∙ sym gpadl in
+    let p : next.page + pages_in S meant ≡ next'.page = ap (λ (cs : List PhaseOpening). next.page + pages_in S cs) same ∙ sym page in
+    let r : later ≡ next'.relid = ap (λ (cs : List PhaseOpening). next.relid + length (others cs)) same ∙ sym relid in
+    let here : numbered S next.gpadl next.page (left lines start so_far.number next.relid so_far.earlier) ≡ os ∷ numbered S next'.gpadl next'.page (rest next'.relid) =
+    ap (λ xs. numbered S next.gpadl next.page (phases_from (offered lines) so_far.number next.relid so_far.earlier xs)) cut
+    ∙ (λ i. one i ∷ numbered S (g i) (p i) (rest (r i))) in
     record {
       number = so_far.number + 1;
-      relid = relid;
       earlier = so_far.earlier ++ part;
-      all = so_far.all ∙ (ap (λ l. made ++ l) here ∙ sym (append_assoc made (os ∷ []) (numbered S next'.gpadl next'.page rest)));
+      all = so_far.all ∙ (ap (λ l. made ++ l) here ∙ sym (append_assoc made (os ∷ []) (numbered S next'.gpadl next'.page (rest next'.relid))));
       ended = λ device.
           let P : Line → Bool = λ l. ends device l.what in
           list_any-append P so_far.earlier part ∙ ap (λ b. b || list_any P part) (so_far.ended device) ∙ sym (list_any-append P (take start lines) part)

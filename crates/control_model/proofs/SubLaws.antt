@@ -1,5 +1,5 @@
 -- The sub-channels of a device, and the order in which a phase's channels are closed.
-use Rattle.std.proofs.Common.{◌≡◌, ◌∙◌, ℕ, zero, suc, ◌+◌, ◌-◌, ◌<◌, ◌≤◌, ◌==◌, nat_lt, Bool, true, false, not, cond, if◌then◌else◌, List, [], ◌∷◌, ◌++◌, length, take, drop, slice_get, get_or, Option, Some, None, refl, sym, ap, subst, append_assoc, length-append, length-drop, arith}
+use Rattle.std.proofs.Common.{◌≡◌, ◌∙◌, ℕ, zero, suc, ◌+◌, ◌-◌, ◌<◌, ◌≤◌, ◌==◌, nat_lt, Bool, true, false, not, cond, if◌then◌else◌, List, [], ◌∷◌, ◌++◌, length, take, drop, slice_get, Some, None, refl, sym, ap, subst, append_assoc, length-append, length-drop, arith}
 use Rattle.std.proofs.lemmas.Option.{slice_get_past}
 use Rattle.std.proofs.lemmas.Bool.{eqb-true}
 use Rattle.std.proofs.lemmas.Bool.Decides.{nat_tests}
@@ -99,12 +99,15 @@ pub next_few : (os : List Opening) (n : ℕ) → length (subs_next (drop n os)) 
 next_few os n = let few = next_few_one (drop n os) in let long = length-drop n os in omega (arith, few, long)
 
 -- closing order
-by_test : {P : Type 0} (b : Bool) → (b ≡ true → P) → (b ≡ false → P) → P
+pub by_test : {P : Type 0} (b : Bool) → (b ≡ true → P) → (b ≡ false → P) → P
 by_test true f g = f refl
 by_test false f g = g refl
 
-none_by : (n : ℕ) → not (n == 0) ≡ false → n ≡ 0
+pub none_by : (n : ℕ) → not (n == 0) ≡ false → n ≡ 0
 none_by n e = by_test {P = n ≡ 0} (n == 0) (λ t. eqb-true n 0 t) (λ f. let wrong : true ≡ false = sym (ap not f) ∙ e in absurd (cc))
+
+pub some_by : (n : ℕ) → not (n == 0) ≡ true → 1 ≤ n
+some_by n e = by_test {P = 1 ≤ n} (n == 0) (λ t. let wrong : false ≡ true = sym (ap not t) ∙ e in absurd (cc)) (λ f. grind (arith, nat_tests, f))
 
 get_at : (front : List Opening) (o : Opening) (back : List Opening) (n : ℕ) → n ≡ length front → slice_get (front ++ o ∷ back) n ≡ Some o
 get_at [] o back zero is = refl

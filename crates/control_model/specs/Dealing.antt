@@ -1,16 +1,17 @@
 -- The tables by which a script's plan is made in one pass over its lines, and by which its openings are found.
-use Rattle.std.specs.Prelude.{◌≡◌, ℕ, ◌+◌, ◌-◌, ◌≤◌, ◌==◌, Bool, true, false, ◌++◌, not, ◌&&◌, ◌||◌, List, [], ◌∷◌, length, All, slice_index_or, drop, nat_lt, nat_le, if◌then◌else◌, Option, Some, None, is_some, slice_get}
+use Rattle.std.specs.Prelude.{◌≡◌, ℕ, ◌+◌, ◌-◌, ◌≤◌, ◌==◌, Bool, false, ◌++◌, not, ◌&&◌, ◌||◌, List, [], length, All, slice_index_or, drop, nat_lt, nat_le, if◌then◌else◌, Option, Some, None, is_some, slice_get}
 use Rattle.std.specs.List.{list_any, position}
 use Rattle.script_lines.specs.declared.line.Line.{Line}
 use Rattle.script_lines.specs.declared.line.What.{What}
-use Rattle.script_lines.specs.declared.line.DeviceSpec.TheVariants.{Beat}
+use Rattle.script_lines.specs.declared.line.DeviceSpec.{DeviceSpec}
 use Rattle.script_lines.specs.Parts.{parts, ring_pages_of, rescinds, shuts}
 use Rattle.script_phases.specs.Says.{heard_by, said}
-use Rattle.script_phases.specs.Openings.{Opening as PhaseOpening}
+use Rattle.script_phases.specs.Openings.{Opening as PhaseOpening, channels_from, others}
+use Rattle.control_model.specs.Openings.{openings_from, pages_in}
 use Rattle.control_model.specs.declared.planning.Served.{Served}
 use Rattle.control_model.specs.declared.planning.Next.{Next}
 use Rattle.control_model.specs.declared.opening.Opening.{Opening}
-use Rattle.control_model.specs.Plan.{list_pages, is_of_sub}
+use Rattle.control_model.specs.Plan.{is_of_sub}
 
 -- a line ends a device for all later phases: it rescinds it, or closes it
 abbrev pub ends : ℕ → What → Bool
@@ -47,20 +48,20 @@ opens devices part start number = opens_one part start (slice_index_or devices n
 abbrev pub size_in : List Served → ℕ → ℕ
 size_in devices number = (slice_index_or devices number no_device).ring_pages
 
--- the first channel of a device; for its rings and its page list it is all one what the device is
-abbrev pub first_channel : ℕ → PhaseOpening
-first_channel device = record { relid = device + 1; device = device; spec = Beat; sub = 0 }
+-- the channels of a device, where it is opened
+abbrev pub channels_if : Bool → ℕ → DeviceSpec → ℕ → List PhaseOpening
+channels_if opened device spec relid = if opened then channels_from device spec relid else []
 
 -- rings have 1 to 16 data pages
 abbrev pub HasSizes : List Served → Type 0
 HasSizes devices = All (λ d. (1 ≤ d.ring_pages) × (d.ring_pages ≤ 16)) devices
 
--- a device that is opened takes the next handle and the next pages
-abbrev pub Dealt : Bool → ℕ → ℕ → Bool → List Opening → Next → List Opening → Next → Type 0
-Dealt false number ring_pages rescinded before next after later = (after ≡ before) × (later ≡ next)
-Dealt true number ring_pages rescinded before next after later =
-    (after ≡ before ++ record { relid = number + 1; sub = 0; ring_pages = ring_pages; gpadl = next.gpadl; first_page = next.page; rescinded = rescinded } ∷ []) ×
-    (later ≡ record { gpadl = next.gpadl + 1; page = next.page + list_pages ring_pages })
+-- these channels of a device were opened: each took the next handle and the next pages, and each sub-channel the next relid
+pub record Dealt (channels : List PhaseOpening) (ring_pages : ℕ) (rescinded : Bool) (before : List Opening) (next : Next) (after : List Opening) (later : Next) : Type 0 where
+  pub openings : after ≡ before ++ openings_from (λ d. ring_pages) (λ d. rescinded) next.gpadl next.page channels
+  pub gpadl : later.gpadl ≡ next.gpadl + length channels
+  pub page : later.page ≡ next.page + pages_in (λ d. ring_pages) channels
+  pub relid : later.relid ≡ next.relid + length (others channels)
 
 -- the phases from a place on: none past the end
 abbrev pub rest_of : List Line → ℕ → List (List Line)

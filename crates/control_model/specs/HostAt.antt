@@ -17,7 +17,7 @@ use Rattle.control_model.specs.declared.host_wait.HostWait.{HostWait}
 use Rattle.control_model.specs.declared.host_wait.HostWait.TheVariants.{Nothing, Contact as AwaitsContact, Request, List as AwaitsList, Open, Close, Teardown, Release, Unload as AwaitsUnload}
 use Rattle.control_model.specs.Plan.{BusPlan, phase_of, closing_of}
 use Rattle.control_model.specs.Messages.{propose, request, delivered, pages_from, teardown, release, farewell, farewell_taken}
-use Rattle.control_model.specs.Said.{answer_to, guest_opens, host_opens_all, guest_closes, host_closes, only_sub, ends_given_back, said_by_guest, said_by_host}
+use Rattle.control_model.specs.Said.{answer_to, host_opens_all, guest_closes, host_closes, only_sub, ends_given_back, said_by_guest, said_by_host}
 use Rattle.control_model.specs.Host.{HostSeen}
 use Rattle.control_model.specs.Stand.{At, EndsAt, offered_before, offered_by, marked, host_is, host_ends, host_before, Tries, Agreed, Meet, handles}
 use Rattle.control_model.specs.GuestAt.{guest_from, host_from, opens_listed, answers_open, gives_one}

@@ -7,7 +7,7 @@ ghost use Rattle.control_model.specs.Dealing.{is_first_at, closing_place};
 ghost use Rattle.control_model.specs.Openings.{plan_of};
 
 use crate::Opening;
-use crate::planning::{kinds, phases, table_of, versions};
+use crate::planning::{kinds, phases, specs, table_of, versions};
 use bus_script::Script;
 use contact::{Kind, Part, Version};
 use std::alloc::{AllocError, Global};
@@ -42,7 +42,8 @@ impl Plan {
         let (guest, host) = versions(lines);
         let kinds = kinds(alloc, lines)?;
         let devices = table_of(alloc, lines, kinds.len() as u32)?;
-        let phases = phases(alloc, lines, devices.as_slice())?;
+        let specs = specs(alloc, lines)?;
+        let phases = phases(alloc, lines, specs.as_slice(), devices.as_slice())?;
         Ok(Plan {
             guest,
             host,

@@ -1,12 +1,12 @@
 //! The plan of a script.
-ghost use Rattle.std.specs.Prelude.{◌≡◌, ◌+◌, ◌*◌, ◌^◌, ◌<◌, ◌≤◌, Bool, Option, List, [], ◌∷◌, ◌++◌, ℕ, length, map, filter, take, slice_range, nat_lt, vec_len, vec_capacity, IfOk, IfSome, OnOk};
+ghost use Rattle.std.specs.Prelude.{◌≡◌, ◌+◌, ◌*◌, ◌^◌, ◌<◌, ◌≤◌, All, [], ◌∷◌, ◌++◌, ℕ, length, map, take, slice_range, IfOk, OnOk};
 ghost use Rattle.std.specs.Option.{option_to_list};
-ghost use Rattle.std.specs.List.{AllByRecursion, list_any, position, range_with_len};
+ghost use Rattle.std.specs.List.{list_any, position, range_with_len};
 ghost use Rattle.script_lines.specs.Parts.{is_phase, offered_by, offered, kind_of, ring_pages_of, rescinds, shuts};
-ghost use Rattle.script_phases.specs.Openings.{phases, subs_of};
-ghost use Rattle.control_model.specs.Plan.{first_gpadl};
+ghost use Rattle.script_phases.specs.Openings.{phases, subs_of, opened_from, others};
+ghost use Rattle.control_model.specs.Plan.{first_gpadl, list_pages};
 ghost use Rattle.control_model.specs.Openings.{numbered, guest_in, host_in, openings_from, pages_in};
-ghost use Rattle.control_model.specs.Dealing.{served_of, speaks_to, first_channel, opens_one, ends, ended_before, rescinded_in, opens, size_in, HasSizes, Dealt, rest_of};
+ghost use Rattle.control_model.specs.Dealing.{served_of, speaks_to, channels_if, opens_one, ends, ended_before, rescinded_in, opens, size_in, HasSizes, Dealt, rest_of};
 
 use crate::Opening;
 use bus_script::{DeviceSpec, Line, What};
@@ -43,6 +43,19 @@ pub fn kinds(alloc: Global, lines: &[Line]) -> Result<Vec<Kind>, AllocError>
         }
     }
     Ok(kinds)
+}
+
+/// What the devices are, in order of offer.
+pub fn specs(alloc: Global, lines: &[Line]) -> Result<Vec<DeviceSpec>, AllocError>
+    ensures { IfOk result (λ specs. specs.items ≡ offered lines.now) }
+{
+    let mut specs = Vec::new(alloc);
+    for line in lines {
+        if let What::Offer { device, .. } = &line.what {
+            specs.push(*device)?;
+        }
+    }
+    Ok(specs)
 }
 
 // The kind of device that a line offers.
@@ -179,11 +192,13 @@ fn part_end(lines: &[Line], start: usize) -> usize
 pub fn phases(
     alloc: Global,
     lines: &[Line],
+    specs: &[DeviceSpec],
     devices: &[Served],
 ) -> Result<Vec<Vec<Opening>>, AllocError>
     requires few { length devices.now ≤ 16 }
-    requires all { length devices.now ≡ length (offered lines.now) }
-    requires single { AllByRecursion (λ spec. subs_of spec ≡ 0) (offered lines.now) }
+    requires specs { specs.now ≡ offered lines.now }
+    requires all { length devices.now ≡ length specs.now }
+    requires subs { All (λ spec. subs_of spec ≤ 3) specs.now }
     requires sizes { HasSizes devices.now }
     requires table { devices.now ≡ map (served_of lines.now) (range_with_len 0 (length devices.now)) }
     requires short { length lines.now ≤ 20000 }
@@ -193,23 +208,25 @@ pub fn phases(
     let mut next = Next {
         gpadl: FIRST_GPADL,
         page: 0,
+        relid: devices.len() as u32 + 1,
     };
     let mut start = 0;
     while start <= lines.len() {
         let end = part_end(lines, start);
         let part = &lines[start..end];
-        let openings = openings(alloc, part, start, devices, &mut next)?;
+        let openings = openings(alloc, part, start, specs, devices, &mut next)?;
         phases.push(openings)?;
         start = end + 1;
     }
     Ok(phases)
 }
 
-/// The next handle, and the next page number.
+/// The next handle, the next page number, and the next relid of a sub-channel.
 #[derive(Clone, Copy)]
 pub struct Next {
     pub gpadl: u32,
     pub page: u64,
+    pub relid: u32,
 }
 
 /// The openings of a phase: its lines begin at a place of the script.
@@ -217,58 +234,107 @@ pub fn openings(
     alloc: Global,
     part: &[Line],
     start: usize,
+    specs: &[DeviceSpec],
     devices: &[Served],
     next: &mut Next,
 ) -> Result<Vec<Opening>, AllocError>
     requires few { length devices.now ≤ 16 }
+    requires all { length devices.now ≡ length specs.now }
+    requires subs { All (λ spec. subs_of spec ≤ 3) specs.now }
     requires sizes { HasSizes devices.now }
-    requires gpadl { next.old.gpadl + 16 < 2 ^ 32 }
-    requires page { next.old.page + 16 * 34 < 2 ^ 64 }
-    ensures openings { IfOk result (λ os. os.items ≡ openings_from (size_in devices.now) (rescinded_in part.now) next.old.gpadl next.old.page (map first_channel (filter (opens devices.now part.now start) (range_with_len 0 (length devices.now))))) }
-    ensures gpadl { OnOk result (next.new.gpadl ≡ next.old.gpadl + length (filter (opens devices.now part.now start) (range_with_len 0 (length devices.now)))) }
-    ensures page { OnOk result (next.new.page ≡ next.old.page + pages_in (size_in devices.now) (map first_channel (filter (opens devices.now part.now start) (range_with_len 0 (length devices.now))))) }
-    ensures few_more { OnOk result ((next.new.gpadl ≤ next.old.gpadl + 16) × (next.new.page ≤ next.old.page + 16 * 34)) }
+    requires gpadl { next.old.gpadl + 64 < 2 ^ 32 }
+    requires page { next.old.page + 64 * 34 < 2 ^ 64 }
+    requires relid { next.old.relid + 64 < 2 ^ 32 }
+    ensures openings { IfOk result (λ os. os.items ≡ openings_from (size_in devices.now) (rescinded_in part.now) next.old.gpadl next.old.page (opened_from (opens devices.now part.now start) 0 next.old.relid specs.now)) }
+    ensures gpadl { OnOk result (next.new.gpadl ≡ next.old.gpadl + length (opened_from (opens devices.now part.now start) 0 next.old.relid specs.now)) }
+    ensures page { OnOk result (next.new.page ≡ next.old.page + pages_in (size_in devices.now) (opened_from (opens devices.now part.now start) 0 next.old.relid specs.now)) }
+    ensures relid { OnOk result (next.new.relid ≡ next.old.relid + length (others (opened_from (opens devices.now part.now start) 0 next.old.relid specs.now))) }
+    ensures few_more { OnOk result ((next.new.gpadl ≤ next.old.gpadl + 64) × (next.new.page ≤ next.old.page + 64 * 34) × (next.new.relid ≤ next.old.relid + 64)) }
 {
-    let mut openings = Vec::with_capacity(alloc, devices.len())?;
+    let mut openings = Vec::new(alloc);
     for (i, device) in devices.iter().enumerate() {
         let opened = opens(part, start, *device, i as u32);
         let rescinded = is_rescinded(part, i as u32);
-        deal(opened, i as u32, *device, rescinded, &mut openings, next);
+        deal(
+            opened,
+            i as u32,
+            specs[i],
+            device.ring_pages,
+            rescinded,
+            &mut openings,
+            next,
+        )?;
     }
     Ok(openings)
 }
 
-// Opens a device, where that is so: the opening takes the next handle and the next pages.
+// Opens the channels of a device, where that is so: each takes the next handle and the next pages, and
+// each sub-channel the next relid.
 fn deal(
     opened: bool,
     number: u32,
-    device: Served,
+    spec: DeviceSpec,
+    ring_pages: u32,
     rescinded: bool,
     openings: &mut Vec<Opening>,
     next: &mut Next,
-)
-    requires room { vec_len openings.old < vec_capacity openings.old }
-    requires size { device.ring_pages ≤ 16 }
+) -> Result<(), AllocError>
+    requires size { ring_pages ≤ 16 }
     requires number { number < 16 }
-    requires gpadl { next.old.gpadl + 1 < 2 ^ 32 }
-    requires page { next.old.page + 34 < 2 ^ 64 }
-    ensures dealt { Dealt opened number device.ring_pages rescinded openings.old.items next.old openings.new.items next.new }
-    ensures few { vec_len openings.new ≤ vec_len openings.old + 1 }
-    ensures capacity { vec_capacity openings.new ≡ vec_capacity openings.old }
-    ensures gpadl { next.new.gpadl ≤ next.old.gpadl + 1 }
-    ensures page { next.new.page ≤ next.old.page + 34 }
+    requires subs { subs_of spec ≤ 3 }
+    requires gpadl { next.old.gpadl + 4 < 2 ^ 32 }
+    requires page { next.old.page + 4 * 34 < 2 ^ 64 }
+    requires relid { next.old.relid + 4 < 2 ^ 32 }
+    ensures dealt { OnOk result (Dealt (channels_if opened number spec next.old.relid) ring_pages rescinded openings.old.items next.old openings.new.items next.new) }
+    ensures few { OnOk result ((next.new.gpadl ≤ next.old.gpadl + 4) × (next.new.page ≤ next.old.page + 4 * 34) × (next.new.relid ≤ next.old.relid + 4)) }
 {
     if opened {
-        openings.push_reserved(Opening {
-            relid: number + 1,
-            sub: 0,
-            ring_pages: device.ring_pages,
-            gpadl: next.gpadl,
-            first_page: next.page,
-            rescinded,
-        });
-        next.gpadl += 1;
-        next.page += 2 * u64::from(device.ring_pages) + 2;
+        open(number + 1, 0, ring_pages, rescinded, openings, next)?;
+        for i in 0..subs_of(spec) {
+            let relid = next.relid;
+            next.relid += 1;
+            open(relid, i + 1, ring_pages, rescinded, openings, next)?;
+        }
+    }
+    Ok(())
+}
+
+// Opens a channel: it takes the next handle and the next pages.
+fn open(
+    relid: u32,
+    sub: u16,
+    ring_pages: u32,
+    rescinded: bool,
+    openings: &mut Vec<Opening>,
+    next: &mut Next,
+) -> Result<(), AllocError>
+    requires size { ring_pages ≤ 16 }
+    requires gpadl { next.old.gpadl + 1 < 2 ^ 32 }
+    requires page { next.old.page + 34 < 2 ^ 64 }
+    ensures opened { OnOk result (openings.new.items ≡ openings.old.items ++ record { relid = relid; sub = sub; ring_pages = ring_pages; gpadl = next.old.gpadl; first_page = next.old.page; rescinded = rescinded } ∷ []) }
+    ensures next { OnOk result (next.new ≡ record { gpadl = next.old.gpadl + 1; page = next.old.page + list_pages ring_pages; relid = next.old.relid }) }
+{
+    openings.push(Opening {
+        relid,
+        sub,
+        ring_pages,
+        gpadl: next.gpadl,
+        first_page: next.page,
+        rescinded,
+    })?;
+    next.gpadl += 1;
+    next.page += 2 * u64::from(ring_pages) + 2;
+    Ok(())
+}
+
+// How many channels a device has beside its first one.
+fn subs_of(spec: DeviceSpec) -> u16
+    requires { subs_of spec ≤ 3 }
+    ensures { result ≡ subs_of spec }
+{
+    match spec {
+        DeviceSpec::Disk { subs, .. } => subs as u16,
+        _ => 0,
     }
 }
 
