@@ -1,5 +1,9 @@
 pub mod Cutting
 pub mod Hearing
+pub mod Sharing
 pub mod Noting
 pub mod Ordering
+pub mod Devices
+pub mod Dealt
+pub mod Listed
 pub mod Telling

@@ -1,6 +1,6 @@
 -- The outcomes of the lines of a phase, line by line.
 use Rattle.std.proofs.Common.{◌≡◌, ℕ, ◌+◌, ◌<◌, ◌≤◌, ◌==◌, ◌^◌, Bool, true, false, cond, List, [], ◌∷◌, ◌++◌, length, length-append, append_assoc, take, drop, get_or, refl, ap, sym, ◌∙◌, subst, arith, inl, inr, slice_set, slice_index_or, replicate, Option, Some, None}
-use Rattle.std.specs.Prelude.{map, slice_get}
+use Rattle.std.specs.Prelude.{map, is_some}
 use Rattle.std.specs.Option.{IfSome}
 use Rattle.std.specs.List.{flat_map}
 use Rattle.std.proofs.Math.ListN.{length-set}
@@ -37,10 +37,10 @@ pub tells_one : (o : Option LineResult) (r : LineResult) (old new : List LineRes
 tells_one o r old new is grown = record { told = r ∷ []; more = grown; each = ap (λ x. x ∷ []) (sym is) }
 
 -- the outcome of a request
-pub told_asked : (p : Phase) (channels : List Carried) (before : List Line) (ended : List (Option Ending)) (outcomes : List (List LineResult)) (counts : List ℕ) (what : What) (device : ℕ) (ask : Ask) (o : Option Ending) (n : ℕ) (r : LineResult)
+pub told_asked : (p : Phase) (channels : List Carried) (before : List Line) (ended : List (Option Ending)) (outcomes : List (List (List LineResult))) (counts : List ℕ) (what : What) (device : ℕ) (ask : Ask) (o : Option Ending) (n : ℕ) (r : LineResult)
     (old new : List LineResult) → said what ≡ Some (device, Asks ask) → source_of p before what ≡ known_or (ended_as device p.earlier) (AskedOf device (length (asks_of device before))) ∷ []
     → AreEnded p.earlier ended → AreTold p channels (length ended) outcomes → AreCounted before counts → device < length ended → device < length counts → o ≡ slice_index_or ended device None → n ≡ slice_index_or counts device 0
-    → left_or (outcome_left o) (slice_get (slice_index_or outcomes device []) n) ≡ Some r → new ≡ old ++ r ∷ [] → Tells (map (outcome_at p channels) (source_of p before what)) old new
+    → left_or (outcome_left o) (nth_of (slice_index_or outcomes device []) n) ≡ Some r → new ≡ old ++ r ∷ [] → Tells (map (outcome_at p channels) (source_of p before what)) old new
 told_asked p channels before ended outcomes counts what device ask o n r old new says source are told counted less within ending number is grown =
     let here : outcome_left o ≡ ended_as device p.earlier = ap outcome_left ending ∙ are device less in
     let count : n ≡ length (asks_of device before) = number ∙ counted device within in
@@ -49,7 +49,7 @@ told_asked p channels before ended outcomes counts what device ask o n r old new
     known (ended_as device p.earlier)
     ∙ (ap (λ e. left_or e (nth_of (told_by p channels device) (length (asks_of device before)))) (sym here)
     ∙ (ap (λ k. left_or (outcome_left o) (nth_of (told_by p channels device) k)) (sym count)
-    ∙ (ap (left_or (outcome_left o)) (sym (told device less n)) ∙ is))) in
+    ∙ (ap (λ l. left_or (outcome_left o) (nth_of l n)) (sym (told device less)) ∙ is))) in
     subst (λ l. Tells (map (outcome_at p channels) l) old new) (sym source) (tells_one _ r old new value grown)
   where
     by_known : (e : Option LineResult) → outcome_at p channels (known_or e (AskedOf device (length (asks_of device before)))) ≡ left_or e (nth_of (told_by p channels device) (length (asks_of device before)))
@@ -91,19 +91,19 @@ sources_push p before (m ∷ part) l =
     ∙ sym (append_assoc (source_of p before m.what) (sources_from p (before ++ m ∷ []) part) (source_of p (before ++ m ∷ part) l.what))
 
 -- the first lines are told
-pub record ToldSoFar (ended : List (Option Ending)) (outcomes : List (List LineResult)) (part : List Line) (i : ℕ) (old new : List LineResult) (counts : List ℕ) : Type 0 where
+pub record ToldSoFar (ended : List (Option Ending)) (outcomes : List (List (List LineResult))) (part : List Line) (i : ℕ) (old new : List LineResult) (counts : List ℕ) : Type 0 where
   pub tells : (p : Phase) (channels : List Carried) → p.part ≡ part → AreEnded p.earlier ended → AreTold p channels (length ended) outcomes → Tells (map (outcome_at p channels) (sources_from p [] (take i part))) old new
   pub long : length counts ≡ length ended
   pub counted : AreCounted (take i part) counts
 
-pub told_start : (ended : List (Option Ending)) (outcomes : List (List LineResult)) (part : List Line) (results : List LineResult) (counts : List ℕ) → counts ≡ replicate (length ended) 0 → ToldSoFar ended outcomes part 0 results results counts
+pub told_start : (ended : List (Option Ending)) (outcomes : List (List (List LineResult))) (part : List Line) (results : List LineResult) (counts : List ℕ) → counts ≡ replicate (length ended) 0 → ToldSoFar ended outcomes part 0 results results counts
 told_start ended outcomes part results counts none = record {
   tells = λ p channels is are told. tells_none results;
   long = ap length none ∙ length-replicate {A = ℕ} (length ended) 0;
   counted = λ k less. ap (λ l. slice_index_or l k 0) none ∙ get_or-replicate (length ended) k 0 0 (omega (arith, less, ap length none, length-replicate {A = ℕ} (length ended) 0));
 }
 
-pub told_more : (ended : List (Option Ending)) (outcomes : List (List LineResult)) (part : List Line) (i : ℕ) (line : Line) (old mid new : List LineResult) (counts counts' : List ℕ) → ToldSoFar ended outcomes part i old mid counts → i < length part → line ≡ get_or part i line
+pub told_more : (ended : List (Option Ending)) (outcomes : List (List (List LineResult))) (part : List Line) (i : ℕ) (line : Line) (old mid new : List LineResult) (counts counts' : List ℕ) → ToldSoFar ended outcomes part i old mid counts → i < length part → line ≡ get_or part i line
     → ((p : Phase) (channels : List Carried) (before : List Line) → AreEnded p.earlier ended → AreTold p channels (length ended) outcomes → AreCounted before counts → Tells (map (outcome_at p channels) (source_of p before line.what)) mid new)
     → CountsOn line.what counts counts' → ToldSoFar ended outcomes part (i + 1) old new counts'
 told_more ended outcomes part i line old mid new counts counts' so_far less is one on =
@@ -122,7 +122,7 @@ told_more ended outcomes part i line old mid new counts counts' so_far less is o
           ∙ (sym (length-append (asks_of k (take i part)) (flat_map asked (heard_by k (said line.what)))) ∙ ap length (sym (told_taken asked k part i line less is))));
     }
 
-pub told_end : (ended : List (Option Ending)) (outcomes : List (List LineResult)) (part : List Line) (i : ℕ) (old new : List LineResult) (counts : List ℕ) → ToldSoFar ended outcomes part i old new counts → length part ≤ i
+pub told_end : (ended : List (Option Ending)) (outcomes : List (List (List LineResult))) (part : List Line) (i : ℕ) (old new : List LineResult) (counts : List ℕ) → ToldSoFar ended outcomes part i old new counts → length part ≤ i
     → (p : Phase) (channels : List Carried) → p.part ≡ part → AreEnded p.earlier ended → AreTold p channels (length ended) outcomes → Tells (outcomes_in p channels) old new
 told_end ended outcomes part i old new counts so_far over p channels is are told =
     let whole : take i part ≡ p.part = take_all i part over ∙ sym is in
@@ -150,12 +150,12 @@ some_asked (Asks ask) k some = let own : (k == k) ≡ true = grind (arith, nat_t
 some_asked (Rescinds after held) k some = absurd (some refl)
 some_asked Shuts k some = absurd (some refl)
 
-pub has_outcome : (ended : List (Option Ending)) (outcomes : List (List LineResult)) (part : List Line) (i : ℕ) (line : Line) (old new : List LineResult) (counts : List ℕ) → ToldSoFar ended outcomes part i old new counts → HasOutcomes part ended outcomes → AllBelow (length ended) part
+pub has_outcome : (ended : List (Option Ending)) (outcomes : List (List (List LineResult))) (part : List Line) (i : ℕ) (line : Line) (old new : List LineResult) (counts : List ℕ) → ToldSoFar ended outcomes part i old new counts → HasOutcomes part ended outcomes → AllBelow (length ended) part
     → length part < 2 ^ 64 → i < length part → line ≡ get_or part i line → HasOutcome ended outcomes counts line.what
 has_outcome ended outcomes part i line old new counts so_far has below fits less is = by_said (said line.what) refl (below_at (length ended) part i line below less is)
   where
     by_said : (o : Option (ℕ × Says)) → said line.what ≡ o → IfSome o (λ s. s.0 < length ended)
-        → IfSome o (λ s. (asked s.1 ≡ [] → ⊥) → (slice_index_or counts s.0 0 + 1 < 2 ^ 64) × (slice_index_or ended s.0 None ≡ None → slice_index_or counts s.0 0 < length (slice_index_or outcomes s.0 [])))
+        → IfSome o (λ s. (asked s.1 ≡ [] → ⊥) → (slice_index_or counts s.0 0 + 1 < 2 ^ 64) × (slice_index_or ended s.0 None ≡ None → is_some (nth_of (slice_index_or outcomes s.0 []) (slice_index_or counts s.0 0)) ≡ true))
     by_said None says within = tt
     by_said (Some s) says within = λ some.
         let k = s.0 in
@@ -167,4 +167,4 @@ has_outcome ended outcomes part i line old new counts so_far has below fits less
         let sizes = length-append (asks_of k (take i part)) (flat_map asked (heard_by k (said line.what)) ++ rest) in
         let more = length-append (flat_map asked (heard_by k (said line.what))) rest in
         let low : slice_index_or counts k 0 + 1 ≤ length (asks_of k part) = omega (arith, count, here, heard, cut, sizes, more) in
-        (omega (arith, low, asks_long k part, fits), λ none. omega (arith, low, has k within none))
+        (omega (arith, low, asks_long k part, fits), λ none. has k within none (slice_index_or counts k 0) (omega (arith, low)))

@@ -1,7 +1,8 @@
 //! What the lines of a phase say to a device.
-ghost use Rattle.std.specs.Prelude.{◌≡◌, ◌++◌, ◌∷◌, [], MatchOption, IfOk, OnOk, is_some, slice_get};
+ghost use Rattle.std.specs.Prelude.{◌≡◌, ◌≤◌, ◌<◌, ◌+◌, ◌^◌, ◌%◌, ◌==◌, ◌++◌, ◌∷◌, [], length, MatchOption, IfOk, OnOk, is_some, slice_get};
 ghost use Rattle.std.specs.List.{flat_map};
 ghost use Rattle.script_phases.specs.Says.{said, heard_by, said_to, asked, asks_of, stops, stop_of};
+ghost use Rattle.script_phases.specs.Shares.{share};
 ghost use Rattle.bus_plan.specs.Heard.{said_told, heard_told, stop_told};
 
 use bus_script::{Ask, Line, What};
@@ -51,12 +52,40 @@ fn heard_by(device: u32, what: &What) -> Option<Heard<'_>>
     }
 }
 
-fn push_ask(asks: &mut Vec<Ask>, heard: Option<Heard<'_>>) -> Result<(), AllocError>
-    ensures { OnOk result (asks.new.items ≡ asks.old.items ++ flat_map asked (heard_told heard.entry)) }
+/// Which share of a device's requests is wanted: that of one of so many channels.
+#[derive(Clone, Copy)]
+struct Share {
+    many: usize,
+    channel: usize,
+}
+
+/// Whether the request with this number of a device is in a share: the channels take turns.
+fn is_in(wanted: Share, number: usize) -> bool
+    requires { 1 ≤ wanted.many }
+    ensures { result ≡ (number % wanted.many == wanted.channel) }
+{
+    number % wanted.many == wanted.channel
+}
+
+/// Puts a request behind others, if one is heard and it is in the share; `number` counts all requests.
+fn push_ask(
+    asks: &mut Vec<Ask>,
+    number: &mut usize,
+    wanted: Share,
+    heard: Option<Heard<'_>>,
+) -> Result<(), AllocError>
+    requires some { 1 ≤ wanted.many }
+    requires room { number.old + 1 < 2 ^ 64 }
+    ensures asks { OnOk result (asks.new.items ≡ asks.old.items ++ share wanted.many wanted.channel number.old (flat_map asked (heard_told heard.entry))) }
+    ensures number { OnOk result (number.new ≡ number.old + length (flat_map asked (heard_told heard.entry))) }
+    ensures most { OnOk result (number.new ≤ number.old + 1) }
 {
     match heard {
         Some(Heard::Asks(ask)) => {
-            asks.push(ask.again())?;
+            if is_in(wanted, *number) {
+                asks.push(ask.again())?;
+            }
+            *number += 1;
             Ok(())
         }
         Some(Heard::Stops(_)) => Ok(()),
@@ -65,13 +94,25 @@ fn push_ask(asks: &mut Vec<Ask>, heard: Option<Heard<'_>>) -> Result<(), AllocEr
     }
 }
 
-/// The requests of these lines to a device, in order.
-pub fn asks_of(alloc: Global, device: u32, part: &[Line]) -> Result<Vec<Ask>, AllocError>
-    ensures { IfOk result (λ asks. asks.items ≡ asks_of device part.now) }
+/// Of the requests of these lines to a device, those of one of its channels, of which there are so many, in order.
+pub fn share_of(
+    alloc: Global,
+    device: u32,
+    many: u32,
+    channel: u32,
+    part: &[Line],
+) -> Result<Vec<Ask>, AllocError>
+    requires { 1 ≤ many }
+    ensures { IfOk result (λ asks. asks.items ≡ share many channel 0 (asks_of device part.now)) }
 {
+    let wanted = Share {
+        many: many as usize,
+        channel: channel as usize,
+    };
     let mut asks = Vec::new(alloc);
+    let mut number = 0;
     for line in part {
-        push_ask(&mut asks, heard_by(device, &line.what))?;
+        push_ask(&mut asks, &mut number, wanted, heard_by(device, &line.what))?;
     }
     Ok(asks)
 }

@@ -1,19 +1,19 @@
 //! The plan of a phase: which channels its lines open, what each of them is asked and where it stops, which devices it ends, and the outcome of each line.
 #![tactic(auto)]
 
+mod channel_outcomes;
 mod ending;
 mod endings;
 mod heard;
 mod opening;
 mod outcomes;
-mod piles;
 mod plan;
 mod split;
 
+pub use channel_outcomes::Outcomes;
 pub use ending::Ending;
 pub use endings::mark_ended;
 pub use opening::{ChannelOrder, Opening};
 pub use outcomes::tell;
-pub use piles::Piles;
 pub use plan::plan_part;
 pub use split::first_part;

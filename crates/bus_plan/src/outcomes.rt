@@ -1,33 +1,39 @@
 //! The outcomes of the lines of a phase.
-ghost use Rattle.std.specs.Prelude.{◌≡◌, ◌+◌, ◌<◌, List, length, map, None, Some, OnOk, slice_get, slice_index_or};
+ghost use Rattle.std.specs.Prelude.{◌≡◌, ◌+◌, ◌<◌, List, length, map, None, Some, [], true, is_some, OnOk, slice_index_or};
 ghost use Rattle.script_lines.specs.declared.line.Line.{Line as OneLine};
 ghost use Rattle.script_phases.specs.Openings.{Phase};
-ghost use Rattle.bus_model.specs.Run.{Carried, source_of, outcome_at, outcomes_in};
+ghost use Rattle.bus_model.specs.Run.{Carried, nth_of, source_of, outcome_at, outcomes_in};
 ghost use Rattle.bus_plan.specs.Heard.{IsBelow, AllBelow};
 ghost use Rattle.bus_plan.specs.Endings.{AreEnded, outcome_left};
 ghost use Rattle.bus_plan.specs.Outcomes.{AreTold, AreCounted, CountsOn, HasOutcome, HasOutcomes, Tells, left_or};
 
-use crate::{Ending, Piles};
+use crate::{Ending, Outcomes};
 use bus_script::{Line, LineResult, What};
 use contact::tried;
 use std::alloc::{AllocError, Global};
 
-/// The outcome of the request with this number of a device, of whose requests these are the outcomes.
-fn outcome_of(ended: Option<Ending>, outcomes: &[LineResult], number: usize) -> LineResult
-    requires { ended ≡ None → number < length outcomes.now }
-    ensures { left_or (outcome_left ended) (slice_get outcomes.now number) ≡ Some result }
+/// The outcome of the request with this number of a device, which ended so.
+fn outcome_of(
+    ended: Option<Ending>,
+    outcomes: &Outcomes,
+    device: usize,
+    number: usize,
+) -> LineResult
+    requires device { device < length outcomes.now }
+    requires has { ended ≡ None → is_some (nth_of (slice_index_or outcomes.now device []) number) ≡ true }
+    ensures { left_or (outcome_left ended) (nth_of (slice_index_or outcomes.now device []) number) ≡ Some result }
 {
     match ended {
         Some(Ending::Rescinded) => LineResult::Gone,
         Some(Ending::Closed) => LineResult::Closed,
-        None => outcomes[number].again(),
+        None => outcomes.nth(device, number),
     }
 }
 
 /// The outcome of one more line. `asked` says how many requests of each device stand before it.
 fn tell_line(
     ended: &[Option<Ending>],
-    outcomes: &Piles<LineResult>,
+    outcomes: &Outcomes,
     what: &What,
     asked: &mut [usize],
     results: &mut Vec<LineResult>,
@@ -48,7 +54,7 @@ fn tell_line(
         }
         What::Ask { device, .. } => {
             let at = *device as usize;
-            let outcome = outcome_of(ended[at], outcomes.get(at), asked[at]);
+            let outcome = outcome_of(ended[at], outcomes, at, asked[at]);
             results.push(outcome)?;
             asked[at] += 1;
             Ok(())
@@ -57,12 +63,12 @@ fn tell_line(
     }
 }
 
-/// The outcome of each line of a phase that has one, behind others. `ended` says how an earlier phase ended each device, and `outcomes` has those of each
-/// device's requests in the phase.
+/// The outcome of each line of a phase that has one, behind others. `ended` says how an earlier phase ended each device, and `outcomes` has those of the
+/// requests of the phase, channel by channel.
 pub fn tell(
     alloc: Global,
     ended: &[Option<Ending>],
-    outcomes: &Piles<LineResult>,
+    outcomes: &Outcomes,
     part: &[Line],
     results: &mut Vec<LineResult>,
 ) -> Result<(), AllocError>

@@ -1,15 +1,12 @@
--- The history of a device that goes on with what its one seat served.
-use Rattle.std.proofs.Common.{◌≡◌, ℕ, zero, suc, List, [], ◌∷◌, ◌++◌, length, get_or, Some, ap, sym, ◌∙◌, subst, slice_get, arith, refl}
+-- The history of a lock whose one seat may make no call.
+use Rattle.std.proofs.Common.{◌≡◌, ℕ, zero, suc, List, [], ◌∷◌, ◌++◌, length, get_or, Some, ap, sym, ◌∙◌, subst, slice_get, refl}
 use Rattle.std.specs.Prelude.{All}
-use Rattle.std.proofs.lemmas.List.{length-map, map-append, nil_from_length}
-use Rattle.script_lines.specs.declared.line.Ask.{Ask}
-use Rattle.bus_script.specs.declared.outcome.Reply.{Reply}
-use Rattle.bus_model.specs.Logs.{Grows, served_from}
+use Rattle.std.proofs.lemmas.List.{nil_from_length}
 use Rattle.hist_lock.specs.Seat.{Seat, AreNew}
 use Rattle.hist_lock.specs.Legal.{Leaves, state_after}
-use Rattle.hist_lock.specs.Calls.{IsSeatOf, Closes, calls_from}
+use Rattle.hist_lock.specs.Calls.{IsSeatOf, Closes}
 use Rattle.hist_lock.specs.declared.history.Entry.{Entry}
-use Rattle.bus_run.proofs.Histories.{recorded, log_by, served_as, served_by, log_serves, log_long}
+use Rattle.bus_run.proofs.Histories.{log_long}
 
 module _ {S Q A : Type 0} (seat : Seat S Q A) where
   that_seat : (j : ℕ) (s : Seat S Q A) → slice_get (seat ∷ []) j ≡ Some s → s ≡ seat
@@ -22,21 +19,6 @@ module _ {S Q A : Type 0} (seat : Seat S Q A) where
   -- all entries are the one seat's
   all_own : (entries : List (Entry S Q A)) → seat.number ≡ 0 → All (λ (e : Entry S Q A). IsSeatOf (seat ∷ []) e.seat) entries → All (λ (e : Entry S Q A). e.seat ≡ 0) entries
   all_own entries first others k d lt = numbered (get_or entries k d).seat first (others k d lt)
-
-pub grows_one : {S Q A : Type 0} (asked : Q → Ask) (replied : A → Reply) (after : S → Q → S) (reply_to : S → Q → A) (seat : Seat S Q A) (old new : List (Entry S Q A))
-    → Closes after reply_to (seat ∷ []) new → seat.number ≡ 0 → seat.lock.past ≡ old → Grows (log_by asked replied old) (log_by asked replied new) (served_by asked replied seat.calls ∷ [])
-grows_one {S} {Q} {A} asked replied after reply_to seat old new closes first past =
-    let since : List (Entry S Q A) = closes.since in
-    let grown : new ≡ old ++ since = closes.begins 0 seat refl ∙ ap (λ l. l ++ since) past in
-    let calls : calls_from 0 (length old) since ≡ seat.calls =
-    ap (λ n. calls_from n (length old) since) (sym first) ∙ ap (λ (l : List (Entry S Q A)). calls_from seat.number (length l) since) (sym past) ∙ closes.calls 0 seat refl in
-    let long : length since ≡ length seat.calls = sym (log_long (length old) since (all_own seat since first closes.others)) ∙ ap length calls in
-    record {
-      more = log_by asked replied since;
-      after_is = ap (log_by asked replied) grown ∙ map-append (recorded asked replied) old since;
-      seats = (ap (λ n. served_from 0 n (log_by asked replied since)) (length-map old (recorded asked replied)) ∙ log_serves asked replied 0 (length old) since ∙ ap (served_by asked replied) calls, tt);
-      all = omega (arith, length-map since (recorded asked replied), long, length-map seat.calls (served_as asked replied));
-    }
 
 -- a lock whose one seat may make no call leaves no history
 pub none_served : {S Q A : Type 0} (after : S → Q → S) (reply_to : S → Q → A) (machine : S) (seats : List (Seat S Q A)) (entries : List (Entry S Q A)) → AreNew machine [] (0 ∷ []) seats → Closes after reply_to seats entries → entries ≡ []

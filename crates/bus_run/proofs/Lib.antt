@@ -1,12 +1,15 @@
+pub mod Items
 pub mod Histories
 pub mod Growing
+pub mod ManySeats
+pub mod Stays
 pub mod SeatEnds
-pub mod Places
 pub mod Opened
 pub mod Closed
 pub mod Asking
 pub mod SettingLines
 pub mod BadPlaces
-pub mod PhaseRun
 pub mod Phases
 pub mod ServedLines
+pub mod Assembling
+pub mod PhaseRun

@@ -1,147 +1,350 @@
--- The devices of a phase whose channels are opened.
-use Rattle.std.proofs.Common.{◌≡◌, ℕ, ◌+◌, ◌<◌, ◌≤◌, ◌==◌, Bool, true, false, List, [], ◌∷◌, ◌++◌, length, take, get_or, refl, ap, sym, ◌∙◌, subst, arith, inl, inr, slice_set, slice_index_or}
-use Rattle.std.specs.Prelude.{filter, ◌||◌}
+-- The seats of a phase's devices while its channels are opened.
+use Rattle.std.proofs.Common.{◌≡◌, ℕ, zero, suc, ◌+◌, ◌<◌, ◌≤◌, ◌==◌, ◌*◌, Bool, true, false, cond, List, [], ◌∷◌, ◌++◌, length, length-append, append_assoc, take, drop, get_or, refl, ap, sym, ◌∙◌, subst, arith, inl, inr, slice_set, slice_index_or, Option, Some, None}
+use Rattle.std.specs.Prelude.{map, filter, All}
+use Rattle.std.specs.List.{AllByRecursion}
 use Rattle.std.proofs.Math.ListN.{length-set}
-use Rattle.std.proofs.lemmas.List.{take_all, get_or-set_same, get_or-set_other, get_or_default}
+use Rattle.std.proofs.Math.Seq.{get_or-append_seam}
+use Rattle.std.proofs.lemmas.List.Elements.{filter-append}
+use Rattle.std.proofs.lemmas.List.{take_more, take_all, drop_all, map-append, get_or-set_same, get_or-set_other, get_or_default, get_or_append_left}
 use Rattle.std.proofs.lemmas.Bool.{cases_eq}
 use Rattle.std.proofs.lemmas.Bool.Decides.{nat_tests}
+use Rattle.bus_model.proofs.Lists.{each_append}
+use Rattle.chan_state.specs.declared.stop.Stop.{Stop}
+use Rattle.contact.specs.declared.kind.Kind.{Kind}
+use Rattle.contact.specs.declared.kind.Kind.TheVariants.{Beat as KindBeat, Down as KindDown, Disk as KindDisk}
 use Rattle.script_lines.specs.Parts.{kind_of}
-use Rattle.script_phases.specs.Openings.{Opening, Phase, by_relid}
-use Rattle.phase_run.specs.Pairs.{Pairing, EachRuns, RunsPair}
-use Rattle.phase_run.specs.declared.pair.PairDone.{PairDone}
+use Rattle.script_phases.specs.Openings.{subs_of as subs_beside}
+use Rattle.hist_lock.specs.Seat.{Lock, Seat, seats_from}
+use Rattle.phase_run.specs.Pairs.{Pairing}
+use Rattle.end_work.specs.Plans.{stop_of}
 use Rattle.end_work.specs.Seats.{kind_at, served_at, left_at, ic_served, disk_served}
 use Rattle.end_work.specs.declared.device_seat.DeviceSeat.{DeviceSeat}
 use Rattle.end_work.specs.declared.device_seat.DeviceSeat.TheVariants.{Beat as BeatSeat, Down as DownSeat, Disk as DiskSeat}
-use Rattle.bus_model.specs.Orders.{Order, order_of}
-use Rattle.bus_plan.specs.Plans.{EachOf}
-use Rattle.bus_plan.proofs.Ordering.{each_push}
-use Rattle.bus_run.specs.Desk.{spec_of, desk_at}
-use Rattle.bus_run.specs.Opening.{IsSeatFor, OpensDesk, OpensAt, DeskRan, RanAt, AreHeld, has_channel, held_of, away_of}
-use Rattle.bus_run.specs.declared.desk.Desk.{Desk}
-use Rattle.bus_run.specs.declared.settings.Settings.{Settings}
-use Rattle.bus_run.specs.declared.desk.Desk.TheVariants.{Out, Beat as BeatDesk, Down as DownDesk, Disk as DiskDesk}
-use Rattle.bus_run.specs.Opening.{CanRun, only_of}
-use Rattle.bus_run.specs.Settings.{unset}
+use Rattle.bus_plan.specs.Heard.{stop_told}
 use Rattle.bus_plan.specs.declared.opening.ChannelOrder.{ChannelOrder}
-use Rattle.bus_run.proofs.Places.{no_opening, opening_at, Here, here, only_here, taken, has_more, once_at}
+use Rattle.bus_run.specs.Desk.{spec_of, subs_of, desk_at, Suits, IsReady}
+use Rattle.bus_run.specs.Opening.{quotas_of, orders_of, seats_at, order_with, order_at, CanOpen, CanOpenAll, AreAway, IsOpenedWith, Given, seats_given, OpensAt, OpenedSoFar, AllOpened}
+use Rattle.bus_run.specs.Seats.{AreSeatsFor, EachWith, IsAway, away_of, kind_in, seats_in}
+use Rattle.bus_run.specs.Settings.{unset}
+use Rattle.bus_run.specs.declared.desk.Desk.{Desk}
+use Rattle.bus_run.specs.declared.desk.Desk.TheVariants.{Out, Beat as BeatDesk, Down as DownDesk, Disk as DiskDesk}
+use Rattle.bus_run.specs.declared.seats.Seats.{Seats}
+use Rattle.bus_run.specs.declared.seats.Seats.TheVariants.{None as NoSeats}
+use Rattle.bus_run.specs.declared.settings.Settings.{Settings}
+use Rattle.bus_run.proofs.Items.{At, at, all_at, push_own, push_other, with_push}
 
--- a new seat of a device is one of its kind, and has made no call
-pub seat_is : (desk : Desk) (quota : ℕ) (seat : DeviceSeat) → IsSeatFor desk quota seat → (kind_at seat ≡ kind_of (spec_of desk)) × (served_at seat ≡ []) × (left_at seat ≡ quota)
-seat_is (Out subs) quota seat is = absurd is
-seat_is (BeatDesk state history) quota (BeatSeat s) is = (refl, ap ic_served is.calls, is.left)
-seat_is (BeatDesk state history) quota (DownSeat s) is = absurd is
-seat_is (BeatDesk state history) quota (DiskSeat s) is = absurd is
-seat_is (DownDesk state history) quota (BeatSeat s) is = absurd is
-seat_is (DownDesk state history) quota (DownSeat s) is = (refl, ap ic_served is.calls, is.left)
-seat_is (DownDesk state history) quota (DiskSeat s) is = absurd is
-seat_is (DiskDesk subs state history) quota (BeatSeat s) is = absurd is
-seat_is (DiskDesk subs state history) quota (DownSeat s) is = absurd is
-seat_is (DiskDesk subs state history) quota (DiskSeat s) is = (refl, ap disk_served is.calls, is.left)
+-- the quotas of one more channel
 
--- devices are held one by one
+quotas_own : (k : ℕ) (x : ChannelOrder) (xs : List ChannelOrder) → (x.opening.device == k) ≡ true → quotas_of k (x ∷ xs) ≡ length x.asks.items ∷ quotas_of k xs
+quotas_own k x xs own = ap (λ (b : Bool). map (λ (y : ChannelOrder). length y.asks.items) (cond b (x ∷ orders_of k xs) (orders_of k xs))) own
 
-or_true : (b : Bool) → (b || true) ≡ true
-or_true true = refl
-or_true false = refl
+quotas_other : (k : ℕ) (x : ChannelOrder) (xs : List ChannelOrder) → (x.opening.device == k) ≡ false → quotas_of k (x ∷ xs) ≡ quotas_of k xs
+quotas_other k x xs other = ap (λ (b : Bool). map (λ (y : ChannelOrder). length y.asks.items) (cond b (x ∷ orders_of k xs) (orders_of k xs))) other
 
-or_false : (b : Bool) → (b || false) ≡ b
-or_false true = refl
-or_false false = refl
+pub quotas_push : (k : ℕ) (xs : List ChannelOrder) (x : ChannelOrder) → quotas_of k (xs ++ x ∷ []) ≡ quotas_of k xs ++ quotas_of k (x ∷ [])
+quotas_push k xs x =
+    ap (map (λ (y : ChannelOrder). length y.asks.items)) (filter-append (λ (y : ChannelOrder). y.opening.device == k) xs (x ∷ [])) ∙ map-append (λ (y : ChannelOrder). length y.asks.items) (orders_of k xs) (orders_of k (x ∷ []))
 
-pub held_start : (old : List Desk) → AreHeld [] old old
-held_start old = record { count = refl; each = λ k less. refl }
+pub quotas_taken : (k i : ℕ) (plan : List ChannelOrder) (x : ChannelOrder) (quotas new : List ℕ) → i < length plan → x ≡ get_or plan i x → quotas ≡ quotas_of k (take i plan) → new ≡ quotas ++ quotas_of k (x ∷ []) → new ≡ quotas_of k (take (i + 1) plan)
+quotas_taken k i plan x quotas new less is so_far grown =
+    grown ∙ (ap (λ l. l ++ quotas_of k (x ∷ [])) so_far ∙ (sym (quotas_push k (take i plan) x) ∙ ap (quotas_of k) (ap (λ y. take i plan ++ y ∷ []) is ∙ sym (take_more plan i x less))))
 
--- a device that was not reached is the old one
-pub desk_there : (os : List Opening) (i : ℕ) (old desks : List Desk) → AreHeld (take i os) old desks → ((k : ℕ) → length (filter (λ o. o.device == k) os) ≤ 1) → i < length os → (get_or os i no_opening).device < length old
-    → desk_at desks (get_or os i no_opening).device ≡ desk_at old (get_or os i no_opening).device
-desk_there os i old desks held once less within =
-    let at = (get_or os i no_opening).device in
-    held.each at within ∙ ap (λ b. held_of b (desk_at old at)) (once_at os i once less).0
+pub quota_own : (k : ℕ) (x : ChannelOrder) → x.opening.device ≡ k → quotas_of k (x ∷ []) ≡ length x.asks.items ∷ []
+quota_own k x same = quotas_own k x [] (grind (arith, nat_tests, same))
 
-pub held_more : (os : List Opening) (i : ℕ) (old desks : List Desk) (new : Desk) → AreHeld (take i os) old desks → ((k : ℕ) → length (filter (λ o. o.device == k) os) ≤ 1) → i < length os → (get_or os i no_opening).device < length old
-    → new ≡ away_of (desk_at old (get_or os i no_opening).device) → AreHeld (take (i + 1) os) old (slice_set desks (get_or os i no_opening).device new)
-held_more os i old desks new held once less within is =
-    let at = (get_or os i no_opening).device in
-    let before : List Opening = take i os in
+pub quota_other : (k : ℕ) (x : ChannelOrder) → (x.opening.device == k) ≡ false → quotas_of k (x ∷ []) ≡ []
+quota_other k x other = quotas_other k x [] other
+
+pub few_quotas : (k : ℕ) (xs : List ChannelOrder) → length (quotas_of k xs) ≤ length xs
+few_quotas k [] = omega arith
+few_quotas k (x ∷ xs) = by_flag (x.opening.device == k) (few_quotas k xs)
+  where
+    by_flag : (b : Bool) → length (quotas_of k xs) ≤ length xs → length (map (λ (y : ChannelOrder). length y.asks.items) (cond b (x ∷ orders_of k xs) (orders_of k xs))) ≤ suc (length xs)
+    by_flag true few = omega (arith, few)
+    by_flag false few = omega (arith, few)
+
+-- the seats that are left for channels with these quotas: new ones, of a device of this kind
+
+abbrev pub AreLeft : Option Kind → List ℕ → List DeviceSeat → Type 0
+AreLeft kind [] [] = Unit {0}
+AreLeft kind [] (s ∷ seats) = ⊥
+AreLeft kind (q ∷ quotas) [] = ⊥
+AreLeft kind (q ∷ quotas) (s ∷ seats) = (kind ≡ Some (kind_at s)) × (served_at s ≡ []) × (left_at s ≡ q) × AreLeft kind quotas seats
+
+-- the first of them
+pub record First (kind : Option Kind) (q : ℕ) (quotas : List ℕ) (seats : List DeviceSeat) : Type 0 where
+  pub seat : DeviceSeat
+  pub rest : List DeviceSeat
+  pub seats_are : seats ≡ seat ∷ rest
+  pub kind_is : kind ≡ Some (kind_at seat)
+  pub fresh : served_at seat ≡ []
+  pub left : left_at seat ≡ q
+  pub more : AreLeft kind quotas rest
+
+first_of : (kind : Option Kind) (q : ℕ) (quotas : List ℕ) (seats : List DeviceSeat) → AreLeft kind (q ∷ quotas) seats → First kind q quotas seats
+first_of kind q quotas [] are = absurd are
+first_of kind q quotas (s ∷ seats) are = record { seat = s; rest = seats; seats_are = refl; kind_is = are.0; fresh = are.1; left = are.2; more = are.3 }
+
+none_of : (kind : Option Kind) (seats : List DeviceSeat) → AreLeft kind [] seats → seats ≡ []
+none_of kind [] are = refl
+none_of kind (s ∷ seats) are = absurd are
+
+module _ {S Q A : Type 0} (mk : Seat S Q A → DeviceSeat) (kind : Kind) (is : (s : Seat S Q A) → kind_at (mk s) ≡ kind) (none : (s : Seat S Q A) → s.calls ≡ [] → served_at (mk s) ≡ []) (left : (s : Seat S Q A) → left_at (mk s) ≡ s.left) where
+  left_from : (lock : Lock S Q A) (n : ℕ) (quotas : List ℕ) → AreLeft (Some kind) quotas (map mk (seats_from lock n quotas))
+  left_from lock n [] = tt
+  left_from lock n (q ∷ quotas) =
+      let s : Seat S Q A = record { lock = lock; number = n; left = q; calls = [] } in
+      (ap (λ k. Some k) (sym (is s)), none s refl, left s, left_from lock (n + 1) quotas)
+
+left_new : (desk : Desk) (quotas : List ℕ) (seats : List DeviceSeat) → AreSeatsFor desk quotas seats → AreLeft (Some (kind_of (spec_of desk))) quotas seats
+left_new (Out subs) quotas seats new = absurd new
+left_new (BeatDesk state history) quotas seats new =
+    subst (AreLeft (Some KindBeat) quotas) (sym (new.1 ∙ ap (map BeatSeat) new.2.seats_are)) (left_from BeatSeat KindBeat (λ s. refl) (λ s none. ap ic_served none) (λ s. refl) new.2.lock 0 quotas)
+left_new (DownDesk state history) quotas seats new =
+    subst (AreLeft (Some KindDown) quotas) (sym (new.1 ∙ ap (map DownSeat) new.2.seats_are)) (left_from DownSeat KindDown (λ s. refl) (λ s none. ap ic_served none) (λ s. refl) new.2.lock 0 quotas)
+left_new (DiskDesk subs state history) quotas seats new =
+    subst (AreLeft (Some KindDisk) quotas) (sym (new.1 ∙ ap (map DiskSeat) new.2.seats_are)) (left_from DiskSeat KindDisk (λ s. refl) (λ s none. ap disk_served none) (λ s. refl) new.2.lock 0 quotas)
+
+away_left : (old held : Desk) (quotas : List ℕ) (seats : Seats) → IsAway old quotas held seats (seats_in seats) → AreLeft (kind_in seats) quotas (seats_in seats)
+away_left old held [] seats away = subst (AreLeft (kind_in seats) []) (sym away.2) tt
+away_left old held (q ∷ quotas) seats away = subst (λ k. AreLeft k (q ∷ quotas) (seats_in seats)) (sym away.1) (left_new old (q ∷ quotas) (seats_in seats) away.2)
+
+-- how many channels a device with seats has beside the first one
+
+seats_subs : (desk : Desk) (quotas : List ℕ) (seats : List DeviceSeat) → AreSeatsFor desk quotas seats → subs_beside (spec_of desk) ≡ subs_of desk
+seats_subs (Out subs) quotas seats new = absurd new
+seats_subs (BeatDesk state history) quotas seats new = refl
+seats_subs (DownDesk state history) quotas seats new = refl
+seats_subs (DiskDesk subs state history) quotas seats new = refl
+
+-- a device whose channels have it, whose seats are of this kind
+pub record IsHeld (old held : Desk) (kind : Kind) : Type 0 where
+  pub held_is : held ≡ away_of old
+  pub kind_is : kind_of (spec_of old) ≡ kind
+  pub subs_are : subs_beside (spec_of old) ≡ subs_of old
+
+no_seats : (kind : Kind) (seats : Seats) → seats ≡ NoSeats → kind_in seats ≡ Some kind → ⊥
+no_seats kind seats none is = let both : None ≡ Some kind = sym (ap kind_in none) ∙ is in absurd (cc)
+
+same_kind : (k kind : Kind) → Some k ≡ Some kind → k ≡ kind
+same_kind k kind is = cc
+
+is_held : (old held : Desk) (quotas : List ℕ) (seats : Seats) (given : List DeviceSeat) (kind : Kind) → IsAway old quotas held seats given → kind_in seats ≡ Some kind → IsHeld old held kind
+is_held old held [] seats given kind away is = absurd (no_seats kind seats away.1 is)
+is_held old held (q ∷ quotas) seats given kind away is = record { held_is = away.0; kind_is = same_kind (kind_of (spec_of old)) kind (sym away.1 ∙ is); subs_are = seats_subs old (q ∷ quotas) given away.2 }
+
+pub told_same : (o : Option Stop) → stop_of o ≡ stop_told o
+told_same None = refl
+told_same (Some s) = refl
+
+order_held : (old held : Desk) (x : ChannelOrder) (kind : Kind) → IsHeld old held kind → order_with x kind (subs_of held) ≡ record { kind = kind_of (spec_of old); sub = x.opening.sub; subs = subs_beside (spec_of old); asks = x.asks.items; stop = stop_told x.stop }
+order_held old held x kind h =
+    ap (λ k. order_with x k (subs_of held)) (sym h.kind_is)
+    ∙ (ap (order_with x (kind_of (spec_of old))) (ap subs_of h.held_is ∙ sym h.subs_are)
+    ∙ ap (λ s. record { kind = kind_of (spec_of old); sub = x.opening.sub; subs = subs_beside (spec_of old); asks = x.asks.items; stop = s }) (told_same x.stop))
+
+-- devices reopened one by one
+
+pub record ReopenedSoFar (plan : List ChannelOrder) (i : ℕ) (old desks : List Desk) (seats : List Seats) : Type 0 where
+  pub count : length desks ≡ length old
+  pub places : length seats ≡ i
+  pub each : (k : ℕ) → k < i → IsAway (desk_at old k) (quotas_of k plan) (desk_at desks k) (seats_at seats k) (seats_in (seats_at seats k))
+  pub rest : (k : ℕ) → i ≤ k → desk_at desks k ≡ desk_at old k
+
+pub reopened_start : (plan : List ChannelOrder) (old : List Desk) → ReopenedSoFar plan 0 old old []
+reopened_start plan old = record { count = refl; places = refl; each = λ k less. absurd (omega (arith, less)); rest = λ k le. refl }
+
+pub reopened_more : (plan : List ChannelOrder) (i : ℕ) (old desks : List Desk) (seats seats' : List Seats) (new : Desk) (own : Seats) → ReopenedSoFar plan i old desks seats → i < length desks → IsAway (desk_at old i) (quotas_of i plan) new own (seats_in own)
+    → seats' ≡ seats ++ own ∷ [] → ReopenedSoFar plan (i + 1) old (slice_set desks i new) seats'
+reopened_more plan i old desks seats seats' new own so_far less away grown = subst (ReopenedSoFar plan (i + 1) old (slice_set desks i new)) (sym grown) (record {
+  count = length-set desks i new ∙ so_far.count;
+  places = omega (arith, length-append seats (own ∷ []), so_far.places);
+  each = λ k low. elim (cases_eq k i) [
+    | inl e ↦ last k e
+    | inr ne ↦
+        let before : k < i = omega (arith, low, ne) in
+        subst (λ d. IsAway (desk_at old k) (quotas_of k plan) d (seats_at (seats ++ own ∷ []) k) (seats_in (seats_at (seats ++ own ∷ []) k))) (sym (get_or-set_other desks i k new (Out 0) ne))
+        (subst (λ s. IsAway (desk_at old k) (quotas_of k plan) (desk_at desks k) s (seats_in s)) (sym (get_or_append_left seats (own ∷ []) NoSeats k (omega (arith, before, so_far.places)))) (so_far.each k before))
+  ];
+  rest = λ k le. let ne : k ≡ i → ⊥ = λ e. omega (arith, le, e) in get_or-set_other desks i k new (Out 0) ne ∙ so_far.rest k (omega (arith, le));
+})
+  where
+    last : (k : ℕ) → k ≡ i → IsAway (desk_at old k) (quotas_of k plan) (desk_at (slice_set desks i new) k) (seats_at (seats ++ own ∷ []) k) (seats_in (seats_at (seats ++ own ∷ []) k))
+    last k e =
+        let seat : seats_at (seats ++ own ∷ []) i ≡ own = ap (λ j. slice_index_or (seats ++ own ∷ []) j NoSeats) (sym so_far.places) ∙ get_or-append_seam seats own [] NoSeats in
+        subst (λ j. IsAway (desk_at old j) (quotas_of j plan) (desk_at (slice_set desks i new) j) (seats_at (seats ++ own ∷ []) j) (seats_in (seats_at (seats ++ own ∷ []) j))) (sym e)
+        (subst (λ d. IsAway (desk_at old i) (quotas_of i plan) d (seats_at (seats ++ own ∷ []) i) (seats_in (seats_at (seats ++ own ∷ []) i))) (sym (get_or-set_same desks i new (Out 0) less))
+        (subst (λ s. IsAway (desk_at old i) (quotas_of i plan) new s (seats_in s)) (sym seat) away))
+
+pub reopened_end : (plan : List ChannelOrder) (i : ℕ) (old desks : List Desk) (seats : List Seats) → ReopenedSoFar plan i old desks seats → i ≤ length old → length old ≤ i → AreAway plan old desks seats
+reopened_end plan i old desks seats so_far most least = record { count = so_far.count; places = omega (arith, so_far.places, most, least); each = λ k less. so_far.each k (omega (arith, less, least)) }
+
+-- channels opened one by one
+
+pub record OpenedNow (settings : List Settings) (plan : List ChannelOrder) (i : ℕ) (old : List Desk) (before seats : List Seats) (pairs : List Pairing) : Type 0 where
+  pub so_far : OpenedSoFar settings (take i plan) old before seats pairs
+  pub left : (k : ℕ) → k < length before → AreLeft (kind_in (seats_at seats k)) (quotas_of k (drop i plan)) (seats_in (seats_at seats k))
+
+pub opened_start : (settings : List Settings) (plan : List ChannelOrder) (old held : List Desk) (before : List Seats) → AreAway plan old held before → OpenedNow settings plan 0 old before before []
+opened_start settings plan old held before away = record {
+  so_far = record { given = []; planned = refl; opens = tt; places = refl; kinds = λ k less. refl; dealt = λ k less. refl; fits = tt };
+  left = λ k less. away_left (desk_at old k) (desk_at held k) (quotas_of k plan) (seats_at before k) (away.each k (omega (arith, less, away.places)));
+}
+
+-- the device of the channel whose turn it is, and its next seat
+pub record Turn (old held : List Desk) (plan : List ChannelOrder) (i : ℕ) (x : ChannelOrder) (seats : List Seats) (own : Seats) : Type 0 where
+  pub can : CanOpen old x
+  pub next : At plan i
+  pub next_is : x ≡ next.item
+  pub within : x.opening.device < length seats
+  pub own_is : seats_at seats x.opening.device ≡ own
+  pub first : First (kind_in own) (length x.asks.items) (quotas_of x.opening.device (drop (i + 1) plan)) (seats_in own)
+  pub desk : IsHeld (desk_at old x.opening.device) (desk_at held x.opening.device) (kind_at first.seat)
+  pub order : order_with x (kind_at first.seat) (subs_of (desk_at held x.opening.device)) ≡ order_at old x
+
+pub turn : (settings : List Settings) (plan : List ChannelOrder) (i : ℕ) (old held : List Desk) (before seats : List Seats) (pairs : List Pairing) (x : ChannelOrder) (own : Seats) → CanOpenAll plan old → AreAway plan old held before
+    → OpenedNow settings plan i old before seats pairs → i < length plan → x ≡ get_or plan i x → own ≡ get_or seats x.opening.device own → Turn old held plan i x seats own
+turn settings plan i old held before seats pairs x own can away now less is value =
+    let so_far = now.so_far in
+    let here : CanOpen old x = subst (CanOpen old) (sym is) (all_at (CanOpen old) plan i x can.each less) in
+    let next = at plan i less in
+    let k = x.opening.device in
+    let next_is : x ≡ next.item = is ∙ next.is x in
+    let low : k < length before = omega (arith, here.within, away.places) in
+    let within : k < length seats = omega (arith, low, so_far.places) in
+    let own_is : seats_at seats k ≡ own = sym (value ∙ get_or_default seats k own NoSeats within) in
+    let test : (k == k) ≡ true = grind (arith, nat_tests) in
+    let quotas : quotas_of k (drop i plan) ≡ length x.asks.items ∷ quotas_of k (drop (i + 1) plan) = ap (quotas_of k) (next.left ∙ ap (λ y. y ∷ drop (i + 1) plan) (sym next_is)) ∙ quotas_own k x (drop (i + 1) plan) test in
+    let first = first_of (kind_in own) (length x.asks.items) (quotas_of k (drop (i + 1) plan)) (seats_in own)
+    (subst (λ s. AreLeft (kind_in s) (length x.asks.items ∷ quotas_of k (drop (i + 1) plan)) (seats_in s)) own_is (subst (λ q. AreLeft (kind_in (seats_at seats k)) q (seats_in (seats_at seats k))) quotas (now.left k low))) in
+    let kind : kind_in (seats_at before k) ≡ Some (kind_at first.seat) = sym (so_far.kinds k low) ∙ (ap kind_in own_is ∙ first.kind_is) in
+    let desk = is_held (desk_at old k) (desk_at held k) (quotas_of k plan) (seats_at before k) (seats_in (seats_at before k)) (kind_at first.seat) (away.each k here.within) kind in
     record {
-      count = length-set desks at new ∙ held.count;
-      each = λ k below. elim (cases_eq k at) [
-        | inl e ↦
-            let own : (at == k) ≡ true = grind (arith, nat_tests) in
-            let flag : has_channel k (take (i + 1) os) ≡ true = has_more os i k less ∙ (ap (λ b. has_channel k before || b) own ∙ or_true (has_channel k before)) in
-            subst (λ j. desk_at (slice_set desks at new) j ≡ away_of (desk_at old j)) (sym e) (get_or-set_same desks at new (Out 0) (omega (arith, within, held.count)) ∙ is)
-            ∙ ap (λ b. held_of b (desk_at old k)) (sym flag)
+      can = here;
+      next = next;
+      next_is = next_is;
+      within = within;
+      own_is = own_is;
+      first = first;
+      desk = desk;
+      order = order_held (desk_at old k) (desk_at held k) x (kind_at first.seat) desk;
+    }
+
+-- the seat that was taken
+pub record IsGiven (old held : List Desk) (x : ChannelOrder) (s : DeviceSeat) : Type 0 where
+  pub order : order_with x (kind_at s) (subs_of (desk_at held x.opening.device)) ≡ order_at old x
+  pub suits : Suits 4096 (order_with x (kind_at s) (subs_of (desk_at held x.opening.device)))
+  pub subs : subs_of (desk_at held x.opening.device) ≤ 3
+  pub fresh : served_at s ≡ []
+  pub left : left_at s ≡ length x.asks.items
+
+pub given_seat : (old held : List Desk) (plan : List ChannelOrder) (i : ℕ) (x : ChannelOrder) (seats : List Seats) (own : Seats) (s : DeviceSeat) (rest : List DeviceSeat) → Turn old held plan i x seats own → seats_in own ≡ s ∷ rest → IsGiven old held x s
+given_seat old held plan i x seats own s rest t first =
+    let both : s ∷ rest ≡ t.first.seat ∷ t.first.rest = sym first ∙ t.first.seats_are in
+    let seat : s ≡ t.first.seat = ap (λ (l : List DeviceSeat). get_or l 0 s) both in
+    let k = x.opening.device in
+    let order : order_with x (kind_at s) (subs_of (desk_at held k)) ≡ order_at old x = ap (λ (y : DeviceSeat). order_with x (kind_at y) (subs_of (desk_at held k))) seat ∙ t.order in
+    record {
+      order = order;
+      suits = subst (Suits 4096) (sym order) t.can.suits;
+      subs = omega (arith, ap subs_of t.desk.held_is, t.can.subs);
+      fresh = ap served_at seat ∙ t.first.fresh;
+      left = ap left_at seat ∙ t.first.left;
+    }
+
+pub here_within : (settings : List Settings) (plan : List ChannelOrder) (i : ℕ) (old held : List Desk) (before seats : List Seats) (pairs : List Pairing) (x : ChannelOrder) → CanOpenAll plan old → AreAway plan old held before → OpenedNow settings plan i old before seats pairs → i < length plan → x ≡ get_or plan i x
+    → (x.opening.device < length seats) × (x.opening.device < length held)
+here_within settings plan i old held before seats pairs x can away now less is =
+    let here : CanOpen old x = subst (CanOpen old) (sym is) (all_at (CanOpen old) plan i x can.each less) in
+    (omega (arith, here.within, away.places, now.so_far.places), omega (arith, here.within, away.count))
+
+pub opened_more : (settings : List Settings) (plan : List ChannelOrder) (i : ℕ) (old held : List Desk) (before seats : List Seats) (pairs pairs' : List Pairing) (x : ChannelOrder) (own new : Seats) (s : DeviceSeat) (z : Settings) (pair : Pairing) → AreAway plan old held before
+    → OpenedNow settings plan i old before seats pairs → Turn old held plan i x seats own → length settings ≡ length held → seats_in own ≡ s ∷ seats_in new → kind_in new ≡ kind_in own
+    → IsOpenedWith (slice_index_or settings x.opening.device z) x.opening.relid (order_with x (kind_at s) (subs_of (desk_at held x.opening.device))) s pair → pairs' ≡ pairs ++ pair ∷ []
+    → OpenedNow settings plan (i + 1) old before (slice_set seats x.opening.device new) pairs'
+opened_more settings plan i old held before seats pairs pairs' x own new s z pair away now t count first kind opens grown =
+    let so_far = now.so_far in
+    let k = x.opening.device in
+    let both : s ∷ seats_in new ≡ t.first.seat ∷ t.first.rest = sym first ∙ t.first.seats_are in
+    let seat : s ≡ t.first.seat = ap (λ (l : List DeviceSeat). get_or l 0 s) both in
+    let rest : seats_in new ≡ t.first.rest = ap (λ (l : List DeviceSeat). drop 1 l) both in
+    let order : order_with x (kind_at s) (subs_of (desk_at held k)) ≡ order_at old x = ap (λ (y : DeviceSeat). order_with x (kind_at y) (subs_of (desk_at held k))) seat ∙ t.order in
+    let within : k < length settings = omega (arith, t.can.within, count, away.count) in
+    let set : slice_index_or settings k z ≡ slice_index_or settings k unset = get_or_default settings k z unset within in
+    let g : Given = record { order = x; seat = s } in
+    let one : OpensAt settings old g pair = subst (λ y. IsOpenedWith y x.opening.relid (order_at old x) s pair) set (subst (λ o. IsOpenedWith (slice_index_or settings k z) x.opening.relid o s pair) order opens) in
+    let given = so_far.given in
+    let of : ℕ → Given → Bool = λ j g. g.order.opening.device == j in
+    let low : k < length before = omega (arith, t.within, so_far.places) in
+    let kinds : (j : ℕ) → j < length before → kind_in (seats_at (slice_set seats k new) j) ≡ kind_in (seats_at seats j) =
+    λ j less. elim (cases_eq j k) [
+      | inl e ↦ ap (λ n. kind_in (seats_at (slice_set seats k new) n)) e ∙ (ap kind_in (get_or-set_same seats k new NoSeats t.within) ∙ (kind ∙ (ap kind_in (sym t.own_is) ∙ ap (λ n. kind_in (seats_at seats n)) (sym e))))
+      | inr ne ↦ ap kind_in (get_or-set_other seats k j new NoSeats ne)
+    ] in
+    record {
+      so_far = record {
+        given = given ++ g ∷ [];
+        planned = map-append (λ (g : Given). g.order) given (g ∷ []) ∙ (ap (λ l. l ++ x ∷ []) so_far.planned ∙ (ap (λ y. take i plan ++ y ∷ []) t.next_is ∙ sym t.next.taken));
+        opens = subst (EachWith (OpensAt settings old) (given ++ g ∷ [])) (sym grown) (with_push (OpensAt settings old) given pairs g pair so_far.opens one);
+        places = length-set seats k new ∙ so_far.places;
+        kinds = λ j less. kinds j less ∙ so_far.kinds j less;
+        dealt = λ j less. elim (cases_eq j k) [
+          | inl e ↦ subst (λ n. seats_in (seats_at before n) ≡ seats_given n (given ++ g ∷ []) ++ seats_in (seats_at (slice_set seats k new) n)) (sym e) dealt_here
+          | inr ne ↦
+              let other : (k == j) ≡ false = grind (arith, nat_tests) in
+              so_far.dealt j less
+              ∙ (ap (λ l. map (λ (g : Given). g.seat) l ++ seats_in (seats_at seats j)) (sym (push_other (of j) given g other)) ∙ ap (λ y. seats_given j (given ++ g ∷ []) ++ seats_in y) (sym (get_or-set_other seats k j new NoSeats ne)))
+        ];
+        fits = each_append (λ (g : Given). kind_in (seats_at before g.order.opening.device) ≡ Some (kind_at g.seat)) given (g ∷ []) so_far.fits
+            (sym (so_far.kinds k low) ∙ (ap kind_in t.own_is ∙ (t.first.kind_is ∙ ap (λ (y : DeviceSeat). Some (kind_at y)) (sym seat))), tt);
+      };
+      left = λ j less. elim (cases_eq j k) [
+        | inl e ↦ subst (λ n. AreLeft (kind_in (seats_at (slice_set seats k new) n)) (quotas_of n (drop (i + 1) plan)) (seats_in (seats_at (slice_set seats k new) n))) (sym e) left_here
         | inr ne ↦
-            let other : (at == k) ≡ false = grind (arith, nat_tests) in
-            let flag : has_channel k (take (i + 1) os) ≡ has_channel k before = has_more os i k less ∙ (ap (λ b. has_channel k before || b) other ∙ or_false (has_channel k before)) in
-            get_or-set_other desks at k new (Out 0) ne ∙ (held.each k below ∙ ap (λ b. held_of b (desk_at old k)) (sym flag))
+            let other : (k == j) ≡ false = grind (arith, nat_tests) in
+            let left : quotas_of j (drop i plan) ≡ quotas_of j (drop (i + 1) plan) = ap (quotas_of j) (t.next.left ∙ ap (λ y. y ∷ drop (i + 1) plan) (sym t.next_is)) ∙ quotas_other j x (drop (i + 1) plan) other in
+            subst (λ y. AreLeft (kind_in y) (quotas_of j (drop (i + 1) plan)) (seats_in y)) (sym (get_or-set_other seats k j new NoSeats ne)) (subst (λ q. AreLeft (kind_in (seats_at seats j)) q (seats_in (seats_at seats j))) left (now.left j less))
       ];
     }
+  where
+    dealt_here : seats_in (seats_at before x.opening.device) ≡ seats_given x.opening.device (now.so_far.given ++ record { order = x; seat = s } ∷ []) ++ seats_in (seats_at (slice_set seats x.opening.device new) x.opening.device)
+    dealt_here =
+        let k = x.opening.device in
+        let given = now.so_far.given in
+        let g : Given = record { order = x; seat = s } in
+        let own : (k == k) ≡ true = grind (arith, nat_tests) in
+        let pushed : seats_given k (given ++ g ∷ []) ≡ seats_given k given ++ s ∷ [] =
+        ap (map (λ (g : Given). g.seat)) (push_own (λ (g : Given). g.order.opening.device == k) given g own) ∙ map-append (λ (g : Given). g.seat) (filter (λ (g : Given). g.order.opening.device == k) given) (g ∷ []) in
+        now.so_far.dealt k (omega (arith, t.within, now.so_far.places))
+        ∙ (ap (λ y. seats_given k given ++ seats_in y) t.own_is
+        ∙ (ap (λ l. seats_given k given ++ l) first
+        ∙ (sym (append_assoc (seats_given k given) (s ∷ []) (seats_in new))
+        ∙ (ap (λ l. l ++ seats_in new) (sym pushed) ∙ ap (λ y. seats_given k (given ++ g ∷ []) ++ seats_in y) (sym (get_or-set_same seats k new NoSeats t.within))))))
 
--- the device of a channel whose turn it is
-pub record Turn (old : List Desk) (p : Phase) (i : ℕ) (x : ChannelOrder) (desk : Desk) : Type 0 where
-  pub here : Here old p i x
-  pub within : x.opening.device < length old
-  pub desk_is : desk ≡ desk_at old (opening_at p i).device
+    left_here : AreLeft (kind_in (seats_at (slice_set seats x.opening.device new) x.opening.device)) (quotas_of x.opening.device (drop (i + 1) plan)) (seats_in (seats_at (slice_set seats x.opening.device new) x.opening.device))
+    left_here =
+        let k = x.opening.device in
+        let both : s ∷ seats_in new ≡ t.first.seat ∷ t.first.rest = sym first ∙ t.first.seats_are in
+        let rest : seats_in new ≡ t.first.rest = ap (λ (l : List DeviceSeat). drop 1 l) both in
+        subst (λ y. AreLeft (kind_in y) (quotas_of k (drop (i + 1) plan)) (seats_in y)) (sym (get_or-set_same seats k new NoSeats t.within))
+        (subst (λ l. AreLeft (kind_in new) (quotas_of k (drop (i + 1) plan)) l) (sym rest) (subst (λ o. AreLeft o (quotas_of k (drop (i + 1) plan)) t.first.rest) (sym kind) t.first.more))
 
-pub turn : (phase : ℕ) (plan : List ChannelOrder) (old desks : List Desk) (p : Phase) (i : ℕ) (x : ChannelOrder) (desk : Desk) → CanRun phase plan old p → i < length plan → x ≡ get_or plan i x → AreHeld (take i (by_relid p.opened)) old desks
-    → desk ≡ get_or desks x.opening.device desk → Turn old p i x desk
-turn phase plan old desks p i x desk can less is held value =
-    let h = here phase plan old p i x can less is in
-    let at = (opening_at p i).device in
-    let within : x.opening.device < length old = omega (arith, h.ordered.device, h.can.within) in
-    record {
-      here = h;
-      within = within;
-      desk_is = value
-          ∙ (get_or_default desks x.opening.device desk (Out 0) (omega (arith, within, held.count))
-          ∙ (ap (desk_at desks) h.ordered.device ∙ desk_there (by_relid p.opened) i old desks held can.once h.within h.can.within));
-    }
+pub opened_end : (settings : List Settings) (plan : List ChannelOrder) (i : ℕ) (old : List Desk) (before seats : List Seats) (pairs : List Pairing) → OpenedNow settings plan i old before seats pairs → length plan ≤ i → AllOpened settings plan old before seats pairs
+opened_end settings plan i old before seats pairs now over = record {
+  opened = subst (λ l. OpenedSoFar settings l old before seats pairs) (take_all i plan over) now.so_far;
+  none_left = λ k less. none_of (kind_in (seats_at seats k)) (seats_in (seats_at seats k)) (subst (λ l. AreLeft (kind_in (seats_at seats k)) (quotas_of k l) (seats_in (seats_at seats k))) (drop_all i plan over) (now.left k less));
+}
 
--- the first channels are opened
-pub record OpenedSoFar (settings : List Settings) (p : Phase) (i : ℕ) (old desks : List Desk) (pairs : List Pairing) : Type 0 where
-  pub opens : EachOf (OpensAt settings old p) (take i (by_relid p.opened)) pairs
-  pub held : AreHeld (take i (by_relid p.opened)) old desks
+-- a history has room for the calls of a phase
+pub room_here : (most : ℕ) (plan : List ChannelOrder) (old : List Desk) (k : ℕ) → All (IsReady (4096 * most)) old → k < length old → IsReady (4096 * most) (desk_at old k)
+room_here most plan old k ready less = subst (IsReady (4096 * most)) (get_or_default old k (desk_at old k) (Out 0) less) (ready k (desk_at old k) less)
 
-pub opened_start : (settings : List Settings) (p : Phase) (old : List Desk) → OpenedSoFar settings p 0 old old []
-opened_start settings p old = record { opens = tt; held = held_start old }
+-- each channel has 4,096 requests at most
+pub few_asks : (plan : List ChannelOrder) (old : List Desk) → AllByRecursion (CanOpen old) plan → All (λ (x : ChannelOrder). length x.asks.items ≤ 4096) plan
+few_asks [] old all k d less = absurd (omega (arith, less))
+few_asks (x ∷ plan) old all zero d less = all.0.suits.few
+few_asks (x ∷ plan) old all (suc k) d less = few_asks plan old all.1 k d (omega (arith, less))
 
-pub opened_more : (settings : List Settings) (phase : ℕ) (plan : List ChannelOrder) (p : Phase) (i : ℕ) (old desks : List Desk) (pairs pairs' : List Pairing) (x : ChannelOrder) (s : Settings) (desk new : Desk) (pair : Pairing) → CanRun phase plan old p
-    → Turn old p i x desk → OpenedSoFar settings p i old desks pairs → length settings ≡ length old → new ≡ away_of desk → OpensDesk (slice_index_or settings x.opening.device s) x.opening.relid (only_of x desk) desk pair → pairs' ≡ pairs ++ pair ∷ []
-    → OpenedSoFar settings p (i + 1) old (slice_set desks x.opening.device new) pairs'
-opened_more settings phase plan p i old desks pairs pairs' x s desk new pair can t so_far count is opens grown =
-    let os = by_relid p.opened in
-    let o = opening_at p i in
-    let h = t.here in
-    let order : only_of x desk ≡ order_of p o = ap (only_of x) t.desk_is ∙ only_here old p i x h in
-    let set : slice_index_or settings x.opening.device s ≡ slice_index_or settings o.device unset =
-    get_or_default settings x.opening.device s unset (omega (arith, t.within, count)) ∙ ap (λ k. slice_index_or settings k unset) h.ordered.device in
-    let here_opens : OpensAt settings old p o pair =
-    subst (λ d. OpensDesk (slice_index_or settings o.device unset) o.relid (order_of p o) d pair) t.desk_is
-    (subst (λ r. OpensDesk (slice_index_or settings o.device unset) o.relid r desk pair) order
-    (subst (λ n. OpensDesk (slice_index_or settings o.device unset) n (only_of x desk) desk pair) h.ordered.relid (subst (λ z. OpensDesk z x.opening.relid (only_of x desk) desk pair) set opens))) in
-    record {
-      opens = subst (λ l. EachOf (OpensAt settings old p) l pairs') (sym (taken os i h.within))
-          (subst (EachOf (OpensAt settings old p) (take i os ++ o ∷ [])) (sym grown) (each_push (OpensAt settings old p) (take i os) pairs o pair so_far.opens here_opens));
-      held = subst (λ k. AreHeld (take (i + 1) os) old (slice_set desks k new)) (sym h.ordered.device) (held_more os i old desks new so_far.held can.once h.within h.can.within (is ∙ ap away_of t.desk_is));
-    }
-
-pub opened_end : (settings : List Settings) (p : Phase) (i : ℕ) (old desks : List Desk) (pairs : List Pairing) → OpenedSoFar settings p i old desks pairs → length (by_relid p.opened) ≤ i
-    → EachOf (OpensAt settings old p) (by_relid p.opened) pairs × AreHeld (by_relid p.opened) old desks
-opened_end settings p i old desks pairs so_far over =
-    let whole : take i (by_relid p.opened) ≡ by_relid p.opened = take_all i (by_relid p.opened) over in
-    (subst (λ l. EachOf (OpensAt settings old p) l pairs) whole so_far.opens, subst (λ l. AreHeld l old desks) whole so_far.held)
-
--- the opened channels run
-
-desk_ran : (s : Settings) (relid : ℕ) (order : Order) (desk : Desk) (pair : Pairing) (done : PairDone) → OpensDesk s relid order desk pair → RunsPair pair done → DeskRan order desk done
-desk_ran s relid order desk pair done opens runs = record { seat = opens.seat; is_for = opens.is_for; ran = runs.runs order opens.seat opens.opens }
-
-pub each_ran : (settings : List Settings) (old : List Desk) (p : Phase) (os : List Opening) (pairs : List Pairing) (dones : List PairDone) → EachOf (OpensAt settings old p) os pairs → EachRuns pairs dones → EachOf (RanAt old p) os dones
-each_ran settings old p [] [] [] each runs = tt
-each_ran settings old p [] [] (d ∷ dones) each runs = absurd runs
-each_ran settings old p [] (q ∷ pairs) dones each runs = absurd each
-each_ran settings old p (o ∷ os) [] dones each runs = absurd each
-each_ran settings old p (o ∷ os) (q ∷ pairs) [] each runs = absurd runs
-each_ran settings old p (o ∷ os) (q ∷ pairs) (d ∷ dones) each runs =
-    (desk_ran _ o.relid (order_of p o) (desk_at old o.device) q d each.0 runs.0, each_ran settings old p os pairs dones each.1 runs.1)
+-- the device that is opened next
+pub this_desk : (plan : List ChannelOrder) (i : ℕ) (old desks : List Desk) (seats : List Seats) (desk : Desk) → ReopenedSoFar plan i old desks seats → i < length old → desk ≡ get_or desks i desk → desk ≡ desk_at old i
+this_desk plan i old desks seats desk so_far less is = is ∙ (get_or_default desks i desk (Out 0) (omega (arith, less, so_far.count)) ∙ so_far.rest i (omega arith))

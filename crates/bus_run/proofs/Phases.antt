@@ -1,5 +1,5 @@
 -- The devices of a script, and its phases one after the other.
-use Rattle.std.proofs.Common.{◌≡◌, ℕ, zero, suc, ◌+◌, ◌*◌, ◌<◌, ◌≤◌, Bool, true, false, cond, nat_lt, replicate, List, [], ◌∷◌, ◌++◌, length, append_assoc, take, drop, get_or, refl, ap, sym, ◌∙◌, subst, arith, inl, inr, Option, Some, None, slice_set, slice_index_or}
+use Rattle.std.proofs.Common.{◌≡◌, ℕ, zero, suc, ◌+◌, ◌*◌, ◌<◌, ◌≤◌, Bool, true, false, cond, nat_lt, replicate, List, [], ◌∷◌, ◌++◌, length, length-append, append_assoc, take, drop, get_or, refl, ap, sym, ◌∙◌, subst, arith, inl, inr, Option, Some, None, slice_set, slice_index_or}
 use Rattle.std.specs.Prelude.{map, All, MatchOption, ⊤, is_some, IsTrue, ◌↔◌}
 use Rattle.std.proofs.lemmas.Bool.{cases_eq}
 use Rattle.std.proofs.lemmas.Bool.Decides.{nat_tests}
@@ -12,9 +12,12 @@ use Rattle.script_lines.specs.declared.line.Line.{Line}
 use Rattle.script_lines.specs.declared.line.DeviceSpec.{DeviceSpec}
 use Rattle.bus_script.specs.declared.outcome.LineResult.{LineResult}
 use Rattle.script_lines.specs.Parts.{parts, ends_part, offered, offered_by, bads_of}
-use Rattle.script_lines.specs.WellFormed.{AllRight, AllGo, IsScript}
+use Rattle.script_lines.specs.WellFormed.{AllRight, AllGo, IsRight, IsScript}
+use Rattle.script_lines.specs.declared.line.What.{What}
+use Rattle.script_lines.specs.declared.line.What.TheVariants.{Contact as IsContact, Offer as IsOffer, Bad as IsBad, RingSize as IsRingSize, Window as IsWindow, Ask as IsAsk, Rescind as IsRescind, Shut as IsShut, Phase as IsPhase}
+use Rattle.script_lines.specs.declared.line.DeviceSpec.TheVariants.{Beat as IsBeat, Down as IsDown, Disk as IsDisk}
+use Rattle.bus_model.proofs.Lists.{each_append}
 use Rattle.script_phases.specs.Openings.{Phase, subs_of, is_opened, opened_from, others, phases_from, phases}
-use Rattle.script_phases.proofs.NoSubs.{is_script_no_subs}
 use Rattle.bus_model.specs.Logs.{EachHistory, IsHistory, log_of}
 use Rattle.bus_model.specs.Logs.{Recorded}
 use Rattle.bus_model.specs.Run.{PhaseRuns, RunsOf, over, then_on, IsBusRun}
@@ -27,7 +30,7 @@ use Rattle.bus_run.specs.declared.runner.Runner.{Runner}
 use Rattle.scsi_disk.specs.DiskModel.{DiskState}
 use Rattle.bus_run.specs.Desk.{spec_of, setup_of, setup_for, desk_log, IsFresh, IsReady}
 use Rattle.bus_run.specs.Settings.{SettingsOf}
-use Rattle.bus_run.specs.Whole.{IsThis, PhaseRan, AreFresh, setups_from, specs_of, parts_left, earlier_lines, NextWithin, behind, RunsSoFar}
+use Rattle.bus_run.specs.Whole.{IsThis, PhaseRan, AreFresh, setups_from, specs_of, parts_left, earlier_lines, NextWithin, behind, next_relid, RunsSoFar}
 
 -- new devices
 
@@ -198,29 +201,32 @@ runs_push (q ∷ ps) before between after settled runs results told p (then_on {
 pub no_phase : Phase
 no_phase = record { number = 0; earlier = []; part = []; opened = [] }
 
-record IsAt (specs : List DeviceSpec) (number : ℕ) (earlier : List Line) (ps : List (List Line)) (k : ℕ) (p : Phase) : Type 0 where
+record IsAt (specs : List DeviceSpec) (number next : ℕ) (earlier : List Line) (ps : List (List Line)) (k : ℕ) (p : Phase) : Type 0 where
   pub number_is : p.number ≡ number + k
   pub earlier_is : p.earlier ≡ earlier ++ flat_map (λ part. part) (take k ps)
   pub part_is : p.part ≡ get_or ps k []
-  pub next : ℕ
-  pub opened : p.opened ≡ opened_from (is_opened p.earlier p.part) 0 next specs
+  pub opened : p.opened ≡ opened_from (is_opened p.earlier p.part) 0 (next + length (flat_map (λ p. others p.opened) (take k (phases_from specs number next earlier ps)))) specs
 
 phases_long : (specs : List DeviceSpec) (number next : ℕ) (earlier : List Line) (ps : List (List Line)) → length (phases_from specs number next earlier ps) ≡ length ps
 phases_long specs number next earlier [] = refl
 phases_long specs number next earlier (part ∷ rest) = ap suc (phases_long specs (number + 1) _ (earlier ++ part) rest)
 
-phase_at : (specs : List DeviceSpec) (number next : ℕ) (earlier : List Line) (ps : List (List Line)) (k : ℕ) (d : Phase) → k < length ps → IsAt specs number earlier ps k (get_or (phases_from specs number next earlier ps) k d)
+phase_at : (specs : List DeviceSpec) (number next : ℕ) (earlier : List Line) (ps : List (List Line)) (k : ℕ) (d : Phase) → k < length ps → IsAt specs number next earlier ps k (get_or (phases_from specs number next earlier ps) k d)
 phase_at specs number next earlier [] k d less = absurd (omega (arith, less))
 phase_at specs number next earlier (part ∷ rest) zero d less =
-    record { number_is = omega arith; earlier_is = sym (append-nil earlier); part_is = refl; next = next; opened = refl }
+    let here : next ≡ next + 0 = omega arith in
+    record { number_is = omega arith; earlier_is = sym (append-nil earlier); part_is = refl; opened = ap (λ n. opened_from (is_opened earlier part) 0 n specs) here }
 phase_at specs number next earlier (part ∷ rest) (suc k) d less =
-    let at = phase_at specs (number + 1) (next + length (others (opened_from (is_opened earlier part) 0 next specs))) (earlier ++ part) rest k d (omega (arith, less)) in
+    let os = others (opened_from (is_opened earlier part) 0 next specs) in
+    let more = flat_map (λ p. others p.opened) (take k (phases_from specs (number + 1) (next + length os) (earlier ++ part) rest)) in
+    let at = phase_at specs (number + 1) (next + length os) (earlier ++ part) rest k d (omega (arith, less)) in
+    let relid : (next + length os) + length more ≡ next + length (os ++ more) = omega (arith, length-append os more) in
+    let p = get_or (phases_from specs (number + 1) (next + length os) (earlier ++ part) rest) k d in
     record {
       number_is = omega (arith, at.number_is);
       earlier_is = at.earlier_is ∙ append_assoc earlier part (flat_map (λ part. part) (take k rest));
       part_is = at.part_is;
-      next = at.next;
-      opened = at.opened;
+      opened = at.opened ∙ ap (λ n. opened_from (is_opened p.earlier p.part) 0 n specs) relid;
     }
 
 -- the phase of a script with this number
@@ -228,7 +234,7 @@ abbrev pub the_phase : List Line → ℕ → Phase
 the_phase lines k = get_or (phases lines) k no_phase
 
 -- it is the one that runs next
-pub next_phase : (lines : List Line) (r : Runner) (part : List Line) (rest : List (List Line)) → RunsSoFar lines r → IsScript lines → part ∷ rest ≡ drop r.phase (parts lines) → IsThis r.phase part r.ended.items (specs_of r.desks.items) (the_phase lines r.phase)
+pub next_phase : (lines : List Line) (r : Runner) (part : List Line) (rest : List (List Line)) → RunsSoFar lines r → IsScript lines → part ∷ rest ≡ drop r.phase (parts lines) → IsThis r.phase part r.ended.items (specs_of r.desks.items) r.relid (the_phase lines r.phase)
 next_phase lines r part rest so_far script left =
     let less : r.phase < length (parts lines) = (this_phase (parts lines) r.phase part rest left).0 in
     let at = phase_at (offered lines) 0 (length (offered lines) + 1) [] (parts lines) r.phase no_phase less in
@@ -240,17 +246,38 @@ next_phase lines r part rest so_far script left =
         part_is = at.part_is ∙ sym head;
         ended_are = subst (λ l. AreEnded l r.ended.items) (sym at.earlier_is) so_far.ended;
         devices = length-map r.desks.items spec_of ∙ sym so_far.ended_count;
-        single = subst (AllByRecursion (λ k. subs_of k ≡ 0)) (sym kinds) (is_script_no_subs lines script);
-        next = at.next;
-        opened = at.opened ∙ ap (opened_from (is_opened (the_phase lines r.phase).earlier (the_phase lines r.phase).part) 0 at.next) (sym kinds);
+        opened = at.opened
+            ∙ (ap (λ n. opened_from (is_opened (the_phase lines r.phase).earlier (the_phase lines r.phase).part) 0 n (offered lines)) (sym so_far.relid)
+            ∙ ap (opened_from (is_opened (the_phase lines r.phase).earlier (the_phase lines r.phase).part) 0 r.relid) (sym kinds));
       };
     }
 
+-- the devices that right lines offer have few channels
+
+few_offered : (kinds : List DeviceSpec) (w : What) → IsRight kinds w → AllByRecursion (λ s. subs_of s ≤ 3) (offered_by w)
+few_offered kinds (IsContact guest host) right = tt
+few_offered kinds (IsOffer name IsBeat) right = (omega arith, tt)
+few_offered kinds (IsOffer name IsDown) right = (omega arith, tt)
+few_offered kinds (IsOffer name (IsDisk blocks subs)) right = (right.2, tt)
+few_offered kinds (IsBad d lba) right = tt
+few_offered kinds (IsRingSize d pages) right = tt
+few_offered kinds (IsWindow d size) right = tt
+few_offered kinds (IsAsk d ask) right = tt
+few_offered kinds (IsRescind d after held) right = tt
+few_offered kinds (IsShut d) right = tt
+few_offered kinds IsPhase right = tt
+
+pub all_few : (kinds : List DeviceSpec) (lines : List Line) → AllRight kinds lines → AllByRecursion (λ s. subs_of s ≤ 3) (offered lines)
+all_few kinds [] right = tt
+all_few kinds (l ∷ lines) right = each_append (λ s. subs_of s ≤ 3) (offered_by l.what) (offered lines) (few_offered kinds l.what right.0) (all_few kinds lines right.1)
+
 -- no phase ran
-pub start : (lines : List Line) (r : Runner) → AreFresh lines (offered lines) r.desks.items → SettingsOf lines (length r.desks.items) r.settings.items → r.ended.items ≡ replicate (length r.desks.items) None → r.phase ≡ 0 → r.next ≡ Some 0 → r.settled.items ≡ [] → r.results.items ≡ []
+pub start : (lines : List Line) (r : Runner) → AreFresh lines (offered lines) r.desks.items → SettingsOf lines (length r.desks.items) r.settings.items → r.ended.items ≡ replicate (length r.desks.items) None → r.relid ≡ length r.desks.items + 1 → length (offered lines) ≤ 16 → r.phase ≡ 0 → r.next ≡ Some 0 → r.settled.items ≡ [] → r.results.items ≡ []
     → RunsSoFar lines r
-start lines r fresh settings none phase next settled results =
+start lines r fresh settings none relid sixteen phase next settled results =
     let before : List (List Recorded) = map (λ k. []) (offered lines) in
+    let many : length r.desks.items ≡ length (offered lines) = sym (length-map r.desks.items spec_of) ∙ ap length fresh.kinds_are in
+    let none_opened : length (offered lines) + 1 ≡ next_relid lines 0 = omega arith in
     record {
       runs = subst (λ k. RunsOf (take k (phases lines)) before r.settled.items (map desk_log r.desks.items) r.results.items) (sym phase)
           (subst (λ l. RunsOf [] before r.settled.items l r.results.items) (sym fresh.logs)
@@ -268,19 +295,23 @@ start lines r fresh settings none phase next settled results =
           let within : k < length r.desks.items = omega (arith, less, ap length none, length-replicate (length r.desks.items) blank) in
           ap outcome_left (ap (λ l. slice_index_or l k None) none ∙ get_or-replicate (length r.desks.items) k blank None within));
       ended_count = ap length none ∙ length-replicate (length r.desks.items) None;
+      relid = relid ∙ (ap (λ n. n + 1) many ∙ (none_opened ∙ ap (next_relid lines) (sym phase)));
+      relid_few = omega (arith, relid, many, sixteen);
     }
 
 -- one more phase ran
 pub go_on : (lines part : List Line) (old new : Runner) (at : ℕ) (next : Option ℕ) → RunsSoFar lines old → IsScript lines → old.next ≡ Some at
     → MatchOption next (parts (drop at lines) ≡ part ∷ []) (λ n. parts (drop at lines) ≡ part ∷ parts (drop n (drop at lines))) → MatchOption next ⊤ (λ n. n ≤ length (drop at lines))
-    → ((p : Phase) → IsThis old.phase part old.ended.items (specs_of old.desks.items) p → PhaseRan p old.desks.items new.desks.items old.settled.items new.settled.items old.results.items new.results.items)
+    → ((p : Phase) → IsThis old.phase part old.ended.items (specs_of old.desks.items) old.relid p → PhaseRan p old.desks.items new.desks.items old.settled.items new.settled.items old.results.items new.results.items)
+    → ((p : Phase) → IsThis old.phase part old.ended.items (specs_of old.desks.items) old.relid p → new.relid ≡ old.relid + length (others p.opened)) → new.relid ≤ old.relid + 48
     → ((earlier : List Line) → AreEnded earlier old.ended.items → AreEnded (earlier ++ part) new.ended.items)
     → length new.ended.items ≡ length old.ended.items → All (IsReady (4096 * (old.phase + 1))) new.desks.items → new.phase ≡ old.phase + 1 → new.next ≡ behind at next → new.settings.items ≡ old.settings.items → RunsSoFar lines new
-go_on lines part old new at next so_far script here split within ran ended count ready phase moved settings =
+go_on lines part old new at next so_far script here split within ran relids few ended count ready phase moved settings =
     let cut : parts (drop at lines) ≡ part ∷ parts_left lines (behind at next) = part_next lines part at next split in
     let left : part ∷ parts_left lines (behind at next) ≡ drop old.phase (parts lines) = sym cut ∙ ap (parts_left lines) (sym here) ∙ so_far.left in
     let p = the_phase lines old.phase in
-    let one = ran p (next_phase lines old part (parts_left lines (behind at next)) so_far script left) in
+    let is_this = next_phase lines old part (parts_left lines (behind at next)) so_far script left in
+    let one = ran p is_this in
     let this = this_phase (parts lines) old.phase part (parts_left lines (behind at next)) left in
     let started : at ≤ length lines = subst (NextWithin lines) here so_far.within in
     let desks : length new.desks.items ≡ length old.desks.items = sym (length-map new.desks.items spec_of) ∙ ap length one.kinds ∙ length-map old.desks.items spec_of in
@@ -307,6 +338,16 @@ go_on lines part old new at next so_far script here split within ran ended count
       settings = subst (λ n. SettingsOf lines n new.settings.items) (sym desks) (subst (SettingsOf lines (length old.desks.items)) (sym settings) so_far.settings);
       ended = subst (λ l. AreEnded l new.ended.items) lines_behind (ended (earlier_lines lines old.phase) so_far.ended);
       ended_count = count ∙ so_far.ended_count ∙ sym desks;
+      relid = omega (
+        arith,
+        relids p is_this,
+        so_far.relid,
+        ap (λ l. length (flat_map (λ p. others p.opened) l)) taken,
+        ap length (flat_map-append (λ (p : Phase). others p.opened) (take old.phase (phases lines)) (p ∷ [])),
+        length-append (flat_map (λ (p : Phase). others p.opened) (take old.phase (phases lines))) (flat_map (λ (p : Phase). others p.opened) (p ∷ [])),
+        length-append (others p.opened) [],
+      );
+      relid_few = omega (arith, few, so_far.relid_few, phase);
     }
 
 -- all phases ran

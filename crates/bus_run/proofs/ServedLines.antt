@@ -15,8 +15,8 @@ use Rattle.bus_model.proofs.Arriving.{serves_each_lem}
 use Rattle.bus_model.proofs.FromLists.{lists_tell_lem}
 use Rattle.end_work.specs.Seats.{served_at as calls_at}
 use Rattle.phase_run.specs.declared.pair.PairDone.{PairDone}
-use Rattle.bus_run.specs.declared.desk.Desk.{Desk}
-use Rattle.bus_run.specs.Opening.{DeskRan}
+use Rattle.end_work.specs.declared.device_seat.DeviceSeat.{DeviceSeat}
+use Rattle.phase_run.specs.Pairs.{Ran}
 use Rattle.bus_run.specs.Outcomes.{served_line, served_lines}
 
 without_replies : (ns : List ℕ) → map line_of (map served_at ns) ≡ served_lines ns []
@@ -76,18 +76,16 @@ pub no_more : (stop : Option (ℕ × Bool)) (m : ℕ) → count_of stop m ≤ m
 no_more None m = omega arith
 no_more (Some k) m = omega arith
 
--- what the end of a device's channel tells
+-- what the end of a channel tells
 
-pub few_serials : (order : Order) (old : Desk) (done : PairDone) (asked : ℕ) → length order.asks ≡ asked → DeskRan order old done → length done.serials.items ≤ asked
-few_serials order old done asked many ran =
-    let r = ran.ran in
-    omega (arith, ap length r.serials, length-map (calls_at r.back) (λ s. s.serial), serves_each_lem order done.settled (calls_at r.back) r.channel, no_more order.stop (length order.asks), many)
+pub few_serials : (order : Order) (first : DeviceSeat) (done : PairDone) (asked : ℕ) → length order.asks ≡ asked → Ran order first done → length done.serials.items ≤ asked
+few_serials order first done asked many ran =
+    omega (arith, ap length ran.serials, length-map (calls_at ran.back) (λ s. s.serial), serves_each_lem order done.settled (calls_at ran.back) ran.channel, no_more order.stop (length order.asks), many)
 
-pub outcomes_told : (order : Order) (old : Desk) (done : PairDone) (asked : ℕ) (results : List LineResult) → length order.asks ≡ asked → (ran : DeskRan order old done) → results ≡ map line_of (lines_of asked done.serials.items done.replies.items)
-    → results ≡ outcomes_of order (calls_at ran.ran.back)
-outcomes_told order old done asked results many ran is =
-    let r = ran.ran in
+pub outcomes_told : (order : Order) (first : DeviceSeat) (done : PairDone) (asked : ℕ) (results : List LineResult) → length order.asks ≡ asked → (ran : Ran order first done) → results ≡ map line_of (lines_of asked done.serials.items done.replies.items)
+    → results ≡ outcomes_of order (calls_at ran.back)
+outcomes_told order first done asked results many ran is =
     is ∙ ap (λ m. map line_of (lines_of m done.serials.items done.replies.items)) (sym many)
-    ∙ ap (λ l. map line_of (lines_of (length order.asks) l done.replies.items)) r.serials
-    ∙ ap (λ l. map line_of (lines_of (length order.asks) (map (λ s. s.serial) (calls_at r.back)) l)) r.replies
-    ∙ lists_tell_lem order done.settled (calls_at r.back) r.channel
+    ∙ ap (λ l. map line_of (lines_of (length order.asks) l done.replies.items)) ran.serials
+    ∙ ap (λ l. map line_of (lines_of (length order.asks) (map (λ s. s.serial) (calls_at ran.back)) l)) ran.replies
+    ∙ lists_tell_lem order done.settled (calls_at ran.back) ran.channel

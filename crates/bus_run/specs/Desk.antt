@@ -1,21 +1,16 @@
 -- A device between phases, and its channel in one.
-use Rattle.std.specs.Prelude.{ℕ, ◌≡◌, ◌≤◌, List, [], ◌∷◌, ◌++◌, length, Option, Some, None, slice_index_or}
+use Rattle.std.specs.Prelude.{ℕ, ◌≡◌, ◌≤◌, List, [], length, Option, Some, None, slice_index_or}
 use Rattle.bus_model.specs.Served.{Served}
 use Rattle.bus_model.specs.Logs.{Recorded, Grows, ic_log, disk_log}
 use Rattle.bus_model.specs.Orders.{Order}
-use Rattle.bus_model.specs.Channel.{IsChannelRun, outcomes_of}
-use Rattle.bus_model.specs.declared.channel_run.ChannelRun.{ChannelRun}
 use Rattle.script_lines.specs.declared.line.DeviceSpec.{DeviceSpec}
 use Rattle.script_lines.specs.declared.line.DeviceSpec.TheVariants.{Beat, Down, Disk}
-use Rattle.bus_script.specs.declared.outcome.LineResult.{LineResult}
 use Rattle.hist_lock.specs.History.{entries_of}
 use Rattle.hist_lock.specs.Legal.{Leaves}
 use Rattle.end_work.specs.Plans.{AllCarried, CanStop}
-use Rattle.ring_model.specs.Lists.{Lists}
 use Rattle.scsi_disk.specs.DiskModel.{DiskState, new_disk, disk_reply}
 use Rattle.scsi_disk.specs.FiniteMap.{unwritten, kept_after, stands_for}
 use Rattle.util_ic.specs.Machines.{beat_start, beat_reply, down_start, down_reply}
-use Rattle.bus_plan.specs.declared.opening.Opening.{Opening as Place}
 use Rattle.bus_run.specs.declared.desk.Desk.{Desk}
 use Rattle.bus_run.specs.declared.desk.Desk.TheVariants.{Out, Beat as BeatDesk, Down as DownDesk, Disk as DiskDesk}
 
@@ -82,19 +77,6 @@ pub record GoesOn (old new : Desk) (seats : List (List Served)) : Type 0 where
   pub spec : spec_of new ≡ spec_of old
   pub setup : setup_of new ≡ setup_of old
   pub kept : IsKept new
-
--- what the only open channel of a device did in a phase, where this was ordered of it
-pub record OpenRan (order : Order) (old new : Desk) (lists : Lists) (results : List LineResult) : Type 0 where
-  pub served : List Served
-  pub channel : IsChannelRun order lists served
-  pub goes_on : GoesOn old new (served ∷ [])
-  pub outcomes : results ≡ outcomes_of order served
-
--- and what stands behind the runs before
-pub record ChannelRan (phase : ℕ) (place : Place) (order : Order) (old new : Desk) (settled settled' : List ChannelRun) (results : List LineResult) : Type 0 where
-  pub lists : Lists
-  pub ran : OpenRan order old new lists results
-  pub settled_are : settled' ≡ settled ++ record { phase = phase; relid = place.relid; device = place.device; settled = lists } ∷ []
 
 -- a channel is asked what its kind serves and it carries, and not much, and it stops where one of its kind can
 pub record Suits (most : ℕ) (order : Order) : Type 0 where

@@ -8,7 +8,7 @@ use Rattle.script_lines.specs.declared.line.DeviceSpec.{DeviceSpec}
 use Rattle.bus_script.specs.declared.outcome.LineResult.{LineResult}
 use Rattle.script_lines.specs.Parts.{parts, offered, blocks_of, bads_of}
 use Rattle.script_lines.specs.WellFormed.{IsDevice}
-use Rattle.script_phases.specs.Openings.{Phase, phases}
+use Rattle.script_phases.specs.Openings.{Phase, others, phases}
 use Rattle.bus_model.specs.Run.{PhaseRuns, RunsOf}
 use Rattle.bus_model.specs.declared.channel_run.ChannelRun.{ChannelRun}
 use Rattle.bus_plan.specs.Endings.{AreEnded}
@@ -23,10 +23,10 @@ use Rattle.bus_run.specs.Desk.{spec_of, setup_of, setup_for, desk_log, IsReady}
 abbrev pub specs_of : List Desk → List DeviceSpec
 specs_of desks = map spec_of desks
 
--- the phase with this number and these lines, behind phases that ended these devices
-pub record IsThis (phase : ℕ) (part : List Line) (ended : List (Option Ending)) (specs : List DeviceSpec) (p : Phase) : Type 0 where
+-- the phase with this number and these lines, behind phases that ended these devices, where this relid is the next one
+pub record IsThis (phase : ℕ) (part : List Line) (ended : List (Option Ending)) (specs : List DeviceSpec) (next : ℕ) (p : Phase) : Type 0 where
   pub number : p.number ≡ phase
-  pub of : IsPhaseOf part ended specs p
+  pub of : IsPhaseOf part ended specs next p
 
 -- a phase went by
 pub record PhaseRan (p : Phase) (old new : List Desk) (settled settled' : List ChannelRun) (results results' : List LineResult) : Type 0 where
@@ -81,6 +81,10 @@ behind at (Some n) = Some (at + n)
 abbrev pub earlier_lines : List Line → ℕ → List Line
 earlier_lines lines phase = flat_map (λ part. part) (take phase (parts lines))
 
+-- the first relid that no channel of the first phases had, so many
+abbrev pub next_relid : List Line → ℕ → ℕ
+next_relid lines phase = length (offered lines) + 1 + length (flat_map (λ p. others p.opened) (take phase (phases lines)))
+
 -- The first phases of a script ran, as many as the runner counts: what it has is a run of them
 pub record RunsSoFar (lines : List Line) (r : Runner) : Type 0 where
   pub runs : RunsOf (take r.phase (phases lines)) (map (λ k. []) (offered lines)) r.settled.items (map desk_log r.desks.items) r.results.items
@@ -93,3 +97,5 @@ pub record RunsSoFar (lines : List Line) (r : Runner) : Type 0 where
   pub settings : SettingsOf lines (length r.desks.items) r.settings.items
   pub ended : AreEnded (earlier_lines lines r.phase) r.ended.items
   pub ended_count : length r.ended.items ≡ length r.desks.items
+  pub relid : r.relid ≡ next_relid lines r.phase
+  pub relid_few : r.relid ≤ 17 + 48 * r.phase

@@ -1,53 +1,32 @@
-//! A channel is closed.
-ghost use Rattle.std.specs.Prelude.{◌≡◌, ◌≤◌, ◌++◌, ◌∷◌, [], ℕ, List, length, map, replicate, IfOk, OnOk};
+//! The channels of a phase are closed.
+ghost use Rattle.std.specs.Prelude.{◌≡◌, ◌+◌, ◌<◌, ◌≤◌, ◌++◌, ◌∷◌, [], ℕ, List, length, map, replicate, Some, IfOk, OnOk};
 ghost use Rattle.std.specs.Vec.Iter.{into_iter_items};
 ghost use Rattle.work_model.specs.Outcome.{lines_of};
 ghost use Rattle.bus_model.specs.Laws.{line_of};
 ghost use Rattle.bus_model.specs.Orders.{Order as OneOrder};
 ghost use Rattle.bus_script.specs.declared.outcome.LineResult.TheVariants.{Unserved};
-ghost use Rattle.end_work.specs.Seats.{served_at, IsSameSeat};
+ghost use Rattle.end_work.specs.Seats.{kind_at, served_at};
+ghost use Rattle.phase_run.specs.Pairs.{Ran};
 ghost use Rattle.phase_run.specs.declared.pair.PairDone.{PairDone as OneDone};
 ghost use Rattle.end_work.specs.declared.device_seat.DeviceSeat.{DeviceSeat as OneSeat};
 ghost use Rattle.bus_run.specs.declared.desk.Desk.{Desk as OneDesk};
-ghost use Rattle.bus_run.specs.Desk.{subs_of, GoesOn, OpenRan, ChannelRan};
-ghost use Rattle.bus_run.specs.Opening.{IsSeatFor, IsAlone, DeskRan, ComesBack};
+ghost use Rattle.bus_run.specs.Desk.{GoesOn, desk_at};
+ghost use Rattle.bus_run.specs.Opening.{Given};
+ghost use Rattle.bus_run.specs.Closing.{AllBack, AllCome, AllClosed, AreWhole, ChannelClosed, ChannelEnded};
 ghost use Rattle.bus_run.specs.Outcomes.{served_line, served_lines};
+ghost use Rattle.bus_run.specs.Seats.{kind_in, seats_in};
 
 use crate::desk::Desk;
-use crate::lock::close_seat;
+use crate::seats::Seats;
 use bus_model::ChannelRun;
-use bus_plan::ChannelOrder;
+use bus_plan::{ChannelOrder, Outcomes};
 use bus_script::{LineResult, Reply};
 use end_work::DeviceSeat;
 use phase_run::{PairDone, serving_seat};
 use ring_seat::Settled;
 use std::alloc::{AllocError, Global};
+use std::mem;
 use std::vec::IntoIter;
-
-/// The device of a seat that made its calls, behind its history.
-fn desk_of(alloc: Global, subs: u32, seat: DeviceSeat) -> Result<Desk, AllocError>
-    requires { IsAlone seat }
-    ensures { IfOk result (λ new. (old : OneDesk) (quota : ℕ) (first : OneSeat) → subs_of old ≡ subs → IsSeatFor old quota first → IsSameSeat first seat → GoesOn old new (served_at seat ∷ [])) }
-{
-    match seat {
-        DeviceSeat::Beat(seat) => {
-            let (state, history) = close_seat(alloc, seat)?;
-            Ok(Desk::Beat(state, history))
-        }
-        DeviceSeat::Down(seat) => {
-            let (state, history) = close_seat(alloc, seat)?;
-            Ok(Desk::Down(state, history))
-        }
-        DeviceSeat::Disk(seat) => {
-            let (state, history) = close_seat(alloc, seat)?;
-            Ok(Desk::Disk {
-                subs,
-                state,
-                history,
-            })
-        }
-    }
-}
 
 /// The outcome of a request that was served: it is done where its reply came back.
 fn outcome_of(serial: u32, reply: Option<Reply>) -> LineResult
@@ -59,15 +38,16 @@ fn outcome_of(serial: u32, reply: Option<Reply>) -> LineResult
     }
 }
 
-/// The outcomes of requests that were served: each has its place in the history, and the first ones have their replies.
+/// The outcomes of requests that were served: each has its place in the history, and the first ones have their replies. There is room for so many as were asked.
 fn served_lines(
     alloc: Global,
+    asked: usize,
     serials: &[u32],
     replies: Vec<Reply>,
 ) -> Result<Vec<LineResult>, AllocError>
     ensures { IfOk result (λ results. results.items ≡ served_lines serials.now replies.items) }
 {
-    let mut results = Vec::new(alloc);
+    let mut results = Vec::with_capacity(alloc, asked)?;
     let mut replies = replies.into_iter();
     for serial in serials {
         results.push(outcome_of(*serial, replies.next()))?;
@@ -95,20 +75,19 @@ fn results_of(
     requires { length serials.now ≤ asked }
     ensures { IfOk result (λ results. results.items ≡ map line_of (lines_of asked serials.now replies.items)) }
 {
-    let mut results = served_lines(alloc, serials, replies)?;
+    let mut results = served_lines(alloc, asked, serials, replies)?;
     add_unserved(&mut results, asked - serials.len())?;
     Ok(results)
 }
 
-/// What a channel carried, its device, and the outcomes of its requests, of which there are so many.
-fn close_desk(
+/// What a channel carried, its seat, and the outcomes of its requests, of which there are so many.
+fn end_channel(
     alloc: Global,
-    subs: u32,
     asked: usize,
     done: PairDone,
-) -> Result<(Settled, Desk, Vec<LineResult>), AllocError>
-    requires { (order : OneOrder) × (old : OneDesk) × (length order.asks ≡ asked) × DeskRan order old done }
-    ensures { IfOk result (λ r. (order : OneOrder) (old : OneDesk) → subs_of old ≡ subs → length order.asks ≡ asked → DeskRan order old done → OpenRan order old r.1 r.0 r.2.items) }
+) -> Result<(Settled, DeviceSeat, Vec<LineResult>), AllocError>
+    requires { (order : OneOrder) × (first : OneSeat) × (length order.asks ≡ asked) × Ran order first done }
+    ensures { IfOk result (λ r. (order : OneOrder) (first : OneSeat) → length order.asks ≡ asked → Ran order first done → ChannelEnded order first r.0 r.1 r.2.items) }
 {
     let PairDone {
         settled,
@@ -123,29 +102,28 @@ fn close_desk(
         unreachable!();
     };
     let results = results_of(alloc, &serials, replies, asked)?;
-    let desk = desk_of(alloc, subs, seat)?;
-    Ok((settled, desk, results))
+    Ok((settled, seat, results))
 }
 
-/// Closes the only channel of a device: what it carried stands behind the runs before, and the answer is the outcomes of its requests.
-pub fn close_channel(
+/// Closes a channel: what it carried stands behind the runs before, its seat is given back, and the answer is the outcomes of its requests.
+fn close_channel(
     alloc: Global,
     phase: u32,
     channel: &ChannelOrder,
-    desk: &mut Desk,
+    seats: &mut Seats,
     dones: &mut IntoIter<PairDone>,
     settled: &mut Vec<ChannelRun>,
 ) -> Result<Vec<LineResult>, AllocError>
-    requires { (order : OneOrder) × (old : OneDesk) × (done : OneDone) × (rest : List OneDone) × (length order.asks ≡ length channel.now.asks.items) × ComesBack order old desk.old (into_iter_items dones.old) done rest }
-    ensures ran { IfOk result (λ results. (order : OneOrder) (old : OneDesk) (done : OneDone) (rest : List OneDone) → length order.asks ≡ length channel.now.asks.items → ComesBack order old desk.old (into_iter_items dones.old) done rest
-        → ChannelRan phase channel.now.opening order old desk.new settled.old.items settled.new.items results.items) }
+    requires { (order : OneOrder) × (first : OneSeat) × (done : OneDone) × (rest : List OneDone) × (length order.asks ≡ length channel.now.asks.items) × (kind_in seats.old ≡ Some (kind_at first)) × (into_iter_items dones.old ≡ done ∷ rest) × Ran order first done }
+    ensures closed { IfOk result (λ results. (order : OneOrder) (first : OneSeat) (done : OneDone) (rest : List OneDone) → length order.asks ≡ length channel.now.asks.items → into_iter_items dones.old ≡ done ∷ rest → Ran order first done
+        → ChannelClosed phase channel.now.opening order first seats.old seats.new settled.old.items settled.new.items results.items) }
     ensures rest { OnOk result ((done : OneDone) (rest : List OneDone) → into_iter_items dones.old ≡ done ∷ rest → into_iter_items dones.new ≡ rest) }
 {
     let Some(done) = dones.next() else {
         unreachable!();
     };
-    let (lists, new, results) = close_desk(alloc, desk.subs(), channel.asks.len(), done)?;
-    *desk = new;
+    let (lists, seat, results) = end_channel(alloc, channel.asks.len(), done)?;
+    seats.give_back(seat)?;
     settled.push(ChannelRun {
         phase,
         relid: channel.opening.relid,
@@ -153,4 +131,37 @@ pub fn close_channel(
         settled: lists,
     })?;
     Ok(results)
+}
+
+/// Closes all channels of a phase, and answers the outcomes of their requests.
+pub fn close_all(
+    alloc: Global,
+    phase: u32,
+    plan: &[ChannelOrder],
+    done: Vec<PairDone>,
+    seats: &mut Vec<Seats>,
+    settled: &mut Vec<ChannelRun>,
+) -> Result<Outcomes, AllocError>
+    requires { (old : List OneDesk) × (given : List Given) × AllCome plan.now old given seats.old.items done.items }
+    ensures { IfOk result (λ outcomes. (old : List OneDesk) (given : List Given) → AllCome plan.now old given seats.old.items done.items → AllClosed phase old given seats.old.items seats.new.items settled.old.items settled.new.items outcomes) }
+{
+    let mut dones = done.into_iter();
+    let mut outcomes = Outcomes::make(alloc, seats.len())?;
+    for channel in plan {
+        let at = channel.opening.device as usize;
+        let results = close_channel(alloc, phase, channel, &mut seats[at], &mut dones, settled)?;
+        outcomes.push(at, results)?;
+    }
+    Ok(outcomes)
+}
+
+/// Closes the histories of all devices, once their channels are closed: each device is whole again.
+pub fn close_desks(desks: &mut Vec<Desk>, mut seats: Vec<Seats>)
+    requires { (old : List OneDesk) × (quotas : ℕ → List ℕ) × (given : ℕ → List OneSeat) × AllBack old quotas given desks.old.items seats.items }
+    ensures { (old : List OneDesk) (quotas : ℕ → List ℕ) (given : ℕ → List OneSeat) → AllBack old quotas given desks.old.items seats.items → AreWhole old desks.new.items seats.items }
+{
+    for device in 0..desks.len() {
+        let own = mem::replace(&mut seats[device], Seats::None);
+        own.close(&mut desks[device]);
+    }
 }

@@ -1,5 +1,5 @@
 //! A device between phases.
-ghost use Rattle.std.specs.Prelude.{◌≡◌, ◌<◌, ◌≤◌, [], ◌∷◌, ℕ, List, All, IfOk};
+ghost use Rattle.std.specs.Prelude.{◌≡◌, ◌<◌, ◌≤◌, [], ◌∷◌, ℕ, List, All, map, IfOk};
 ghost use Rattle.bus_model.specs.Logs.{log_of, IsHistory};
 ghost use Rattle.script_lines.specs.Parts.{blocks_of, kind_of};
 ghost use Rattle.script_lines.specs.WellFormed.{IsDevice};
@@ -63,6 +63,17 @@ impl Desk {
             Desk::Disk { subs, .. } => *subs,
         }
     }
+}
+
+/// How many channels each device has beside the first one.
+pub fn all_subs(alloc: Global, desks: &[Desk]) -> Result<Vec<u32>, AllocError>
+    ensures { IfOk result (λ subs. subs.items ≡ map subs_of desks.now) }
+{
+    let mut subs = Vec::new(alloc);
+    for desk in desks {
+        subs.push(desk.subs())?;
+    }
+    Ok(subs)
 }
 
 /// A machine that has served nothing, with its empty history.

@@ -5,10 +5,10 @@ mod bads;
 mod channels;
 mod closing;
 mod desk;
-mod lock;
 mod opening;
 mod phase;
 mod runner;
+mod seats;
 mod settings;
 
 pub use desk::Desk;

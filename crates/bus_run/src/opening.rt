@@ -1,67 +1,115 @@
-//! A channel is opened.
-ghost use Rattle.std.specs.Prelude.{◌≡◌, ◌+◌, ◌<◌, ◌^◌, length, IfOk, OnOk};
-ghost use Rattle.bus_plan.specs.Plans.{order_by};
-ghost use Rattle.bus_run.specs.Desk.{spec_of, desk_log, IsKept, Suits};
+//! The channels of a phase are opened.
+ghost use Rattle.std.specs.Prelude.{◌≡◌, ◌+◌, ◌*◌, ◌<◌, ◌≤◌, ◌^◌, ◌++◌, ◌∷◌, [], List, All, length, sum, IfOk, OnOk};
+ghost use Rattle.end_work.specs.Seats.{kind_at, served_at, left_at};
+ghost use Rattle.bus_run.specs.Desk.{desk_log, desk_at, IsKept, IsReady, Suits};
 ghost use Rattle.bus_run.specs.Settings.{HasLimits};
-ghost use Rattle.bus_run.specs.Opening.{IsSeatFor, OpensDesk, away_of, only_of};
+ghost use Rattle.bus_run.specs.Seats.{IsAway, seats_in};
+ghost use Rattle.bus_run.specs.Opening.{AreAway, CanOpenAll, IsOpenedWith, AllOpened, order_with, quotas_of};
+ghost use Rattle.bus_run.specs.declared.desk.Desk.{Desk as OneDesk};
 
 use crate::desk::Desk;
-use crate::lock::open_seat;
+use crate::seats::Seats;
 use crate::settings::Settings;
 use bus_plan::ChannelOrder;
+use contact::Kind;
 use end_work::DeviceSeat;
 use phase_run::{Pair, open_pair};
 use std::alloc::{AllocError, Global};
 use std::mem;
 
-/// A seat at a device, whose history goes on with so many calls.
-fn seat_for(alloc: Global, desk: Desk, quota: u32) -> Result<DeviceSeat, AllocError>
-    requires kept { IsKept desk }
-    requires room { length (desk_log desk) + quota < 2 ^ 32 }
-    ensures { IfOk result (IsSeatFor desk quota) }
+/// Puts the number of a channel's requests behind others, if it is a channel of this device.
+fn add_quota(quotas: &mut Vec<u32>, device: u32, channel: &ChannelOrder) -> Result<(), AllocError>
+    requires { length channel.now.asks.items ≤ 4096 }
+    ensures { OnOk result (quotas.new.items ≡ quotas.old.items ++ quotas_of device (channel.now ∷ [])) }
 {
-    match desk {
-        Desk::Beat(state, history) => {
-            let seat = open_seat(alloc, state, history, quota)?;
-            Ok(DeviceSeat::Beat(seat))
-        }
-        Desk::Down(state, history) => {
-            let seat = open_seat(alloc, state, history, quota)?;
-            Ok(DeviceSeat::Down(seat))
-        }
-        Desk::Disk {
-            subs: _,
-            state,
-            history,
-        } => {
-            let seat = open_seat(alloc, state, history, quota)?;
-            Ok(DeviceSeat::Disk(seat))
-        }
-        Desk::Out { .. } => unreachable!(),
+    if channel.opening.device == device {
+        quotas.push(channel.asks.len() as u32)?;
+    }
+    Ok(())
+}
+
+/// How many requests each channel of a device has in a phase, in order of relid.
+fn quotas_of(alloc: Global, device: u32, plan: &[ChannelOrder]) -> Result<Vec<u32>, AllocError>
+    requires { All (λ x. length x.asks.items ≤ 4096) plan.now }
+    ensures { IfOk result (λ quotas. quotas.items ≡ quotas_of device plan.now) }
+{
+    let mut quotas = Vec::new(alloc);
+    for channel in plan {
+        add_quota(&mut quotas, device, channel)?;
+    }
+    Ok(quotas)
+}
+
+/// Opens a device's history again, with a seat for each of these channels of it: the device is away from then on. Without a channel it stays.
+fn reopen(alloc: Global, desk: &mut Desk, quotas: &[u32]) -> Result<Seats, AllocError>
+    requires kept { IsKept desk.old }
+    requires few { length quotas.now < 2 ^ 32 }
+    requires room { length (desk_log desk.old) + sum quotas.now < 2 ^ 32 }
+    ensures { IfOk result (λ seats. IsAway desk.old quotas.now desk.new seats (seats_in seats)) }
+{
+    if quotas.is_empty() {
+        return Ok(Seats::None);
+    }
+    let subs = desk.subs();
+    let whole = mem::replace(desk, Desk::Out { subs });
+    Seats::open(alloc, whole, quotas)
+}
+
+/// Opens the histories of all devices that a phase opens, with a seat for each channel.
+pub fn reopen_all(
+    alloc: Global,
+    most: u32,
+    plan: &[ChannelOrder],
+    desks: &mut Vec<Desk>,
+) -> Result<Vec<Seats>, AllocError>
+    requires can { CanOpenAll plan.now desks.old.items }
+    requires ready { All (IsReady (4096 * most)) desks.old.items }
+    requires most { most ≤ 20000 }
+    requires few { length desks.old.items ≤ 16 }
+    ensures { IfOk result (λ seats. AreAway plan.now desks.old.items desks.new.items seats.items) }
+{
+    let mut seats = Vec::with_capacity(alloc, desks.len())?;
+    for device in 0..desks.len() {
+        let quotas = quotas_of(alloc, device as u32, plan)?;
+        seats.push_reserved(reopen(alloc, &mut desks[device], &quotas)?);
+    }
+    Ok(seats)
+}
+
+/// The kind of a seat's device.
+fn kind_at(seat: &DeviceSeat) -> Kind
+    ensures { result ≡ kind_at seat.now }
+{
+    match seat {
+        DeviceSeat::Beat(_) => Kind::Beat,
+        DeviceSeat::Down(_) => Kind::Down,
+        DeviceSeat::Disk(_) => Kind::Disk,
     }
 }
 
-/// The two workers of a device's channel, with a seat for as many calls as it is asked; the device's end stops where the order says.
-fn open_desk(
+/// The two workers of a channel, with this seat of its device, which has so many channels beside the first one. The device's end stops where the order says.
+fn open_channel(
     alloc: Global,
     settings: &Settings,
+    subs: u32,
     channel: &ChannelOrder,
-    desk: Desk,
+    seat: DeviceSeat,
 ) -> Result<Pair, AllocError>
-    requires kept { IsKept desk }
-    requires suits { Suits 4096 (order_by channel.now (spec_of desk)) }
+    requires suits { Suits 4096 (order_with channel.now (kind_at seat) subs) }
+    requires sub { channel.now.opening.sub ≤ 3 }
+    requires subs { subs ≤ 3 }
     requires limits { HasLimits settings.now }
-    requires room { length (desk_log desk) + length channel.now.asks.items < 2 ^ 32 }
-    ensures { IfOk result (OpensDesk settings.now channel.now.opening.relid (only_of channel.now desk) desk) }
+    requires fresh { served_at seat ≡ [] }
+    requires left { left_at seat ≡ length channel.now.asks.items }
+    ensures { IfOk result (IsOpenedWith settings.now channel.now.opening.relid (order_with channel.now (kind_at seat) subs) seat) }
 {
-    let kind = desk.kind();
-    let seat = seat_for(alloc, desk, channel.asks.len() as u32)?;
+    let kind = kind_at(&seat);
     open_pair(
         alloc,
         kind,
         channel.opening.relid,
-        0,
-        0,
+        channel.opening.sub as u16,
+        subs,
         settings.pages,
         settings.window,
         seat,
@@ -70,21 +118,25 @@ fn open_desk(
     )
 }
 
-/// Opens the only channel of a device, which is away from then on.
-pub fn open_channel(
+/// Opens all channels of a phase, each with the next seat of its device.
+pub fn open_all(
     alloc: Global,
-    settings: &Settings,
-    channel: &ChannelOrder,
-    desk: &mut Desk,
-) -> Result<Pair, AllocError>
-    requires kept { IsKept desk.old }
-    requires suits { Suits 4096 (order_by channel.now (spec_of desk.old)) }
-    requires limits { HasLimits settings.now }
-    requires room { length (desk_log desk.old) + length channel.now.asks.items < 2 ^ 32 }
-    ensures held { OnOk result (desk.new ≡ away_of desk.old) }
-    ensures opens { IfOk result (OpensDesk settings.now channel.now.opening.relid (only_of channel.now desk.old) desk.old) }
+    plan: &[ChannelOrder],
+    settings: &[Settings],
+    desks: &[Desk],
+    seats: &mut Vec<Seats>,
+) -> Result<Vec<Pair>, AllocError>
+    requires away { (old : List OneDesk) × CanOpenAll plan.now old × AreAway plan.now old desks.now seats.old.items }
+    requires settings { length settings.now ≡ length desks.now }
+    requires limits { All HasLimits settings.now }
+    ensures { IfOk result (λ pairs. (old : List OneDesk) → CanOpenAll plan.now old → AreAway plan.now old desks.now seats.old.items → AllOpened settings.now plan.now old seats.old.items seats.new.items pairs.items) }
 {
-    let subs = desk.subs();
-    let whole = mem::replace(desk, Desk::Out { subs });
-    open_desk(alloc, settings, channel, whole)
+    let mut pairs = Vec::with_capacity(alloc, plan.len())?;
+    for channel in plan {
+        let at = channel.opening.device as usize;
+        let seat = seats[at].take_first();
+        let pair = open_channel(alloc, &settings[at], desks[at].subs(), channel, seat)?;
+        pairs.push(pair)?;
+    }
+    Ok(pairs)
 }

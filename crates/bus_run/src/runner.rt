@@ -42,6 +42,8 @@ pub struct Runner {
     phase: u32,
     // where the lines of the next phase begin
     next: Option<usize>,
+    // the first relid that no channel has had
+    relid: u32,
     settled: Vec<ChannelRun>,
     results: Vec<LineResult>,
 }
@@ -103,6 +105,14 @@ fn none_ended(alloc: Global, count: usize) -> Result<Vec<Option<Ending>>, AllocE
     Ok(ended)
 }
 
+/// The first relid behind those of so many offers: they count from 1.
+fn first_relid(offers: usize) -> u32
+    requires { offers ≤ 16 }
+    ensures { result ≡ offers + 1 }
+{
+    offers as u32 + 1
+}
+
 /// A place counted from another one.
 fn behind(at: usize, next: Option<usize>) -> Option<usize>
     requires { MatchOption next ⊤ (λ n. at + n ≤ 20000) }
@@ -124,12 +134,14 @@ impl Runner {
         let desks = new_desks(alloc, lines)?;
         let settings = all_settings(alloc, desks.len(), lines)?;
         let ended = none_ended(alloc, desks.len())?;
+        let relid = first_relid(desks.len());
         Ok(Runner {
             desks,
             settings,
             ended,
             phase: 0,
             next: Some(0),
+            relid,
             settled: Vec::new(alloc),
             results: Vec::new(alloc),
         })
@@ -175,6 +187,7 @@ impl Runner {
             part,
             &self.settings,
             &mut self.ended,
+            &mut self.relid,
             &mut self.desks,
             &mut self.settled,
             &mut self.results,

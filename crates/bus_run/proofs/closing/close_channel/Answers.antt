@@ -1,20 +1,29 @@
-use Rattle.std.proofs.Common.{◌≡◌, ◌∙◌, ap, sym, subst, get_or, arith}
-use Rattle.bus_run.specs.Desk.{subs_of}
-use Rattle.bus_run.specs.Opening.{DeskRan}
+use Rattle.std.proofs.Common.{◌≡◌, ◌∙◌, ap, sym, subst, get_or, arith, Some}
+use Rattle.phase_run.specs.Pairs.{Ran}
+use Rattle.bus_run.proofs.Closed.{same_kind}
 use Rattle.bus_run.proofs.closing.close_channel.Goals as goal
 
-pub returns-clause-ran : goal.returns-clause-ran
-returns-clause-ran c order old done rest many comes =
-    let same : done ≡ c.in-Some.done = ap (λ l. get_or l 0 done) (sym comes.dones_are ∙ c.in-Some.ensures.items) in
-    let subs : subs_of old ≡ c.subs.result = sym (c.subs.ensures ∙ ap subs_of comes.held_is) in
+pub end_channel-requires : goal.end_channel-requires
+end_channel-requires c =
+    let w = c.requires in
+    let same : w.2 ≡ c.in-Some.done = ap (λ l. get_or l 0 w.2) (sym w.6 ∙ c.in-Some.ensures.items) in
+    (w.0, w.1, omega (arith, w.4, c.len.ensures), subst (Ran w.0 w.1) same w.7)
+
+pub give_back-requires : goal.give_back-requires
+give_back-requires c =
+    let w = c.requires in
+    let same : w.2 ≡ c.in-Some.done = ap (λ l. get_or l 0 w.2) (sym w.6 ∙ c.in-Some.ensures.items) in
+    let ended = c.in_ok-lists.ensures w.0 w.1 (omega (arith, w.4, c.len.ensures)) (subst (Ran w.0 w.1) same w.7) in
+    w.5 ∙ ap (λ k. Some k) (sym (same_kind w.1 c.in_ok-lists.seat ended.same))
+
+pub returns-clause-closed : goal.returns-clause-closed
+returns-clause-closed c order first done rest many are ran =
+    let same : done ≡ c.in-Some.done = ap (λ l. get_or l 0 done) (sym are ∙ c.in-Some.ensures.items) in
     record {
       lists = c.in_ok-lists.lists;
-      ran = c.in_ok-lists.ensures order old subs (omega (arith, many, c.len.ensures)) (subst (DeskRan order old) same comes.ran);
+      back = c.in_ok-lists.seat;
+      ended = c.in_ok-lists.ensures order first (omega (arith, many, c.len.ensures)) (subst (Ran order first) same ran);
+      seats = c.in_ok-give_back.ensures.seats;
+      kind = c.in_ok-give_back.ensures.kind;
       settled_are = c.in_ok-push.ensures.items;
     }
-
-pub close_desk-requires : goal.close_desk-requires
-close_desk-requires c =
-    let w = c.requires in
-    let same : w.2 ≡ c.in-Some.done = ap (λ l. get_or l 0 w.2) (sym w.5.dones_are ∙ c.in-Some.ensures.items) in
-    (w.0, w.1, omega (arith, w.4, c.len.ensures), subst (DeskRan w.0 w.1) same w.5.ran)

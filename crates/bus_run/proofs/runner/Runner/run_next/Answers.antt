@@ -1,14 +1,16 @@
 use Rattle.std.proofs.Common.{◌≡◌, ◌≤◌, ◌++◌, ◌∷◌, [], ap, sym, subst, ◌∙◌, refl, length, take, drop, arith, rules}
-use Rattle.std.specs.Prelude.{All, map, MatchOption, ⊤}
+use Rattle.std.specs.Prelude.{All, map, sum_by, MatchOption, ⊤}
+use Rattle.std.specs.List.{AllByRecursion}
+use Rattle.script_phases.specs.Openings.{subs_of}
 use Rattle.std.proofs.lemmas.List.{with_items_is, places}
-use Rattle.script_lines.specs.Parts.{parts, offered, asks_in}
+use Rattle.script_lines.specs.Parts.{parts, offered, asks_in, channels_of}
 use Rattle.script_lines.specs.WellFormed.{AllRight, AllGo}
 use Rattle.bus_plan.specs.Endings.{AreEnded}
 use Rattle.bus_run.specs.Desk.{spec_of}
 use Rattle.bus_run.specs.Settings.{HasLimits}
 use Rattle.bus_run.specs.Whole.{IsThis, specs_of, parts_left, behind}
 use Rattle.bus_run.proofs.SettingLines.{have_limits}
-use Rattle.bus_run.proofs.Phases.{the_phase, next_phase, right_drop, right_take, go_drop, go_take, this_phase, part_next, count_parts, go_on, no_next}
+use Rattle.bus_run.proofs.Phases.{the_phase, next_phase, right_drop, right_take, go_drop, go_take, this_phase, part_next, all_few, count_parts, go_on, no_next}
 use Rattle.bus_run.proofs.runner.Runner.run_next.Goals as goal
 
 pub unreachable-requires : goal.unreachable-requires
@@ -52,7 +54,7 @@ run_phase-requires-clause-this g c κs asked =
     let cut = part_next lines part at next (subst (λ l. MatchOption next (parts l ≡ part ∷ []) (λ n. parts l ≡ part ∷ parts (drop n l))) rest c.first_part-next.ensures.parts) in
     let left = sym cut ∙ (ap (parts_left lines) (sym c.in-Some.is) ∙ c.requires.so_far.left) in
     let p = the_phase lines old.phase in
-    (p, subst (λ e. IsThis old.phase part e (specs_of old.desks.items) p) (sym c.deref_mut.ensures.value) (next_phase lines old part (parts_left lines (behind at next)) c.requires.so_far c.lines.ensures.script left))
+    (p, subst (λ e. IsThis old.phase part e (specs_of old.desks.items) old.relid p) (sym c.deref_mut.ensures.value) (next_phase lines old part (parts_left lines (behind at next)) c.requires.so_far c.lines.ensures.script left))
 
 pub run_phase-requires-clause-limits : goal.run_phase-requires-clause-limits
 run_phase-requires-clause-limits g c κs asked =
@@ -60,6 +62,17 @@ run_phase-requires-clause-limits g c κs asked =
 
 pub run_phase-requires-clause-phase : goal.run_phase-requires-clause-phase
 run_phase-requires-clause-phase g c κs asked = omega (arith, c.requires.more, (count_parts c.args.script.now).1, c.lines.ensures.script.short)
+
+pub run_phase-requires-clause-room : goal.run_phase-requires-clause-room
+run_phase-requires-clause-room g c κs asked =
+    omega (arith, c.requires.so_far.relid_few, c.requires.more, (count_parts c.args.script.now).1, c.lines.ensures.script.short)
+
+pub run_phase-requires-clause-subs : goal.run_phase-requires-clause-subs
+run_phase-requires-clause-subs g c κs asked =
+    subst (AllByRecursion (λ s. subs_of s ≤ 3)) (sym c.requires.so_far.kinds) (all_few (offered c.args.script.now) c.args.script.now c.lines.ensures.script.right)
+
+pub run_phase-requires-clause-channels : goal.run_phase-requires-clause-channels
+run_phase-requires-clause-channels g c κs asked = omega (arith, ap (sum_by channels_of) c.requires.so_far.kinds, c.lines.ensures.script.channels)
 
 pub overflow_add-self : goal.overflow_add-self
 overflow_add-self g c =
@@ -80,6 +93,7 @@ returns-clause-so_far g c =
     let whole = with_items_is old.ended c.run_phase.new.ended (search (rules, places)) in
     let ran = c.in_ok-run_phase.ensures in
     go_on lines part old _ at next c.requires.so_far c.lines.ensures.script c.in-Some.is split within
-    (λ p this. ran.ran p (subst (λ e. IsThis old.phase part e (specs_of old.desks.items) p) (sym before) this))
+    (λ p this. ran.ran p (subst (λ e. IsThis old.phase part e (specs_of old.desks.items) old.relid p) (sym before) this))
+    (λ p this. ran.relid p (subst (λ e. IsThis old.phase part e (specs_of old.desks.items) old.relid p) (sym before) this)) ran.few
     (λ earlier marked. subst (AreEnded (earlier ++ part)) (sym whole) (ran.ended earlier (subst (AreEnded earlier) (sym before) marked)))
     (ap length whole ∙ ran.count ∙ ap length before) ran.ready refl c.behind-self.ensures refl

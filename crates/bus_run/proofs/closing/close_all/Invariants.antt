@@ -1,0 +1,11 @@
+use Rattle.std.proofs.Common.{List}
+use Rattle.std.specs.Vec.Iter.{into_iter_items}
+use Rattle.bus_run.specs.Closing.{AllCome}
+use Rattle.bus_run.specs.Opening.{Given}
+use Rattle.bus_run.specs.declared.desk.Desk.{Desk}
+use Rattle.bus_run.proofs.Closed.{ClosedNow}
+use Rattle.bus_run.proofs.closing.close_all.Given as goal
+
+abbrev pub invariant-loop-channel : goal.invariant-loop-channel
+invariant-loop-channel l = (old : List Desk) (given : List Given) → AllCome l.plan old given l.fn.seats.items l.fn.done.items
+    → ClosedNow l.phase l.channel-index old given l.fn.seats.items l.seats.items (into_iter_items l.dones) l.fn.settled.items l.settled.items l.outcomes

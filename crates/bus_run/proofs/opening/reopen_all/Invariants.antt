@@ -1,0 +1,10 @@
+use Rattle.std.proofs.Common.{◌≤◌, length, vec_capacity}
+use Rattle.bus_run.proofs.Opened.{ReopenedSoFar}
+use Rattle.bus_run.proofs.opening.reopen_all.Given as goal
+
+abbrev pub invariant-loop-device : goal.invariant-loop-device
+invariant-loop-device l = record {
+  so_far : ReopenedSoFar l.plan l.device l.fn.desks.items l.desks.items l.seats.items;
+  low : l.device ≤ length l.fn.desks.items;
+  room : length l.fn.desks.items ≤ vec_capacity l.seats;
+}

@@ -1,0 +1,37 @@
+-- The channels of a phase.
+use Rattle.std.specs.Prelude.{ℕ, ◌≡◌, ◌<◌, List, ◌++◌, length, map}
+use Rattle.std.specs.List.{AllByRecursion}
+use Rattle.bus_model.specs.Run.{Carried, IsCarried, EachGrows}
+use Rattle.bus_model.specs.declared.channel_run.ChannelRun.{ChannelRun}
+use Rattle.bus_script.specs.declared.outcome.LineResult.{LineResult}
+use Rattle.script_phases.specs.Openings.{Opening, Phase, by_relid}
+use Rattle.bus_plan.specs.Plans.{EachOrdered}
+use Rattle.bus_plan.specs.Outcomes.{AreTold}
+use Rattle.bus_plan.specs.declared.opening.ChannelOrder.{ChannelOrder}
+use Rattle.bus_run.specs.Desk.{spec_of, setup_of, desk_log, desk_at}
+use Rattle.bus_run.specs.Opening.{CanOpenAll}
+use Rattle.bus_run.specs.declared.desk.Desk.{Desk}
+
+-- the channel is one of these devices
+pub record IsOf (desks : List Desk) (o : Opening) : Type 0 where
+  pub within : o.device < length desks
+  pub spec : o.spec ≡ spec_of (desk_at desks o.device)
+
+-- the channels that a phase opens, what is ordered of each, and that they can be opened
+pub record CanRun (phase : ℕ) (plan : List ChannelOrder) (desks : List Desk) (p : Phase) : Type 0 where
+  pub number : p.number ≡ phase
+  pub ordered : EachOrdered p (by_relid p.opened) plan
+  pub of : AllByRecursion (IsOf desks) (by_relid p.opened)
+  pub can : CanOpenAll plan desks
+
+-- what all channels of a phase did
+pub record ChannelsRan (p : Phase) (old new : List Desk) (settled settled' : List ChannelRun) (outcomes : List (List (List LineResult))) : Type 0 where
+  pub channels : List Carried
+  pub opened : map (λ c. c.opening) channels ≡ by_relid p.opened
+  pub each : AllByRecursion (IsCarried p) channels
+  pub settled_are : settled' ≡ settled ++ map (λ c. c.run) channels
+  pub histories : EachGrows 0 channels (map desk_log old) (map desk_log new)
+  pub kinds : map spec_of new ≡ map spec_of old
+  pub setups : map setup_of new ≡ map setup_of old
+  pub long : length outcomes ≡ length old
+  pub told : AreTold p channels (length old) outcomes

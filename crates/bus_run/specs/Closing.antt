@@ -1,0 +1,90 @@
+-- The channels of a phase are closed.
+use Rattle.std.specs.Prelude.{ℕ, ◌≡◌, ◌<◌, ◌==◌, List, [], ◌∷◌, ◌++◌, length, map, filter, slice_index_or, Some}
+use Rattle.std.specs.List.{AllByRecursion}
+use Rattle.bus_model.specs.Channel.{IsChannelRun, outcomes_of}
+use Rattle.bus_model.specs.Orders.{Order}
+use Rattle.bus_model.specs.declared.channel_run.ChannelRun.{ChannelRun}
+use Rattle.bus_script.specs.declared.outcome.LineResult.{LineResult}
+use Rattle.end_work.specs.Seats.{served_at, kind_at, IsSameSeat}
+use Rattle.end_work.specs.declared.device_seat.DeviceSeat.{DeviceSeat}
+use Rattle.phase_run.specs.Pairs.{Ran}
+use Rattle.phase_run.specs.declared.pair.PairDone.{PairDone}
+use Rattle.ring_model.specs.Lists.{Lists}
+use Rattle.bus_plan.specs.declared.opening.ChannelOrder.{ChannelOrder}
+use Rattle.bus_plan.specs.declared.opening.Opening.{Opening as Place}
+use Rattle.bus_run.specs.Desk.{desk_at, GoesOn}
+use Rattle.bus_run.specs.Opening.{Given, order_at, seats_at}
+use Rattle.bus_run.specs.Seats.{EachWith, ComesBack, kind_in, seats_in}
+use Rattle.bus_run.specs.declared.desk.Desk.{Desk}
+use Rattle.bus_run.specs.declared.seats.Seats.{Seats}
+
+-- a channel with this order and this seat carried what was ordered, its seat is this now, and these are the outcomes of its requests
+pub record ChannelEnded (order : Order) (first : DeviceSeat) (lists : Lists) (back : DeviceSeat) (results : List LineResult) : Type 0 where
+  pub channel : IsChannelRun order lists (served_at back)
+  pub same : IsSameSeat first back
+  pub outcomes : results ≡ outcomes_of order (served_at back)
+
+-- it is closed: its seat stands behind the others of its device, and what it carried behind the runs before
+pub record ChannelClosed (phase : ℕ) (place : Place) (order : Order) (first : DeviceSeat) (old new : Seats) (settled settled' : List ChannelRun) (results : List LineResult) : Type 0 where
+  pub lists : Lists
+  pub back : DeviceSeat
+  pub ended : ChannelEnded order first lists back results
+  pub seats : seats_in new ≡ seats_in old ++ back ∷ []
+  pub kind : kind_in new ≡ kind_in old
+  pub settled_are : settled' ≡ settled ++ record { phase = phase; relid = place.relid; device = place.device; settled = lists } ∷ []
+
+abbrev pub RanAt : List Desk → Given → PairDone → Type 0
+RanAt desks g done = Ran (order_at desks g.order) g.seat done
+
+-- the channels of a phase, opened with these seats, have run; no seat stands here
+pub record AllCome (plan : List ChannelOrder) (old : List Desk) (given : List Given) (seats : List Seats) (dones : List PairDone) : Type 0 where
+  pub planned : map (λ g. g.order) given ≡ plan
+  pub within : AllByRecursion (λ x. x.opening.device < length old) plan
+  pub places : length seats ≡ length old
+  pub fits : AllByRecursion (λ g. kind_in (seats_at seats g.order.opening.device) ≡ Some (kind_at g.seat)) given
+  pub ran : EachWith (RanAt old) given dones
+  pub none_here : (k : ℕ) → k < length old → seats_in (seats_at seats k) ≡ []
+
+-- a closed channel: what it was given, its seat after its calls, and what it carried
+pub record Closed : Type 0 where
+  pub given : Given
+  pub back : DeviceSeat
+  pub lists : Lists
+
+abbrev pub run_of : ℕ → Closed → ChannelRun
+run_of phase c = record { phase = phase; relid = c.given.order.opening.relid; device = c.given.order.opening.device; settled = c.lists }
+
+-- it carried what was ordered
+pub record IsClosed (old : List Desk) (c : Closed) : Type 0 where
+  pub channel : IsChannelRun (order_at old c.given.order) c.lists (served_at c.back)
+  pub same : IsSameSeat c.given.seat c.back
+
+-- the closed channels of a device, in order of relid
+abbrev pub closed_of : ℕ → List Closed → List Closed
+closed_of device closed = filter (λ c. c.given.order.opening.device == device) closed
+
+abbrev pub told_of : List Desk → Closed → List LineResult
+told_of old c = outcomes_of (order_at old c.given.order) (served_at c.back)
+
+-- Channels of a phase are closed: each gave its seat back to its device, and told the outcomes of its requests
+pub record AllClosed (phase : ℕ) (old : List Desk) (given : List Given) (before seats : List Seats) (settled settled' : List ChannelRun) (outcomes : List (List (List LineResult))) : Type 0 where
+  pub closed : List Closed
+  pub given_are : map (λ c. c.given) closed ≡ given
+  pub each : AllByRecursion (IsClosed old) closed
+  pub settled_are : settled' ≡ settled ++ map (run_of phase) closed
+  pub places : length seats ≡ length before
+  pub kinds : (k : ℕ) → k < length before → kind_in (seats_at seats k) ≡ kind_in (seats_at before k)
+  pub back : (k : ℕ) → k < length before → seats_in (seats_at seats k) ≡ map (λ c. c.back) (closed_of k closed)
+  pub long : length outcomes ≡ length before
+  pub told : (k : ℕ) → k < length before → slice_index_or outcomes k [] ≡ map (told_of old) (closed_of k closed)
+
+-- the seats of all devices came back
+pub record AllBack (old : List Desk) (quotas : ℕ → List ℕ) (given : ℕ → List DeviceSeat) (held : List Desk) (seats : List Seats) : Type 0 where
+  pub count : length held ≡ length old
+  pub places : length seats ≡ length old
+  pub each : (k : ℕ) → k < length old → ComesBack (desk_at old k) (quotas k) (given k) (desk_at held k) (seats_at seats k)
+
+-- and each device's history went on with what its seats served
+pub record AreWhole (old new : List Desk) (seats : List Seats) : Type 0 where
+  pub count : length new ≡ length old
+  pub each : (k : ℕ) → k < length old → GoesOn (desk_at old k) (desk_at new k) (map served_at (seats_in (seats_at seats k)))
