@@ -151,7 +151,7 @@ module _ {T A Q R : Type 0} (s : Speech (List ℕ) A Q R) (keeps : Keeps s) (sin
   }
 
   -- nothing was done that the peer sees
-  pub still_kept : (end' : Seen TableSeat) (hold' : Hold) → end'.state.past ≡ w.end.state.past → (end'.state.machine.asleep ≡ true → Holds s asks hold' (record w { end = end'; hold = hold' }) × SleepsFor (want_by hold') end')
+  pub still_kept : (end' : Seen TableSeat) (hold' : Hold) → end'.state.past ≡ w.end.state.past → (end'.state.machine.asleep ≡ true → Holds s asks hold' (record w { end = end'; hold = hold' }) × SleepsFor (want_by hold') end' × (w.seen ≡ false))
       → IsAsking s asks w → IsAsking s asks (record w { end = end'; hold = hold' })
   still_kept end' hold' is rests h = record {
     kept = rw is h.kept;

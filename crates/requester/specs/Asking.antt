@@ -94,7 +94,7 @@ pub record IsAsking {T A Q R : Type 0} (s : Speech (List ℕ) A Q R) (asks : Lis
   pub places : (id k : ℕ) → request_of w.table id ≡ Some k → k < length asks
   pub asked : (id : ℕ) → w.waiting ≡ Some id → (a : A) × (slice_get asks w.next ≡ Some a) × (s.has_answer a ≡ true) × (id < 2 ^ 64)
   pub saw : has_seen w.end.state.past ≡ w.seen
-  pub rests : w.end.state.machine.asleep ≡ true → Holds s asks w.hold w × SleepsFor (want_by w.hold) w.end
+  pub rests : w.end.state.machine.asleep ≡ true → Holds s asks w.hold w × SleepsFor (want_by w.hold) w.end × (w.seen ≡ false)
   pub paced : IsPaced s w.starts asks w.end.state.past
   pub alone : (id : ℕ) → w.waiting ≡ Some id → w.next ≤ w.starts → open_of s asks w.end.state.past ≡ []
 
@@ -133,10 +133,10 @@ AskLacks s asks PeerMarked w = HasNone w.table × SentAtMost (length asks) w.end
 AskLacks s asks (Room packets words left) w =
     (left ≡ 0) × LacksTake packets words w.end × HasReserved (length asks) w.end × CameOver (length asks) w.end.state.past × SentAtMost (length asks) w.end.state.past × IsPaced s w.starts asks w.end.state.past
 
--- how a turn ends
+-- how a turn ends; one that is idle leaves the end asleep for what it holds, before the other end's mark was seen
 abbrev pub AskTurns : {T A Q R : Type 0} → Speech (List ℕ) A Q R → List A → Turn → Asking T R → Type 0
 AskTurns s asks Moved w = w.end.state.machine.marked ≡ false
-AskTurns s asks Idle w = (w.end.state.machine.marked ≡ false) × (w.end.state.machine.asleep ≡ true) × Holds s asks w.hold w × SleepsFor (want_by w.hold) w.end
+AskTurns s asks Idle w = (w.end.state.machine.marked ≡ false) × (w.end.state.machine.asleep ≡ true) × Holds s asks w.hold w × SleepsFor (want_by w.hold) w.end × (w.seen ≡ false)
 AskTurns s asks (TurnEnded how) w = AsksBy s how asks w.end.state.past w.told × AskLacks s asks how w
 
 -- of a turn that ends: what was sent, and when; and that room lacks only where more came than room was made for

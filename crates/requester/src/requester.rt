@@ -138,6 +138,7 @@ impl<T: Talk> Requester<T> {
         requires waits { self.old.waiting ≡ Some id }
         requires unseen { self.old.seen ≡ false }
         ensures asked { AskedBy (T.speech self.new.talk) (T.asks self.new.talk) result self.new }
+        ensures unseen { self.new.seen ≡ false }
         ensures cause { AsksOne result self.old.end.state.past self.new.end }
         ensures ready { IsReady self.new.end }
         ensures on { AsksOn self.old self.new }
@@ -165,6 +166,7 @@ impl<T: Talk> Requester<T> {
         requires unseen { self.old.seen ≡ false }
         requires answers { (a : T.Ask) → slice_get (T.asks self.old.talk) self.old.next ≡ Some a → (T.speech self.old.talk).has_answer a ≡ false }
         ensures asked { AskedBy (T.speech self.new.talk) (T.asks self.new.talk) result self.new }
+        ensures unseen { self.new.seen ≡ false }
         ensures cause { AsksOne result self.old.end.state.past self.new.end }
         ensures ready { IsReady self.new.end }
         ensures on { AsksOn self.old self.new }
@@ -209,6 +211,7 @@ impl<T: Talk> Requester<T> {
         requires unseen { self.old.seen ≡ false }
         requires open { HasOpen (T.asks self.old.talk) self.old }
         ensures asked { AskedBy (T.speech self.new.talk) (T.asks self.new.talk) result self.new }
+        ensures unseen { self.new.seen ≡ false }
         ensures cause { AsksOne result self.old.end.state.past self.new.end }
         ensures ready { IsReady self.new.end }
         ensures on { AsksOn self.old self.new }
@@ -239,6 +242,7 @@ impl<T: Talk> Requester<T> {
     // Arms for the room that the next packet needs, and sleeps where nothing is to be done.
     fn rest(&mut self, hold: Hold) -> Turn
         requires ready { IsReady self.old.end }
+        requires unseen { self.old.seen ≡ false }
         requires holds { Holds (T.speech self.old.talk) (T.asks self.old.talk) hold self.old }
         ensures turns { AskTurns (T.speech self.new.talk) (T.asks self.new.talk) result self.new }
         ensures cause { Arms result self.old.end.state.past self.new.end }

@@ -306,8 +306,8 @@ module _ {T S A Q R : Type 0} (s : Speech (List ℕ) A Q R) (keeps : Keeps s) (w
 
   -- it sleeps
   pub rests_at : (end' : Seen TableSeat) (want' : Option ℕ) → want' ≡ need_of w.desk.owed → SleepsFor want' end' → end'.state.got ≡ w.end.state.got → (is_nil w.desk.owed ≡ true → w.served ≡ length w.end.state.got)
-      → (is_nil w.desk.owed ≡ true → has_done w ≡ false) → Rests (record w { end = end'; want = want' })
-  rests_at end' want' want armed got all more = record { want = want; armed = armed; served = λ e. all e ∙ ap length (sym got); more = more }
+      → (is_nil w.desk.owed ≡ true → has_done w ≡ false) → w.seen ≡ false → Rests (record w { end = end'; want = want' })
+  rests_at end' want' want armed got all more unseen = record { want = want; armed = armed; served = λ e. all e ∙ ap length (sym got); more = more; unseen = unseen }
 
   -- a mark ends it, whether the other end's mark was seen or not
   pub ends_by : (seen : Bool) → EndsAll s w w.end.state.past w.desk.calls → AnswersAll s w w.end.state.past w.desk.calls → has_marked w.end.state.past ≡ true → has_seen w.end.state.past ≡ seen → EndsBy s (marked_by seen) w w.end w.desk.calls

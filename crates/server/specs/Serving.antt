@@ -84,12 +84,14 @@ has_served (Some m) = m == 0
 abbrev pub has_done : {T S Q R : Type 0} → Serving T S Q R → Bool
 has_done w = (w.stops && (w.missing == 0)) && has_served w.desk.left
 
--- asleep, with the need of the packet that waits as its want; where none waits all that was got is served, and there is more to do than to stop
+-- asleep before the other end's mark was seen, with the need of the packet that waits as its want; where none waits all that was got is served, and there is
+-- more to do than to stop
 pub record Rests {T S Q R : Type 0} (w : Serving T S Q R) : Type 0 where
   pub want : w.want ≡ need_of w.desk.owed
   pub armed : SleepsFor w.want w.end
   pub served : is_nil w.desk.owed ≡ true → w.served ≡ length w.end.state.got
   pub more : is_nil w.desk.owed ≡ true → has_done w ≡ false
+  pub unseen : w.seen ≡ false
 
 pub record IsServing {T S A Q R : Type 0} (s : Speech (List ℕ) A Q R) (w : Serving T S Q R) : Type 0 where
   pub kept : ServerKept s w.desk.held w.serve w.end.state.past w.desk.calls w.desk.owed w.desk.left (drop w.served w.end.state.got)

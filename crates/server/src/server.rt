@@ -167,6 +167,7 @@ impl<T: Talk, S: Seat<T>> Server<T, S> {
         requires ready { IsReady self.old.end }
         requires served { is_nil self.old.desk.owed ≡ true → self.old.served ≡ length self.old.end.state.got }
         requires more { is_nil self.old.desk.owed ≡ true → has_done self.old ≡ false }
+        requires unseen { self.old.seen ≡ false }
         ensures turns { Turns S.left (T.speech self.new.desk.talk) result self.new }
         ensures cause { Arms result self.old.end.state.past self.new.end }
         ensures on { ServesOn S.same self.old self.new }
@@ -223,6 +224,7 @@ impl<T: Talk, S: Seat<T>> Server<T, S> {
         requires ready { IsReady self.old.end }
         requires served { is_nil self.old.desk.owed ≡ true → self.old.served ≡ length self.old.end.state.got }
         requires more { is_nil self.old.desk.owed ≡ true → has_done self.old ≡ false }
+        requires unseen { is_nil self.old.desk.owed ≡ false → self.old.seen ≡ false }
         ensures turns { Turns S.left (T.speech self.new.desk.talk) result self.new }
         ensures cause { TakesOrArms result self.old.end.state.past self.new.end }
         ensures on { ServesOn S.same self.old self.new }

@@ -35,6 +35,7 @@ invariant_of-self-2 g c =
           relid = c.self.inside.relid;
         }) _ c.self.inside.hold c.self.inside.hold r.0,
         record { asleep = c.if-poll.ensures.asleep; want_is = c.poll.ensures.want c.if-poll.ensures.asleep ∙ r.1.want_is },
+        r.2,
       )) l.live;
       replies = l.replies;
       spare = l.spare;
@@ -63,4 +64,5 @@ returns-clause-turns g c =
         relid = c.self.inside.relid;
       }) _ c.self.inside.hold c.self.inside.hold r.0,
       record { asleep = c.if-poll.ensures.asleep; want_is = c.poll.ensures.want c.if-poll.ensures.asleep ∙ r.1.want_is },
+      r.2,
     )

@@ -36,6 +36,7 @@ invariant_of-self g c =
           relid = c.self.inside.relid;
         }) c.arm.new.self c.args.hold c.args.hold (subst (λ w. Holds (g.T.Talk.speech w.talk) (g.T.Talk.asks w.talk) c.args.hold w) (sym v) c.requires.holds),
         record { asleep = c.in-Nothing.ensures.asleep; want_is = c.arm.ensures.want c.in-Nothing.ensures.asleep ∙ ap want_of c.want_for.ensures },
+        ap (λ w. w.seen) v ∙ c.requires.unseen,
       )) l.live;
       replies = l.replies;
       spare = l.spare;
@@ -62,4 +63,5 @@ returns-in-Nothing-clause-turns g c =
         relid = c.self.inside.relid;
       }) c.arm.new.self c.args.hold c.args.hold (subst (λ w. Holds (g.T.Talk.speech w.talk) (g.T.Talk.asks w.talk) c.args.hold w) (sym v) c.requires.holds),
       record { asleep = c.in-Nothing.ensures.asleep; want_is = c.arm.ensures.want c.in-Nothing.ensures.asleep ∙ ap want_of c.want_for.ensures },
+      ap (λ w. w.seen) v ∙ c.requires.unseen,
     )

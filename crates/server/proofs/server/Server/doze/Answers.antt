@@ -19,7 +19,7 @@ invariant_of-self-2 g c =
         served = c.self.inside.served;
         seen = c.self.inside.seen;
         want = c.self.inside.want;
-      }) _ c.self.inside.want r.want (record { asleep = c.if-poll.ensures.asleep; want_is = c.poll.ensures.want c.if-poll.ensures.asleep ∙ r.armed.want_is }) c.if-poll.ensures.lists.0 r.served r.more) c.self.invariant.live;
+      }) _ c.self.inside.want r.want (record { asleep = c.if-poll.ensures.asleep; want_is = c.poll.ensures.want c.if-poll.ensures.asleep ∙ r.armed.want_is }) c.if-poll.ensures.lists.0 r.served r.more r.unseen) c.self.invariant.live;
       room = serve_quiet (c.self.inside.starts + c.self.inside.come) c.self.inside.served (length c.self.inside.desk.owed) _ _ (got_same _ _ c.poll.ensures.lists.0 c.poll.ensures.lists.1) c.poll.ensures.stays.cells c.poll.ensures.lists.2 (ap sent_of c.if-poll.ensures.past) c.self.invariant.room;
       side = c.self.invariant.side ∙ sym c.poll.ensures.stays.same.side;
     }
@@ -40,5 +40,5 @@ returns-clause-turns g c =
         served = c.self.inside.served;
         seen = c.self.inside.seen;
         want = c.self.inside.want;
-      }) _ c.self.inside.want r.want (record { asleep = c.if-poll.ensures.asleep; want_is = c.poll.ensures.want c.if-poll.ensures.asleep ∙ r.armed.want_is }) c.if-poll.ensures.lists.0 r.served r.more,
+      }) _ c.self.inside.want r.want (record { asleep = c.if-poll.ensures.asleep; want_is = c.poll.ensures.want c.if-poll.ensures.asleep ∙ r.armed.want_is }) c.if-poll.ensures.lists.0 r.served r.more r.unseen,
     )

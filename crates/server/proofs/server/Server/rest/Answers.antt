@@ -23,7 +23,7 @@ invariant_of-self g c =
         seen = c.self.inside.seen;
         want = c.self.inside.want;
       }) _ c.need-want.result c.need-want.ensures.value (record { asleep = c.in-Nothing.ensures.asleep; want_is = c.arm.ensures.want c.in-Nothing.ensures.asleep }) c.arm.ensures.lists.0
-          (λ e. ap (λ w. w.served) v ∙ (c.requires.served (sym (ap (λ w. is_nil w.desk.owed) v) ∙ e) ∙ ap (λ w. length w.end.state.got) (sym v))) (λ e. ap has_done v ∙ c.requires.more (sym (ap (λ w. is_nil w.desk.owed) v) ∙ e))) c.self.invariant.live;
+          (λ e. ap (λ w. w.served) v ∙ (c.requires.served (sym (ap (λ w. is_nil w.desk.owed) v) ∙ e) ∙ ap (λ w. length w.end.state.got) (sym v))) (λ e. ap has_done v ∙ c.requires.more (sym (ap (λ w. is_nil w.desk.owed) v) ∙ e)) (ap (λ w. w.seen) v ∙ c.requires.unseen)) c.self.invariant.live;
       room = serve_quiet (c.self.inside.starts + c.self.inside.come) c.self.inside.served (length c.self.inside.desk.owed) _ _ (got_same _ _ c.arm.ensures.lists.0 c.arm.ensures.lists.1) c.arm.ensures.stays.cells c.arm.ensures.lists.2 (ap sent_of c.in-Nothing.ensures.past) c.self.invariant.room;
       side = c.self.invariant.side ∙ sym c.arm.ensures.stays.same.side;
     }
@@ -53,5 +53,5 @@ returns-in-Nothing-clause-turns g c =
         seen = c.self.inside.seen;
         want = c.self.inside.want;
       }) _ c.need-want.result c.need-want.ensures.value (record { asleep = c.in-Nothing.ensures.asleep; want_is = c.arm.ensures.want c.in-Nothing.ensures.asleep }) c.arm.ensures.lists.0
-          (λ e. ap (λ w. w.served) v ∙ (c.requires.served (sym (ap (λ w. is_nil w.desk.owed) v) ∙ e) ∙ ap (λ w. length w.end.state.got) (sym v))) (λ e. ap has_done v ∙ c.requires.more (sym (ap (λ w. is_nil w.desk.owed) v) ∙ e)),
+          (λ e. ap (λ w. w.served) v ∙ (c.requires.served (sym (ap (λ w. is_nil w.desk.owed) v) ∙ e) ∙ ap (λ w. length w.end.state.got) (sym v))) (λ e. ap has_done v ∙ c.requires.more (sym (ap (λ w. is_nil w.desk.owed) v) ∙ e)) (ap (λ w. w.seen) v ∙ c.requires.unseen),
     )
