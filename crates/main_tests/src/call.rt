@@ -33,9 +33,26 @@ pub(crate) fn call<R: Threads + Wait + Sync + Abort + AllocGlobal, S: Source, K:
 ) -> Outcome
     requires { HasRoom (K.room sink.old) 67108864 }
 {
+    call_words(rt, &[word], source, sink, gate)
+}
+
+/// What a command comes to.
+pub(crate) fn call_words<
+    R: Threads + Wait + Sync + Abort + AllocGlobal,
+    S: Source,
+    K: Sink,
+    G: Gate,
+>(rt: &R, words: &[&[u8]], source: &mut S, sink: &mut K, gate: &G) -> Outcome
+    requires { HasRoom (K.room sink.old) 67108864 }
+{
     let alloc = rt.alloc();
-    let words = [word.to_vec(alloc).expect(rt, "memory")];
-    vmbus(rt, alloc, &words, source, sink, gate)
+    let mut owned = Vec::new(alloc);
+    for word in words {
+        owned
+            .push(word.to_vec(alloc).expect(rt, "memory"))
+            .expect(rt, "memory");
+    }
+    vmbus(rt, alloc, &owned, source, sink, gate)
 }
 
 /// What a script comes to.

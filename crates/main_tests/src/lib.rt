@@ -8,7 +8,11 @@ mod check;
 #[cfg(test)]
 mod hold;
 #[cfg(test)]
+mod load_tests;
+#[cfg(test)]
 mod rescind_tests;
+#[cfg(test)]
+mod sub_channel_tests;
 #[cfg(test)]
 mod thread_tests;
 #[cfg(test)]

@@ -144,7 +144,12 @@ const WRONG_SCRIPTS: &[(&[u8], u32, Why6)] = &[
     ),
     (b"offer shutdown sd\ndown sd 4294967296\n", 2, Why6::Range),
     (b"offer disk d 64 0\nwindow d 65\n", 2, Why6::Range),
-    (b"offer disk a 64 3\n", 1, Why6::Range),
+    (b"offer disk a 64 4\n", 1, Why6::Range),
+    (
+        b"offer disk a 64 3\noffer disk b 64 3\noffer disk c 64 3\noffer disk e 64 3\noffer hb f\n",
+        5,
+        Why6::Limit,
+    ),
     (b"offer disk a 64 16\n", 1, Why6::Limit),
     (b"offer disk d0 65537 0\n", 1, Why6::Range),
     (b"offer disk d0 64 0\nwrite d0 0 8 11\n", 2, Why6::Range),

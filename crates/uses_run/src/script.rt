@@ -1,7 +1,8 @@
 //! A script in memory is run, and its report stands in memory.
 ghost use Rattle.std.specs.Prelude.{◌≡◌, ◌≢◌, [], Some, IfOk, MatchOption};
 ghost use Rattle.vmbus_main.specs.Call.{IsRefused, IsWritten};
-ghost use Rattle.vmbus_main.specs.declared.command.Command.TheVariants.{Run};
+ghost use Rattle.vmbus_main.specs.declared.command.Command.TheVariants.{Input};
+ghost use Rattle.vmbus_main.specs.declared.command.InputCommand.TheVariants.{Run};
 
 use io_edge::{NoGate, SureSink, SureSource};
 use std::alloc::{AllocError, Global};
@@ -16,8 +17,8 @@ pub fn report_of<R: Threads + Wait + Sync>(
     alloc: Global,
     script: Vec<u8>,
 ) -> Result<(Outcome, SureSink), AllocError>
-    ensures written { IfOk result (λ r. r.0.status ≡ 0 → IsWritten (Some Run) (Some script.items) (Some []) (Some r.1.written) r.0.controls r.0.settled.items r.0.histories.items) }
-    ensures refused { IfOk result (λ r. MatchOption r.0.fault (r.0.status ≢ 2) (λ fault. (r.0.status ≡ 2) × IsRefused (Some Run) (Some script.items) fault)) }
+    ensures written { IfOk result (λ r. r.0.status ≡ 0 → IsWritten (Some (Input Run)) (Some script.items) (Some []) (Some r.1.written) r.0.controls r.0.settled.items r.0.histories.items) }
+    ensures refused { IfOk result (λ r. MatchOption r.0.fault (r.0.status ≢ 2) (λ fault. (r.0.status ≡ 2) × IsRefused (Some (Input Run)) (Some script.items) fault)) }
     ensures nothing { IfOk result (λ r. r.0.status ≢ 0 → r.1.written ≡ []) }
 {
     let words = [b"run".to_vec(alloc)?];

@@ -1,5 +1,5 @@
 -- The parts of the control path, around the phases of a script.
-use Rattle.std.proofs.Common.{◌≡◌, ◌∙◌, ◌+◌, ◌<◌, ◌≤◌, ℕ, Bool, true, false, List, length, nat_lt, Some, Result, Ok, Err, IfOk, if◌then◌else◌, IsTrue, ◌↔◌, inl, inr, refl, sym, ap, subst, arith}
+use Rattle.std.proofs.Common.{◌≡◌, ◌∙◌, ◌+◌, ◌<◌, ◌≤◌, ℕ, Bool, true, false, List, length, nat_lt, Some, if◌then◌else◌, IsTrue, ◌↔◌, inl, inr, refl, sym, ap, subst, arith}
 use Rattle.std.proofs.lemmas.Bool.Decides.{nat_tests}
 use Rattle.std.proofs.lemmas.Bool.{cases_eq}
 use Rattle.contact.specs.declared.part.Part.TheVariants.{Contact, PhaseStart, PhaseEnd, Unload}
@@ -34,10 +34,6 @@ first_between lines r old new so_far none rests fresh ran =
     let at : part_at (plan_of lines) r.phase ≡ PhaseStart 0 = rw (none, some) refl in
     record { ran = so_far; rests = ran.rests; plan = ran.plan ∙ plan; next = rw (ran.guest_part, at) refl }
 
-pub contacted_between : {E : Type 0} (lines : List Line) (r : Runner) (old : ControlPath) (res : Result ControlPath E) → RunsSoFar lines r → r.phase ≡ 0 → Rests old → old.guest ≡ new_guest (plan_of lines) → IfOk res (λ new. Ran old new Contact) → IfOk res (λ new. IsBetween lines r new)
-contacted_between lines r old (Ok new) so_far none rests fresh ran = first_between lines r old new so_far none rests fresh ran
-contacted_between lines r old (Err e) so_far none rests fresh ran = tt
-
 -- the next phase starts
 pub starts : (lines : List Line) (r : Runner) (p : ControlPath) → IsBetween lines r p → r.phase < length (parts lines) → part_after p.guest.plan p.guest.part ≡ Some (PhaseStart r.phase)
 starts lines r p between more =
@@ -56,10 +52,9 @@ next_between lines r s p q t between start end so_far more =
     let at : part_after (plan_of lines) (Some (PhaseEnd r.phase)) ≡ Some (part_at (plan_of lines) (r.phase + 1)) = some_of (nat_lt (r.phase + 1) (length (plan_of lines).phases)) (PhaseStart (r.phase + 1)) Unload in
     record { ran = so_far; rests = end.rests; plan = plan; next = rw (end.guest_part, more) at }
 
-pub then_between : {E : Type 0} (lines : List Line) (r s : Runner) (p q : ControlPath) (phase : ℕ) (res : Result ControlPath E) → IsBetween lines r p → phase ≡ r.phase → Ran p q (PhaseStart phase) → RunsSoFar lines s → s.phase ≡ r.phase + 1 → IfOk res (λ t. Ran q t (PhaseEnd phase)) → IfOk res (λ t. IsBetween lines s t)
-then_between lines r s p q phase (Ok t) between is start so_far more end =
+pub then_between : (lines : List Line) (r s : Runner) (p q t : ControlPath) (phase : ℕ) → IsBetween lines r p → phase ≡ r.phase → Ran p q (PhaseStart phase) → RunsSoFar lines s → s.phase ≡ r.phase + 1 → Ran q t (PhaseEnd phase) → IsBetween lines s t
+then_between lines r s p q t phase between is start so_far more end =
     next_between lines r s p q t between (subst (λ (k : ℕ). Ran p q (PhaseStart k)) is start) (subst (λ (k : ℕ). Ran q t (PhaseEnd k)) is end) so_far more
-then_between lines r s p q phase (Err e) between is start so_far more end = tt
 
 -- behind the last phase it is the farewell
 pub farewell : (lines : List Line) (r : Runner) (p : ControlPath) → IsBetween lines r p → r.phase ≡ length (parts lines) → part_after p.guest.plan p.guest.part ≡ Some Unload

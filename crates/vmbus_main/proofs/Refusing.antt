@@ -4,13 +4,14 @@ use Rattle.script_text.specs.declared.fault.ScriptFault.{ScriptFault}
 use Rattle.io_edge.specs.Edge.{HoldsWhole}
 use Rattle.bus_model.specs.declared.channel_run.ChannelRun.{ChannelRun}
 use Rattle.bus_model.specs.declared.history.DeviceHistory.{DeviceHistory}
-use Rattle.vmbus_main.specs.declared.command.Command.{Command}
-use Rattle.vmbus_main.specs.declared.command.Command.TheVariants.{Run, Decode}
+use Rattle.vmbus_main.specs.declared.command.Command.TheVariants.{Input}
+use Rattle.vmbus_main.specs.declared.command.InputCommand.{InputCommand}
+use Rattle.vmbus_main.specs.declared.command.InputCommand.TheVariants.{Run, Decode}
 use Rattle.vmbus_main.specs.declared.outcome.Controls.{Controls}
 use Rattle.vmbus_main.specs.Answer.{IsAnswer, IsFault}
 use Rattle.vmbus_main.specs.Call.{TellsRefused, most_bytes}
 
-no_fault : (command : Command) (input : List ℕ) (controls : Option Controls) (settled : List ChannelRun) (histories : List DeviceHistory) (output : List ℕ) (fault : ScriptFault) → IsAnswer command input controls settled histories output → IsFault command input fault → ⊥
+no_fault : (command : InputCommand) (input : List ℕ) (controls : Option Controls) (settled : List ChannelRun) (histories : List DeviceHistory) (output : List ℕ) (fault : ScriptFault) → IsAnswer command input controls settled histories output → IsFault command input fault → ⊥
 no_fault Run input controls settled histories output fault answer faulty =
     let both : Ok answer.lines ≡ Err fault = sym answer.script ∙ faulty in
     cc (both)
@@ -18,13 +19,9 @@ no_fault Decode input controls settled histories output fault answer faulty =
     let both : Ok output ≡ Err fault = sym answer.0 ∙ faulty in
     cc (both)
 
-told : (command : Command) (left : Option (List ℕ)) (input : List ℕ) (controls : Option Controls) (settled : List ChannelRun) (histories : List DeviceHistory) (output : List ℕ) → HoldsWhole left input → length input ≤ most_bytes → IsAnswer command input controls settled histories output → TellsRefused (Some command) left → ⊥
+pub told : (command : InputCommand) (left : Option (List ℕ)) (input : List ℕ) (controls : Option Controls) (settled : List ChannelRun) (histories : List DeviceHistory) (output : List ℕ) → HoldsWhole left input → length input ≤ most_bytes → IsAnswer command input controls settled histories output → TellsRefused (Some (Input command)) left → ⊥
 told command None input controls settled histories output whole short answer refused = refused
 told command (Some bytes) input controls settled histories output whole short answer refused = elim refused [
   | inl long ↦ let same : length input ≡ length bytes = ap length whole in absurd (omega (arith, long, short, same))
   | inr faulty ↦ no_fault command input controls settled histories output faulty.0 answer (subst (λ b. IsFault command b faulty.0) (sym whole) faulty.1)
 ]
-
-pub not_refused : (named : Option Command) (command : Command) (left : Option (List ℕ)) (input : List ℕ) (controls : Option Controls) (settled : List ChannelRun) (histories : List DeviceHistory) (output : List ℕ) → named ≡ Some command → HoldsWhole left input → length input ≤ most_bytes → IsAnswer command input controls settled histories output → TellsRefused named left → ⊥
-not_refused named command left input controls settled histories output is whole short answer refused =
-    told command left input controls settled histories output whole short answer (subst (λ n. TellsRefused n left) is refused)

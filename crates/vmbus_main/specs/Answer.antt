@@ -6,13 +6,15 @@ use Rattle.bus_script.specs.declared.outcome.LineResult.{LineResult}
 use Rattle.script_lines.specs.Grammar.{script_of}
 use Rattle.bus_script.specs.Report.{report_of}
 use Rattle.msg_text.specs.Output.{decode_output}
+use Rattle.load_script.specs.Load.{load_lines}
+use Rattle.load_script.specs.Counts.{load_output}
 use Rattle.bus_model.specs.declared.channel_run.ChannelRun.{ChannelRun}
 use Rattle.bus_model.specs.declared.history.DeviceHistory.{DeviceHistory}
 use Rattle.bus_model.specs.Run.{IsBusRun}
-use Rattle.vmbus_main.specs.declared.command.Command.{Command}
+use Rattle.vmbus_main.specs.declared.command.InputCommand.{InputCommand}
 use Rattle.vmbus_main.specs.declared.outcome.Controls.{Controls}
 use Rattle.vmbus_main.specs.Controls.{HasControls}
-use Rattle.vmbus_main.specs.declared.command.Command.TheVariants.{Run, Decode}
+use Rattle.vmbus_main.specs.declared.command.InputCommand.TheVariants.{Run, Decode}
 
 -- the input is a script, and the output is the report of a run of it with these packets and histories; these controls went by the script
 pub record IsRunAnswer (input : List ℕ) (controls : Option Controls) (settled : List ChannelRun) (histories : List DeviceHistory) (output : List ℕ) : Type 0 where
@@ -23,12 +25,19 @@ pub record IsRunAnswer (input : List ℕ) (controls : Option Controls) (settled 
   pub run : IsBusRun lines settled histories results
   pub report : output ≡ report_of lines results
 
+-- the output is the line of a run of the load script with these packets and histories; these controls went by it
+pub record IsLoadAnswer (seed count : ℕ) (controls : Option Controls) (settled : List ChannelRun) (histories : List DeviceHistory) (output : List ℕ) : Type 0 where
+  pub controls_are : HasControls (load_lines seed count) controls
+  pub results : List LineResult
+  pub run : IsBusRun (load_lines seed count) settled histories results
+  pub line : output ≡ load_output count results
+
 -- a command's output on an input
-abbrev pub IsAnswer : Command → List ℕ → Option Controls → List ChannelRun → List DeviceHistory → List ℕ → Type 0
+abbrev pub IsAnswer : InputCommand → List ℕ → Option Controls → List ChannelRun → List DeviceHistory → List ℕ → Type 0
 IsAnswer Run input controls settled histories output = IsRunAnswer input controls settled histories output
 IsAnswer Decode input controls settled histories output = (decode_output input ≡ Ok output) × (controls ≡ None) × (settled ≡ []) × (histories ≡ [])
 
 -- the first wrong line of a command's input
-abbrev pub IsFault : Command → List ℕ → ScriptFault → Type 0
+abbrev pub IsFault : InputCommand → List ℕ → ScriptFault → Type 0
 IsFault Run input fault = script_of input ≡ Err fault
 IsFault Decode input fault = decode_output input ≡ Err fault

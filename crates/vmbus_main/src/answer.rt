@@ -1,15 +1,18 @@
 //! The output of a command on an input.
+ghost use Rattle.std.specs.Prelude.{◌≡◌, ◌≤◌, ◌%◌, length, IfOk};
+ghost use Rattle.vmbus_main.specs.Answer.{IsLoadAnswer};
 ghost use Rattle.vmbus_main.specs.Answered.{IsAnswered};
-ghost use Rattle.vmbus_main.specs.declared.command.Command.TheVariants.{Run, Decode};
+ghost use Rattle.vmbus_main.specs.declared.command.InputCommand.TheVariants.{Run, Decode};
 
-use crate::command::Command;
+use crate::command::InputCommand;
 use crate::outcome::Controls;
 use crate::run::{BusRan, run_script};
 use bus_model::{ChannelRun, DeviceHistory};
 use bus_script::{ParseFault, parse, report};
 use io_edge::Gate;
+use load_script::{load_line, load_script};
 use msg_text::decode_text;
-use std::alloc::Global;
+use std::alloc::{AllocError, Global};
 use std::sync::Wait;
 use std::thread::Threads;
 
@@ -27,14 +30,14 @@ pub fn answer_input<R: Threads + Wait + Sync, G: Gate>(
     rt: &R,
     gate: &G,
     alloc: Global,
-    command: Command,
+    command: InputCommand,
     input: &[u8],
 ) -> Result<Answer, ParseFault>
     ensures { IsAnswered command input.now result }
 {
     match command {
-        Command::Run => run_input(rt, gate, alloc, input),
-        Command::Decode => decode_input(alloc, input),
+        InputCommand::Run => run_input(rt, gate, alloc, input),
+        InputCommand::Decode => decode_input(alloc, input),
     }
 }
 
@@ -66,6 +69,37 @@ fn run_input<R: Threads + Wait + Sync, G: Gate>(
         },
         Err(_) => Err(ParseFault::Memory),
     }
+}
+
+/// Runs the load script, and tells in one line what came of it.
+pub fn answer_load<R: Threads + Wait + Sync, G: Gate>(
+    rt: &R,
+    gate: &G,
+    alloc: Global,
+    seed: u32,
+    count: u32,
+) -> Result<Answer, AllocError>
+    requires even { count % 2 ≡ 0 }
+    requires some { 2 ≤ count }
+    requires most { count ≤ 8192 }
+    ensures answer { IfOk result (λ a. IsLoadAnswer seed count a.controls a.settled.items a.histories.items a.text.items) }
+    ensures short { IfOk result (λ a. length a.text.items ≤ 67108864) }
+{
+    let script = load_script(alloc, seed, count)?;
+    let ran = run_script(rt, gate, alloc, &script)?;
+    let text = load_line(alloc, count, &ran.results)?;
+    let BusRan {
+        controls,
+        settled,
+        histories,
+        results: _,
+    } = ran;
+    Ok(Answer {
+        controls: Some(controls),
+        settled,
+        histories,
+        text,
+    })
 }
 
 fn decode_input(alloc: Global, input: &[u8]) -> Result<Answer, ParseFault>

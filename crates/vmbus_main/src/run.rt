@@ -41,16 +41,19 @@ pub fn run_script<R: Threads + Wait + Sync, G: Gate>(
     let mut runner = Runner::make(alloc, script)?;
     let path = contacted(rt, alloc, script, &runner)?;
     let path = run_phases(rt, gate, alloc, script, path, &mut runner)?;
-    let path = path.run(rt, alloc, Part::Unload)?;
+    let path = path.run(rt, Part::Unload)?;
     let ran = runner.end(alloc)?;
-    let (guest, host) = path.end(rt);
+    let over = path.end(rt);
     let Ran {
         settled,
         histories,
         results,
     } = ran;
     Ok(BusRan {
-        controls: Controls { guest, host },
+        controls: Controls {
+            guest: over.guest,
+            host: over.host,
+        },
         settled,
         histories,
         results,
@@ -69,7 +72,7 @@ fn contacted<R: Threads + Wait + Sync>(
     ensures { IfOk result (λ path. IsBetween script.now runner.now path) }
 {
     let path = ControlPath::make(alloc, script)?;
-    path.run(rt, alloc, Part::Contact)
+    Ok(path.run(rt, Part::Contact)?)
 }
 
 /// Runs all phases.
@@ -116,7 +119,7 @@ fn run_next<R: Threads + Wait + Sync, G: Gate>(
     ensures one { OnOk result (runner.new.phase ≡ runner.old.phase + 1) }
 {
     let phase = runner.phase();
-    let path = path.run(rt, alloc, Part::PhaseStart(phase))?;
+    let path = path.run(rt, Part::PhaseStart(phase))?;
     runner.run_next(rt, gate, alloc, script)?;
-    path.run(rt, alloc, Part::PhaseEnd(phase))
+    Ok(path.run(rt, Part::PhaseEnd(phase))?)
 }

@@ -1,40 +1,20 @@
-use Rattle.std.proofs.Common.{sym, ◌∙◌, subst, arith}
-use Rattle.io_edge.specs.Edge.{Grows, GrowsByFront}
-use Rattle.vmbus_main.specs.Answer.{IsAnswer}
-use Rattle.vmbus_main.proofs.Refusing.{not_refused}
+use Rattle.std.proofs.Common.{◌≡◌, Option, Some, subst}
+use Rattle.vmbus_main.specs.declared.command.Command.{Command}
+use Rattle.vmbus_main.specs.declared.command.Command.TheVariants.{Load}
+use Rattle.vmbus_main.specs.Words.{command_of}
+use Rattle.vmbus_main.specs.Call.{IsWritten, IsWrittenInPart}
 use Rattle.vmbus_main.proofs.call.vmbus.Goals as goal
-use Rattle.vmbus_main.proofs.call.vmbus.Goals.{in-Ok-write_all, in-Err}
 
-pub returns-clause-in_part : goal.returns-clause-in_part
-returns-clause-in_part g c four =
-    let answer = c.in-Ok-answer_input.answer in (
-      c.in-Some.command,
-      c.in-Ok.input.items,
-      answer.text.items,
-      sym c.command_of.ensures ∙ c.in-Some.is,
-      record { whole = c.in-Ok.ensures.whole; short = c.in-Ok.ensures.most },
-      subst (λ b. IsAnswer c.in-Some.command b answer.controls answer.settled.items answer.histories.items answer.text.items) c.deref.ensures.value c.in-Ok-answer_input.ensures.0,
-      subst (λ b. GrowsByFront (g.K.Sink.written c.args.sink.now) (g.K.Sink.written c.write_all.new.sink) b) c.deref-2.ensures.value c.write_all.ensures.front,
-    )
+pub returns-in-Some-Load-clause-written : goal.returns-in-Some-Load-clause-written
+returns-in-Some-Load-clause-written g c zero =
+    let left = g.S.Source.left c.args.source.now in
+    let named : Some (Load c.in-Some-Load.seed c.in-Some-Load.count) ≡ command_of c.args.words.now = cc in
+    let r = c.call_load.result in
+    subst (λ (n : Option Command). IsWritten n left (g.K.Sink.written c.args.sink.now) (g.K.Sink.written c.call_load.new.sink) r.controls r.settled.items r.histories.items) named (c.call_load.ensures.written zero left)
 
-pub returns-clause-written : goal.returns-clause-written
-returns-clause-written g c zero =
-    let answer = c.in-Ok-answer_input.answer in
-    elim c.match-write_all.branch [
-      | in-Ok-write_all w ↦ (
-        c.in-Some.command,
-        c.in-Ok.input.items,
-        answer.text.items,
-        sym c.command_of.ensures ∙ c.in-Some.is,
-        record { whole = c.in-Ok.ensures.whole; short = c.in-Ok.ensures.most },
-        subst (λ b. IsAnswer c.in-Some.command b answer.controls answer.settled.items answer.histories.items answer.text.items) c.deref.ensures.value c.in-Ok-answer_input.ensures.0,
-        subst (λ b. Grows (g.K.Sink.written c.args.sink.now) (g.K.Sink.written c.write_all.new.sink) b) c.deref-2.ensures.value w.in-Ok-write_all.ensures.whole,
-      )
-      | in-Err w ↦ absurd (omega (arith, zero, w.status-is))
-    ]
-
-pub returns-clause-exactly : goal.returns-clause-exactly
-returns-clause-exactly g c refused =
-    let answer = c.in-Ok-answer_input.answer in
-    let right = subst (λ b. IsAnswer c.in-Some.command b answer.controls answer.settled.items answer.histories.items answer.text.items) c.deref.ensures.value c.in-Ok-answer_input.ensures.0 in
-    absurd (not_refused _ c.in-Some.command (g.S.Source.left c.args.source.now) c.in-Ok.input.items answer.controls answer.settled.items answer.histories.items answer.text.items (sym c.command_of.ensures ∙ c.in-Some.is) c.in-Ok.ensures.whole c.in-Ok.ensures.most right refused)
+pub returns-in-Some-Load-clause-in_part : goal.returns-in-Some-Load-clause-in_part
+returns-in-Some-Load-clause-in_part g c four =
+    let left = g.S.Source.left c.args.source.now in
+    let named : Some (Load c.in-Some-Load.seed c.in-Some-Load.count) ≡ command_of c.args.words.now = cc in
+    let r = c.call_load.result in
+    subst (λ (n : Option Command). IsWrittenInPart n left (g.K.Sink.written c.args.sink.now) (g.K.Sink.written c.call_load.new.sink) r.controls r.settled.items r.histories.items) named (c.call_load.ensures.in_part four left)

@@ -9,5 +9,5 @@ run-requires-clause-part g c =
 
 pub returns-clause-between : goal.returns-clause-between
 returns-clause-between g c =
-    then_between c.args.script.now c.args.runner.now c.run_next.new.self c.args.path c.in_ok-path.path c.phase-phase.result c.run-2.result c.requires.between c.phase-phase.ensures c.in_ok-path.ensures
-    c.in_ok-run_next.ensures.so_far c.in_ok-run_next.ensures.phase c.run-2.ensures
+    then_between c.args.script.now c.args.runner.now c.run_next.new.self c.args.path c.in_ok-path.path c.in_ok-run.field-0 c.phase-phase.result c.requires.between c.phase-phase.ensures c.in_ok-path.ensures.ran
+    c.in_ok-run_next.ensures.so_far c.in_ok-run_next.ensures.phase c.in_ok-run.ensures.ran

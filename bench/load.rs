@@ -1,0 +1,255 @@
+//! The job of `vmbus load SEED COUNT` as a plain program, without a proof, to compare times with: a disk behind a Mutex that keeps its history, four channels
+//! of two rings on atomic words each, a guest's and a host's thread a channel, and at most four requests of a channel open at once. Each request is a packet
+//! of a descriptor, a storage packet and the data. Channels are there from the beginning: no control message opens them, and no start-up is asked for.
+
+use std::sync::atomic::{AtomicBool, AtomicU64, AtomicUsize, Ordering::SeqCst};
+use std::sync::{Mutex, OnceLock};
+use std::thread::{self, Thread};
+
+const CHANNELS: usize = 4;
+const WINDOW: usize = 4;
+const BLOCK: usize = 512;
+const CELLS: usize = 512;
+const HEAD: usize = 10; // words of the descriptor and of the storage packet
+
+/// One ring: cells, and the indices of its producer and its consumer, which count words.
+struct Ring {
+    cells: Vec<AtomicU64>,
+    write: AtomicUsize,
+    read: AtomicUsize,
+}
+
+impl Ring {
+    fn new() -> Ring {
+        Ring {
+            cells: (0..CELLS).map(|_| AtomicU64::new(0)).collect(),
+            write: AtomicUsize::new(0),
+            read: AtomicUsize::new(0),
+        }
+    }
+
+    fn used(write: usize, read: usize) -> usize {
+        (write + CELLS - read) % CELLS
+    }
+
+    /// Sends a packet and its trailer, where there is room.
+    fn send(&self, packet: &[u64]) -> bool {
+        let (write, read) = (self.write.load(SeqCst), self.read.load(SeqCst));
+        if Ring::used(write, read) + packet.len() + 1 >= CELLS {
+            return false;
+        }
+        for (i, word) in packet.iter().enumerate() {
+            self.cells[(write + i) % CELLS].store(*word, SeqCst);
+        }
+        self.cells[(write + packet.len()) % CELLS].store((write as u64) << 35, SeqCst);
+        self.write.store((write + packet.len() + 1) % CELLS, SeqCst);
+        true
+    }
+
+    /// Takes the next packet, where there is one.
+    fn take(&self, packet: &mut Vec<u64>) -> bool {
+        let (write, read) = (self.write.load(SeqCst), self.read.load(SeqCst));
+        if write == read {
+            return false;
+        }
+        packet.clear();
+        let first = self.cells[read].load(SeqCst);
+        let len = (first >> 32) as u16 as usize;
+        packet.push(first);
+        for i in 1..len {
+            packet.push(self.cells[(read + i) % CELLS].load(SeqCst));
+        }
+        self.read.store((read + len + 1) % CELLS, SeqCst);
+        true
+    }
+}
+
+/// An end that may sleep, and the thread to wake then.
+#[derive(Default)]
+struct Sleeper {
+    asleep: AtomicBool,
+    thread: OnceLock<Thread>,
+}
+
+impl Sleeper {
+    /// Sleeps, unless a second look finds something to do.
+    fn sleep(&self, busy: impl Fn() -> bool) {
+        self.thread.get_or_init(thread::current);
+        self.asleep.store(true, SeqCst);
+        if !busy() {
+            thread::park();
+        }
+        self.asleep.store(false, SeqCst);
+    }
+
+    fn wake(&self) {
+        if self.asleep.load(SeqCst) {
+            self.thread.get().unwrap().unpark();
+        }
+    }
+}
+
+struct Channel {
+    to_host: Ring,
+    to_guest: Ring,
+    guest: Sleeper,
+    host: Sleeper,
+    over: AtomicBool,
+}
+
+impl Channel {
+    fn new() -> Channel {
+        Channel {
+            to_host: Ring::new(),
+            to_guest: Ring::new(),
+            guest: Sleeper::default(),
+            host: Sleeper::default(),
+            over: AtomicBool::new(false),
+        }
+    }
+}
+
+/// A request: its block, and what fills it where it writes.
+#[derive(Clone, Copy)]
+struct Ask {
+    block: u32,
+    fill: Option<u8>,
+}
+
+/// A served request with its reply: the bytes written, or those that were read.
+#[allow(dead_code)]
+struct Entry {
+    seat: usize,
+    ask: Ask,
+    data: Vec<u8>,
+}
+
+struct Disk {
+    blocks: Vec<[u8; BLOCK]>,
+    history: Vec<Entry>,
+}
+
+/// A packet of this kind and id, with a storage packet that names the block, and data.
+fn packet(kind: u16, id: u64, ask: Ask, data: &[u8]) -> Vec<u64> {
+    let len = HEAD + data.len() / 8;
+    let mut words = vec![0; HEAD];
+    words[0] = u64::from(kind) | 2 << 16 | (len as u64) << 32;
+    words[1] = id;
+    words[2] = 3 | 1 << 32;
+    words[5] = u64::from(ask.block) | u64::from(ask.fill.is_some()) << 32;
+    words.extend(data.chunks_exact(8).map(|c| u64::from_le_bytes(c.try_into().unwrap())));
+    words
+}
+
+fn data_of(words: &[u64]) -> Vec<u8> {
+    words[HEAD..].iter().flat_map(|w| w.to_le_bytes()).collect()
+}
+
+/// The host's end: serves each request under the disk's lock, and answers it.
+fn serve(channel: &Channel, seat: usize, disk: &Mutex<Disk>) {
+    let mut words = Vec::new();
+    let mut owed: Option<Vec<u64>> = None;
+    loop {
+        if let Some(answer) = owed.take() {
+            if !channel.to_guest.send(&answer) {
+                owed = Some(answer);
+                channel.host.sleep(|| {
+                    let ring = &channel.to_guest;
+                    Ring::used(ring.write.load(SeqCst), ring.read.load(SeqCst)) + HEAD + BLOCK / 8 + 1 < CELLS
+                });
+                continue;
+            }
+            channel.guest.wake();
+        }
+        if channel.to_host.take(&mut words) {
+            channel.guest.wake();
+            let data = data_of(&words);
+            let ask = Ask {
+                block: words[5] as u32,
+                fill: data.first().copied(),
+            };
+            let back = {
+                let mut disk = disk.lock().unwrap();
+                let back = if data.is_empty() {
+                    disk.blocks[ask.block as usize].to_vec()
+                } else {
+                    disk.blocks[ask.block as usize].copy_from_slice(&data);
+                    Vec::new()
+                };
+                let data = if data.is_empty() { back.clone() } else { data };
+                disk.history.push(Entry { seat, ask, data });
+                back
+            };
+            owed = Some(packet(11, words[1], ask, &back));
+        } else if channel.over.load(SeqCst) {
+            return;
+        } else {
+            let ring = &channel.to_host;
+            channel.host.sleep(|| ring.write.load(SeqCst) != ring.read.load(SeqCst) || channel.over.load(SeqCst));
+        }
+    }
+}
+
+/// The guest's end: has at most a window of requests open, and settles each by its answer. What came back, request by request.
+fn ask(channel: &Channel, asks: &[Ask]) -> Vec<Vec<u8>> {
+    let mut back = vec![Vec::new(); asks.len()];
+    let mut words = Vec::new();
+    let (mut next, mut settled) = (0, 0);
+    while settled < asks.len() {
+        let mut moved = false;
+        while next < asks.len() && next - settled < WINDOW {
+            let ask = asks[next];
+            let data = ask.fill.map_or(Vec::new(), |fill| vec![fill; BLOCK]);
+            if !channel.to_host.send(&packet(6, next as u64, ask, &data)) {
+                break;
+            }
+            channel.host.wake();
+            next += 1;
+            moved = true;
+        }
+        while channel.to_guest.take(&mut words) {
+            channel.host.wake();
+            back[words[1] as usize] = data_of(&words);
+            settled += 1;
+            moved = true;
+        }
+        if !moved {
+            let ring = &channel.to_guest;
+            channel.guest.sleep(|| ring.write.load(SeqCst) != ring.read.load(SeqCst));
+        }
+    }
+    channel.over.store(true, SeqCst);
+    channel.host.wake();
+    back
+}
+
+/// One phase: the requests are dealt to the channels in turn, and each channel has two threads.
+fn phase(disk: &Mutex<Disk>, asks: &[Ask]) -> Vec<Vec<u8>> {
+    let channels: Vec<Channel> = (0..CHANNELS).map(|_| Channel::new()).collect();
+    let dealt: Vec<Vec<Ask>> = (0..CHANNELS).map(|c| asks.iter().skip(c).step_by(CHANNELS).copied().collect()).collect();
+    thread::scope(|scope| {
+        for (seat, channel) in channels.iter().enumerate() {
+            scope.spawn(move || serve(channel, seat, disk));
+        }
+        let guests: Vec<_> = channels.iter().zip(&dealt).map(|(channel, asks)| scope.spawn(move || ask(channel, asks))).collect();
+        guests.into_iter().flat_map(|guest| guest.join().unwrap()).collect()
+    })
+}
+
+fn main() {
+    let words: Vec<u64> = std::env::args().skip(1).map(|w| w.parse().expect("a number")).collect();
+    let [seed, count] = words[..] else { panic!("load SEED COUNT") };
+    let disk = Mutex::new(Disk {
+        blocks: vec![[0; BLOCK]; 4096],
+        history: Vec::new(),
+    });
+    let half = count / 2;
+    let writes: Vec<Ask> = (0..half).map(|k| Ask { block: k as u32, fill: Some((seed + 7 * k) as u8) }).collect();
+    let reads: Vec<Ask> = (0..half).map(|k| Ask { block: k as u32, fill: None }).collect();
+    phase(&disk, &writes);
+    let back = phase(&disk, &reads);
+    let done = disk.lock().unwrap().history.len();
+    let bytes: usize = back.iter().map(Vec::len).sum();
+    let sum: u64 = back.iter().flatten().map(|b| u64::from(*b)).sum();
+    println!("load requests {count} done {done} bytes {bytes} sum {sum}");
+}
