@@ -5,12 +5,14 @@ pub use Rattle.page_kept.specs.declared.owner.Owner.{Owner}
 pub use Rattle.page_kept.specs.declared.owner.Owner.TheVariants.{Has, Lent, Held, Away}
 pub use Rattle.page_kept.specs.declared.due.Due.{Due}
 pub use Rattle.page_kept.specs.declared.due.Due.TheVariants.{Clear, Loads}
+pub use Rattle.page_kept.specs.declared.page_call.PageCall.{PageCall}
+pub use Rattle.page_kept.specs.declared.page_call.PageCall.TheVariants.{Off, StoreWord, LoadWords}
 use Rattle.pkt_desc.specs.Packets.{kind_of, id_of}
 use Rattle.page_kept.specs.Items.{item_of, values}
 use Rattle.page_kept.specs.Layouts.{Side, Guest, Host, Loan, Layout}
 
 abbrev pub no_pages : Kept
-no_pages = record { count = 0; sent = []; got = []; owners = []; copy = []; due = Clear }
+no_pages = record { count = 0; sent = []; got = []; owners = []; copy = []; due = Clear; call = Off }
 
 -- what an end has to do at first with a page of this home
 abbrev pub first_owner : Side → Side → Owner
@@ -48,7 +50,7 @@ first_page f q (o ∷ os) = cond (f o) (Some q) (first_page f (suc q) os)
 
 -- a packet was sent with these page words, and the owners are these
 abbrev pub with_sent : Kept → List ℕ → List ℕ → List Owner → Kept
-with_sent k p ws os = record { count = k.count; sent = k.sent ++ item_of p ws ∷ []; got = k.got; owners = os; copy = k.copy; due = k.due }
+with_sent k p ws os = record { count = k.count; sent = k.sent ++ item_of p ws ∷ []; got = k.got; owners = os; copy = k.copy; due = k.due; call = k.call }
 
 -- a completion brings back the page that is held under its id
 abbrev pub gives_back : Kept → List ℕ → Option ℕ → Kept
@@ -66,11 +68,11 @@ pages_sent l k p = cond (k.count == 0) k (cond (kind_of p == 11) (gives_back k p
 
 -- a packet was taken, and no page comes with it
 abbrev pub with_took : Kept → List ℕ → Kept
-with_took k p = record { count = k.count; sent = k.sent; got = k.got ++ item_of p [] ∷ []; owners = k.owners; copy = k.copy; due = k.due }
+with_took k p = record { count = k.count; sent = k.sent; got = k.got ++ item_of p [] ∷ []; owners = k.owners; copy = k.copy; due = k.due; call = k.call }
 
 -- a packet was taken, the owners are these, and n words of a page are due
 abbrev pub with_due : Kept → List Owner → ℕ → ℕ → Kept
-with_due k os q n = record { count = k.count; sent = k.sent; got = k.got; owners = os; copy = k.copy; due = Loads q n 0 }
+with_due k os q n = record { count = k.count; sent = k.sent; got = k.got; owners = os; copy = k.copy; due = Loads q n 0; call = k.call }
 
 -- a completion brings back the page that is lent under its id
 abbrev pub has_back : Kept → List ℕ → Option ℕ → Kept

@@ -2,6 +2,7 @@
 use crate::due::Due;
 use crate::item::Item;
 use crate::owner::Owner;
+use crate::page_call::PageCall;
 use std::collections::LinkedList;
 
 /// What an end keeps of its channel's pages. No value of it is made: a `LinkedList` is a list in contracts.
@@ -18,4 +19,6 @@ pub struct Kept {
     pub copy: LinkedList<u64>,
     /// What it has to load.
     pub due: Due,
+    /// The call on page words that it is in.
+    pub call: PageCall,
 }

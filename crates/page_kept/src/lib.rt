@@ -6,8 +6,10 @@ mod item;
 mod kept;
 pub mod laws;
 mod owner;
+mod page_call;
 
 pub use due::Due;
 pub use item::Item;
 pub use kept::Kept;
 pub use owner::Owner;
+pub use page_call::PageCall;

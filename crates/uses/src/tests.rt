@@ -3,9 +3,8 @@ ghost use Rattle.std.specs.Prelude.{◌≡◌, true};
 
 use crate::{
     AtomicWords, SharedSeat, answer_keepalive, pass_one, release, send_one, serve_srb, settle,
-    share, store_all, take_one, take_piece,
+    share, take_one, take_piece,
 };
-use channel_port::Ended;
 use gpadl::Assembler;
 use ring_core::{End, Room, Side, Signalled};
 use ring_driver::DriverEnd;
@@ -15,7 +14,7 @@ use stor_proto::Vstor;
 use txn_table::TxnTable;
 use vmbus_msg::encode;
 
-// Stops the test unless this holds.
+/// Stops the test unless this holds.
 fn check(rt: &impl Abort, holds: bool)
     ensures { holds ≡ true }
 {
@@ -123,20 +122,4 @@ fn a_packet_goes_through_ends_that_keep_none(rt: HostRuntime) {
             pass_one(&mut guest, &mut host, &[0x0000_0003_0002_0006, i, 9]),
         );
     }
-}
-
-#[test]
-fn a_register_gives_what_it_held(rt: HostRuntime) {
-    let values = vec![in rt.alloc(); 5, 6, 7, 8, 9, 10, 11, 12, 13, 14].expect(&rt, "memory");
-    let (asked, served) = store_all(&rt, rt.alloc(), values).expect(&rt, "memory");
-    check(&rt, asked.ended == Ended::Marked);
-    check(&rt, served.ended == Ended::PeerMarked);
-    check(
-        &rt,
-        asked.replies.as_slice() == [0u64, 5, 6, 7, 8, 9, 10, 11, 12, 13].as_slice(),
-    );
-    check(
-        &rt,
-        served.serials.as_slice() == [0u32, 1, 2, 3, 4, 5, 6, 7, 8, 9].as_slice(),
-    );
 }

@@ -2,7 +2,7 @@
 ghost use Rattle.std.specs.Prelude.{◌≡◌, ◌^◌, ◌<◌, false, length, IfOk};
 ghost use Rattle.requester.specs.Asking.{AsksBy};
 ghost use Rattle.ring_seat.specs.Settling.{IsSameEnd};
-ghost use Rattle.uses.specs.Registers.{register_speech};
+ghost use Rattle.uses_workers.specs.Registers.{register_speech};
 
 use crate::register::Register;
 use crate::register_seat::RegisterSeat;

@@ -1,6 +1,6 @@
 //! What the packets of a register say, for the workers of its channel.
 ghost use Rattle.std.specs.Prelude.{◌≡◌, ◌≤◌, ◌<◌, ◌^◌, [], length, take, slice_index_or};
-ghost use Rattle.uses.specs.Registers.{register_packet};
+ghost use Rattle.uses_workers.specs.Registers.{register_packet};
 
 use chan_talk::Talk;
 
@@ -36,8 +36,8 @@ fn word(packet: &[u64], i: usize) -> u64
 
 impl Talk for RegisterTalk {
     ghost use Rattle.std.specs.Prelude.{[], refl, slice_index_or};
-    ghost use Rattle.uses.specs.Registers.{register_speech, register_packet};
-    ghost use Rattle.uses.specs.RegisterLaws.{register_keeps};
+    ghost use Rattle.uses_workers.specs.Registers.{register_speech, register_packet};
+    ghost use Rattle.uses_workers.specs.RegisterLaws.{register_keeps};
 
     type Ask = u64;
 

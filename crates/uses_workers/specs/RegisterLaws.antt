@@ -2,7 +2,7 @@
 use Rattle.std.specs.Prelude.{◌≡◌, ℕ, Bool, true, false, Option, Some, None, []}
 use Rattle.std.proofs.Common.{refl, subst}
 use Rattle.work_model.specs.Speech.{Keeps}
-use Rattle.uses.specs.Registers.{register_speech}
+use Rattle.uses_workers.specs.Registers.{register_speech}
 
 abbrev IsThere : Option ℕ → Type 0
 IsThere (Some v) = Unit {0}

@@ -1,0 +1,9 @@
+//! The data pages of a channel, as one end knows them: what it has to do with each, and its copy of their words.
+#![tactic(auto)]
+
+mod loan;
+mod owners;
+mod table;
+
+pub use loan::Loan;
+pub use table::PageTable;

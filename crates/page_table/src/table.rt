@@ -1,0 +1,212 @@
+//! The pages of one end.
+ghost use Rattle.std.specs.Prelude.{◌≡◌, ◌≢◌, ℕ, ◌+◌, ◌*◌, ◌/◌, ◌<◌, ◌≤◌, true, false, length, replicate, slice_get, slice_set, Option, Some, None, IfOk, IfSome, MatchOption};
+ghost use Rattle.page_kept.specs.Items.{values};
+ghost use Rattle.page_kept.specs.declared.kept.Kept.{Kept};
+ghost use Rattle.page_kept.specs.Kept.{pages_sent, pages_took, is_held, is_lent};
+ghost use Rattle.page_kept.specs.Layouts.{layout};
+ghost use Rattle.page_kept.specs.declared.owner.Owner.TheVariants.{Has, Lent, Held, Away};
+ghost use Rattle.pkt_desc.specs.Packets.{IsPacket, kind_of, id_of};
+ghost use Rattle.page_table.specs.Table.{KeepsPages, word_of, owned_in, named_in, first_owners, sent_by, took_by, loan_of, GoesBack, Lends, Holds, IsPart};
+
+use crate::loan::Loan;
+use crate::owners::{at_first, first_held, first_lent, may_be_held, owned, words_in};
+use io_edge::Side;
+use page_kept::Owner;
+use pkt_desc::lent;
+use std::alloc::{AllocError, Global};
+use std::marker::Model;
+
+/// The words of a page.
+const WORDS: usize = 512;
+
+/// The type of a completion. Source: Linux `include/linux/hyperv.h`, `VM_PKT_COMP`.
+const COMPLETION: u64 = 11;
+
+/// What an end has to do with each page of its channel, and its copy of their words, 512 a page.
+#[derive(Drop)]
+pub struct PageTable {
+    owners: Vec<Owner>,
+    copy: Vec<u64>,
+}
+
+impl Model for PageTable {
+    ghost use Rattle.page_table.specs.Table.{Table, IsTable};
+
+    ghost Value = { Table };
+
+    ghost view = { λ t. record { owners = t.owners.items; copy = t.copy.items } };
+
+    ghost invariant = { λ t. IsTable t.owners.items t.copy.items };
+}
+
+impl PageTable {
+    /// The pages of a new end of this side: it has those whose home it is. All words are 0.
+    pub fn make(alloc: Global, side: Side, pages: u32) -> Result<PageTable, AllocError>
+        requires pages { pages ≤ 128 }
+        ensures { IfOk result (λ t. (t.owners ≡ first_owners side pages) × (t.copy ≡ replicate (512 * pages) 0)) }
+    {
+        let mut owners = Vec::new(alloc);
+        for page in 0..pages {
+            owners.push(at_first(side, page))?;
+        }
+        let copy = Vec::from_elem(alloc, 0, WORDS * pages as usize)?;
+        Ok(PageTable { owners, copy })
+    }
+
+    /// How many pages there are.
+    pub fn count(&self) -> u32
+        ensures { result ≡ length self.now.owners }
+    {
+        self.owners.len() as u32
+    }
+
+    /// Whether the end has this page, or holds it. Of a page that the channel hasn't, neither.
+    pub fn owns(&self, page: u32) -> bool
+        ensures { result ≡ owned_in self.now.owners page }
+    {
+        match self.owners.get(page as usize) {
+            Some(owner) => owned(*owner),
+            None => false,
+        }
+    }
+
+    /// The first words of a page, as this end knows them.
+    pub fn words(&self, loan: Loan) -> &[u64]
+        requires page { loan.page < length self.now.owners }
+        requires words { loan.words ≤ 512 }
+        ensures { result.now ≡ values loan.words (word_of self.now.copy loan.page) }
+    {
+        let from = WORDS * loan.page as usize;
+        &self.copy[from..from + loan.words as usize]
+    }
+
+    /// A word of a page becomes this one.
+    pub fn set_word(&mut self, page: u32, word: u32, value: u64)
+        requires page { page < length self.old.owners }
+        requires word { word < 512 }
+        ensures { self.new ≡ record self.old { copy = slice_set self.old.copy (512 * page + word) value } }
+    {
+        self.copy[WORDS * page as usize + word as usize] = value;
+    }
+
+    /// A packet was sent. A completion gives back the page that is held under its id, and any other packet lends what it names: the words that go along.
+    pub fn sent(&mut self, packet: &[u64]) -> Option<Loan>
+        requires packet { IsPacket packet.now }
+        ensures sends { (k : Kept) → KeepsPages k self.old → pages_sent (layout k.count) k packet.now ≡ sent_by k packet.now self.new.owners result }
+        ensures loan { IfSome result (λ a. IsPart self.new.owners a) }
+        ensures size { length self.new.owners ≡ length self.old.owners }
+        ensures copy { self.new.copy ≡ self.old.copy }
+    {
+        let tid = packet[1];
+        if packet[0] % 65536 == COMPLETION {
+            self.give_back(tid)
+        } else {
+            self.lend(packet, tid)
+        }
+    }
+
+    /// A packet was taken. A completion brings back the page that is lent under its id, and any other packet lends what it names, where this end may hold
+    /// that: the words that are to be loaded.
+    pub fn took(&mut self, packet: &[u64]) -> Option<Loan>
+        requires packet { IsPacket packet.now }
+        ensures takes { (k : Kept) → KeepsPages k self.old → pages_took (layout k.count) k packet.now ≡ took_by k packet.now self.new.owners result }
+        ensures loan { IfSome result (λ a. IsPart self.new.owners a) }
+        ensures size { length self.new.owners ≡ length self.old.owners }
+        ensures copy { self.new.copy ≡ self.old.copy }
+    {
+        let tid = packet[1];
+        if packet[0] % 65536 == COMPLETION {
+            self.bring_back(tid)
+        } else {
+            self.hold(packet, tid)
+        }
+    }
+}
+
+impl PageTable {
+    // The page that a packet names, where the channel has it, and how many of its words.
+    fn named(&self, packet: &[u64]) -> Option<Loan>
+        requires packet { IsPacket packet.now }
+        ensures named { MatchOption result (named_in self.now.owners packet.now ≡ None) (λ a. named_in self.now.owners packet.now ≡ Some (loan_of a)) }
+        ensures loan { IfSome result (λ a. IsPart self.now.owners a) }
+    {
+        let named = lent(packet)?;
+        if named.page as usize >= self.owners.len() {
+            return None;
+        }
+        Some(Loan {
+            page: named.page,
+            words: (named.bytes + 7) / 8,
+        })
+    }
+
+    // The page that is held under this id goes back.
+    #[tactic(auto, using(crate::proofs::Moves::found_held))]
+    fn give_back(&mut self, tid: u64) -> Option<Loan>
+        ensures gives { GoesBack (λ o. is_held tid o) Away self.old.owners self.new.owners result }
+        ensures loan { IfSome result (λ a. IsPart self.new.owners a) }
+        ensures copy { self.new.copy ≡ self.old.copy }
+    {
+        let Some(page) = first_held(self.owners.as_slice(), tid) else {
+            return None;
+        };
+        let words = words_in(self.owners[page]);
+        self.owners[page] = Owner::Away;
+        Some(Loan {
+            page: page as u32,
+            words,
+        })
+    }
+
+    // The page that a packet names is lent.
+    fn lend(&mut self, packet: &[u64], tid: u64) -> Option<Loan>
+        requires packet { IsPacket packet.now }
+        ensures lends { Lends tid packet.now self.old.owners self.new.owners result }
+        ensures loan { IfSome result (λ a. IsPart self.new.owners a) }
+        ensures copy { self.new.copy ≡ self.old.copy }
+    {
+        let loan = self.named(packet)?;
+        self.owners[loan.page as usize] = Owner::Lent {
+            tid,
+            words: loan.words,
+        };
+        Some(loan)
+    }
+
+    // The page that is lent under this id comes back.
+    #[tactic(auto, using(crate::proofs::Moves::found_lent))]
+    fn bring_back(&mut self, tid: u64) -> Option<Loan>
+        ensures brings { GoesBack (λ o. is_lent tid o) Has self.old.owners self.new.owners result }
+        ensures loan { IfSome result (λ a. IsPart self.new.owners a) }
+        ensures copy { self.new.copy ≡ self.old.copy }
+    {
+        let Some(page) = first_lent(self.owners.as_slice(), tid) else {
+            return None;
+        };
+        let words = words_in(self.owners[page]);
+        self.owners[page] = Owner::Has;
+        Some(Loan {
+            page: page as u32,
+            words,
+        })
+    }
+
+    // The page that a packet names is held, where it may be.
+    fn hold(&mut self, packet: &[u64], tid: u64) -> Option<Loan>
+        requires packet { IsPacket packet.now }
+        ensures holds { Holds tid packet.now self.old.owners self.new.owners result }
+        ensures loan { IfSome result (λ a. IsPart self.new.owners a) }
+        ensures copy { self.new.copy ≡ self.old.copy }
+    {
+        let loan = self.named(packet)?;
+        let page = loan.page as usize;
+        if !may_be_held(self.owners[page], tid) {
+            return None;
+        }
+        self.owners[page] = Owner::Held {
+            tid,
+            words: loan.words,
+        };
+        Some(loan)
+    }
+}

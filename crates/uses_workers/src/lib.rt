@@ -1,0 +1,14 @@
+//! A device of one's own behind the workers of a channel, as its author writes it. docs/CALLING.md shows each file.
+#![tactic(auto)]
+
+mod register;
+mod register_run;
+mod register_seat;
+mod register_talk;
+#[cfg(test)]
+mod tests;
+
+pub use register::Register;
+pub use register_run::{Stored, store_all};
+pub use register_seat::RegisterSeat;
+pub use register_talk::RegisterTalk;
