@@ -14,7 +14,7 @@ fn digit(code: u8) -> u8
     }
 }
 
-// Writes the bytes that hexadecimal digits spell at the front of a buffer: how many they are.
+/// Writes the bytes that hexadecimal digits spell at the front of a buffer: how many they are.
 pub fn unhex(rt: &impl Abort, digits: &str, out: &mut [u8]) -> usize
     ensures { result ≤ length out.new }
 {

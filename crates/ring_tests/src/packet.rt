@@ -2,7 +2,7 @@
 use std::alloc::AllocGlobal;
 use std::process::Abort;
 
-// A packet of n words: in-band data, whose other words are this mark.
+/// A packet of n words: in-band data, whose other words are this mark.
 pub fn packet(rt: &(impl Abort + AllocGlobal), n: usize, mark: u64) -> Vec<u64> {
     let mut p = Vec::from_elem(rt.alloc(), mark, n).expect(rt, "memory");
     if n > 0 {

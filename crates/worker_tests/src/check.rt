@@ -3,7 +3,7 @@ ghost use Rattle.std.specs.Prelude.{◌≡◌, true};
 
 use std::process::Abort;
 
-// Stops the test unless this holds.
+/// Stops the test unless this holds.
 pub fn check(rt: &impl Abort, holds: bool)
     ensures { holds ≡ true }
 {

@@ -4,7 +4,7 @@ ghost use Rattle.std.specs.Prelude.{◌≡◌, [], IfOk};
 use hist_lock::{HistLock, HistSeat, Machine};
 use std::alloc::{AllocError, Global};
 
-// The only seat of a machine's lock, for so many calls.
+/// The only seat of a machine's lock, for so many calls.
 pub fn only_seat<M: Machine>(
     alloc: Global,
     machine: M,
