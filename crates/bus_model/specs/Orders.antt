@@ -30,10 +30,6 @@ order_of p o = record {
   stop = stop_of o.device p.part;
 }
 
--- what is ordered of the only channel of a device of this kind
-abbrev pub only_order : Kind → List Ask → Option (ℕ × Bool) → Order
-only_order kind asks stop = record { kind = kind; sub = 0; subs = 0; asks = asks; stop = stop }
-
 -- what its start-up asks: that of a disk's first channel asks for the sub-channels in the end, and a sub-channel has none
 abbrev pub startup_of : Order → List Want
 startup_of order = startup order.kind order.sub order.subs

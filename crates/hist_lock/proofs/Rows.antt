@@ -34,10 +34,6 @@ module _ {S Q A : Type 0} where
   pub still_all : (old new : List (Seat S Q A)) → length new ≡ length old → ((k : ℕ) (d : Seat S Q A) → k < length old → IsSame (get_or old k d) (get_or new k d)) → AreAll old → AreAll new
   still_all old new long same h = let some_old = h.some in record { lock = h.lock; some = omega arith; all = long ∙ h.all; each = still_from h.lock 0 old new long h.each same }
 
-  -- the only seat of its lock
-  pub alone_all : (s : Seat S Q A) → s.number ≡ 0 → s.lock.seats ≡ 1 → AreAll (s ∷ [])
-  alone_all s number one = record { lock = s.lock; some = omega arith; all = sym one; each = (refl, number, tt) }
-
   -- the only new seat
   pub only_new : (first : S) (past : List (Entry S Q A)) (quota : ℕ) (seats front : List (Seat S Q A)) (s : Seat S Q A) → AreNew first past (quota ∷ []) seats → seats ≡ front ++ s ∷ [] → IsOnly first past quota s
   only_new first past quota seats front s new is =

@@ -34,13 +34,13 @@ impl ClosedQueue {
         requires one { post.queue ≡ fetch.queue }
         ensures { Closes post fetch result }
     {
-        let PostEnd { line, mut pass } = post;
+        let PostEnd { shared, mut pass } = post;
         let FetchEnd {
-            line: _,
+            shared: _,
             pass: other,
         } = fetch;
-        line.queue.absorb::<Both>(&mut pass, other);
-        let left = line.queue.len_as::<Rest, R>(rt, &mut pass) as u32;
+        shared.queue.absorb::<Both>(&mut pass, other);
+        let left = shared.queue.len_as::<Rest, R>(rt, &mut pass) as u32;
         ClosedQueue { pass, left }
     }
 

@@ -6,8 +6,8 @@ ghost use Rattle.crossbeam_queue.specs.Passes.{view, IsPassOf, ruled_capacity};
 ghost use Rattle.mail_box.specs.Letters.{posting, fetching, MaySay, Teaches};
 
 use crate::full::MailFull;
-use crate::line::Line;
 use crate::rule::{Log, Puts, Takes, Token};
+use crate::shared::Shared;
 use crossbeam_queue::protocol::Lesson;
 use std::marker::Model;
 use std::sync::{Arc, Wait};
@@ -16,7 +16,7 @@ use vmbus_msg::Msg;
 /// The end that puts messages. Contracts see all that was put, in order.
 #[derive(Drop)]
 pub struct PostEnd {
-    pub(crate) line: Arc<Line>,
+    pub(crate) shared: Arc<Shared>,
     pub(crate) pass: Token,
 }
 
@@ -29,9 +29,9 @@ impl Model for PostEnd {
 
     ghost Value = { Post };
 
-    ghost view = { λ e. post_seen e.pass.table_id (ruled_capacity (arc_value e.line).queue) (known e.pass) };
+    ghost view = { λ e. post_seen e.pass.table_id (ruled_capacity (arc_value e.shared).queue) (known e.pass) };
 
-    ghost invariant = { λ e. IsPassOf (arc_value e.line).queue e.pass × (known e.pass ≡ posting (post_seen e.pass.table_id (ruled_capacity (arc_value e.line).queue) (known e.pass))) × (ruled_capacity (arc_value e.line).queue < 2 ^ 32) };
+    ghost invariant = { λ e. IsPassOf (arc_value e.shared).queue e.pass × (known e.pass ≡ posting (post_seen e.pass.table_id (ruled_capacity (arc_value e.shared).queue) (known e.pass))) × (ruled_capacity (arc_value e.shared).queue < 2 ^ 32) };
 }
 
 impl PostEnd {
@@ -45,9 +45,13 @@ impl PostEnd {
         ensures put { OnOk result (self.new ≡ record self.old { put = self.old.put ++ m ∷ [] }) }
         ensures full { IfErr result (λ e. (e.m ≡ m) × (self.new ≡ self.old) × Held self.old.size (M.fact (posting self.old))) }
     {
-        match self.line.queue.push_as::<Puts<M>, R>(rt, &mut self.pass, m) {
+        match self
+            .shared
+            .queue
+            .push_as::<Puts<M>, R>(rt, &mut self.pass, m)
+        {
             Ok(()) => {
-                self.line.mail.unpark();
+                self.shared.mail.unpark();
                 Ok(())
             }
             Err(m) => Err(MailFull { m }),
@@ -57,14 +61,14 @@ impl PostEnd {
     /// Sleeps until the other end has taken a message, or returns for no reason. It doesn't sleep where
     /// one was taken behind a look of this end that found the queue full.
     pub fn wait_for_room<R: Wait>(&self, rt: &R) {
-        self.line.room.park(rt);
+        self.shared.room.park(rt);
     }
 }
 
 /// The end that takes messages. Contracts see all that was taken, in order.
 #[derive(Drop)]
 pub struct FetchEnd {
-    pub(crate) line: Arc<Line>,
+    pub(crate) shared: Arc<Shared>,
     pub(crate) pass: Token,
 }
 
@@ -77,9 +81,9 @@ impl Model for FetchEnd {
 
     ghost Value = { Fetch };
 
-    ghost view = { λ e. fetch_seen e.pass.table_id (ruled_capacity (arc_value e.line).queue) (known e.pass) };
+    ghost view = { λ e. fetch_seen e.pass.table_id (ruled_capacity (arc_value e.shared).queue) (known e.pass) };
 
-    ghost invariant = { λ e. IsPassOf (arc_value e.line).queue e.pass × (known e.pass ≡ fetching (fetch_seen e.pass.table_id (ruled_capacity (arc_value e.line).queue) (known e.pass))) };
+    ghost invariant = { λ e. IsPassOf (arc_value e.shared).queue e.pass × (known e.pass ≡ fetching (fetch_seen e.pass.table_id (ruled_capacity (arc_value e.shared).queue) (known e.pass))) };
 }
 
 impl FetchEnd {
@@ -92,14 +96,14 @@ impl FetchEnd {
         requires teaches { Teaches M.fact }
         ensures { MatchOption result ((self.new ≡ self.old) × Held 0 (M.fact (fetching self.old))) (λ m. (self.new ≡ record self.old { taken = self.old.taken ++ m ∷ [] }) × MaySay self.old.named self.old.last (self.old.taken ++ m ∷ [])) }
     {
-        let m = self.line.queue.pop_as::<Takes<M>, R>(rt, &mut self.pass)?;
-        self.line.room.unpark();
+        let m = self.shared.queue.pop_as::<Takes<M>, R>(rt, &mut self.pass)?;
+        self.shared.room.unpark();
         Some(m)
     }
 
     /// Sleeps until the other end has put a message, or returns for no reason. It doesn't sleep where
     /// one was put behind a look of this end that found the queue empty.
     pub fn wait_for_mail<R: Wait>(&self, rt: &R) {
-        self.line.mail.park(rt);
+        self.shared.mail.park(rt);
     }
 }

@@ -4,9 +4,9 @@
 mod closed;
 mod ends;
 mod full;
-mod line;
 mod mail_box;
 mod rule;
+mod shared;
 
 pub use closed::ClosedQueue;
 pub use ends::{FetchEnd, PostEnd};

@@ -6,8 +6,8 @@ ghost use Rattle.mail_box.specs.Mail.{Closes};
 use crate::closed::ClosedQueue;
 use crate::ends::{FetchEnd, PostEnd};
 use crate::full::MailFull;
-use crate::line::Line;
 use crate::rule::{Named, Queue, Roles, Token};
+use crate::shared::Shared;
 use std::alloc::{AllocError, Global};
 use std::collections::VecDeque;
 use std::marker::Model;
@@ -23,8 +23,8 @@ pub struct MailBox {
     size: u32,
     mail: VecDeque<Msg>,
     // The queue of a split box has two owners from the start, so that splitting takes no memory.
-    post: Arc<Line>,
-    fetch: Arc<Line>,
+    post: Arc<Shared>,
+    fetch: Arc<Shared>,
     pass: Token,
 }
 
@@ -51,7 +51,7 @@ impl MailBox {
     {
         let mail = VecDeque::with_capacity(alloc, size as usize)?;
         let (queue, pass) = Queue::ruled(alloc, size as usize)?;
-        let post = Arc::new(alloc, Line::over(queue))?;
+        let post = Arc::new(alloc, Shared::over(queue))?;
         let fetch = Arc::try_clone(&post)?;
         Ok(MailBox {
             size,
@@ -100,9 +100,9 @@ impl MailBox {
         } = self;
         let other = post.queue.another::<Roles<N>>(&mut pass);
         (
-            PostEnd { line: post, pass },
+            PostEnd { shared: post, pass },
             FetchEnd {
-                line: fetch,
+                shared: fetch,
                 pass: other,
             },
         )

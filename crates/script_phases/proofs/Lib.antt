@@ -2,4 +2,3 @@ pub mod Dealing
 pub mod Seating
 pub mod Following
 pub mod Saying
-pub mod NoSubs

@@ -9,7 +9,7 @@ use std::thread::Parker;
 /// A move of one end is told the other's parker behind the move. So an end that found nothing to
 /// do misses no move: one that came after its look leaves a token, by which the next sleep ends.
 #[derive(Drop)]
-pub(crate) struct Line {
+pub(crate) struct Shared {
     pub(crate) queue: Queue,
     // The end that takes sleeps here until a message was put.
     pub(crate) mail: Parker,
@@ -17,11 +17,11 @@ pub(crate) struct Line {
     pub(crate) room: Parker,
 }
 
-impl Line {
-    pub(crate) fn over(queue: Queue) -> Line
+impl Shared {
+    pub(crate) fn over(queue: Queue) -> Shared
         ensures { result.queue ≡ queue }
     {
-        Line {
+        Shared {
             queue,
             mail: Parker::new(),
             room: Parker::new(),
