@@ -203,7 +203,7 @@ enum vmbus_ended {
 /* A step that the caller makes: a load, a store or an exchange of one 64-bit word. */
 struct vmbus_step {
     uint32_t op;    /* 1 load, 2 store, 3 raise a signal (store 1 there), 4 take one (exchange it with 0), 5 store a mark (1) */
-    uint32_t place; /* 1 write, 2 read, 3 mask, 4 pending, 5 feature, 6 a cell, 7 a signal, 8 a mark */
+    uint32_t place; /* 1 write, 2 read, 3 mask, 4 pending, 5 feature, 6 a cell, 7 a signal, 8 a mark, 9 a word of a data page, which no end here has */
     uint32_t which; /* of a ring: 0 the one that the host empties, 1 the guest's; of a signal or a mark: 0 the guest's, 1 the host's */
     uint32_t at;    /* the offset of a cell in bytes */
     uint64_t value; /* what is stored */

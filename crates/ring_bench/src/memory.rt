@@ -35,7 +35,7 @@ fn turns(g: &mut End<SoloMem>, h: &mut End<SoloMem>, p: &[u64], count: u64) -> u
 
 // An end over a memory of one page.
 fn end(alloc: Global, side: Side) -> Result<End<SoloMem>, AllocError> {
-    let solo = SoloMem::make(alloc, 4096)?;
+    let solo = SoloMem::make(alloc, 4096, 0)?;
     End::make(alloc, side, 4096, solo)
 }
 

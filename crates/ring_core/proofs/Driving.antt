@@ -11,14 +11,19 @@ use Rattle.ring_machine.specs.declared.machine.Ending.TheVariants.{Fresh, SentQu
 use Rattle.ring_machine.specs.declared.machine.Machine.{Machine}
 use Rattle.ring_machine.specs.declared.state.EndState.{EndState}
 use Rattle.ring_machine.specs.declared.place.Op.{Op}
+use Rattle.page_kept.specs.declared.kept.Kept.{Kept}
+use Rattle.page_kept.specs.Kept.{no_pages}
+use Rattle.page_kept.specs.declared.due.Due.TheVariants.{Clear}
+use Rattle.page_kept.specs.declared.page_call.PageCall.TheVariants.{Off}
 use Rattle.ring_machine.specs.Places.{ahead, len8_of, offset8_of}
 use Rattle.ring_machine.specs.Steps.{IsSound, fed, next_of, is_busy_at, is_copying_at, is_sent, is_took, is_broken, call_at, call_by, made_at, send_begun, take_begun, commit_begun, arm_begun, poll_begun, mark_begun, peer_mark_begun}
 use Rattle.ring_machine.specs.Loops.{is_storing_at, is_writing_at, is_masking_at, is_first_at, is_loading_at, is_asking_at, is_seeking_at, is_giving_at, is_feature_at, is_pending_at, is_polling_at, is_opening_at, Starts}
-use Rattle.ring_machine.specs.States.{IsPacket, Gets, kept_at, copied_at, copied_after, sent_after, sent_while, got_after, past_after, past_while, past_by, sent_by, got_by, past_by_ending, past_of, stored, after, afters, entered, resting, shown, IsAwake, Begins, Continues}
+use Rattle.ring_machine.specs.States.{IsPacket, Gets, kept_at, copied_at, copied_after, sent_after, sent_while, got_after, past_after, past_while, past_by, sent_by, got_by, past_by_ending, past_of, pages_after, pages_by, pages_by_ending, stored, after, afters, entered, resting_with, shown, IsAwake, MayLend, Begins, Continues}
 use Rattle.ring_machine.specs.Endings.{Leaves, LeavesBy, is_committed, is_dozed, is_marked}
 use Rattle.ring_core.specs.declared.told.Told.{Told}
 use Rattle.ring_core.specs.Told.{Memory, pair, step, step_by, run, memory_after, answer_of, raises_at, wakes_at, raises_of, wakes_of, told_at, told_next, told_by, AreSteps, Ran, Left}
 use Rattle.ring_machine.proofs.Sound.{at_cond, fed_made, no_true}
+use Rattle.ring_machine.proofs.PageMoves.{pages_at, pages_moved, pages_over}
 use Rattle.ring_machine.proofs.Tables.{copied_by, fed_cells, busy_next, Lists, lists_by, Moves, moves_by, w_at, r_at, s_at, a_at, k_at, write_at, read_at, start_at, asleep_at, marked_at, Form, is_formed, form_by}
 
 -- what holds at the first step of a call
@@ -32,16 +37,17 @@ record Opens (st : Stage) : Type 0 where
   asleep : (how : Ending) → asleep_at st how ≡ is_polling_at st
   marked : (how : Ending) → marked_at st how ≡ false
   formed : (how : Ending) → is_formed st how ≡ false
+  pages : (m : Machine) (k : Kept) (p buf : List ℕ) → pages_at st m k p buf ≡ k
 
 opens : (st : Stage) → is_opening_at st ≡ true → Opens st
-opens SendRead h = record { busy = refl; sent = λ ps p. refl; past = λ m es p. refl; write = λ how b n. refl; read = λ how b n. refl; start = λ how b. refl; asleep = λ how. refl; marked = λ how. refl; formed = λ how. refl }
-opens TakeWrite h = record { busy = refl; sent = λ ps p. refl; past = λ m es p. refl; write = λ how b n. refl; read = λ how b n. refl; start = λ how b. refl; asleep = λ how. refl; marked = λ how. refl; formed = λ how. refl }
-opens CommitRead h = record { busy = refl; sent = λ ps p. refl; past = λ m es p. refl; write = λ how b n. refl; read = λ how b n. refl; start = λ how b. refl; asleep = λ how. refl; marked = λ how. refl; formed = λ how. refl }
-opens ArmPending h = record { busy = refl; sent = λ ps p. refl; past = λ m es p. refl; write = λ how b n. refl; read = λ how b n. refl; start = λ how b. refl; asleep = λ how. refl; marked = λ how. refl; formed = λ how. refl }
-opens ArmMask h = record { busy = refl; sent = λ ps p. refl; past = λ m es p. refl; write = λ how b n. refl; read = λ how b n. refl; start = λ how b. refl; asleep = λ how. refl; marked = λ how. refl; formed = λ how. refl }
-opens PollSignal h = record { busy = refl; sent = λ ps p. refl; past = λ m es p. refl; write = λ how b n. refl; read = λ how b n. refl; start = λ how b. refl; asleep = λ how. refl; marked = λ how. refl; formed = λ how. refl }
-opens MarkStore h = record { busy = refl; sent = λ ps p. refl; past = λ m es p. refl; write = λ how b n. refl; read = λ how b n. refl; start = λ how b. refl; asleep = λ how. refl; marked = λ how. refl; formed = λ how. refl }
-opens PeerMark h = record { busy = refl; sent = λ ps p. refl; past = λ m es p. refl; write = λ how b n. refl; read = λ how b n. refl; start = λ how b. refl; asleep = λ how. refl; marked = λ how. refl; formed = λ how. refl }
+opens SendRead h = record { busy = refl; sent = λ ps p. refl; past = λ m es p. refl; write = λ how b n. refl; read = λ how b n. refl; start = λ how b. refl; asleep = λ how. refl; marked = λ how. refl; formed = λ how. refl; pages = λ m k p buf. refl }
+opens TakeWrite h = record { busy = refl; sent = λ ps p. refl; past = λ m es p. refl; write = λ how b n. refl; read = λ how b n. refl; start = λ how b. refl; asleep = λ how. refl; marked = λ how. refl; formed = λ how. refl; pages = λ m k p buf. refl }
+opens CommitRead h = record { busy = refl; sent = λ ps p. refl; past = λ m es p. refl; write = λ how b n. refl; read = λ how b n. refl; start = λ how b. refl; asleep = λ how. refl; marked = λ how. refl; formed = λ how. refl; pages = λ m k p buf. refl }
+opens ArmPending h = record { busy = refl; sent = λ ps p. refl; past = λ m es p. refl; write = λ how b n. refl; read = λ how b n. refl; start = λ how b. refl; asleep = λ how. refl; marked = λ how. refl; formed = λ how. refl; pages = λ m k p buf. refl }
+opens ArmMask h = record { busy = refl; sent = λ ps p. refl; past = λ m es p. refl; write = λ how b n. refl; read = λ how b n. refl; start = λ how b. refl; asleep = λ how. refl; marked = λ how. refl; formed = λ how. refl; pages = λ m k p buf. refl }
+opens PollSignal h = record { busy = refl; sent = λ ps p. refl; past = λ m es p. refl; write = λ how b n. refl; read = λ how b n. refl; start = λ how b. refl; asleep = λ how. refl; marked = λ how. refl; formed = λ how. refl; pages = λ m k p buf. refl }
+opens MarkStore h = record { busy = refl; sent = λ ps p. refl; past = λ m es p. refl; write = λ how b n. refl; read = λ how b n. refl; start = λ how b. refl; asleep = λ how. refl; marked = λ how. refl; formed = λ how. refl; pages = λ m k p buf. refl }
+opens PeerMark h = record { busy = refl; sent = λ ps p. refl; past = λ m es p. refl; write = λ how b n. refl; read = λ how b n. refl; start = λ how b. refl; asleep = λ how. refl; marked = λ how. refl; formed = λ how. refl; pages = λ m k p buf. refl }
 opens _ h = absurd (cc)
 
 pub opens_busy : (m : Machine) → Starts m → is_busy_at m.stage ≡ true
@@ -91,6 +97,7 @@ pub record Going (base : EndState) (told told' : Option Told) (memory memory' : 
   pub packet : state.packet ≡ kept_at m.stage p
   pub copied : state.copied ≡ copied_at m.stage (take m.done buf)
   pub wide : length buf ≡ m.cells
+  pub pages : state.pages ≡ pages_at m.stage m base.pages p buf
   pub lists : Lists (call_at base.machine.stage) base.sent base.got base.past p m buf state.sent state.got state.past
   pub moves : Moves base.machine m
   pub form : is_formed m.stage m.ended ≡ true → Form m.len buf
@@ -99,13 +106,13 @@ pub record Going (base : EndState) (told told' : Option Told) (memory memory' : 
   pub ends : (u : Told) → told ≡ Some u → is_busy_at m.stage ≡ false → (told' ≡ Some (told_by base values state u)) × (m.stage ≢ Stopped)
   pub runs : (k : Memory) → memory ≡ Some k → (k' : Memory) × (memory' ≡ Some k') × (run (length values) (pair base k) ≡ pair state k')
 
-pub going_first : (told : Option Told) (memory : Option Memory) (m : Machine) (p buf : List ℕ) (sent got : List (List ℕ)) (past : List (Event (List ℕ))) → length buf ≡ m.cells → IsSound m → Starts m
-    → ((u : Told) → told ≡ Some u → Continues u.state m p × (entered u.state m p ≡ shown m p buf sent got past)) → Going (shown m p buf sent got past) told told memory memory m p buf
-going_first told memory m p buf sent got past w s h may =
+pub going_first : (told : Option Told) (memory : Option Memory) (m : Machine) (p buf : List ℕ) (sent got : List (List ℕ)) (past : List (Event (List ℕ))) (k : Kept) → length buf ≡ m.cells → IsSound m → Starts m
+    → ((u : Told) → told ≡ Some u → Continues u.state m p × (entered u.state m p ≡ shown m p buf sent got past k)) → Going (shown m p buf sent got past k) told told memory memory m p buf
+going_first told memory m p buf sent got past k w s h may =
     let o = opens m.stage h.opens in
     record {
       values = [];
-      state = shown m p buf sent got past;
+      state = shown m p buf sent got past k;
       is_after = refl;
       each = tt;
       few = omega arith;
@@ -113,13 +120,14 @@ going_first told memory m p buf sent got past w s h may =
       packet = sym (ap (λ (t : Bool). cond t p []) o.busy);
       copied = refl;
       wide = w;
+      pages = sym (o.pages m k p buf);
       lists = record { busy = λ _. (refl, sym (o.sent sent p), refl, sym (o.past m past p)); ended = λ n. absurd (no_true n o.busy) };
       moves = moves_first m s h;
       form = λ f. absurd (no_true (o.formed m.ended) f);
       silent = λ q. q;
       tells = λ u e b. (u, e, (may u e).0, (may u e).1, record { steps = omega arith; raised = omega arith; woke = omega arith });
       ends = λ u e n. absurd (no_true n o.busy);
-      runs = λ k e. (k, e, refl);
+      runs = λ a e. (a, e, refl);
     }
 
 module _ (base : EndState) (told told' told'' : Option Told) (memory memory' memory'' : Option Memory) (m : Machine) (p buf : List ℕ) (v : ℕ)
@@ -184,6 +192,13 @@ module _ (base : EndState) (told told' told'' : Option Told) (memory memory' mem
       subst (λ (x : List (List ℕ)). Lists (call_at base.machine.stage) base.sent base.got base.past p (fed m v) buf' (after it.state v).sent x (past_after m.stage m (past_while m.stage m base.past p) p (copied_at m.stage (take m.done buf)) v)) next_got three in
       subst (λ (x : List (Event (List ℕ))). Lists (call_at base.machine.stage) base.sent base.got base.past p (fed m v) buf' (after it.state v).sent (after it.state v).got x) next_past four
 
+  next_pages : (after it.state v).pages ≡ pages_at (fed m v).stage (fed m v) base.pages p (stored (is_copying_at m.stage) buf m.done v)
+  next_pages =
+      ap (λ (q : Machine). pages_after q.stage q it.state.pages it.state.packet it.state.copied v) it.machine
+      ∙ (ap (λ (q : Kept). pages_after m.stage m q it.state.packet it.state.copied v) it.pages
+      ∙ (ap (λ (x : List ℕ). pages_after m.stage m (pages_at m.stage m base.pages p buf) x it.state.copied v) same_packet
+      ∙ (ap (λ (x : List ℕ). pages_after m.stage m (pages_at m.stage m base.pages p buf) p x v) it.copied ∙ pages_moved m v base.pages p buf s it.wide m.stage refl b)))
+
   next_wide : length (stored (is_copying_at m.stage) buf m.done v) ≡ (fed m v).cells
   next_wide = at_cond (λ (xs : List ℕ). length xs ≡ (fed m v).cells) (is_copying_at m.stage) _ _
       (λ _. length-set buf m.done v ∙ (it.wide ∙ sym (fed_cells m v m.stage)))
@@ -218,6 +233,7 @@ module _ (base : EndState) (told told' told'' : Option Told) (memory memory' mem
     packet = next_packet;
     copied = next_copied;
     wide = next_wide;
+    pages = next_pages;
     lists = next_lists;
     moves = moves_by base.machine m v it.moves m.stage refl b;
     form = form_by m buf v s it.wide it.form m.stage refl b;
@@ -227,7 +243,7 @@ module _ (base : EndState) (told told' told'' : Option Told) (memory memory' mem
           told_by base (v ∷ it.values) (after it.state v) u,
           (next_told u e).0,
           inl (sym (ap (λ (k : Machine). fed k v) it.machine), packet),
-          λ i. record { machine = sym (ap (λ (k : Machine). fed k v) it.machine) i; packet = packet i; copied = (after it.state v).copied; sent = (after it.state v).sent; got = (after it.state v).got; past = (after it.state v).past },
+          λ i. record { machine = sym (ap (λ (k : Machine). fed k v) it.machine) i; packet = packet i; copied = (after it.state v).copied; sent = (after it.state v).sent; got = (after it.state v).got; past = (after it.state v).past; pages = (after it.state v).pages },
           record { steps = refl; raised = refl; woke = refl },
         );
     ends = λ u e n. next_told u e;
@@ -243,15 +259,15 @@ going_asks base (Some u) told' memory memory' m p buf it b s e =
     let same : t.0 ≡ s = cc in
     subst (λ (x : Told). Continues x.state m p) same t.2
 
-rested : (t : EndState) (m : Machine) (sent got : List (List ℕ)) (past : List (Event (List ℕ))) → t.machine ≡ m → t.packet ≡ [] → t.copied ≡ [] → t.sent ≡ sent → t.got ≡ got → t.past ≡ past → t ≡ resting m sent got past
-rested t m sent got past a b c d e f = λ i. record { machine = a i; packet = b i; copied = c i; sent = d i; got = e i; past = f i }
+rested : (t : EndState) (m : Machine) (sent got : List (List ℕ)) (past : List (Event (List ℕ))) (k : Kept) → t.machine ≡ m → t.packet ≡ [] → t.copied ≡ [] → t.sent ≡ sent → t.got ≡ got → t.past ≡ past → t.pages ≡ k → t ≡ resting_with m sent got past k
+rested t m sent got past k a b c d e f g = λ i. record { machine = a i; packet = b i; copied = c i; sent = d i; got = e i; past = f i; pages = g i }
 
-left_by : (base : EndState) (told told' : Option Told) (memory memory' : Option Memory) (m : Machine) (sent got : List (List ℕ)) (past : List (Event (List ℕ))) (t : EndState) → t ≡ resting m sent got past → Ran base t told told' memory memory' → Left base told told' memory memory' m sent got past
-left_by base None told' memory memory' m sent got past t e r = record {
+left_by : (base : EndState) (told told' : Option Told) (memory memory' : Option Memory) (m : Machine) (sent got : List (List ℕ)) (past : List (Event (List ℕ))) (k : Kept) (t : EndState) → t ≡ resting_with m sent got past k → Ran base t told told' memory memory' → Left base told told' memory memory' m sent got past k
+left_by base None told' memory memory' m sent got past k t e r = record {
   ran = subst (λ (x : EndState). Ran base x None told' memory memory') e r;
   told_is = λ s h. absurd (none_some (sym (r.silent refl) ∙ h));
 }
-left_by base (Some u) told' memory memory' m sent got past t e r = record {
+left_by base (Some u) told' memory memory' m sent got past k t e r = record {
   ran = subst (λ (x : EndState). Ran base x (Some u) told' memory memory') e r;
   told_is = λ s h. let same : told_by base r.values t u ≡ s = cc ((r.tells u refl).0) in sym (ap (λ (x : Told). x.state) same) ∙ e;
 }
@@ -327,11 +343,11 @@ module _ (base : EndState) (told told' : Option Told) (memory memory' : Option M
   pub going_took : is_took m.ended ≡ true → IsPacket (take m.len buf)
   going_took h = packet_of m.len buf (omega (arith, s.len, it.wide)) (it.form (formed_end m s m.stage refl n h))
 
-  pub going_ran : Left base told told' memory memory' m (sent_by m base.sent p) (got_by m base.got buf) (past_by m base.past p buf)
+  pub going_ran : Left base told told' memory memory' m (sent_by m base.sent p) (got_by m base.got buf) (past_by m base.past p buf) (pages_by m base.pages p buf)
   going_ran =
-      let same : it.state ≡ resting m (sent_by m base.sent p) (got_by m base.got buf) (past_by m base.past p buf) =
-      rested it.state m _ _ _ it.machine (it.packet ∙ ap (λ (t : Bool). cond t p []) n) (it.copied ∙ still m.stage (take m.done buf) n) (it.lists.ended n).1 (it.lists.ended n).2 (it.lists.ended n).3 in
-      left_by base told told' memory memory' m _ _ _ it.state same
+      let same : it.state ≡ resting_with m (sent_by m base.sent p) (got_by m base.got buf) (past_by m base.past p buf) (pages_by m base.pages p buf) =
+      rested it.state m _ _ _ _ it.machine (it.packet ∙ ap (λ (t : Bool). cond t p []) n) (it.copied ∙ still m.stage (take m.done buf) n) (it.lists.ended n).1 (it.lists.ended n).2 (it.lists.ended n).3 (it.pages ∙ pages_over m base.pages p buf m.stage n) in
+      left_by base told told' memory memory' m _ _ _ _ it.state same
       (record {
         values = it.values;
         state = it.is_after;
@@ -341,6 +357,19 @@ module _ (base : EndState) (told told' : Option Told) (memory memory' : Option M
         tells = λ u e. ((it.ends u e n).0, λ h. (it.ends u e n).1 (sym (ap (λ (k : Machine). k.stage) it.machine) ∙ h));
         runs = it.runs;
       })
+
+-- a channel without pages keeps none
+none_by : (how : Ending) (m : Machine) (p buf : List ℕ) → pages_by_ending how m no_pages p buf ≡ no_pages
+none_by SentQuiet m p buf = refl
+none_by SentRaised m p buf = refl
+none_by Took m p buf = refl
+none_by _ m p buf = refl
+
+pub going_bare : (base : EndState) (told told' : Option Told) (memory memory' : Option Memory) (m : Machine) (p buf : List ℕ) → Going base told told' memory memory' m p buf → IsSound m → is_busy_at m.stage ≡ false → base.pages ≡ no_pages
+    → Left base told told' memory memory' m (sent_by m base.sent p) (got_by m base.got buf) (past_by m base.past p buf) no_pages
+going_bare base told told' memory memory' m p buf it s n bare =
+    subst (λ (k : Kept). Left base told told' memory memory' m (sent_by m base.sent p) (got_by m base.got buf) (past_by m base.past p buf) k)
+    (ap (λ (k : Kept). pages_by m k p buf) bare ∙ none_by m.ended m p buf) (going_ran base told told' memory memory' m p buf it s n)
 
 pub going_honest : (base : EndState) (told told' : Option Told) (memory memory' : Option Memory) (m : Machine) (p buf : List ℕ) → Going base told told' memory memory' m p buf → is_busy_at m.stage ≡ false
     → (u : Told) → told' ≡ Some u → m.stage ≢ Stopped
@@ -490,38 +519,39 @@ rests_at Stopped n h = absurd (h refl)
 rests_at _ n h = absurd (cc)
 
 -- the calls that an end can begin, as its seat asks for them
-module _ (s : EndState) (m : Machine) (sent got : List (List ℕ)) (past : List (Event (List ℕ))) (buf : List ℕ) (is : s ≡ resting m sent got past) (idle : m.stage ≡ Idle) where
+module _ (s : EndState) (m : Machine) (sent got : List (List ℕ)) (past : List (Event (List ℕ))) (k : Kept) (buf : List ℕ) (is : s ≡ resting_with m sent got past k) (idle : m.stage ≡ Idle) (off : k.call ≡ Off) where
   -- where the call begins from the state that the seat tells
-  at_rest : (k : Machine) (p : List ℕ) → Begins (resting m sent got past) k p → copied_at k.stage (take k.done buf) ≡ [] → Continues s k p × (entered s k p ≡ shown k p buf sent got past)
-  at_rest k p b none = (
-    subst (λ (x : EndState). Continues x k p) (sym is) (inr b),
-    ap (λ (x : EndState). entered x k p) is ∙ (λ i. record { machine = k; packet = p; copied = sym none i; sent = sent; got = got; past = past }),
+  at_rest : (n : Machine) (p : List ℕ) → Begins (resting_with m sent got past k) n p → copied_at n.stage (take n.done buf) ≡ [] → Continues s n p × (entered s n p ≡ shown n p buf sent got past k)
+  at_rest n p b none = (
+    subst (λ (x : EndState). Continues x n p) (sym is) (inr b),
+    ap (λ (x : EndState). entered x n p) is ∙ (λ i. record { machine = n; packet = p; copied = sym none i; sent = sent; got = got; past = past; pages = k }),
   )
 
   module _ (awake : m.asleep ≡ false) (unmarked : m.marked ≡ false) where
-    wakes : IsAwake (resting m sent got past)
+    wakes : IsAwake (resting_with m sent got past k)
     wakes = record { idle = idle; awake = awake; unmarked = unmarked }
 
-    pub begins_send : (p : List ℕ) → IsPacket p → length p + 1 < m.cells → Continues s (send_begun m (length p)) p × (entered s (send_begun m (length p)) p ≡ shown (send_begun m (length p)) p buf sent got past)
-    begins_send p is_packet small = at_rest _ p (refl, inl (refl, is_packet, small, wakes)) refl
+    pub begins_send : (p : List ℕ) → IsPacket p → length p + 1 < m.cells → MayLend (resting_with m sent got past k) p → Continues s (send_begun m (length p)) p × (entered s (send_begun m (length p)) p ≡ shown (send_begun m (length p)) p buf sent got past k)
+    begins_send p is_packet small lends = at_rest _ p ((refl, off), inl (refl, is_packet, small, wakes, lends)) refl
 
-    pub begins_take : Continues s (take_begun m) [] × (entered s (take_begun m) [] ≡ shown (take_begun m) [] buf sent got past)
-    begins_take = at_rest _ [] (refl, inr (inl (refl, refl, wakes))) refl
+    pub begins_peer_mark : Continues s (peer_mark_begun m) [] × (entered s (peer_mark_begun m) [] ≡ shown (peer_mark_begun m) [] buf sent got past k)
+    begins_peer_mark = at_rest _ [] ((refl, off), inr (inr (inr (inr (inr (inr (refl, refl, wakes))))))) refl
 
-    pub begins_commit : Continues s (commit_begun m) [] × (entered s (commit_begun m) [] ≡ shown (commit_begun m) [] buf sent got past)
-    begins_commit = at_rest _ [] (refl, inr (inr (inl (refl, refl, wakes)))) refl
+    module _ (clear : k.due ≡ Clear) where
+      pub begins_take : Continues s (take_begun m) [] × (entered s (take_begun m) [] ≡ shown (take_begun m) [] buf sent got past k)
+      begins_take = at_rest _ [] ((refl, off), inr (inl (refl, refl, wakes, clear))) refl
 
-    pub begins_arm : (want : ℕ) → want < 8 * m.cells → m.start ≡ m.read → Continues s (arm_begun m want) [] × (entered s (arm_begun m want) [] ≡ shown (arm_begun m want) [] buf sent got past)
-    begins_arm want small same = at_rest _ [] (refl, inr (inr (inr (inl (want, refl, small, refl, wakes, same))))) (at_cond (λ (st : Stage). copied_at st [] ≡ []) (want == 0) _ _ (λ _. refl) (λ _. refl))
+      pub begins_commit : Continues s (commit_begun m) [] × (entered s (commit_begun m) [] ≡ shown (commit_begun m) [] buf sent got past k)
+      begins_commit = at_rest _ [] ((refl, off), inr (inr (inl (refl, refl, wakes, clear)))) refl
 
-    pub begins_mark : Continues s (mark_begun m) [] × (entered s (mark_begun m) [] ≡ shown (mark_begun m) [] buf sent got past)
-    begins_mark = at_rest _ [] (refl, inr (inr (inr (inr (inr (inl (refl, refl, wakes))))))) refl
+      pub begins_arm : (want : ℕ) → want < 8 * m.cells → m.start ≡ m.read → Continues s (arm_begun m want) [] × (entered s (arm_begun m want) [] ≡ shown (arm_begun m want) [] buf sent got past k)
+      begins_arm want small same = at_rest _ [] ((refl, off), inr (inr (inr (inl (want, refl, small, refl, wakes, same, clear))))) (at_cond (λ (st : Stage). copied_at st [] ≡ []) (want == 0) _ _ (λ _. refl) (λ _. refl))
 
-    pub begins_peer_mark : Continues s (peer_mark_begun m) [] × (entered s (peer_mark_begun m) [] ≡ shown (peer_mark_begun m) [] buf sent got past)
-    begins_peer_mark = at_rest _ [] (refl, inr (inr (inr (inr (inr (inr (refl, refl, wakes))))))) refl
+      pub begins_mark : Continues s (mark_begun m) [] × (entered s (mark_begun m) [] ≡ shown (mark_begun m) [] buf sent got past k)
+      begins_mark = at_rest _ [] ((refl, off), inr (inr (inr (inr (inr (inl (refl, refl, wakes, clear))))))) refl
 
-  pub begins_poll : m.asleep ≡ true → Continues s (poll_begun m) [] × (entered s (poll_begun m) [] ≡ shown (poll_begun m) [] buf sent got past)
-  begins_poll asleep = at_rest _ [] (refl, inr (inr (inr (inr (inl (refl, refl, idle, asleep)))))) refl
+  pub begins_poll : m.asleep ≡ true → Continues s (poll_begun m) [] × (entered s (poll_begun m) [] ≡ shown (poll_begun m) [] buf sent got past k)
+  begins_poll asleep = at_rest _ [] ((refl, off), inr (inr (inr (inr (inl (refl, refl, idle, asleep)))))) refl
 
 -- an answer that is no refusal
 pub ok_took : {E : Type 0} (b : Bool) (r : Option E) (x : E) → r ≡ cond b None (Some x) → r ≡ None → b ≡ true

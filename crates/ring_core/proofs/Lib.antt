@@ -1,3 +1,4 @@
 pub mod CutLaws
 pub mod Driving
 pub mod Refused
+pub mod Openings

@@ -1,6 +1,7 @@
 -- What a seat tells: of its end, and of its memory, whose words, steps made and changes still due count. And a call of an end there.
-use Rattle.std.specs.Prelude.{◌≡◌, ◌≢◌, ◌≤◌, ℕ, zero, suc, ◌+◌, ◌%◌, ◌^◌, cond, leb, List, [], ◌∷◌, length, replicate, slice_index, slice_set, Option, Some, None, ◌==◌, true}
+use Rattle.std.specs.Prelude.{◌≡◌, ◌≢◌, ◌≤◌, ℕ, zero, suc, ◌+◌, ◌%◌, ◌^◌, cond, leb, List, [], ◌∷◌, length, replicate, slice_index, slice_set, ◌*◌, ◌++◌, Option, Some, None, ◌==◌, true}
 use Rattle.chan_run.specs.declared.event.Event.{Event}
+use Rattle.page_kept.specs.declared.kept.Kept.{Kept}
 use Rattle.ring_core.specs.declared.told.Told.{Told}
 use Rattle.ring_core.specs.declared.told_mem.Change.{Change}
 use Rattle.ring_machine.specs.declared.place.Op.{Op}
@@ -14,7 +15,7 @@ use Rattle.ring_machine.specs.declared.place.Ring.TheVariants.{ToHost, ToGuest}
 use Rattle.ring_machine.specs.declared.place.Place.TheVariants.{Mask, Feature}
 use Rattle.ring_machine.specs.Places.{index_of, signal_of, mark_of, words_of, IsPlaceOf}
 use Rattle.ring_machine.specs.Steps.{next_of, made_at, is_busy_at}
-use Rattle.ring_machine.specs.States.{after, afters, entered, resting}
+use Rattle.ring_machine.specs.States.{after, afters, entered, resting_with}
 
 pub record Memory : Type 0 where
   pub words : List ℕ
@@ -130,28 +131,33 @@ pub record Ran (s t : EndState) (told told' : Option Told) (memory memory' : Opt
   pub tells : (u : Told) → told ≡ Some u → (told' ≡ Some (told_by s values t u)) × (t.machine.stage ≢ Stopped)
   pub runs : (m : Memory) → memory ≡ Some m → (m' : Memory) × (memory' ≡ Some m') × (run (length values) (pair s m) ≡ pair t m')
 
--- what a call leaves, where its lists are as they should be
-pub record Left (base : EndState) (told told' : Option Told) (memory memory' : Option Memory) (m : Machine) (sent got : List (List ℕ)) (past : List (Event (List ℕ))) : Type 0 where
-  pub ran : Ran base (resting m sent got past) told told' memory memory'
-  pub told_is : (u : Told) → told' ≡ Some u → u.state ≡ resting m sent got past
+-- what a call leaves, where its lists and its pages are as they should be
+pub record Left (base : EndState) (told told' : Option Told) (memory memory' : Option Memory) (m : Machine) (sent got : List (List ℕ)) (past : List (Event (List ℕ))) (k : Kept) : Type 0 where
+  pub ran : Ran base (resting_with m sent got past k) told told' memory memory'
+  pub told_is : (u : Told) → told' ≡ Some u → u.state ≡ resting_with m sent got past k
 
--- what a contract sees of a memory: the cells of each of its rings, and its words
+-- what a contract sees of a memory: the cells of each of its rings, its data pages, and its words
 pub record Held : Type 0 where
   pub cells : ℕ
+  pub pages : ℕ
   pub memory : Memory
 
 abbrev pub opened : ℕ → Ring → List ℕ → List ℕ
 opened n r ws = slice_set (slice_set ws (index_of n (Mask r)) 1) (index_of n (Feature r)) 1
 
--- the words of a new channel: all are 0, but that mask and feature are 1 in both rings
+-- the words of a new channel without data pages, whose words are 0 and come behind: all are 0, but that mask and feature are 1 in both rings
 abbrev pub opening : ℕ → List ℕ
 opening n = opened n ToHost (opened n ToGuest (replicate (words_of n) 0))
+
+-- the words of a new channel of c data pages
+abbrev pub opening_with : ℕ → ℕ → List ℕ
+opening_with n c = opening n ++ replicate (512 * c) 0
 
 abbrev pub IsNotAfter : ℕ → List Change → Type 0
 IsNotAfter k [] = Unit {0}
 IsNotAfter k (c ∷ cs) = k ≤ c.step
 
--- a list of changes: their steps don't fall, and their places are in the channel
-abbrev pub IsScript : ℕ → List Change → Type 0
-IsScript n [] = Unit {0}
-IsScript n (c ∷ cs) = IsPlaceOf n c.place × IsNotAfter c.step cs × IsScript n cs
+-- a list of changes to a channel of c data pages: their steps don't fall, and their places are in the channel
+abbrev pub IsScript : ℕ → ℕ → List Change → Type 0
+IsScript n c [] = Unit {0}
+IsScript n c (x ∷ xs) = IsPlaceOf n c x.place × IsNotAfter x.step xs × IsScript n c xs

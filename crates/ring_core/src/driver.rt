@@ -1,5 +1,5 @@
 //! The drivers of a call: the loops that make its steps.
-ghost use Rattle.std.specs.Prelude.{◌≡◌, ◌≢◌, ℕ, ◌<◌, true, length, Some, None};
+ghost use Rattle.std.specs.Prelude.{◌≡◌, ◌≢◌, ℕ, ◌<◌, true, false, length, Some, None};
 ghost use Rattle.ring_machine.specs.Loops.{SendKeeps, TakeKeeps, CommitKeeps};
 ghost use Rattle.ring_machine.specs.States.{stored, Continues};
 ghost use Rattle.ring_machine.specs.Steps.{is_busy_at, is_copying_at, next_of, fed};
@@ -7,6 +7,7 @@ ghost use Rattle.ring_core.specs.Told.{Memory, memory_after, answer_of, told_at,
 ghost use Rattle.ring_core.specs.declared.told.Told.{Told};
 ghost use Rattle.ring_machine.specs.declared.machine.Stage.TheVariants.{Stopped};
 ghost use Rattle.ring_machine.specs.declared.place.Op.{Op};
+ghost use Rattle.ring_machine.specs.PageCalls.{is_paging};
 
 use crate::parts::Parts;
 use crate::seat::Seatlike;
@@ -45,6 +46,7 @@ pub fn step<S: Seatlike>(
     ensures cells { S.cells seat.new ≡ S.cells seat.old }
     ensures silent { S.told seat.old ≡ None → S.told seat.new ≡ None }
     ensures tells { (u : Told) → S.told seat.old ≡ Some u → (S.told seat.new ≡ Some (told_next (told_at u core.old.machine packet.now) result)) × ((fed core.old.machine result).stage ≢ Stopped) }
+    ensures pages { core.new.pages ≡ core.old.pages }
 {
     let v = seat.perform(core, packet);
     let copies = core.is_copying();
@@ -73,6 +75,7 @@ fn step_apart<S: Seatlike>(
     ensures cells { S.cells seat.new ≡ S.cells seat.old }
     ensures silent { S.told seat.old ≡ None → S.told seat.new ≡ None }
     ensures tells { (u : Told) → S.told seat.old ≡ Some u → (S.told seat.new ≡ Some (told_next (told_at u core.old.machine packet.now) result)) × ((fed core.old.machine result).stage ≢ Stopped) }
+    ensures pages { core.new.pages ≡ core.old.pages }
 {
     step(seat, core, buf, packet)
 }
@@ -80,8 +83,10 @@ fn step_apart<S: Seatlike>(
 // Writes back the fields that the frequent steps of a send change, where the others are the same.
 #[inline(always)]
 fn send_back(to: &mut EndCore, from: &EndCore)
-    requires { SendKeeps to.old.machine from.now.machine }
-    ensures { to.new.machine ≡ from.now.machine }
+    requires keeps { SendKeeps to.old.machine from.now.machine }
+    requires call { is_paging to.old.pages.call ≡ false }
+    ensures machine { to.new.machine ≡ from.now.machine }
+    ensures pages { to.new.pages ≡ to.old.pages }
 {
     to.machine.write = from.machine.write;
     to.machine.old = from.machine.old;
@@ -97,8 +102,10 @@ fn send_back(to: &mut EndCore, from: &EndCore)
 // Writes back the fields that the frequent steps of a take change, where the others are the same.
 #[inline(always)]
 fn take_back(to: &mut EndCore, from: &EndCore)
-    requires { TakeKeeps to.old.machine from.now.machine }
-    ensures { to.new.machine ≡ from.now.machine }
+    requires keeps { TakeKeeps to.old.machine from.now.machine }
+    requires call { is_paging to.old.pages.call ≡ false }
+    ensures machine { to.new.machine ≡ from.now.machine }
+    ensures pages { to.new.pages ≡ to.old.pages }
 {
     to.machine.read = from.machine.read;
     to.machine.seen = from.machine.seen;
@@ -114,8 +121,10 @@ fn take_back(to: &mut EndCore, from: &EndCore)
 // Writes back the fields that the frequent steps of a commit change, where the others are the same.
 #[inline(always)]
 fn commit_back(to: &mut EndCore, from: &EndCore)
-    requires { CommitKeeps to.old.machine from.now.machine }
-    ensures { to.new.machine ≡ from.now.machine }
+    requires keeps { CommitKeeps to.old.machine from.now.machine }
+    requires call { is_paging to.old.pages.call ≡ false }
+    ensures machine { to.new.machine ≡ from.now.machine }
+    ensures pages { to.new.pages ≡ to.old.pages }
 {
     to.machine.start = from.machine.start;
     to.machine.old = from.machine.old;
@@ -133,6 +142,8 @@ pub(crate) trait Driver<S: Seatlike> {
     ghost use Rattle.ring_machine.specs.Endings.{Leaves};
     ghost use Rattle.ring_machine.specs.Loops.{Starts};
     ghost use Rattle.ring_machine.specs.States.{IsPacket, entered, shown, sent_by, got_by, past_by, Continues};
+    ghost use Rattle.page_kept.specs.Kept.{no_pages};
+    ghost use Rattle.ring_machine.specs.PageCalls.{core_pages};
     ghost use Rattle.ring_machine.specs.Steps.{is_busy_at, is_took, call_at, call_by};
     ghost use Rattle.ring_core.specs.Told.{Left};
     ghost use Rattle.ring_machine.specs.declared.machine.Stage.TheVariants.{Stopped};
@@ -141,11 +152,12 @@ pub(crate) trait Driver<S: Seatlike> {
     fn drive(parts: &mut Parts<S>, packet: &[u64])
         requires starts { Starts parts.old.core.machine }
         requires fits { S.cells parts.old.seat ≡ parts.old.core.machine.cells }
-        requires goes_on { (u : Told) → S.told parts.old.seat ≡ Some u → Continues u.state parts.old.core.machine packet.now × (entered u.state parts.old.core.machine packet.now ≡ shown parts.old.core.machine packet.now parts.old.buf.items parts.old.sent.list parts.old.got.list parts.old.past.events) }
+        requires goes_on { (u : Told) → S.told parts.old.seat ≡ Some u → Continues u.state parts.old.core.machine packet.now × (entered u.state parts.old.core.machine packet.now ≡ shown parts.old.core.machine packet.now parts.old.buf.items parts.old.sent.list parts.old.got.list parts.old.past.events no_pages) }
         ensures call { call_by parts.new.core.machine.ended ≡ call_at parts.old.core.machine.stage }
         ensures leaves { Leaves parts.old.core.machine parts.new.core.machine }
         ensures took { is_took parts.new.core.machine.ended ≡ true → IsPacket (take parts.new.core.machine.len parts.new.buf.items) }
-        ensures left { Left (shown parts.old.core.machine packet.now parts.old.buf.items parts.old.sent.list parts.old.got.list parts.old.past.events) (S.told parts.old.seat) (S.told parts.new.seat) (S.memory parts.old.seat) (S.memory parts.new.seat) parts.new.core.machine (sent_by parts.new.core.machine parts.old.sent.list packet.now) (got_by parts.new.core.machine parts.old.got.list parts.new.buf.items) (past_by parts.new.core.machine parts.old.past.events packet.now parts.new.buf.items) }
+        ensures left { Left (shown parts.old.core.machine packet.now parts.old.buf.items parts.old.sent.list parts.old.got.list parts.old.past.events no_pages) (S.told parts.old.seat) (S.told parts.new.seat) (S.memory parts.old.seat) (S.memory parts.new.seat) parts.new.core.machine (sent_by parts.new.core.machine parts.old.sent.list packet.now) (got_by parts.new.core.machine parts.old.got.list parts.new.buf.items) (past_by parts.new.core.machine parts.old.past.events packet.now parts.new.buf.items) no_pages }
+        ensures pages { parts.new.core.pages ≡ parts.old.core.pages }
         ensures idle { is_busy_at parts.new.core.machine.stage ≡ false }
         ensures lists { (parts.new.sent ≡ parts.old.sent) × (parts.new.got ≡ parts.old.got) × (parts.new.past ≡ parts.old.past) }
         ensures same { S.same parts.old.seat parts.new.seat }

@@ -55,7 +55,7 @@ impl<S: Seatlike> End<S> {
         requires told { (u : Told) → S.told seat ≡ Some u → u.state ≡ resting (machine_new side (d / 8)) [] [] [] }
         ensures { IfOk result (λ e. (e.state ≡ resting (machine_new side (d / 8)) [] [] []) × (e.seat ≡ seat)) }
     {
-        let core = EndCore::make(side, d);
+        let core = EndCore::make(side, d, 0);
         let buf = Vec::from_elem(alloc, 0, core.machine.cells as usize)?;
         Ok(End {
             parts: Parts {

@@ -1,6 +1,8 @@
 //! What a call works on, and the call as a whole.
 ghost use Rattle.std.specs.Prelude.{◌≡◌, ◌≢◌, ℕ, ◌+◌, ◌<◌, ◌≤◌, true, false, List, [], ◌∷◌, ◌++◌, length, take, Option, Some, None};
 ghost use Rattle.chan_run.specs.declared.event.Event.{Event};
+ghost use Rattle.page_kept.specs.Kept.{no_pages};
+ghost use Rattle.ring_machine.specs.PageCalls.{core_pages};
 ghost use Rattle.ring_machine.specs.Endings.{Leaves, LeavesBy};
 ghost use Rattle.ring_core.specs.Seen.{SentRoom};
 ghost use Rattle.ring_machine.specs.Loops.{Starts};
@@ -28,6 +30,7 @@ pub(crate) struct Parts<S> {
     pub(crate) past: Past,
     pub(crate) seat: S,
     pub(crate) ghost wide: { length buf.items ≡ core.machine.cells },
+    pub(crate) ghost bare: { core.pages ≡ core_pages 0 },
 }
 
 // The first words of the buffer.
@@ -111,7 +114,7 @@ impl<S: Seatlike> Parts<S> {
     pub(crate) fn make_call<D: Driver<S>>(&mut self, packet: &[u64])
         requires starts { Starts self.old.core.machine }
         requires fits { S.cells self.old.seat ≡ self.old.core.machine.cells }
-        requires goes_on { (u : Told) → S.told self.old.seat ≡ Some u → Continues u.state self.old.core.machine packet.now × (entered u.state self.old.core.machine packet.now ≡ shown self.old.core.machine packet.now self.old.buf.items self.old.sent.list self.old.got.list self.old.past.events) }
+        requires goes_on { (u : Told) → S.told self.old.seat ≡ Some u → Continues u.state self.old.core.machine packet.now × (entered u.state self.old.core.machine packet.now ≡ shown self.old.core.machine packet.now self.old.buf.items self.old.sent.list self.old.got.list self.old.past.events no_pages) }
         requires sent_room { call_at self.old.core.machine.stage ≡ 1 → (0 < self.old.sent.room.packets) × (length packet.now ≤ self.old.sent.room.words) }
         requires got_room { call_at self.old.core.machine.stage ≡ 2 → (0 < self.old.got.room.packets) × (self.old.core.machine.cells ≤ self.old.got.room.words) }
         ensures call { call_by self.new.core.machine.ended ≡ call_at self.old.core.machine.stage }
@@ -119,7 +122,7 @@ impl<S: Seatlike> Parts<S> {
         ensures after { LeavesBy (call_at self.old.core.machine.stage) self.old.core.machine self.new.core.machine }
         ensures took { is_took self.new.core.machine.ended ≡ true → Gets self.new.core.machine.len self.old.got.list self.new.got.list self.old.past.events self.new.past.events }
         ensures past { is_took self.new.core.machine.ended ≡ false → self.new.past.events ≡ past_of self.new.core.machine.ended self.new.core.machine.saw packet.now self.old.past.events }
-        ensures left { Left (shown self.old.core.machine packet.now self.old.buf.items self.old.sent.list self.old.got.list self.old.past.events) (S.told self.old.seat) (S.told self.new.seat) (S.memory self.old.seat) (S.memory self.new.seat) self.new.core.machine self.new.sent.list self.new.got.list self.new.past.events }
+        ensures left { Left (shown self.old.core.machine packet.now self.old.buf.items self.old.sent.list self.old.got.list self.old.past.events no_pages) (S.told self.old.seat) (S.told self.new.seat) (S.memory self.old.seat) (S.memory self.new.seat) self.new.core.machine self.new.sent.list self.new.got.list self.new.past.events no_pages }
         ensures idle { is_busy_at self.new.core.machine.stage ≡ false }
         ensures sent { self.new.sent.list ≡ sent_by self.new.core.machine self.old.sent.list packet.now }
         ensures sent_room { SentRoom self.new.core.machine.ended (length packet.now) self.old.sent.room self.new.sent.room }

@@ -1,7 +1,7 @@
 //! All words of a channel in memory of its own.
-ghost use Rattle.std.specs.Prelude.{◌≡◌, ℕ, ◌+◌, ◌/◌, [], slice_set, slice_index, IfOk};
+ghost use Rattle.std.specs.Prelude.{◌≡◌, ℕ, ◌+◌, ◌/◌, ◌≤◌, [], slice_set, slice_index, IfOk};
 ghost use Rattle.ring_machine.specs.Places.{IsRingSize, IsPlaceOf, index_of};
-ghost use Rattle.ring_core.specs.Told.{opening};
+ghost use Rattle.ring_core.specs.Told.{opening_with};
 
 use crate::seat::Seatlike;
 use crate::told_mem::opening_words;
@@ -16,46 +16,49 @@ pub struct SoloMem {
     words: Vec<u64>,
     steps: u64,
     cells: u32,
+    pages: u32,
 }
 
 impl Model for SoloMem {
-    ghost use Rattle.std.specs.Prelude.{◌≡◌, [], length};
+    ghost use Rattle.std.specs.Prelude.{◌≡◌, ◌+◌, ◌*◌, [], length};
     ghost use Rattle.ring_machine.specs.Places.{words_of};
     ghost use Rattle.ring_core.specs.Told.{Held};
 
     ghost Value = { Held };
 
-    ghost view = { λ s. record { cells = s.cells; memory = record { words = s.words.items; steps = s.steps; due = [] } } };
+    ghost view = { λ s. record { cells = s.cells; pages = s.pages; memory = record { words = s.words.items; steps = s.steps; due = [] } } };
 
-    ghost invariant = { λ s. length s.words.items ≡ words_of s.cells };
+    ghost invariant = { λ s. length s.words.items ≡ words_of s.cells + 512 * s.pages };
 }
 
 impl SoloMem {
-    /// The words of a new channel whose rings have `d` bytes of data.
-    pub fn make(alloc: Global, d: u32) -> Result<SoloMem, AllocError>
-        requires { IsRingSize d }
-        ensures { IfOk result (λ s. s ≡ record { cells = d / 8; memory = record { words = opening (d / 8); steps = 0; due = [] } }) }
+    /// The words of a new channel whose rings have `d` bytes of data, and which has so many data pages, at most 128.
+    pub fn make(alloc: Global, d: u32, pages: u32) -> Result<SoloMem, AllocError>
+        requires size { IsRingSize d }
+        requires pages { pages ≤ 128 }
+        ensures { IfOk result (λ s. s ≡ record { cells = d / 8; pages = pages; memory = record { words = opening_with (d / 8) pages; steps = 0; due = [] } }) }
     {
         let cells = d / 8;
         Ok(SoloMem {
-            words: opening_words(alloc, cells)?,
+            words: opening_words(alloc, cells, pages)?,
             steps: 0,
             cells,
+            pages,
         })
     }
 
     /// Changes a word, and takes no step.
     pub fn put(&mut self, place: Place, v: u64)
-        requires { IsPlaceOf self.old.cells place }
+        requires { IsPlaceOf self.old.cells self.old.pages place }
         ensures words { self.new.memory.words ≡ slice_set self.old.memory.words (index_of self.old.cells place) v }
-        ensures rest { (self.new.cells ≡ self.old.cells) × (self.new.memory.steps ≡ self.old.memory.steps) × (self.new.memory.due ≡ self.old.memory.due) }
+        ensures rest { (self.new.cells ≡ self.old.cells) × (self.new.pages ≡ self.old.pages) × (self.new.memory.steps ≡ self.old.memory.steps) × (self.new.memory.due ≡ self.old.memory.due) }
     {
         put_at(&mut self.words, place_index(self.cells, place), v);
     }
 
     /// Looks at a word, and takes no step.
     pub fn look(&self, place: Place) -> u64
-        requires { IsPlaceOf self.now.cells place }
+        requires { IsPlaceOf self.now.cells self.now.pages place }
         ensures { result ≡ slice_index self.now.memory.words (index_of self.now.cells place) }
     {
         look_at(&self.words, place_index(self.cells, place))

@@ -1,7 +1,7 @@
 //! A memory that a contract can tell: its words, and the changes that a peer makes, each just before a step.
-ghost use Rattle.std.specs.Prelude.{◌≡◌, ℕ, ◌+◌, ◌/◌, ◌%◌, ◌^◌, [], drop, slice_set, slice_index, IfOk, length, replicate};
+ghost use Rattle.std.specs.Prelude.{◌≡◌, ℕ, ◌+◌, ◌/◌, ◌%◌, ◌^◌, ◌≤◌, ◌*◌, [], drop, slice_set, slice_index, IfOk, length, replicate};
 ghost use Rattle.ring_machine.specs.Places.{IsRingSize, IsPlaceOf, index_of, words_of};
-ghost use Rattle.ring_core.specs.Told.{changed, later, counted, opening, IsScript};
+ghost use Rattle.ring_core.specs.Told.{changed, later, counted, opening_with, IsScript};
 
 use crate::seat::Seatlike;
 use crate::words::{act, look_at, put_at};
@@ -28,6 +28,7 @@ pub struct ToldMem {
     changes: Vec<Change>,
     at: usize,
     cells: u32,
+    pages: u32,
 }
 
 // Makes the changes that are due at step n, and says where the later ones begin.
@@ -54,11 +55,12 @@ fn make_changes(
     at
 }
 
-/// The words of a new channel whose rings have `cells` cells: all are 0, but that mask and feature are 1 in both rings.
-pub fn opening_words(alloc: Global, cells: u32) -> Result<Vec<u64>, AllocError>
-    ensures { IfOk result (λ ws. ws.items ≡ opening cells) }
+/// The words of a new channel whose rings have `cells` cells, and which has so many data pages: all are 0, but that mask and feature are 1 in both rings.
+pub fn opening_words(alloc: Global, cells: u32, pages: u32) -> Result<Vec<u64>, AllocError>
+    ensures { IfOk result (λ ws. ws.items ≡ opening_with cells pages) }
 {
-    let mut words = Vec::from_elem(alloc, 0, cells as usize + cells as usize + 14)?;
+    let len = cells as usize + cells as usize + 14 + 512 * pages as usize;
+    let mut words = Vec::from_elem(alloc, 0, len)?;
     put_at(
         &mut words,
         place_index(cells, Place::Mask(Ring::ToGuest)),
@@ -79,46 +81,53 @@ pub fn opening_words(alloc: Global, cells: u32) -> Result<Vec<u64>, AllocError>
 }
 
 impl Model for ToldMem {
-    ghost use Rattle.std.specs.Prelude.{◌≡◌, drop, length};
+    ghost use Rattle.std.specs.Prelude.{◌≡◌, ◌+◌, ◌*◌, drop, length};
     ghost use Rattle.ring_machine.specs.Places.{words_of};
     ghost use Rattle.ring_core.specs.Told.{Held};
 
     ghost Value = { Held };
 
-    ghost view = { λ s. record { cells = s.cells; memory = record { words = s.words.items; steps = s.steps; due = drop s.at s.changes.items } } };
+    ghost view = { λ s. record { cells = s.cells; pages = s.pages; memory = record { words = s.words.items; steps = s.steps; due = drop s.at s.changes.items } } };
 
-    ghost invariant = { λ s. length s.words.items ≡ words_of s.cells };
+    ghost invariant = { λ s. length s.words.items ≡ words_of s.cells + 512 * s.pages };
 }
 
 impl ToldMem {
-    /// The words of a new channel whose rings have `d` bytes of data, and these changes.
-    pub fn make(alloc: Global, d: u32, changes: Vec<Change>) -> Result<ToldMem, AllocError>
+    /// The words of a new channel whose rings have `d` bytes of data, and which has so many data pages, at most 128; and these changes.
+    pub fn make(
+        alloc: Global,
+        d: u32,
+        changes: Vec<Change>,
+        pages: u32,
+    ) -> Result<ToldMem, AllocError>
         requires size { IsRingSize d }
-        requires script { IsScript (d / 8) changes.items }
-        ensures { IfOk result (λ s. s ≡ record { cells = d / 8; memory = record { words = opening (d / 8); steps = 0; due = changes.items } }) }
+        requires pages { pages ≤ 128 }
+        requires script { IsScript (d / 8) pages changes.items }
+        ensures { IfOk result (λ s. s ≡ record { cells = d / 8; pages = pages; memory = record { words = opening_with (d / 8) pages; steps = 0; due = changes.items } }) }
     {
         let cells = d / 8;
         Ok(ToldMem {
-            words: opening_words(alloc, cells)?,
+            words: opening_words(alloc, cells, pages)?,
             steps: 0,
             changes,
             at: 0,
             cells,
+            pages,
         })
     }
 
     /// Changes a word, and takes no step.
     pub fn put(&mut self, place: Place, v: u64)
-        requires { IsPlaceOf self.old.cells place }
+        requires { IsPlaceOf self.old.cells self.old.pages place }
         ensures words { self.new.memory.words ≡ slice_set self.old.memory.words (index_of self.old.cells place) v }
-        ensures rest { (self.new.cells ≡ self.old.cells) × (self.new.memory.steps ≡ self.old.memory.steps) × (self.new.memory.due ≡ self.old.memory.due) }
+        ensures rest { (self.new.cells ≡ self.old.cells) × (self.new.pages ≡ self.old.pages) × (self.new.memory.steps ≡ self.old.memory.steps) × (self.new.memory.due ≡ self.old.memory.due) }
     {
         put_at(&mut self.words, place_index(self.cells, place), v);
     }
 
     /// Looks at a word, and takes no step.
     pub fn look(&self, place: Place) -> u64
-        requires { IsPlaceOf self.now.cells place }
+        requires { IsPlaceOf self.now.cells self.now.pages place }
         ensures { result ≡ slice_index self.now.memory.words (index_of self.now.cells place) }
     {
         look_at(&self.words, place_index(self.cells, place))

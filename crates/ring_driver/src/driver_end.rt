@@ -51,7 +51,7 @@ impl<S: Seatlike> DriverEnd<S> {
         requires told { (u : Told) → S.told seat ≡ Some u → u.state ≡ resting (machine_new side (d / 8)) [] [] [] }
         ensures { IfOk result (λ e. (e.state ≡ resting (machine_new side (d / 8)) [] [] []) × (e.seat ≡ seat) × (e.taken ≡ [])) }
     {
-        let core = EndCore::make(side, d);
+        let core = EndCore::make(side, d, 0);
         let buf = Vec::from_elem(alloc, 0, core.machine.cells as usize)?;
         let parts = Parts {
             core,

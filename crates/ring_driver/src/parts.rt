@@ -4,6 +4,8 @@ ghost use Rattle.chan_run.specs.Runs.{sent_of, got_of};
 ghost use Rattle.ring_machine.specs.Endings.{Leaves, LeavesBy};
 ghost use Rattle.ring_machine.specs.Loops.{Starts};
 ghost use Rattle.ring_machine.specs.States.{IsPacket, past_of, entered, shown, sent_by, got_by, past_by, Continues};
+ghost use Rattle.page_kept.specs.Kept.{no_pages};
+ghost use Rattle.ring_machine.specs.PageCalls.{core_pages};
 ghost use Rattle.ring_machine.specs.Steps.{is_busy_at, is_sent, is_took, call_at, call_by};
 ghost use Rattle.ring_core.specs.Told.{Left};
 ghost use Rattle.ring_machine.specs.declared.machine.Stage.TheVariants.{Stopped};
@@ -20,6 +22,7 @@ pub(crate) struct Parts<S> {
     pub(crate) past: Past,
     pub(crate) seat: S,
     pub(crate) ghost wide: { length buf.items ≡ core.machine.cells },
+    pub(crate) ghost bare: { core.pages ≡ core_pages 0 },
 }
 
 // The first words of the buffer.
@@ -36,11 +39,11 @@ pub(crate) fn front(buf: &Vec<u64>, n: usize) -> &[u64]
 fn drive<S: Seatlike>(parts: &mut Parts<S>, packet: &[u64])
     requires starts { Starts parts.old.core.machine }
     requires fits { S.cells parts.old.seat ≡ parts.old.core.machine.cells }
-    requires goes_on { (u : Told) → S.told parts.old.seat ≡ Some u → Continues u.state parts.old.core.machine packet.now × (entered u.state parts.old.core.machine packet.now ≡ shown parts.old.core.machine packet.now parts.old.buf.items (sent_of parts.old.past.events) (got_of parts.old.past.events) parts.old.past.events) }
+    requires goes_on { (u : Told) → S.told parts.old.seat ≡ Some u → Continues u.state parts.old.core.machine packet.now × (entered u.state parts.old.core.machine packet.now ≡ shown parts.old.core.machine packet.now parts.old.buf.items (sent_of parts.old.past.events) (got_of parts.old.past.events) parts.old.past.events no_pages) }
     ensures call { call_by parts.new.core.machine.ended ≡ call_at parts.old.core.machine.stage }
     ensures leaves { Leaves parts.old.core.machine parts.new.core.machine }
     ensures took { is_took parts.new.core.machine.ended ≡ true → IsPacket (take parts.new.core.machine.len parts.new.buf.items) }
-    ensures left { Left (shown parts.old.core.machine packet.now parts.old.buf.items (sent_of parts.old.past.events) (got_of parts.old.past.events) parts.old.past.events) (S.told parts.old.seat) (S.told parts.new.seat) (S.memory parts.old.seat) (S.memory parts.new.seat) parts.new.core.machine (sent_by parts.new.core.machine (sent_of parts.old.past.events) packet.now) (got_by parts.new.core.machine (got_of parts.old.past.events) parts.new.buf.items) (past_by parts.new.core.machine parts.old.past.events packet.now parts.new.buf.items) }
+    ensures left { Left (shown parts.old.core.machine packet.now parts.old.buf.items (sent_of parts.old.past.events) (got_of parts.old.past.events) parts.old.past.events no_pages) (S.told parts.old.seat) (S.told parts.new.seat) (S.memory parts.old.seat) (S.memory parts.new.seat) parts.new.core.machine (sent_by parts.new.core.machine (sent_of parts.old.past.events) packet.now) (got_by parts.new.core.machine (got_of parts.old.past.events) parts.new.buf.items) (past_by parts.new.core.machine parts.old.past.events packet.now parts.new.buf.items) no_pages }
     ensures idle { is_busy_at parts.new.core.machine.stage ≡ false }
     ensures past { parts.new.past ≡ parts.old.past }
     ensures buf { (call_at parts.old.core.machine.stage ≡ 2 → ⊥) → parts.new.buf.items ≡ parts.old.buf.items }
@@ -112,12 +115,12 @@ impl<S: Seatlike> Parts<S> {
     pub(crate) fn make_call(&mut self, packet: &[u64])
         requires starts { Starts self.old.core.machine }
         requires fits { S.cells self.old.seat ≡ self.old.core.machine.cells }
-        requires goes_on { (u : Told) → S.told self.old.seat ≡ Some u → Continues u.state self.old.core.machine packet.now × (entered u.state self.old.core.machine packet.now ≡ shown self.old.core.machine packet.now self.old.buf.items (sent_of self.old.past.events) (got_of self.old.past.events) self.old.past.events) }
+        requires goes_on { (u : Told) → S.told self.old.seat ≡ Some u → Continues u.state self.old.core.machine packet.now × (entered u.state self.old.core.machine packet.now ≡ shown self.old.core.machine packet.now self.old.buf.items (sent_of self.old.past.events) (got_of self.old.past.events) self.old.past.events no_pages) }
         ensures call { call_by self.new.core.machine.ended ≡ call_at self.old.core.machine.stage }
         ensures leaves { Leaves self.old.core.machine self.new.core.machine }
         ensures after { LeavesBy (call_at self.old.core.machine.stage) self.old.core.machine self.new.core.machine }
         ensures took { is_took self.new.core.machine.ended ≡ true → IsPacket (take self.new.core.machine.len self.new.buf.items) }
-        ensures left { Left (shown self.old.core.machine packet.now self.old.buf.items (sent_of self.old.past.events) (got_of self.old.past.events) self.old.past.events) (S.told self.old.seat) (S.told self.new.seat) (S.memory self.old.seat) (S.memory self.new.seat) self.new.core.machine (sent_of self.new.past.events) (got_of self.new.past.events) self.new.past.events }
+        ensures left { Left (shown self.old.core.machine packet.now self.old.buf.items (sent_of self.old.past.events) (got_of self.old.past.events) self.old.past.events no_pages) (S.told self.old.seat) (S.told self.new.seat) (S.memory self.old.seat) (S.memory self.new.seat) self.new.core.machine (sent_of self.new.past.events) (got_of self.new.past.events) self.new.past.events no_pages }
         ensures idle { is_busy_at self.new.core.machine.stage ≡ false }
         ensures sent { sent_of self.new.past.events ≡ sent_by self.new.core.machine (sent_of self.old.past.events) packet.now }
         ensures got { got_of self.new.past.events ≡ got_by self.new.core.machine (got_of self.old.past.events) self.new.buf.items }

@@ -5,3 +5,5 @@ pub mod Lengths
 pub mod Kept
 pub mod Refusing
 pub mod Lasting
+pub mod PageMoves
+pub mod Fitting

@@ -2,24 +2,34 @@
 use Rattle.std.specs.Prelude.{◌≡◌, ◌⊎◌, ℕ, Option, Some, None}
 use Rattle.io_edge.specs.declared.side.Side.{Side}
 use Rattle.ring_machine.specs.declared.place.Place.{Place}
-use Rattle.ring_machine.specs.declared.place.Place.TheVariants.{Write, Read, Mask, Pending, Feature, Cell, Signal, Mark}
+use Rattle.ring_machine.specs.declared.place.Place.TheVariants.{Write, Read, Mask, Pending, Feature, Cell, Signal, Mark, Page}
 use Rattle.ring_machine.specs.declared.place.Op.{Op}
 use Rattle.ring_machine.specs.declared.place.Op.TheVariants.{Load, Store, Raise, TakeSignal, StoreMark}
+use Rattle.page_kept.specs.declared.page_call.PageCall.{PageCall}
+use Rattle.page_kept.specs.declared.page_call.PageCall.TheVariants.{Off, StoreWord, LoadWords}
+use Rattle.ring_machine.specs.declared.machine.Stage.{Stage}
 use Rattle.ring_machine.specs.Places.{IsPlaceOf, out_of, in_of, peer_of}
+use Rattle.ring_machine.specs.Steps.{call_at}
 
--- a step on a place of a channel whose rings have n cells
-abbrev pub IsOpOf : ℕ → Op → Type 0
-IsOpOf n (Load p) = IsPlaceOf n p
-IsOpOf n (Store p v) = IsPlaceOf n p
-IsOpOf n (Raise x) = Unit {0}
-IsOpOf n (TakeSignal x) = Unit {0}
-IsOpOf n (StoreMark x) = Unit {0}
+-- a step on a place of a channel of c data pages, whose rings have n cells
+abbrev pub IsOpOf : ℕ → ℕ → Op → Type 0
+IsOpOf n c (Load p) = IsPlaceOf n c p
+IsOpOf n c (Store p v) = IsPlaceOf n c p
+IsOpOf n c (Raise x) = Unit {0}
+IsOpOf n c (TakeSignal x) = Unit {0}
+IsOpOf n c (StoreMark x) = Unit {0}
 
-abbrev pub IsInside : ℕ → Option Op → Type 0
-IsInside n None = Unit {0}
-IsInside n (Some op) = IsOpOf n op
+abbrev pub IsInside : ℕ → ℕ → Option Op → Type 0
+IsInside n c None = Unit {0}
+IsInside n c (Some op) = IsOpOf n c op
 
--- The calls that store to a place, by number: 1 is a send, 3 a commit, 4 an arm, 5 a poll. A send stores to the cells and the write word of the ring that
+-- the call under way: that of the rings, or 8 where a page word is stored, and 9 where lent words are loaded
+abbrev pub call_in : Stage → PageCall → ℕ
+call_in st Off = call_at st
+call_in st (StoreWord q w v) = 8
+call_in st (LoadWords q n j) = 9
+
+-- The calls that store to a place, by number: 1 is a send, 3 a commit, 4 an arm, 5 a poll, 8 a store of a page word. A send stores to the cells and the write word of the ring that
 -- its end fills, a commit to the read word of the ring that it empties, an arm and a poll to the mask of the latter and the pending word of the former
 abbrev pub IsStoreAt : ℕ → Side → Place → Type 0
 IsStoreAt call x (Cell r at) = (call ≡ 1) × (r ≡ out_of x)
@@ -30,6 +40,7 @@ IsStoreAt call x (Pending r) = ((call ≡ 4) ⊎ (call ≡ 5)) × (r ≡ out_of 
 IsStoreAt call x (Feature r) = ⊥
 IsStoreAt call x (Signal y) = ⊥
 IsStoreAt call x (Mark y) = ⊥
+IsStoreAt call x (Page q w) = call ≡ 8
 
 -- what a step of a call may change: a send, a commit and a mark (6) raise the peer, a poll takes the end's own signal, and a mark stores its own mark
 abbrev pub IsChangeOf : ℕ → Side → Op → Type 0

@@ -4,4 +4,5 @@ pub mod States
 pub mod Loops
 pub mod Endings
 pub mod Inside
+pub mod PageCalls
 pub mod Causes

@@ -5,7 +5,7 @@ use Rattle.io_edge.specs.declared.side.Side.TheVariants.{Guest, Host}
 use Rattle.ring_machine.specs.declared.place.Ring.{Ring}
 use Rattle.ring_machine.specs.declared.place.Ring.TheVariants.{ToHost, ToGuest}
 use Rattle.ring_machine.specs.declared.place.Place.{Place}
-use Rattle.ring_machine.specs.declared.place.Place.TheVariants.{Write, Read, Mask, Pending, Feature, Cell, Signal, Mark}
+use Rattle.ring_machine.specs.declared.place.Place.TheVariants.{Write, Read, Mask, Pending, Feature, Cell, Signal, Mark, Page}
 
 -- a ring has 1 to 16 pages of data
 pub record IsRingSize (d : ℕ) : Type 0 where
@@ -41,7 +41,7 @@ abbrev pub mark_of : ℕ → Side → ℕ
 mark_of n Guest = n + n + 12
 mark_of n Host = n + n + 13
 
--- the words of a channel whose rings have n cells
+-- the words of a channel whose rings have n cells, before those of its data pages
 abbrev pub words_of : ℕ → ℕ
 words_of n = n + n + 14
 
@@ -55,17 +55,19 @@ index_of n (Feature r) = base_of n r + 4
 index_of n (Cell r at) = base_of n r + 5 + at / 8
 index_of n (Signal x) = signal_of n x
 index_of n (Mark x) = mark_of n x
+index_of n (Page q w) = words_of n + (512 * q + w)
 
--- the places of a channel: a cell's offset is a multiple of 8 inside its ring
-abbrev pub IsPlaceOf : ℕ → Place → Type 0
-IsPlaceOf n (Cell r at) = (at % 8 ≡ 0) × (at < 8 * n)
-IsPlaceOf n (Write r) = Unit {0}
-IsPlaceOf n (Read r) = Unit {0}
-IsPlaceOf n (Mask r) = Unit {0}
-IsPlaceOf n (Pending r) = Unit {0}
-IsPlaceOf n (Feature r) = Unit {0}
-IsPlaceOf n (Signal x) = Unit {0}
-IsPlaceOf n (Mark x) = Unit {0}
+-- the places of a channel of c data pages: a cell's offset is a multiple of 8 inside its ring, and a page has 512 words
+abbrev pub IsPlaceOf : ℕ → ℕ → Place → Type 0
+IsPlaceOf n c (Cell r at) = (at % 8 ≡ 0) × (at < 8 * n)
+IsPlaceOf n c (Write r) = Unit {0}
+IsPlaceOf n c (Read r) = Unit {0}
+IsPlaceOf n c (Mask r) = Unit {0}
+IsPlaceOf n c (Pending r) = Unit {0}
+IsPlaceOf n c (Feature r) = Unit {0}
+IsPlaceOf n c (Signal x) = Unit {0}
+IsPlaceOf n c (Mark x) = Unit {0}
+IsPlaceOf n c (Page q w) = (q < c) × (w < 512)
 
 -- the part of a header word that counts
 abbrev pub low : ℕ → ℕ

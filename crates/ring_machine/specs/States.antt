@@ -1,7 +1,13 @@
 -- The state of an end, and what a step makes of it.
-use Rattle.std.specs.Prelude.{◌≡◌, ◌⊎◌, ℕ, ◌+◌, ◌*◌, ◌<◌, ◌≤◌, ◌==◌, cond, ltb, Bool, true, false, List, [], ◌∷◌, ◌++◌, length, slice_index, slice_set, take}
+use Rattle.std.specs.Prelude.{◌≡◌, ◌≢◌, ◌⊎◌, ℕ, ◌+◌, ◌*◌, ◌<◌, ◌≤◌, ◌==◌, cond, ltb, Bool, true, false, List, [], ◌∷◌, ◌++◌, length, slice_index, slice_set, take}
 use Rattle.chan_run.specs.declared.event.Event.{Event}
 use Rattle.chan_run.specs.declared.event.Event.TheVariants.{Sent as SentEvent, Got as GotEvent, Empty as EmptyEvent, Marked as MarkedEvent, Saw as SawEvent}
+use Rattle.page_kept.specs.declared.due.Due.TheVariants.{Clear}
+use Rattle.page_kept.specs.declared.kept.Kept.{Kept}
+use Rattle.page_kept.specs.declared.page_call.PageCall.TheVariants.{Off}
+use Rattle.page_kept.specs.Kept.{no_pages, pages_sent, pages_took}
+use Rattle.page_kept.specs.Layouts.{layout}
+use Rattle.page_kept.specs.Keepers.{keeper, MaySend}
 use Rattle.ring_machine.specs.declared.machine.Stage.{Stage}
 use Rattle.ring_machine.specs.declared.machine.Stage.TheVariants.{Idle, SendWrite, SendMask, SendLook, SendRaise, TakeWrite, TakeFirst, TakeCell, ArmMark, ArmUndoMask, ArmUndoPending, MarkStore, MarkRaise, PeerMark}
 use Rattle.ring_machine.specs.declared.machine.Ending.{Ending}
@@ -55,6 +61,12 @@ past_after MarkStore m past p xs v = MarkedEvent ∷ past
 past_after PeerMark m past p xs v = cond (v == 0) past (SawEvent ∷ past)
 past_after _ m past p xs v = past
 
+-- what a step makes of the pages: a packet is sent at the store of the write index, and taken at the last load of its words
+abbrev pub pages_after : Stage → Machine → Kept → List ℕ → List ℕ → ℕ → Kept
+pages_after SendWrite m k p xs v = pages_sent (layout k.count) k p
+pages_after TakeCell m k p xs v = cond (ltb (m.done + 1) m.len) k (pages_took (layout k.count) k (xs ++ v ∷ []))
+pages_after _ m k p xs v = k
+
 -- the state after a step that answered v
 abbrev pub after : EndState → ℕ → EndState
 after s v = record {
@@ -64,6 +76,7 @@ after s v = record {
   sent = sent_after s.machine.stage s.sent s.packet;
   got = got_after s.machine.stage s.machine s.got s.copied v;
   past = past_after s.machine.stage s.machine s.past s.packet s.copied v;
+  pages = pages_after s.machine.stage s.machine s.pages s.packet s.copied v;
 }
 
 -- the state after these answers, the last one first
@@ -71,17 +84,20 @@ abbrev pub afters : EndState → List ℕ → EndState
 afters s [] = s
 afters s (v ∷ vs) = after (afters s vs) v
 
--- an end with no call under way
+-- an end with no call of the rings under way; and one of a channel without pages
+abbrev pub resting_with : Machine → List (List ℕ) → List (List ℕ) → List (Event (List ℕ)) → Kept → EndState
+resting_with m sent got past k = record { machine = m; packet = []; copied = []; sent = sent; got = got; past = past; pages = k }
+
 abbrev pub resting : Machine → List (List ℕ) → List (List ℕ) → List (Event (List ℕ)) → EndState
-resting m sent got past = record { machine = m; packet = []; copied = []; sent = sent; got = got; past = past }
+resting m sent got past = resting_with m sent got past no_pages
 
 -- the same state, with this call under way
 abbrev pub entered : EndState → Machine → List ℕ → EndState
-entered s m p = record { machine = m; packet = p; copied = s.copied; sent = s.sent; got = s.got; past = s.past }
+entered s m p = record { machine = m; packet = p; copied = s.copied; sent = s.sent; got = s.got; past = s.past; pages = s.pages }
 
 -- the state of an end by what it keeps: the words of the packet under way are the first of its buffer
-abbrev pub shown : Machine → List ℕ → List ℕ → List (List ℕ) → List (List ℕ) → List (Event (List ℕ)) → EndState
-shown m p buf sent got past = record { machine = m; packet = p; copied = copied_at m.stage (take m.done buf); sent = sent; got = got; past = past }
+abbrev pub shown : Machine → List ℕ → List ℕ → List (List ℕ) → List (List ℕ) → List (Event (List ℕ)) → Kept → EndState
+shown m p buf sent got past k = record { machine = m; packet = p; copied = copied_at m.stage (take m.done buf); sent = sent; got = got; past = past; pages = k }
 
 -- the buffer, where it takes the loaded word
 abbrev pub stored : Bool → List ℕ → ℕ → ℕ → List ℕ
@@ -125,36 +141,57 @@ past_by_ending _ m past p buf = past
 abbrev pub past_by : Machine → List (Event (List ℕ)) → List ℕ → List ℕ → List (Event (List ℕ))
 past_by m past p buf = past_by_ending m.ended m past p buf
 
+-- the pages during a call, where the packet was sent already
+abbrev pub pages_while : Stage → Kept → List ℕ → Kept
+pages_while SendMask k p = pages_sent (layout k.count) k p
+pages_while SendLook k p = pages_sent (layout k.count) k p
+pages_while SendRaise k p = pages_sent (layout k.count) k p
+pages_while _ k p = k
+
+-- the pages after a call that ended so: it sent the packet p, or it took the first words of the buffer
+abbrev pub pages_by_ending : Ending → Machine → Kept → List ℕ → List ℕ → Kept
+pages_by_ending SentQuiet m k p buf = pages_sent (layout k.count) k p
+pages_by_ending SentRaised m k p buf = pages_sent (layout k.count) k p
+pages_by_ending Took m k p buf = pages_took (layout k.count) k (take m.len buf)
+pages_by_ending _ m k p buf = k
+
+abbrev pub pages_by : Machine → Kept → List ℕ → List ℕ → Kept
+pages_by m k p buf = pages_by_ending m.ended m k p buf
+
 -- the calls that an end that is awake can begin, and the one of an end that is asleep
 pub record IsAwake (s : EndState) : Type 0 where
   pub idle : s.machine.stage ≡ Idle
   pub awake : s.machine.asleep ≡ false
   pub unmarked : s.machine.marked ≡ false
 
+-- an end that may send these words, where its channel has data pages
+abbrev pub MayLend : EndState → List ℕ → Type 0
+MayLend s p = s.pages.count ≢ 0 → MaySend (layout s.pages.count) (keeper (layout s.pages.count) s.machine.side s.got s.pages) p
+
 abbrev pub BeginsSend : EndState → Machine → List ℕ → Type 0
-BeginsSend s m p = (m ≡ send_begun s.machine (length p)) × IsPacket p × (length p + 1 < s.machine.cells) × IsAwake s
+BeginsSend s m p = (m ≡ send_begun s.machine (length p)) × IsPacket p × (length p + 1 < s.machine.cells) × IsAwake s × MayLend s p
 
 abbrev pub BeginsTake : EndState → Machine → List ℕ → Type 0
-BeginsTake s m p = (m ≡ take_begun s.machine) × (p ≡ []) × IsAwake s
+BeginsTake s m p = (m ≡ take_begun s.machine) × (p ≡ []) × IsAwake s × (s.pages.due ≡ Clear)
 
 abbrev pub BeginsCommit : EndState → Machine → List ℕ → Type 0
-BeginsCommit s m p = (m ≡ commit_begun s.machine) × (p ≡ []) × IsAwake s
+BeginsCommit s m p = (m ≡ commit_begun s.machine) × (p ≡ []) × IsAwake s × (s.pages.due ≡ Clear)
 
 abbrev pub BeginsArm : EndState → Machine → List ℕ → Type 0
-BeginsArm s m p = (want : ℕ) × (m ≡ arm_begun s.machine want) × (want < 8 * s.machine.cells) × (p ≡ []) × IsAwake s × (s.machine.start ≡ s.machine.read)
+BeginsArm s m p = (want : ℕ) × (m ≡ arm_begun s.machine want) × (want < 8 * s.machine.cells) × (p ≡ []) × IsAwake s × (s.machine.start ≡ s.machine.read) × (s.pages.due ≡ Clear)
 
 abbrev pub BeginsPoll : EndState → Machine → List ℕ → Type 0
 BeginsPoll s m p = (m ≡ poll_begun s.machine) × (p ≡ []) × (s.machine.stage ≡ Idle) × (s.machine.asleep ≡ true)
 
 abbrev pub BeginsMark : EndState → Machine → List ℕ → Type 0
-BeginsMark s m p = (m ≡ mark_begun s.machine) × (p ≡ []) × IsAwake s
+BeginsMark s m p = (m ≡ mark_begun s.machine) × (p ≡ []) × IsAwake s × (s.pages.due ≡ Clear)
 
 abbrev pub BeginsPeerMark : EndState → Machine → List ℕ → Type 0
 BeginsPeerMark s m p = (m ≡ peer_mark_begun s.machine) × (p ≡ []) × IsAwake s
 
--- m has begun a call from the state s
+-- m has begun a call from the state s, which is in no page call
 abbrev pub Begins : EndState → Machine → List ℕ → Type 0
-Begins s m p = (s.copied ≡ []) × (BeginsSend s m p ⊎ (BeginsTake s m p ⊎ (BeginsCommit s m p ⊎ (BeginsArm s m p ⊎ (BeginsPoll s m p ⊎ (BeginsMark s m p ⊎ BeginsPeerMark s m p))))))
+Begins s m p = ((s.copied ≡ []) × (s.pages.call ≡ Off)) × (BeginsSend s m p ⊎ (BeginsTake s m p ⊎ (BeginsCommit s m p ⊎ (BeginsArm s m p ⊎ (BeginsPoll s m p ⊎ (BeginsMark s m p ⊎ BeginsPeerMark s m p))))))
 
 -- m goes on from the state s, or begins a call there
 abbrev pub Continues : EndState → Machine → List ℕ → Type 0

@@ -7,28 +7,39 @@ ghost use Rattle.ring_machine.specs.Loops.{is_storing_at, is_writing_at, is_mask
 ghost use Rattle.ring_machine.specs.Endings.{last_of, why_of, mode_of, indices_of, want_of, IsWant, free_bytes, need_bytes, bad_by, send_answer, take_refusal, commit_answer, is_asleep, peer_mark_answer};
 ghost use Rattle.ring_machine.specs.declared.machine.Stage.TheVariants.{Idle, Stopped};
 ghost use Rattle.ring_machine.specs.Endings.{refused};
+ghost use Rattle.page_kept.specs.declared.page_call.PageCall.TheVariants.{Off};
+ghost use Rattle.ring_machine.specs.PageCalls.{PagesFit, IsQuiet, is_paging, is_under_way, page_op, core_pages, page_store_begun, owes, lent_load_begun, pages_fed};
 
 use crate::fed::feed_machine;
 use crate::last::{Armed, Bad, Indices, Last, Mode, SendRefusal, Signalled, TakeRefusal, Why};
 use crate::machine::{Ending, Machine, Stage};
 use crate::next::next_machine;
+use crate::page_core::PageCore;
 use crate::place::{Op, Side};
 use crate::ring::used_in;
+use page_kept::{Due, PageCall};
 
 /// One end as a pure machine. The command under way names its next step, is fed what the step gave, and so on until it ends.
 #[derive(Clone, Copy)]
 pub struct EndCore {
     /// The end as plain data.
     pub machine: Machine,
+    /// What it knows of its channel's data pages.
+    pub pages: PageCore,
     /// Its indices and lengths lie in their ranges, and its stage and flags fit each other.
     pub ghost sound: { IsSound machine },
+    /// A page call is one of the channel's, and is under way where no other command is.
+    pub ghost fit: { PagesFit pages machine.stage },
 }
 
 impl EndCore {
-    /// A new end of a channel whose rings have `d` bytes of data: 1 to 16 pages of 4,096.
-    pub fn make(side: Side, d: u32) -> EndCore
-        requires { IsRingSize d }
-        ensures { result.machine ≡ machine_new side (d / 8) }
+    /// A new end of a channel whose rings have `d` bytes of data, 1 to 16 pages of 4,096, and which has so many data pages, at most 128.
+    #[tactic(auto, using(crate::proofs::Fitting::fit_new))]
+    pub fn make(side: Side, d: u32, pages: u32) -> EndCore
+        requires size { IsRingSize d }
+        requires pages { pages ≤ 128 }
+        ensures machine { result.machine ≡ machine_new side (d / 8) }
+        ensures pages { result.pages ≡ core_pages pages }
     {
         EndCore {
             machine: Machine {
@@ -54,10 +65,12 @@ impl EndCore {
                 drained: false,
                 saw: false,
             },
+            pages: PageCore::new(pages),
         }
     }
 
     /// Begins a send of a packet of `len` words, at least 2, that fits.
+    #[tactic(auto, using(crate::proofs::Fitting::fit_begun))]
     #[inline(always)]
     pub fn begin_send(&mut self, len: u32)
         requires idle { self.old.machine.stage ≡ Idle }
@@ -65,7 +78,9 @@ impl EndCore {
         requires unmarked { self.old.machine.marked ≡ false }
         requires words { 2 ≤ len }
         requires fits { len + 1 < self.old.machine.cells }
-        ensures { self.new.machine ≡ send_begun self.old.machine len }
+        requires quiet { IsQuiet self.old.pages }
+        ensures machine { self.new.machine ≡ send_begun self.old.machine len }
+        ensures pages { self.new.pages ≡ self.old.pages }
     {
         self.machine.stage = Stage::SendRead;
         self.machine.len = len;
@@ -73,12 +88,15 @@ impl EndCore {
     }
 
     /// Begins a take.
+    #[tactic(auto, using(crate::proofs::Fitting::fit_begun))]
     #[inline(always)]
     pub fn begin_take(&mut self)
         requires idle { self.old.machine.stage ≡ Idle }
         requires awake { self.old.machine.asleep ≡ false }
         requires unmarked { self.old.machine.marked ≡ false }
-        ensures { self.new.machine ≡ take_begun self.old.machine }
+        requires quiet { IsQuiet self.old.pages }
+        ensures machine { self.new.machine ≡ take_begun self.old.machine }
+        ensures pages { self.new.pages ≡ self.old.pages }
     {
         self.machine.stage = Stage::TakeWrite;
         self.machine.len = 0;
@@ -86,12 +104,15 @@ impl EndCore {
     }
 
     /// Begins a commit of all packets that were taken.
+    #[tactic(auto, using(crate::proofs::Fitting::fit_begun))]
     #[inline(always)]
     pub fn begin_commit(&mut self)
         requires idle { self.old.machine.stage ≡ Idle }
         requires awake { self.old.machine.asleep ≡ false }
         requires unmarked { self.old.machine.marked ≡ false }
-        ensures { self.new.machine ≡ commit_begun self.old.machine }
+        requires quiet { IsQuiet self.old.pages }
+        ensures machine { self.new.machine ≡ commit_begun self.old.machine }
+        ensures pages { self.new.pages ≡ self.old.pages }
     {
         self.machine.stage = Stage::CommitRead;
         self.machine.len = 0;
@@ -99,6 +120,7 @@ impl EndCore {
     }
 
     /// Begins to arm the signal of an end that has committed all that it took. `want` is the room in bytes that it waits for besides packets.
+    #[tactic(auto, using(crate::proofs::Fitting::fit_begun))]
     #[inline(always)]
     pub fn begin_arm(&mut self, want: Option<u32>)
         requires idle { self.old.machine.stage ≡ Idle }
@@ -106,7 +128,9 @@ impl EndCore {
         requires unmarked { self.old.machine.marked ≡ false }
         requires committed { self.old.machine.start ≡ self.old.machine.read }
         requires want { IsWant self.old.machine.cells want }
-        ensures { self.new.machine ≡ arm_begun self.old.machine (want_of want) }
+        requires quiet { IsQuiet self.old.pages }
+        ensures machine { self.new.machine ≡ arm_begun self.old.machine (want_of want) }
+        ensures pages { self.new.pages ≡ self.old.pages }
     {
         let want = match want {
             Some(room) => room,
@@ -124,11 +148,14 @@ impl EndCore {
     }
 
     /// Begins to look whether the signal was raised.
+    #[tactic(auto, using(crate::proofs::Fitting::fit_begun))]
     #[inline(always)]
     pub fn begin_poll(&mut self)
         requires idle { self.old.machine.stage ≡ Idle }
         requires asleep { self.old.machine.asleep ≡ true }
-        ensures { self.new.machine ≡ poll_begun self.old.machine }
+        requires off { self.old.pages.call ≡ Off }
+        ensures machine { self.new.machine ≡ poll_begun self.old.machine }
+        ensures pages { self.new.pages ≡ self.old.pages }
     {
         self.machine.stage = Stage::PollSignal;
         self.machine.len = 0;
@@ -136,12 +163,15 @@ impl EndCore {
     }
 
     /// Begins to say that this end sends nothing more.
+    #[tactic(auto, using(crate::proofs::Fitting::fit_begun))]
     #[inline(always)]
     pub fn begin_mark(&mut self)
         requires idle { self.old.machine.stage ≡ Idle }
         requires awake { self.old.machine.asleep ≡ false }
         requires unmarked { self.old.machine.marked ≡ false }
-        ensures { self.new.machine ≡ mark_begun self.old.machine }
+        requires quiet { IsQuiet self.old.pages }
+        ensures machine { self.new.machine ≡ mark_begun self.old.machine }
+        ensures pages { self.new.pages ≡ self.old.pages }
     {
         self.machine.stage = Stage::MarkStore;
         self.machine.len = 0;
@@ -149,33 +179,95 @@ impl EndCore {
     }
 
     /// Begins to look for the peer's mark.
+    #[tactic(auto, using(crate::proofs::Fitting::fit_begun))]
     #[inline(always)]
     pub fn begin_peer_mark(&mut self)
         requires idle { self.old.machine.stage ≡ Idle }
         requires awake { self.old.machine.asleep ≡ false }
         requires unmarked { self.old.machine.marked ≡ false }
-        ensures { self.new.machine ≡ peer_mark_begun self.old.machine }
+        requires off { self.old.pages.call ≡ Off }
+        ensures machine { self.new.machine ≡ peer_mark_begun self.old.machine }
+        ensures pages { self.new.pages ≡ self.old.pages }
     {
         self.machine.stage = Stage::PeerMark;
         self.machine.len = 0;
         self.machine.done = 0;
     }
 
+    /// Begins to store a word of a page of the channel. Whether its end has the page, or holds it and the word is lent, the machine doesn't know.
+    #[tactic(auto, using(crate::proofs::Fitting::fit_store))]
+    pub fn begin_page_store(&mut self, page: u32, word: u32, v: u64)
+        requires idle { self.old.machine.stage ≡ Idle }
+        requires unmarked { self.old.machine.marked ≡ false }
+        requires quiet { IsQuiet self.old.pages }
+        requires page { page < self.old.pages.count }
+        requires word { word < 512 }
+        ensures machine { self.new.machine ≡ self.old.machine }
+        ensures pages { self.new.pages ≡ page_store_begun self.old.pages page word v }
+    {
+        self.pages.call = PageCall::StoreWord {
+            page,
+            word,
+            value: v,
+        };
+    }
+
+    /// Takes that a take left the first words of a page to load.
+    #[tactic(auto, using(crate::proofs::Fitting::fit_owes))]
+    pub fn owe(&mut self, page: u32, words: u32)
+        requires page { page < self.old.pages.count }
+        requires words { (0 < words) × (words ≤ 512) }
+        ensures machine { self.new.machine ≡ self.old.machine }
+        ensures pages { self.new.pages ≡ owes self.old.pages page words }
+    {
+        self.pages.due = Due::Loads {
+            page,
+            words,
+            done: 0,
+        };
+    }
+
+    /// Begins to load the page words that the last take left to load. Where there are none, no command is under way then.
+    #[tactic(auto, using(crate::proofs::Fitting::fit_load))]
+    pub fn begin_lent_load(&mut self)
+        requires idle { self.old.machine.stage ≡ Idle }
+        requires off { self.old.pages.call ≡ Off }
+        ensures machine { self.new.machine ≡ self.old.machine }
+        ensures pages { self.new.pages ≡ lent_load_begun self.old.pages }
+    {
+        self.pages.call = match self.pages.due {
+            Due::Clear => PageCall::Off,
+            Due::Loads { page, words, done } => PageCall::LoadWords { page, words, done },
+        };
+        self.pages.due = Due::Clear;
+    }
+
     /// The next step, or none exactly where no command is under way. `packet` is what is being sent, and empty otherwise.
+    #[tactic(auto, using(crate::proofs::Bounds::rests_none, crate::proofs::Tables::busy_next))]
     #[inline(always)]
     pub fn next(&self, packet: &[u64]) -> Option<Op>
-        ensures { result ≡ next_of self.now.machine packet.now }
+        ensures rings { is_busy_at self.now.machine.stage ≡ true → result ≡ next_of self.now.machine packet.now }
+        ensures pages { is_busy_at self.now.machine.stage ≡ false → result ≡ page_op self.now.pages.call }
     {
-        next_machine(&self.machine, packet)
+        match next_machine(&self.machine, packet) {
+            Some(op) => Some(op),
+            None => self.pages.next(),
+        }
     }
 
     /// Takes what the step gave: the value that it loaded or exchanged, or anything for a store.
+    #[tactic(auto, using(crate::proofs::Fitting::fit_on, crate::proofs::Fitting::fit_fed, crate::proofs::Sound::fed_sound))]
     #[inline(always)]
     pub fn feed(&mut self, v: u64)
-        requires busy { is_busy_at self.old.machine.stage ≡ true }
+        requires busy { is_under_way self.old.machine.stage self.old.pages.call ≡ true }
         ensures next { self.new.machine ≡ fed self.old.machine v }
+        ensures rings { is_busy_at self.old.machine.stage ≡ true → self.new.pages ≡ self.old.pages }
+        ensures pages { is_busy_at self.old.machine.stage ≡ false → self.new.pages ≡ pages_fed self.old.pages }
     {
-        feed_machine(&mut self.machine, v);
+        match self.machine.stage {
+            Stage::Idle => self.pages.feed(),
+            _ => feed_machine(&mut self.machine, v),
+        }
     }
 }
 
@@ -287,7 +379,19 @@ impl EndCore {
         }
     }
 
-    /// A command is under way.
+    /// A page call is under way.
+    #[inline(always)]
+    pub fn is_paging(&self) -> bool
+        ensures { result ≡ is_paging self.now.pages.call }
+    {
+        match self.pages.call {
+            PageCall::Off => false,
+            PageCall::StoreWord { .. } => true,
+            PageCall::LoadWords { .. } => true,
+        }
+    }
+
+    /// A command of the rings is under way.
     #[inline(always)]
     pub fn is_busy(&self) -> bool
         ensures { result ≡ is_busy_at self.now.machine.stage }

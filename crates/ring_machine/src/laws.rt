@@ -1,8 +1,9 @@
 //! Laws of ends: each function does nothing, and its contract is a law.
 ghost use Rattle.std.specs.Prelude.{◌≡◌, ℕ, ◌*◌, ◌<◌, true, List};
-ghost use Rattle.ring_machine.specs.Inside.{IsInside, ChangesOnly};
+ghost use Rattle.ring_machine.specs.Inside.{IsInside, ChangesOnly, call_in};
+ghost use Rattle.ring_machine.specs.PageCalls.{next_in};
 ghost use Rattle.ring_machine.specs.Places.{free, used, ahead};
-ghost use Rattle.ring_machine.specs.Steps.{next_of, call_at, fed, is_busy_at};
+ghost use Rattle.ring_machine.specs.Steps.{fed, is_busy_at};
 ghost use Rattle.ring_machine.specs.States.{Begins};
 ghost use Rattle.ring_machine.specs.Endings.{last_of, why_of};
 ghost use Rattle.ring_machine.specs.Causes.{Breaks};
@@ -15,14 +16,15 @@ use crate::end_core::EndCore;
 
 /// No step of an end names a place outside its channel.
 pub fn stays_inside(_core: &EndCore, _packet: &[u64])
-    ensures { IsInside _core.now.machine.cells (next_of _core.now.machine _packet.now) }
+    ensures { IsInside _core.now.machine.cells _core.now.pages.count (next_in _core.now.machine _core.now.pages.call _packet.now) }
 {}
 
 /// A send stores only to the cells and the write word of the ring that its end fills, a commit to the read word of the ring that it empties, an arm and
 /// a poll to the mask of the latter and the pending word of the former, and a mark to the end's own mark. A send, a commit and a mark raise the
-/// peer, and a poll takes the end's own signal. A take, and a look for the peer's mark, change no word.
+/// peer, and a poll takes the end's own signal. A store of a page word stores to page words alone. A take, a look for the peer's mark, and a load of
+/// lent words, change no word.
 pub fn stores_by_call(_core: &EndCore, _packet: &[u64])
-    ensures { ChangesOnly (call_at _core.now.machine.stage) _core.now.machine.side (next_of _core.now.machine _packet.now) }
+    ensures { ChangesOnly (call_in _core.now.machine.stage _core.now.pages.call) _core.now.machine.side (next_in _core.now.machine _core.now.pages.call _packet.now) }
 {}
 
 /// Room, use and steps round a ring count bytes as they count cells.

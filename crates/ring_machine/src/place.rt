@@ -30,6 +30,8 @@ pub enum Place {
     Signal(Side),
     /// The mark of this end: up where it sends nothing more.
     Mark(Side),
+    /// A word of a data page: the page, and which of its 512 words.
+    Page(u32, u32),
 }
 
 /// One word step: a load, a store or an exchange of one word.

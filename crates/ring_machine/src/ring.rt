@@ -83,6 +83,9 @@ pub fn place_index(cells: u32, place: Place) -> usize
         Place::Cell(ring, at) => base(ring) + 5 + (at / 8) as usize,
         Place::Signal(side) => signal_index(cells, side),
         Place::Mark(side) => mark_index(cells, side),
+        Place::Page(page, word) => {
+            cells as usize + cells as usize + 14 + (512 * page as usize + word as usize)
+        }
     }
 }
 

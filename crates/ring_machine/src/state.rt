@@ -1,9 +1,10 @@
 //! The whole state of an end, as contracts see it. No value of it is made: a `LinkedList` is a list there.
 use crate::machine::Machine;
 use chan_run::Event;
+use page_kept::Kept;
 use std::collections::LinkedList;
 
-/// The machine, the packet that is being sent, the words copied so far, and what the end sent, got and did.
+/// The machine, the packet that is being sent, the words copied so far, what the end sent, got and did, and its pages.
 pub struct EndState {
     /// Its indices, its flags, and the call under way.
     pub machine: Machine,
@@ -17,4 +18,6 @@ pub struct EndState {
     pub got: LinkedList<LinkedList<u64>>,
     /// What it did, the last event first.
     pub past: LinkedList<Event<LinkedList<u64>>>,
+    /// What it keeps of its channel's data pages.
+    pub pages: Kept,
 }

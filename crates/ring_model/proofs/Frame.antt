@@ -12,7 +12,7 @@ use Rattle.ring_machine.specs.declared.machine.Machine.{Machine}
 use Rattle.ring_machine.specs.declared.state.EndState.{EndState}
 use Rattle.ring_machine.specs.Places.{free}
 use Rattle.ring_machine.specs.Steps.{fed_at}
-use Rattle.ring_machine.specs.States.{IsPacket, kept_at, copied_after, sent_after, got_after, past_after, after}
+use Rattle.ring_machine.specs.States.{IsPacket, kept_at, copied_after, sent_after, got_after, past_after, pages_after, after}
 use Rattle.ring_model.specs.Ring.{size, stream, Sending_at, Taking_at, RingOk, PastOk, is_marked}
 use Rattle.ring_model.proofs.Turns.{below}
 
@@ -148,6 +148,7 @@ made st s v m' = record {
   sent = sent_after st s.sent s.packet;
   got = got_after st s.machine s.got s.copied v;
   past = past_after st s.machine s.past s.packet s.copied v;
+  pages = pages_after st s.machine s.pages s.packet s.copied v;
 }
 
 pub after_by : (s : EndState) (v : ℕ) (st : Stage) (m' : Machine) → s.machine.stage ≡ st → fed_at st s.machine v ≡ m' → after s v ≡ made st s v m'

@@ -240,12 +240,12 @@ module _ (n : ℕ) (x : Side) (ws : List ℕ) (e p : EndState) (b : Both n x ws 
   -- any call
   pub call_began : (m : Machine) (q : List ℕ) → Begins e m q → IsSound m → Goes n x q ws (entered e m q) p
   call_began m q c sound =
-      ⊎_elim (λ a. send_began m q c.0 a sound)
-      (⊎_elim (λ a. take_began m q c.0 a sound)
-      (⊎_elim (λ a. commit_began m q c.0 a sound)
-      (⊎_elim (λ a. arm_began m q c.0 a sound)
-      (⊎_elim (λ a. poll_began m q c.0 a sound)
-      (⊎_elim (λ a. mark_began m q c.0 a sound) (λ a. peer_mark_began m q c.0 a sound)))))) c.1
+      ⊎_elim (λ a. send_began m q c.0.0 a sound)
+      (⊎_elim (λ a. take_began m q c.0.0 a sound)
+      (⊎_elim (λ a. commit_began m q c.0.0 a sound)
+      (⊎_elim (λ a. arm_began m q c.0.0 a sound)
+      (⊎_elim (λ a. poll_began m q c.0.0 a sound)
+      (⊎_elim (λ a. mark_began m q c.0.0 a sound) (λ a. peer_mark_began m q c.0.0 a sound)))))) c.1
 
 -- a call of an end on the channel's words
 pub call_keeps : (n : ℕ) (x : Side) (ws : List ℕ) (steps : ℕ) (e p : EndState) → Both n x ws e p → (m : Machine) (q : List ℕ) → Begins e m q → IsSound m

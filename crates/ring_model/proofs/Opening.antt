@@ -1,6 +1,6 @@
 -- A new channel: its words are the opening ones, and its ends did nothing.
 use Rattle.std.proofs.Common.{◌≡◌, ◌≢◌, ℕ, ◌+◌, ◌<◌, ◌≤◌, List, [], length, get_or, refl, sym, ap, ◌∙◌, arith, length-set, subst}
-use Rattle.std.proofs.lemmas.List.{get_or-set_other, get_or-replicate, length-replicate}
+use Rattle.std.proofs.lemmas.List.{append-nil, get_or-set_other, get_or-replicate, length-replicate}
 use Rattle.std.proofs.lemmas.List.Elements.{All-nil}
 use Rattle.io_edge.specs.declared.side.Side.{Side}
 use Rattle.io_edge.specs.declared.side.Side.TheVariants.{Guest, Host}
@@ -10,7 +10,7 @@ use Rattle.ring_machine.specs.declared.state.EndState.{EndState}
 use Rattle.ring_machine.specs.Places.{mark_of, words_of}
 use Rattle.ring_machine.specs.Steps.{IsSound, machine_new}
 use Rattle.ring_machine.specs.States.{IsPacket, resting}
-use Rattle.ring_core.specs.Told.{opening}
+use Rattle.ring_core.specs.Told.{opening, opening_with}
 use Rattle.ring_model.specs.Ring.{RingOk, AtRest, ring_in}
 use Rattle.ring_core.specs.Told.{Held}
 use Rattle.ring_model.specs.Pair.{TwoEnds, IsPair}
@@ -92,13 +92,13 @@ new_channel n a b = record {
     guest_turns = refl;
     host_turns = refl;
   };
-  guest_rests = record { idle = refl; clear = refl };
-  host_rests = record { idle = refl; clear = refl };
+  guest_rests = record { idle = refl; clear = refl; bare = refl };
+  host_rests = record { idle = refl; clear = refl; bare = refl };
 }
 
 pub new_pair : (s : TwoEnds) (n : ℕ) → s.at ≡ Guest → s.guest.state ≡ resting (machine_new Guest n) [] [] [] → s.host.state ≡ resting (machine_new Host n) [] [] []
-    → s.guest.seat ≡ record { cells = n; memory = record { words = opening n; steps = 0; due = [] } } → 512 ≤ n → n ≤ 8192 → IsPair s
+    → s.guest.seat ≡ record { cells = n; pages = 0; memory = record { words = opening_with n 0; steps = 0; due = [] } } → 512 ≤ n → n ≤ 8192 → IsPair s
 new_pair s n at guest host seat a b =
     let rest : AtRest n s.guest.seat.memory.words s.guest.state s.host.state =
-    subst (λ (k : List ℕ × EndState × EndState). AtRest n k.0 k.1 k.2) (λ j. (ap (λ (m : Held). m.memory.words) (sym seat) j, sym guest j, sym host j)) (new_channel n a b) in
+    subst (λ (k : List ℕ × EndState × EndState). AtRest n k.0 k.1 k.2) (λ j. ((sym (append-nil (opening n)) ∙ ap (λ (m : Held). m.memory.words) (sym seat)) j, sym guest j, sym host j)) (new_channel n a b) in
     pair_by s Guest at (ap (λ (m : Held). m.memory.due) seat) (subst (λ (k : ℕ). AtRest k s.guest.seat.memory.words s.guest.state s.host.state) (ap (λ (y : EndState). y.machine.cells) (sym guest)) rest)

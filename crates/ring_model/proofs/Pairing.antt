@@ -1,9 +1,9 @@
 -- Both ends over one memory: what a call of the end that has it leaves.
-use Rattle.std.proofs.Common.{◌≡◌, ◌≢◌, ℕ, ◌+◌, ◌*◌, ◌<◌, ◌≤◌, Bool, true, false, cond, List, [], ◌∷◌, ◌++◌, length, Option, Some, None, Result, Ok, Err, IfOk, MatchResult, refl, sym, ap, ◌∙◌, subst, arith, inl, inr, ⊎_elim}
+use Rattle.std.proofs.Common.{◌≡◌, ◌≢◌, ℕ, ◌+◌, ◌*◌, ◌<◌, ◌≤◌, Bool, true, false, cond, ltb, List, [], ◌∷◌, ◌++◌, length, Option, Some, None, Result, Ok, Err, IfOk, MatchResult, refl, sym, ap, ◌∙◌, subst, arith, inl, inr, ⊎_elim}
 use Rattle.io_edge.specs.declared.side.Side.{Side}
 use Rattle.io_edge.specs.declared.side.Side.TheVariants.{Guest, Host}
 use Rattle.ring_machine.specs.declared.machine.Stage.{Stage}
-use Rattle.ring_machine.specs.declared.machine.Stage.TheVariants.{Idle, Stopped}
+use Rattle.ring_machine.specs.declared.machine.Stage.TheVariants.{Idle, Stopped, SendWrite, TakeCell}
 use Rattle.ring_machine.specs.declared.machine.Ending.{Ending}
 use Rattle.ring_machine.specs.declared.machine.Ending.TheVariants.{Fresh, SentQuiet, SentRaised, Full, BadPeer, Took, Empty, BadIndex, BadLength, BadOffset, CommittedQuiet, CommittedRaised, FellAsleep, FoundWork, NoSignal, Woke, Marked, PeerMarkDown, PeerMarkUp}
 use Rattle.ring_machine.specs.declared.machine.Machine.{Machine}
@@ -15,7 +15,11 @@ use Rattle.ring_machine.specs.declared.last.TakeRefusal.TheVariants.{Empty as Ta
 use Rattle.ring_machine.specs.declared.state.EndState.{EndState}
 use Rattle.ring_machine.specs.Places.{peer_of, free}
 use Rattle.ring_machine.specs.Steps.{IsSound, is_copying_at, is_broken, is_sent, is_took, call_by, send_begun, take_begun, commit_begun}
-use Rattle.ring_machine.specs.States.{IsPacket, IsAwake, entered, sent_by, Begins, BeginsSend, BeginsTake, BeginsCommit, BeginsArm, BeginsPoll, BeginsMark, BeginsPeerMark}
+use Rattle.page_kept.specs.declared.kept.Kept.{Kept as Pages}
+use Rattle.page_kept.specs.declared.due.Due.TheVariants.{Clear}
+use Rattle.page_kept.specs.declared.page_call.PageCall.TheVariants.{Off}
+use Rattle.page_kept.specs.Kept.{no_pages}
+use Rattle.ring_machine.specs.States.{IsPacket, IsAwake, MayLend, entered, afters, pages_after, sent_by, Begins, BeginsSend, BeginsTake, BeginsCommit, BeginsArm, BeginsPoll, BeginsMark, BeginsPeerMark}
 use Rattle.ring_machine.specs.Endings.{Leaves, send_answer, take_refusal}
 use Rattle.ring_core.specs.Told.{Memory, Held, Ran}
 use Rattle.ring_core.specs.Seen.{Seen, Kept}
@@ -74,6 +78,26 @@ resting_both n Host ws g h t b rg rh rt = record { channel = channel_of n Host w
 idle_copies : (st : Stage) → st ≡ Idle → is_copying_at st ≡ false
 idle_copies st i = ap is_copying_at i
 
+-- an end of a channel without data pages keeps none
+none_after : (st : Stage) (m : Machine) (p xs : List ℕ) (v : ℕ) → pages_after st m no_pages p xs v ≡ no_pages
+none_after SendWrite m p xs v = refl
+none_after TakeCell m p xs v = by_last (ltb (m.done + 1) m.len)
+  where
+    by_last : (b : Bool) → cond b no_pages no_pages ≡ no_pages
+    by_last true = refl
+    by_last false = refl
+none_after _ m p xs v = refl
+
+bare_after : (s : EndState) → s.pages ≡ no_pages → (values : List ℕ) → (afters s values).pages ≡ no_pages
+bare_after s bare [] = bare
+bare_after s bare (v ∷ values) =
+    let t : EndState = afters s values in
+    ap (λ (k : Pages). pages_after t.machine.stage t.machine k t.packet t.copied v) (bare_after s bare values) ∙ none_after t.machine.stage t.machine t.packet t.copied v
+
+bare_at : (x : Side) (g h : EndState) → Resting g → Resting h → (end_at x g h).pages ≡ no_pages
+bare_at Guest g h rg rh = rg.bare
+bare_at Host g h rg rh = rh.bare
+
 -- a call of the end at the side x, with the channel's memory
 pub record Called (s : TwoEnds) (x : Side) (q : List ℕ) (new : Seen Held) : Type 0 where
   pub pair : IsPair (with_end (handed s x) x new)
@@ -98,9 +122,11 @@ call_on s x ok m q new begins ran stage =
     let goes : Goes (cells_of s) x q new.seat.memory.words new.state (end_at (peer_of x) g h) = subst (λ (y : Memory). Goes (cells_of s) x q y.words new.state (end_at (peer_of x) g h)) same k.3 in
     let alone : new.seat.memory.due ≡ [] = subst (λ (y : Memory). y.due ≡ []) same k.2 in
     let idle : new.state.machine.stage ≡ Idle = rests (is_broken new.state.machine.ended) refl goes.goes in
+    let own_bare : e.pages ≡ no_pages = ap (λ (y : EndState). y.pages) (state_at s s.at x) ∙ bare_at x g h ok.rest.guest_rests ok.rest.host_rests in
+    let bare : new.state.pages ≡ no_pages = ap (λ (y : EndState). y.pages) ran.state ∙ bare_after (entered e m q) own_bare ran.values in
     record {
       pair = placed s s.at x new refl alone goes.both.fits.cells
-          (resting_both (cells_of s) x new.seat.memory.words g h new.state goes.both ok.rest.guest_rests ok.rest.host_rests (record { idle = idle; clear = goes.clear (idle_copies new.state.machine.stage idle) }));
+          (resting_both (cells_of s) x new.seat.memory.words g h new.state goes.both ok.rest.guest_rests ok.rest.host_rests (record { idle = idle; clear = goes.clear (idle_copies new.state.machine.stage idle); bare = bare }));
       goes = goes;
       before = b;
       idle = idle;
@@ -285,6 +311,16 @@ exchanged s Host = refl
 pub handed_memory : (s : TwoEnds) (x : Side) → memory_of (handed s x) ≡ memory_of s
 handed_memory s x = ap (λ (y : Side). (end_of (handed s x) y).seat.memory) (handed_at s s.at x refl) ∙ ap (λ (k : Held). k.memory) (seat_at s s.at x)
 
+-- an end of a channel without data pages is in no page call, has nothing to load, and lends nothing
+off_by : (e : EndState) → Resting e → e.pages.call ≡ Off
+off_by e r = ap (λ (k : Pages). k.call) r.bare
+
+clear_by : (e : EndState) → Resting e → e.pages.due ≡ Clear
+clear_by e r = ap (λ (k : Pages). k.due) r.bare
+
+lends_none : (e : EndState) (q : List ℕ) → Resting e → MayLend e q
+lends_none e q r some = absurd (some (ap (λ (k : Pages). k.count) r.bare))
+
 -- what a send of an end with the channel's memory leaves
 pub record SendLeaves (s : TwoEnds) (x : Side) (q : List ℕ) (new : Seen Held) (result : Result Signalled SendRefusal) : Type 0 where
   pub pair : IsPair (with_end (handed s x) x new)
@@ -302,7 +338,7 @@ send_on s x q new result ok old is awake packet fits sends = subst (λ (o : Seen
         let rests : Resting e = subst Resting same (own_rests s x ok) in
         let is_awake : IsAwake e = record { idle = rests.idle; awake = subst (λ (y : EndState). y.machine.asleep ≡ false) same awake.0; unmarked = subst (λ (y : EndState). y.machine.marked ≡ false) same awake.1 } in
         let wide : length q + 1 < e.machine.cells = omega (arith, fits, ap (λ (y : EndState). y.machine.cells) same) in
-        let c : Called s x q new = call_on s x ok (send_begun e.machine (length q)) q new (rests.clear, inl (refl, packet, wide, is_awake)) (f.ran rests.idle) (f.leaves rests.idle).stage in
+        let c : Called s x q new = call_on s x ok (send_begun e.machine (length q)) q new ((rests.clear, off_by e rests), inl (refl, packet, wide, is_awake, lends_none e q rests)) (f.ran rests.idle) (f.leaves rests.idle).stage in
         let m = send_meets (cells_of s) x _ _ q e (end_at (peer_of x) s.guest.state s.host.state) new.state c.before c.goes c.idle (f.answer rests.idle).1 ((f.after rests.idle).whole c.idle) (f.sent rests.idle) in
         record {
           pair = c.pair;
@@ -335,7 +371,7 @@ commit_on s x new ok old is awake ran leaves =
         let same : (end_of s x).state ≡ e = sym (handed_state s x) in
         let rests : Resting e = subst Resting same (own_rests s x ok) in
         let is_awake : IsAwake e = record { idle = rests.idle; awake = subst (λ (y : EndState). y.machine.asleep ≡ false) same awake.0; unmarked = subst (λ (y : EndState). y.machine.marked ≡ false) same awake.1 } in
-        let c : Called s x [] new = call_on s x ok (commit_begun e.machine) [] new (rests.clear, inr (inr (inl (refl, refl, is_awake)))) r l.stage in
+        let c : Called s x [] new = call_on s x ok (commit_begun e.machine) [] new ((rests.clear, off_by e rests), inr (inr (inl (refl, refl, is_awake, clear_by e rests)))) r l.stage in
         c.pair
 
 -- what a take leaves, where it gave the packet w, or was refused
@@ -360,7 +396,7 @@ take_on s x new refusal ok old is awake takes =
         let rests : Resting e = subst Resting same (own_rests s x ok) in
         let is_awake : IsAwake e = record { idle = rests.idle; awake = subst (λ (y : EndState). y.machine.asleep ≡ false) same awake.0; unmarked = subst (λ (y : EndState). y.machine.marked ≡ false) same awake.1 } in
         let f = takes_idle rests.idle in
-        let c : Called s x [] new = call_on s x ok (take_begun e.machine) [] new (rests.clear, inr (inl (refl, refl, is_awake))) f.ran f.leaves.stage in
+        let c : Called s x [] new = call_on s x ok (take_begun e.machine) [] new ((rests.clear, off_by e rests), inr (inl (refl, refl, is_awake, clear_by e rests))) f.ran f.leaves.stage in
         record {
           pair = c.pair;
           meets = subst (λ (k : EndState × EndState). TakeMeets refusal k.0 new.state k.1) (λ j. (sym same j, sym (other_state s x) j)) (meets c (is_took new.state.machine.ended) refl f);

@@ -57,7 +57,7 @@ memory_of s = (end_of s s.at).seat.memory
 abbrev pub cells_of : TwoEnds → ℕ
 cells_of s = s.guest.state.machine.cells
 
--- the two ends and the channel's memory belong together, no call is under way, and nobody else changes the memory
+-- the two ends and the channel's memory belong together, the channel has no data pages, no call is under way, and nobody else changes the memory
 pub record IsPair (s : TwoEnds) : Type 0 where
   pub alone : (memory_of s).due ≡ []
   pub rest : AtRest (cells_of s) (memory_of s).words s.guest.state s.host.state

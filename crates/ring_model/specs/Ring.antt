@@ -4,6 +4,7 @@ use Rattle.std.specs.List.{All}
 use Rattle.chan_run.specs.Runs.{Turn, IsRun, guest_of, host_of, sent_of, got_of, has_marked, has_seen, is_drained}
 use Rattle.io_edge.specs.declared.side.Side.{Side}
 use Rattle.io_edge.specs.declared.side.Side.TheVariants.{Guest, Host}
+use Rattle.page_kept.specs.Kept.{no_pages}
 use Rattle.ring_machine.specs.declared.machine.Stage.{Stage}
 use Rattle.ring_machine.specs.declared.machine.Stage.TheVariants.{Idle, SendRead, SendCell, SendWrite, TakeFirst, TakeCell, MarkRaise}
 use Rattle.ring_machine.specs.declared.state.EndState.{EndState}
@@ -123,12 +124,13 @@ pub record ChannelOk (n : ℕ) (ws : List ℕ) (guest host : EndState) : Type 0 
   pub guest_turns : guest_of turns ≡ guest.past
   pub host_turns : host_of turns ≡ host.past
 
--- no call is under way, and the end isn't stopped
+-- no call is under way, the end isn't stopped, and its channel has no data pages
 pub record Resting (e : EndState) : Type 0 where
   pub idle : e.machine.stage ≡ Idle
   pub clear : e.copied ≡ []
+  pub bare : e.pages ≡ no_pages
 
--- a channel between the calls of its ends
+-- a channel without data pages, between the calls of its ends
 pub record AtRest (n : ℕ) (ws : List ℕ) (guest host : EndState) : Type 0 where
   pub channel : ChannelOk n ws guest host
   pub guest_rests : Resting guest

@@ -14,15 +14,15 @@ ghost use Rattle.ring_machine.specs.Places.{IsRingSize, peer_of};
 ghost use Rattle.ring_machine.specs.States.{IsPacket, resting};
 ghost use Rattle.ring_machine.specs.Steps.{machine_new};
 ghost use Rattle.ring_core.specs.Seen.{Seen};
-ghost use Rattle.ring_core.specs.Told.{Held, opening};
+ghost use Rattle.ring_core.specs.Told.{Held, opening_with};
 ghost use Rattle.ring_model.specs.Calls.{SendSays, CommitSays, TakeSays, IsAwakeAt, AfterSend, AfterCommit, AfterTake};
 ghost use Rattle.ring_model.specs.Pair.{TwoEnds, IsPair, KeepsPair, Stays, called, cells_of, end_of, handed, memory_of, swapped};
 ghost use Rattle.ring_model.specs.Spelled.{StandsFor};
 
-/// Two new ends whose rings have `d` bytes of data, each over a new memory, are a pair. The guest's end has the channel's memory.
+/// Two new ends whose rings have `d` bytes of data, each over a new memory without data pages, are a pair. The guest's end has the channel's memory.
 pub fn new_ends_are_a_pair()
     ensures { (d : ℕ) (s : TwoEnds) → IsRingSize d → s.guest.state ≡ resting (machine_new Guest (d / 8)) [] [] [] → s.host.state ≡ resting (machine_new Host (d / 8)) [] [] []
-        → s.guest.seat ≡ record { cells = d / 8; memory = record { words = opening (d / 8); steps = 0; due = [] } } → s.at ≡ Guest → IsPair s }
+        → s.guest.seat ≡ record { cells = d / 8; pages = 0; memory = record { words = opening_with (d / 8) 0; steps = 0; due = [] } } → s.at ≡ Guest → IsPair s }
 {}
 
 /// Each ring stands for the packets that its producer sent and its consumer got: its cells spell those that aren't given back yet, and then those

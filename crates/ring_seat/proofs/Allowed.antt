@@ -11,7 +11,7 @@ use Rattle.ring_machine.specs.declared.machine.Machine.{Machine}
 use Rattle.ring_machine.specs.declared.state.EndState.{EndState}
 use Rattle.ring_machine.specs.declared.place.Ring.TheVariants.{ToHost, ToGuest}
 use Rattle.ring_machine.specs.declared.place.Place.{Place}
-use Rattle.ring_machine.specs.declared.place.Place.TheVariants.{Write, Read, Mask, Pending, Feature, Cell, Signal, Mark}
+use Rattle.ring_machine.specs.declared.place.Place.TheVariants.{Write, Read, Mask, Pending, Feature, Cell, Signal, Mark, Page}
 use Rattle.ring_machine.specs.declared.place.Op.{Op}
 use Rattle.ring_machine.specs.declared.place.Op.TheVariants.{Load, Store, Raise, TakeSignal, StoreMark}
 use Rattle.ring_machine.specs.Inside.{IsOpOf, IsInside}
@@ -128,7 +128,7 @@ asks n slots id me u base m q view is go sized op i at h =
         (r.0, r.1, r.2, r.3, (named, r.4))
 
 -- the word of each step is one of the channel's
-place_small : (n : ℕ) (p : Place) → IsPlaceOf n p → index_of n p < words_of n
+place_small : (n : ℕ) (p : Place) → IsPlaceOf n 0 p → index_of n p < words_of n
 place_small n (Write ToHost) h = omega arith
 place_small n (Write ToGuest) h = omega arith
 place_small n (Read ToHost) h = omega arith
@@ -145,8 +145,9 @@ place_small n (Signal Guest) h = omega arith
 place_small n (Signal Host) h = omega arith
 place_small n (Mark Guest) h = omega arith
 place_small n (Mark Host) h = omega arith
+place_small n (Page q w) h = absurd (omega (arith, h.0))
 
-op_small : (n : ℕ) (op : Op) → IsOpOf n op → word_at n op < words_of n
+op_small : (n : ℕ) (op : Op) → IsOpOf n 0 op → word_at n op < words_of n
 op_small n (Load p) h = place_small n p h
 op_small n (Store p v) h = place_small n p h
 op_small n (Raise x) h = place_small n (Signal x) tt
@@ -158,7 +159,7 @@ signal_small n x = place_small n (Signal x) tt
 
 pub word_small : (m : Machine) (q : List ℕ) (op : Op) (i words : ℕ) → IsSound m → next_of m q ≡ Some op → i ≡ word_at m.cells op → words ≡ words_of m.cells → i < words
 word_small m q op i words sound h at all =
-    let small : word_at m.cells op < words_of m.cells = op_small m.cells op (subst (IsInside m.cells) h (inside_at m q sound m.stage refl)) in
+    let small : word_at m.cells op < words_of m.cells = op_small m.cells op (subst (IsInside m.cells 0) h (inside_at m 0 q sound m.stage refl)) in
     omega (arith, at, all)
 
 -- a machine that goes on from a state, or begins a call there, is of the same end

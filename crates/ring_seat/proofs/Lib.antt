@@ -11,3 +11,7 @@ pub mod Allowed
 pub mod Sharing
 pub mod SleepLaws
 pub mod Reading
+pub mod PageStages
+pub mod PageLists
+pub mod PageSteps
+pub mod WholeLaws

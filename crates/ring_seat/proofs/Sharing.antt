@@ -1,6 +1,6 @@
 -- The table at the start, its view cut in two, two views put together, and what the whole view tells.
 use Rattle.std.proofs.Common.{◌≡◌, ◌≢◌, ℕ, true, zero, suc, ◌+◌, ◌<◌, ◌≤◌, ◌⊎◌, List, [], ◌∷◌, ◌++◌, length, get_or, set, replicate, refl, sym, ap, ◌∙◌, subst, arith, inl, inr, ⊎_elim, length-set}
-use Rattle.std.proofs.lemmas.List.{set-get_or, get_or-set_same, get_or-set_other, length-replicate}
+use Rattle.std.proofs.lemmas.List.{append-nil, set-get_or, get_or-set_same, get_or-set_other, length-replicate}
 use mathlib.Core.Option.{some, some-injective, some-ne-none}
 use lib.ListN.{get_elem?}
 use Rattle.atomic_table.specs.Table.{State, Me, keeps, opening, Allows, Splits, Joins}
@@ -11,7 +11,7 @@ use Rattle.ring_core.specs.declared.told.Told.{Told}
 use Rattle.ring_machine.specs.declared.state.EndState.{EndState}
 use Rattle.ring_machine.specs.Places.{signal_of, words_of, peer_of}
 use Rattle.ring_machine.specs.Steps.{machine_new}
-use Rattle.ring_core.specs.Told.{opening as opening_words}
+use Rattle.ring_core.specs.Told.{opening as opening_words, opening_with}
 use Rattle.ring_model.specs.Ring.{ChannelOk}
 use Rattle.ring_model.proofs.Opening.{still, new_channel}
 use Rattle.ring_model.proofs.Settling.{guest_front, host_front, one_run, guest_drained, host_drained}
@@ -98,8 +98,8 @@ module _ (n : ℕ) where
   new_signals Guest = let z = zero_at (n + n + 10) (omega arith) (λ e. omega arith) (λ e. omega arith) (λ e. omega arith) (λ e. omega arith) in omega (arith, z)
   new_signals Host = let z = zero_at (n + n + 11) (omega arith) (λ e. omega arith) (λ e. omega arith) (λ e. omega arith) (λ e. omega arith) in omega (arith, z)
 
-pub opens : (n : ℕ) (words : List ℕ) → 512 ≤ n → n ≤ 8192 → words ≡ opening_words n → Holds n (opening words [] (Both (new_told n Guest) (new_told n Host)))
-opens n words a b is = subst (λ (l : List ℕ). Holds n (opening l [] (Both (new_told n Guest) (new_told n Host)))) (sym is) (record { ends = new_told n; seat = λ x. 0; seats = alone; channel = new_invariant n a b; signals = new_signals n })
+pub opens : (n : ℕ) (words : List ℕ) → 512 ≤ n → n ≤ 8192 → words ≡ opening_with n 0 → Holds n (opening words [] (Both (new_told n Guest) (new_told n Host)))
+opens n words a b is = subst (λ (l : List ℕ). Holds n (opening l [] (Both (new_told n Guest) (new_told n Host)))) (sym (is ∙ append-nil (opening_words n))) (record { ends = new_told n; seat = λ x. 0; seats = alone; channel = new_invariant n a b; signals = new_signals n })
   where
     alone : (id : ℕ) (v : View) → get_elem? (Both (new_told n Guest) (new_told n Host) ∷ []) id ≡ some v → Knows (new_told n) (λ x. 0) id v
     alone zero v e = subst (Knows (new_told n) (λ x. 0) 0) (some-injective _ _ e) (refl, refl, refl, refl)

@@ -4,3 +4,5 @@ pub mod Rule
 pub mod Seats
 pub mod Settling
 pub mod Sleeping
+pub mod PageRule
+pub mod Whole

@@ -52,7 +52,7 @@ fn seats(alloc: Global, cells: u32) -> Result<(TableSeat, TableSeat), AllocError
     ensures guest { IfOk result (λ r. r.0.seat.me.0 ≡ One (new_told cells Guest)) }
     ensures host { IfOk result (λ r. r.1.seat.me.0 ≡ One (new_told cells Host)) }
 {
-    let words = opening_words(alloc, cells)?;
+    let words = opening_words(alloc, cells, 0)?;
     let (table, mut seat) = Table::<(), View, u32, ChannelRule, Global>::of_words(
         alloc,
         words.as_slice(),

@@ -15,6 +15,7 @@ ghost use Rattle.ring_model.specs.Ring.{ring_in};
 ghost use Rattle.ring_model.specs.Spelled.{StandsFor, HasRoom, HasSeen};
 ghost use Rattle.ring_seat.specs.Rule.{ChannelInvariant, with_end};
 ghost use Rattle.ring_seat.specs.Waking.{WakeCause};
+ghost use Rattle.ring_seat.specs.Whole.{StepKeeps, CallKeeps, StoreKeeps, LoadKeeps, NewKeeps, EndTells};
 
 /// Each step that an end makes keeps the rule, from any words and ends that meet it, and where a call begins it holds too. The step uses the end's
 /// own state and the value that it loads.
@@ -69,4 +70,16 @@ pub fn sends_have_room()
 pub fn takes_see_packets()
     ensures guest { (n : ℕ) (ws : List ℕ) (ends : Side → EndState) → ChannelInvariant n ws ends → ((ends Guest).machine.stage ≡ TakeFirst) ⊎ ((ends Guest).machine.stage ≡ TakeCell) → HasSeen n ws ToGuest (ends Host) (ends Guest) }
     ensures host { (n : ℕ) (ws : List ℕ) (ends : Side → EndState) → ChannelInvariant n ws ends → ((ends Host).machine.stage ≡ TakeFirst) ⊎ ((ends Host).machine.stage ≡ TakeCell) → HasSeen n ws ToHost (ends Guest) (ends Host) }
+{}
+
+/// In a channel with data pages both the rule of its rings and the rule of its pages hold at first. Each step of a ring, each call that begins, each store of a
+/// page word by an end that may store it, and each load of a word that is due keeps them. An end with nothing to load got the front of its peer's packets
+/// with their page words, and all of them where it is drained.
+pub fn pages_keep_the_rule()
+    ensures new { NewKeeps }
+    ensures step { StepKeeps }
+    ensures begin { CallKeeps }
+    ensures store { StoreKeeps }
+    ensures load { LoadKeeps }
+    ensures got { EndTells }
 {}

@@ -3,16 +3,18 @@
 ghost use Rattle.std.specs.Prelude.{◌≡◌, ◌<◌, ◌≤◌, false, IsTrue};
 ghost use Rattle.ring_machine.specs.Places.{IsPlaceOf};
 ghost use Rattle.ring_machine.specs.Endings.{IsWant};
+ghost use Rattle.ring_machine.specs.PageCalls.{IsQuiet};
 ghost use Rattle.ring_machine.specs.declared.machine.Stage.TheVariants.{Idle};
 
 use crate::check::check;
 use ring_core::{Armed, Change, End, EndCore, Last, Place, Ring, Side, Signalled, Stage, ToldMem};
+use ring_machine::{Due, PageCall};
 use std::alloc::AllocGlobal;
 use std::process::Abort;
 
 // The guest's end over a told memory of one page whose ring to the host has 4,000 bytes of room for an end that sent nothing, and that a peer changes once.
 fn guest(rt: &(impl Abort + AllocGlobal), step: u64, place: Place, value: u64) -> End<ToldMem>
-    requires { IsPlaceOf 512 place }
+    requires { IsPlaceOf 512 0 place }
     ensures size { result.state.machine.cells ≡ 512 }
     ensures committed { result.state.machine.start ≡ result.state.machine.read }
 {
@@ -20,7 +22,7 @@ fn guest(rt: &(impl Abort + AllocGlobal), step: u64, place: Place, value: u64) -
     changes
         .push(Change { step, place, value })
         .expect(rt, "memory");
-    let mut told = ToldMem::make(rt.alloc(), 4096, changes).expect(rt, "memory");
+    let mut told = ToldMem::make(rt.alloc(), 4096, changes, 0).expect(rt, "memory");
     told.put(Place::Read(Ring::ToHost), 4000);
     End::make(rt.alloc(), Side::Guest, 4096, told).expect(rt, "memory")
 }
@@ -93,7 +95,7 @@ fn is_kept_awake(
     value: u64,
     steps: u64,
 ) -> bool
-    requires { IsPlaceOf 512 place }
+    requires { IsPlaceOf 512 0 place }
 {
     let mut e = guest(rt, step, place, value);
     arms(rt, &mut e, Some(4000), Armed::Work, steps, 0, 1);
@@ -146,10 +148,12 @@ fn feed(core: &mut EndCore, answers: &[u64]) {
 
 // Whether an end of one page can begin a command.
 fn is_idle(core: &EndCore) -> bool
-    ensures { IsTrue result → (core.now.machine.stage ≡ Idle) × (core.now.machine.asleep ≡ false) × (core.now.machine.marked ≡ false) × (core.now.machine.cells ≡ 512) }
+    ensures machine { IsTrue result → (core.now.machine.stage ≡ Idle) × (core.now.machine.asleep ≡ false) × (core.now.machine.marked ≡ false) × (core.now.machine.cells ≡ 512) }
+    ensures pages { IsTrue result → IsQuiet core.now.pages }
 {
     let m = &core.machine;
-    matches!(m.stage, Stage::Idle) && !m.asleep && !m.marked && m.cells == 512
+    let quiet = matches!(core.pages.call, PageCall::Off) && matches!(core.pages.due, Due::Clear);
+    matches!(m.stage, Stage::Idle) && !m.asleep && !m.marked && m.cells == 512 && quiet
 }
 
 // Where the last command ended so, begins a send of a packet of so many words: that leaves it as it is.
@@ -183,7 +187,7 @@ fn goes_on(rt: &impl Abort, core: &mut EndCore, answers: &[u64], last: Last) {
 #[test]
 fn a_refused_send_is_told_till_the_next_command_ends(rt: HostRuntime) {
     let full = Last::Full { free: 8, need: 24 };
-    let mut core = EndCore::make(Side::Guest, 4096);
+    let mut core = EndCore::make(Side::Guest, 4096, 0);
     sends(&rt, &mut core, Last::Fresh, 2);
     feed(&mut core, &[8]);
     takes(&rt, &mut core, full);
@@ -202,7 +206,7 @@ fn a_refused_send_is_told_till_the_next_command_ends(rt: HostRuntime) {
 #[test]
 fn a_taken_packet_is_told_till_the_next_command_ends(rt: HostRuntime) {
     let took = Last::Took { words: 3 };
-    let mut core = EndCore::make(Side::Host, 4096);
+    let mut core = EndCore::make(Side::Host, 4096, 0);
     takes(&rt, &mut core, Last::Fresh);
     feed(&mut core, &[96, 0x0000_0003_0002_0006, 1, 2]);
     commits(&rt, &mut core, took);

@@ -12,7 +12,7 @@ use std::process::Abort;
 fn end(rt: &(impl Abort + AllocGlobal), side: Side) -> End<SoloMem>
     ensures { result.state ≡ resting (machine_new side 512) [] [] [] }
 {
-    let solo = SoloMem::make(rt.alloc(), 4096).expect(rt, "memory");
+    let solo = SoloMem::make(rt.alloc(), 4096, 0).expect(rt, "memory");
     End::make(rt.alloc(), side, 4096, solo).expect(rt, "memory")
 }
 

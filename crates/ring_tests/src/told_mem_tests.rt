@@ -72,21 +72,21 @@ fn commits<S: Seatlike>(e: &mut End<S>, want: Signalled) -> bool {
 
 // A told memory of one page that a peer changes once.
 fn changed_once(rt: &(impl Abort + AllocGlobal), step: u64, place: Place, value: u64) -> ToldMem
-    requires { IsPlaceOf 512 place }
+    requires { IsPlaceOf 512 0 place }
     ensures { result.cells ≡ 512 }
 {
     let mut changes = Vec::new(rt.alloc());
     changes
         .push(Change { step, place, value })
         .expect(rt, "memory");
-    ToldMem::make(rt.alloc(), 4096, changes).expect(rt, "memory")
+    ToldMem::make(rt.alloc(), 4096, changes, 0).expect(rt, "memory")
 }
 
 // A told memory of one page that no peer changes.
 fn unchanged(rt: &(impl Abort + AllocGlobal)) -> ToldMem
     ensures { result.cells ≡ 512 }
 {
-    ToldMem::make(rt.alloc(), 4096, Vec::new(rt.alloc())).expect(rt, "memory")
+    ToldMem::make(rt.alloc(), 4096, Vec::new(rt.alloc()), 0).expect(rt, "memory")
 }
 
 // The guest's end over a told memory, with room for 8 packets of 1,024 words.

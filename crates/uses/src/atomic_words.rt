@@ -23,7 +23,7 @@ impl AtomicWords {
         ensures guest { IfOk result (λ r. words_of (d / 8) ≤ length (arc_value r.0.words).items) }
         ensures host { IfOk result (λ r. words_of (d / 8) ≤ length (arc_value r.1.words).items) }
     {
-        let opening = opening_words(alloc, d / 8)?;
+        let opening = opening_words(alloc, d / 8, 0)?;
         let mut words = Vec::new(alloc);
         for word in opening.iter() {
             words.push(AtomicU64::new(*word))?;

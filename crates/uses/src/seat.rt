@@ -31,7 +31,7 @@ impl<W: Words> SharedSeat<W> {
 
     // Makes one step.
     fn make(&mut self, op: Op) -> u64
-        requires { IsOpOf self.old.cells op }
+        requires { IsOpOf self.old.cells 0 op }
         ensures made { MadeStep W.loads W.stores W.swaps self.old.cells op result self.old.words self.new.words }
         ensures cells { self.new.cells ≡ self.old.cells }
     {

@@ -5,7 +5,7 @@ use Rattle.ring_machine.specs.declared.machine.Machine.{Machine}
 use Rattle.ring_machine.specs.declared.place.Ring.{Ring}
 use Rattle.ring_machine.specs.declared.place.Ring.TheVariants.{ToHost, ToGuest}
 use Rattle.ring_machine.specs.declared.place.Place.{Place}
-use Rattle.ring_machine.specs.declared.place.Place.TheVariants.{Write, Read, Mask, Pending, Feature, Cell, Signal, Mark}
+use Rattle.ring_machine.specs.declared.place.Place.TheVariants.{Write, Read, Mask, Pending, Feature, Cell, Signal, Mark, Page}
 use Rattle.ring_machine.specs.declared.place.Op.{Op}
 use Rattle.ring_machine.specs.declared.place.Op.TheVariants.{Load, Store, Raise, TakeSignal, StoreMark}
 use Rattle.vmbus_ends_c.specs.declared.end.VmbusEnd.{VmbusEnd}
@@ -29,6 +29,7 @@ step_at op (Feature r) v = record { op = op; place = 5; which = number_of_ring r
 step_at op (Cell r at) v = record { op = op; place = 6; which = number_of_ring r; at = at; value = v }
 step_at op (Signal x) v = record { op = op; place = 7; which = number_of_side x; at = 0; value = v }
 step_at op (Mark x) v = record { op = op; place = 8; which = number_of_side x; at = 0; value = v }
+step_at op (Page q w) v = record { op = op; place = 9; which = q; at = w; value = v }
 
 abbrev pub step_of : Op → VmbusStep
 step_of (Load p) = step_at 1 p 0

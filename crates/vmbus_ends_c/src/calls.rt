@@ -29,7 +29,7 @@ pub extern "C" fn vmbus_end_make(host: u32, d: u32) -> VmbusEnd
     requires { IsRingSize d }
     ensures { (host ≡ 0 → machine_of result ≡ machine_new GuestSide (d / 8)) × (host ≡ 1 → machine_of result ≡ machine_new HostSide (d / 8)) }
 {
-    numbers(&EndCore::make(side(host), d))
+    numbers(&EndCore::make(side(host), d, 0))
 }
 
 /// Begins a send of a packet of so many words. False where the end is stopped, asleep, marked or inside a call, or the packet has less than two words or doesn't fit.

@@ -1,14 +1,16 @@
 //! The machine of an end, and its numbers.
 ghost use Rattle.std.specs.Prelude.{◌≡◌};
+ghost use Rattle.ring_machine.specs.PageCalls.{core_pages};
 ghost use Rattle.vmbus_ends_c.specs.Ends.{machine_of};
 
 use crate::end::VmbusEnd;
 use crate::numbers::{ending, ending_number, side, side_number, stage, stage_number};
-use ring_machine::{EndCore, Machine};
+use ring_machine::{EndCore, Machine, PageCore};
 
 // The machine with these numbers.
 pub(crate) fn core(end: &VmbusEnd) -> EndCore
-    ensures { result.machine ≡ machine_of end.now }
+    ensures machine { result.machine ≡ machine_of end.now }
+    ensures pages { result.pages ≡ core_pages 0 }
 {
     EndCore {
         machine: Machine {
@@ -34,6 +36,7 @@ pub(crate) fn core(end: &VmbusEnd) -> EndCore
             drained: end.drained,
             saw: end.saw,
         },
+        pages: PageCore::new(0),
     }
 }
 

@@ -11,11 +11,11 @@ use ring_machine::{Op, Place, Ring};
 pub struct VmbusStep {
     /// 1 loads a word, 2 stores one, 3 raises a signal (stores 1 there), 4 takes one (exchanges it with 0), 5 stores a mark (1).
     pub op: u32,
-    /// 1 write, 2 read, 3 mask, 4 pending, 5 feature, 6 a cell, 7 a signal, 8 a mark.
+    /// 1 write, 2 read, 3 mask, 4 pending, 5 feature, 6 a cell, 7 a signal, 8 a mark, 9 a word of a data page, which no end of this library has.
     pub place: u32,
-    /// Of a ring: 0 is the one that the host empties, 1 the guest's. Of a signal or a mark: 0 is the guest's, 1 the host's.
+    /// Of a ring: 0 is the one that the host empties, 1 the guest's. Of a signal or a mark: 0 is the guest's, 1 the host's. Of a page its number.
     pub which: u32,
-    /// The offset of a cell in bytes.
+    /// The offset of a cell in bytes, or which word of a page.
     pub at: u32,
     /// What is stored.
     pub value: u64,
@@ -43,6 +43,7 @@ fn step_at(op: u32, place: Place, value: u64) -> VmbusStep
         Place::Cell(ring, at) => (6, ring_number(ring), at),
         Place::Signal(side) => (7, side_number(side), 0),
         Place::Mark(side) => (8, side_number(side), 0),
+        Place::Page(page, word) => (9, page, word),
     };
     VmbusStep {
         op,

@@ -1,6 +1,6 @@
 use Rattle.std.proofs.Common.{◌∙◌, refl, sym, ap}
 use Rattle.ring_machine.specs.declared.machine.Machine.{Machine}
-use Rattle.ring_core.proofs.Driving.{going_first, going_on, going_asks, going_calls, going_leaves, going_took, going_ran, going_honest, asking_busy, storing_busy, seeking_busy, first_busy, loading_busy}
+use Rattle.ring_core.proofs.Driving.{going_first, going_on, going_asks, going_calls, going_leaves, going_took, going_bare, going_honest, asking_busy, storing_busy, seeking_busy, first_busy, loading_busy}
 use Rattle.ring_machine.proofs.Sound.{fed_nearer}
 use Rattle.ring_machine.proofs.Tables.{fed_cells}
 use Rattle.ring_driver.proofs.Calls.{kept_on}
@@ -10,12 +10,13 @@ pub loop-parts-init : goal.loop-parts-init
 loop-parts-init g c =
     let a = c.args.parts.now in
     record {
-      going = going_first _ _ a.core.machine c.args.packet.now a.buf.items _ _ _ a.wide a.core.sound c.requires.starts c.requires.goes_on;
+      going = going_first _ _ a.core.machine c.args.packet.now a.buf.items _ _ _ _ a.wide a.core.sound c.requires.starts c.requires.goes_on;
       cells = c.requires.fits;
       size = refl;
       core = refl;
       same = g.met.S.Seatlike.same_refl _;
       past = refl;
+      pages = a.bare;
       kept = λ n. refl;
     }
 
@@ -27,6 +28,7 @@ loop-parts-preserved g c = record {
   core = c.loop-parts.invariant.core;
   same = g.met.S.Seatlike.same_trans _ _ _ c.loop-parts.invariant.same c.step.ensures.same;
   past = c.loop-parts.invariant.past;
+  pages = c.step.ensures.pages ∙ c.loop-parts.invariant.pages;
   kept = λ n. kept_on c.loop-parts.core.machine.stage _ c.loop-parts.parts.buf.items _ _ c.loop-parts.core.machine.done c.step.result (c.loop-parts.invariant.going.lists.busy (asking_busy _ (sym c.is_asking.ensures ∙ c.loop-parts-test.true))).0 n (c.loop-parts.invariant.kept n) c.step.ensures.stored;
 }
 
@@ -47,6 +49,7 @@ loop-parts-2-preserved g c = record {
   core = c.loop-parts-2.invariant.core;
   same = g.met.S.Seatlike.same_trans _ _ _ c.loop-parts-2.invariant.same c.step-in-loop-parts-2.ensures.same;
   past = c.loop-parts-2.invariant.past;
+  pages = c.step-in-loop-parts-2.ensures.pages ∙ c.loop-parts-2.invariant.pages;
   kept = λ n. kept_on c.loop-parts-2.core.machine.stage _ c.loop-parts-2.parts.buf.items _ _ c.loop-parts-2.core.machine.done c.step-in-loop-parts-2.result (c.loop-parts-2.invariant.going.lists.busy (storing_busy _ (sym c.is_storing.ensures ∙ c.loop-parts-2-test.true))).0 n (c.loop-parts-2.invariant.kept n) c.step-in-loop-parts-2.ensures.stored;
 }
 
@@ -67,6 +70,7 @@ loop-parts-3-preserved g c = record {
   core = c.loop-parts-3.invariant.core;
   same = g.met.S.Seatlike.same_trans _ _ _ c.loop-parts-3.invariant.same c.step-in-loop-parts-3.ensures.same;
   past = c.loop-parts-3.invariant.past;
+  pages = c.step-in-loop-parts-3.ensures.pages ∙ c.loop-parts-3.invariant.pages;
   kept = λ n. kept_on c.loop-parts-3.core.machine.stage _ c.loop-parts-3.parts.buf.items _ _ c.loop-parts-3.core.machine.done c.step-in-loop-parts-3.result (c.loop-parts-3.invariant.going.lists.busy (seeking_busy _ (sym c.is_seeking.ensures ∙ c.loop-parts-3-test.true))).0 n (c.loop-parts-3.invariant.kept n) c.step-in-loop-parts-3.ensures.stored;
 }
 
@@ -87,6 +91,7 @@ loop-parts-4-preserved g c = record {
   core = c.loop-parts-4.invariant.core;
   same = g.met.S.Seatlike.same_trans _ _ _ c.loop-parts-4.invariant.same c.step-in-loop-parts-4.ensures.same;
   past = c.loop-parts-4.invariant.past;
+  pages = c.step-in-loop-parts-4.ensures.pages ∙ c.loop-parts-4.invariant.pages;
   kept = λ n. kept_on c.loop-parts-4.core.machine.stage _ c.loop-parts-4.parts.buf.items _ _ c.loop-parts-4.core.machine.done c.step-in-loop-parts-4.result (c.loop-parts-4.invariant.going.lists.busy (first_busy _ (sym c.is_first.ensures ∙ c.loop-parts-4-test.true))).0 n (c.loop-parts-4.invariant.kept n) c.step-in-loop-parts-4.ensures.stored;
 }
 
@@ -107,6 +112,7 @@ loop-parts-5-preserved g c = record {
   core = c.loop-parts-5.invariant.core;
   same = g.met.S.Seatlike.same_trans _ _ _ c.loop-parts-5.invariant.same c.step-in-loop-parts-5.ensures.same;
   past = c.loop-parts-5.invariant.past;
+  pages = c.step-in-loop-parts-5.ensures.pages ∙ c.loop-parts-5.invariant.pages;
   kept = λ n. kept_on c.loop-parts-5.core.machine.stage _ c.loop-parts-5.parts.buf.items _ _ c.loop-parts-5.core.machine.done c.step-in-loop-parts-5.result (c.loop-parts-5.invariant.going.lists.busy (loading_busy _ (sym c.is_loading.ensures ∙ c.loop-parts-5-test.true))).0 n (c.loop-parts-5.invariant.kept n) c.step-in-loop-parts-5.ensures.stored;
 }
 
@@ -125,6 +131,7 @@ loop-parts-6-init g c = record {
   cells = c.loop-parts-5.invariant.cells;
   same = c.loop-parts-5.invariant.same;
   past = c.loop-parts-5.invariant.past;
+  pages = c.loop-parts-5.invariant.pages;
   kept = c.loop-parts-5.invariant.kept;
 }
 
@@ -134,6 +141,7 @@ loop-parts-6-preserved g c = record {
   cells = c.step-in-loop-parts-6.ensures.cells ∙ (c.loop-parts-6.invariant.cells ∙ (sym (fed_cells c.loop-parts-6.parts.core.machine c.step-in-loop-parts-6.result c.loop-parts-6.parts.core.machine.stage) ∙ sym (ap (λ (k : Machine). k.cells) c.step-in-loop-parts-6.ensures.fed)));
   same = g.met.S.Seatlike.same_trans _ _ _ c.loop-parts-6.invariant.same c.step-in-loop-parts-6.ensures.same;
   past = c.loop-parts-6.invariant.past;
+  pages = c.step-in-loop-parts-6.ensures.pages ∙ c.loop-parts-6.invariant.pages;
   kept = λ n. kept_on c.loop-parts-6.parts.core.machine.stage _ c.loop-parts-6.parts.buf.items _ _ c.loop-parts-6.parts.core.machine.done c.step-in-loop-parts-6.result (c.loop-parts-6.invariant.going.lists.busy (sym c.is_busy.ensures ∙ c.loop-parts-6-test.true)).0 n (c.loop-parts-6.invariant.kept n) c.step-in-loop-parts-6.ensures.stored;
 }
 
@@ -159,7 +167,7 @@ pub returns-clause-took : goal.returns-clause-took
 returns-clause-took g c = going_took _ _ _ _ _ _ _ _ c.loop-parts-6.invariant.going c.loop-parts-6.parts.core.sound (sym c.is_busy.ensures ∙ c.loop-parts-6-test.false)
 
 pub returns-clause-left : goal.returns-clause-left
-returns-clause-left g c = going_ran _ _ _ _ _ _ _ _ c.loop-parts-6.invariant.going c.loop-parts-6.parts.core.sound (sym c.is_busy.ensures ∙ c.loop-parts-6-test.false)
+returns-clause-left g c = going_bare _ _ _ _ _ _ _ _ c.loop-parts-6.invariant.going c.loop-parts-6.parts.core.sound (sym c.is_busy.ensures ∙ c.loop-parts-6-test.false) refl
 
 pub returns-clause-honest : goal.returns-clause-honest
 returns-clause-honest g c = going_honest _ _ _ _ _ _ _ _ c.loop-parts-6.invariant.going (sym c.is_busy.ensures ∙ c.loop-parts-6-test.false)
@@ -167,4 +175,5 @@ returns-clause-honest g c = going_honest _ _ _ _ _ _ _ _ c.loop-parts-6.invarian
 pub invariant_of-parts-in-loop-parts-6 : goal.invariant_of-parts-in-loop-parts-6
 invariant_of-parts-in-loop-parts-6 g c = record {
   wide = c.step-in-loop-parts-6.ensures.len ∙ (c.loop-parts-6.invariant.going.wide ∙ (sym (fed_cells c.loop-parts-6.parts.core.machine c.step-in-loop-parts-6.result c.loop-parts-6.parts.core.machine.stage) ∙ sym (ap (λ (k : Machine). k.cells) c.step-in-loop-parts-6.ensures.fed)));
+  bare = c.step-in-loop-parts-6.ensures.pages ∙ c.loop-parts-6.invariant.pages;
 }

@@ -1,5 +1,7 @@
 use Rattle.std.proofs.Common.{◌≡◌, List, ℕ}
 use Rattle.chan_run.specs.Runs.{sent_of, got_of}
+use Rattle.page_kept.specs.Kept.{no_pages}
+use Rattle.ring_machine.specs.PageCalls.{core_pages}
 use Rattle.ring_machine.specs.States.{shown}
 use Rattle.ring_machine.specs.Steps.{call_at, steps_left}
 use Rattle.ring_driver.specs.declared.parts.Parts.{Parts}
@@ -11,10 +13,11 @@ use Rattle.ring_driver.proofs.parts.drive.Given as goal
 abbrev pub IsOn : (g : goal.Over) → Parts g.row.S.Denot → List ℕ → Parts g.row.S.Denot → EndCore → Type 0
 IsOn g from p parts core =
     record {
-      going : Going (shown from.core.machine p from.buf.items (sent_of from.past.events) (got_of from.past.events) from.past.events)
+      going : Going (shown from.core.machine p from.buf.items (sent_of from.past.events) (got_of from.past.events) from.past.events no_pages)
           (g.S.Seatlike.told from.seat) (g.S.Seatlike.told parts.seat) (g.S.Seatlike.memory from.seat) (g.S.Seatlike.memory parts.seat) core.machine p parts.buf.items;
       cells : g.S.Seatlike.cells parts.seat ≡ core.machine.cells;
       size : core.machine.cells ≡ from.core.machine.cells;
+      pages : core.pages ≡ core_pages 0;
       core : parts.core ≡ from.core;
       same : g.S.Seatlike.same from.seat parts.seat;
       past : parts.past ≡ from.past;
@@ -25,11 +28,12 @@ IsOn g from p parts core =
 abbrev pub GoesOn : (g : goal.Over) → Parts g.row.S.Denot → List ℕ → Parts g.row.S.Denot → Type 0
 GoesOn g from p parts =
     record {
-      going : Going (shown from.core.machine p from.buf.items (sent_of from.past.events) (got_of from.past.events) from.past.events)
+      going : Going (shown from.core.machine p from.buf.items (sent_of from.past.events) (got_of from.past.events) from.past.events no_pages)
           (g.S.Seatlike.told from.seat) (g.S.Seatlike.told parts.seat) (g.S.Seatlike.memory from.seat) (g.S.Seatlike.memory parts.seat) parts.core.machine p parts.buf.items;
       cells : g.S.Seatlike.cells parts.seat ≡ parts.core.machine.cells;
       same : g.S.Seatlike.same from.seat parts.seat;
       past : parts.past ≡ from.past;
+      pages : parts.core.pages ≡ core_pages 0;
       kept : (call_at from.core.machine.stage ≡ 2 → ⊥) → parts.buf.items ≡ from.buf.items;
     }
 

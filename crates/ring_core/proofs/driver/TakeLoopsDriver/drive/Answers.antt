@@ -1,16 +1,19 @@
 use Rattle.std.proofs.Common.{◌∙◌, refl, sym, ap}
 use Rattle.ring_machine.specs.declared.machine.Machine.{Machine}
-use Rattle.ring_core.proofs.Driving.{going_first, going_on, going_asks, going_calls, going_leaves, going_took, going_ran, going_honest, seeking_busy, first_busy, loading_busy}
+use Rattle.ring_core.proofs.Driving.{going_first, going_on, going_asks, going_calls, going_leaves, going_took, going_bare, going_honest, seeking_busy, first_busy, loading_busy}
 use Rattle.ring_machine.proofs.Kept.{take_kept, take_kept_on, seeking_keeps, first_keeps, loading_keeps}
 use Rattle.ring_machine.proofs.Sound.{fed_nearer}
 use Rattle.ring_machine.proofs.Tables.{fed_cells}
+use Rattle.ring_machine.specs.declared.end_core.EndCore.{EndCore}
+use Rattle.ring_machine.specs.declared.page_core.PageCore.{PageCore}
+use Rattle.ring_machine.specs.PageCalls.{is_paging}
 use Rattle.ring_core.proofs.driver.TakeLoopsDriver.drive.Goals as goal
 
 pub loop-parts-init : goal.loop-parts-init
 loop-parts-init g c =
     let a = c.args.parts.now in
     record {
-      going = going_first _ _ a.core.machine c.args.packet.now a.buf.items _ _ _ a.wide a.core.sound c.requires.starts c.requires.goes_on;
+      going = going_first _ _ a.core.machine c.args.packet.now a.buf.items _ _ _ _ a.wide a.core.sound c.requires.starts c.requires.goes_on;
       cells = c.requires.fits;
       core = refl;
       keeps = take_kept _;
@@ -83,20 +86,24 @@ step-requires-in-loop-parts-3-clause-goes_on g c = going_asks _ _ _ _ _ _ _ _ c.
 pub step-requires-in-loop-parts-3-clause-busy : goal.step-requires-in-loop-parts-3-clause-busy
 step-requires-in-loop-parts-3-clause-busy g c = loading_busy _ (sym c.is_loading.ensures ∙ c.loop-parts-3-test.true)
 
-pub take_back-requires : goal.take_back-requires
-take_back-requires g c = c.loop-parts-3.invariant.keeps
+pub take_back-requires-clause-call : goal.take_back-requires-clause-call
+take_back-requires-clause-call g c = ap (λ (k : EndCore). is_paging k.pages.call) c.loop-parts-3.invariant.core ∙ ap (λ (k : PageCore). is_paging k.call) c.args.parts.now.bare
+
+pub take_back-requires-clause-keeps : goal.take_back-requires-clause-keeps
+take_back-requires-clause-keeps g c = c.loop-parts-3.invariant.keeps
 
 pub invariant_of-parts-2 : goal.invariant_of-parts-2
-invariant_of-parts-2 g c = record { wide = c.loop-parts-3.invariant.going.wide ∙ sym (ap (λ (k : Machine). k.cells) c.take_back.ensures) }
+invariant_of-parts-2 g c = record { wide = c.loop-parts-3.invariant.going.wide ∙ sym (ap (λ (k : Machine). k.cells) c.take_back.ensures.machine); bare = c.take_back.ensures.pages ∙ (ap (λ (k : EndCore). k.pages) c.loop-parts-3.invariant.core ∙ c.args.parts.now.bare) }
 
 pub loop-parts-4-init : goal.loop-parts-4-init
 loop-parts-4-init g c = record {
-  going = rw c.take_back.ensures c.loop-parts-3.invariant.going;
-  cells = c.loop-parts-3.invariant.cells ∙ sym (ap (λ (k : Machine). k.cells) c.take_back.ensures);
+  going = rw c.take_back.ensures.machine c.loop-parts-3.invariant.going;
+  cells = c.loop-parts-3.invariant.cells ∙ sym (ap (λ (k : Machine). k.cells) c.take_back.ensures.machine);
   same = c.loop-parts-3.invariant.same;
   sent = c.loop-parts-3.invariant.sent;
   got = c.loop-parts-3.invariant.got;
   past = c.loop-parts-3.invariant.past;
+  pages = c.take_back.ensures.pages ∙ ap (λ (k : EndCore). k.pages) c.loop-parts-3.invariant.core;
 }
 
 pub loop-parts-4-preserved : goal.loop-parts-4-preserved
@@ -107,6 +114,7 @@ loop-parts-4-preserved g c = record {
   sent = c.loop-parts-4.invariant.sent;
   got = c.loop-parts-4.invariant.got;
   past = c.loop-parts-4.invariant.past;
+  pages = c.step_apart.ensures.pages ∙ c.loop-parts-4.invariant.pages;
 }
 
 pub loop-parts-4-smaller : goal.loop-parts-4-smaller
@@ -124,6 +132,7 @@ step_apart-requires-clause-fits g c = c.loop-parts-4.invariant.cells
 pub invariant_of-parts-in-loop-parts-4 : goal.invariant_of-parts-in-loop-parts-4
 invariant_of-parts-in-loop-parts-4 g c = record {
   wide = c.step_apart.ensures.len ∙ (c.loop-parts-4.invariant.going.wide ∙ (sym (fed_cells c.loop-parts-4.parts.core.machine c.step_apart.result c.loop-parts-4.parts.core.machine.stage) ∙ sym (ap (λ (k : Machine). k.cells) c.step_apart.ensures.fed)));
+  bare = c.step_apart.ensures.pages ∙ (c.loop-parts-4.invariant.pages ∙ c.args.parts.now.bare);
 }
 
 pub returns-clause-call : goal.returns-clause-call
@@ -136,7 +145,10 @@ pub returns-clause-took : goal.returns-clause-took
 returns-clause-took g c = going_took _ _ _ _ _ _ _ _ c.loop-parts-4.invariant.going c.loop-parts-4.parts.core.sound (sym c.is_busy.ensures ∙ c.loop-parts-4-test.false)
 
 pub returns-clause-left : goal.returns-clause-left
-returns-clause-left g c = going_ran _ _ _ _ _ _ _ _ c.loop-parts-4.invariant.going c.loop-parts-4.parts.core.sound (sym c.is_busy.ensures ∙ c.loop-parts-4-test.false)
+returns-clause-left g c = going_bare _ _ _ _ _ _ _ _ c.loop-parts-4.invariant.going c.loop-parts-4.parts.core.sound (sym c.is_busy.ensures ∙ c.loop-parts-4-test.false) refl
 
 pub returns-clause-honest : goal.returns-clause-honest
 returns-clause-honest g c = going_honest _ _ _ _ _ _ _ _ c.loop-parts-4.invariant.going (sym c.is_busy.ensures ∙ c.loop-parts-4-test.false)
+
+pub returns-clause-pages : goal.returns-clause-pages
+returns-clause-pages g c = c.loop-parts-4.invariant.pages

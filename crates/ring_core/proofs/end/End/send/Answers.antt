@@ -7,4 +7,4 @@ use Rattle.ring_core.proofs.end.End.send.Goals as goal
 pub returns-clause-len : goal.returns-clause-len
 returns-clause-len g c _ =
     ap (λ (e : EndState). e.machine.len) c.make_call.ensures.left.ran.state
-    ∙ (send_len _ c.make_call.ensures.left.ran.values (ap (λ (m : Machine). m.stage) c.begin_send.ensures) ∙ ap (λ (m : Machine). m.len) c.begin_send.ensures)
+    ∙ (send_len _ c.make_call.ensures.left.ran.values (ap (λ (m : Machine). m.stage) c.begin_send.ensures.machine) ∙ ap (λ (m : Machine). m.len) c.begin_send.ensures.machine)

@@ -8,6 +8,6 @@ use Rattle.uses.proofs.seat.SharedSeatSeatlike.perform.Goals as goal
 pub make-requires : goal.make-requires
 make-requires g c =
     let m = c.args.core.now.machine in
-    let named = sym c.next.ensures ∙ c.in-Some.is in
-    subst (λ (n : ℕ). IsOpOf n c.in-Some.op) c.requires.fits
-    (subst (λ (o : Option OneOp). IsInside m.cells o) named (inside_at m c.args.packet.now c.args.core.now.sound m.stage refl))
+    let named = sym (c.next.ensures.rings c.requires.busy) ∙ c.in-Some.is in
+    subst (λ (n : ℕ). IsOpOf n 0 c.in-Some.op) c.requires.fits
+    (subst (λ (o : Option OneOp). IsInside m.cells 0 o) named (inside_at m 0 c.args.packet.now c.args.core.now.sound m.stage refl))
