@@ -7,3 +7,4 @@ pub mod Devices
 pub mod Dealt
 pub mod Listed
 pub mod Telling
+pub mod Turning

@@ -16,8 +16,10 @@ use Rattle.script_phases.specs.Openings.{Phase}
 use Rattle.bus_script.specs.declared.outcome.LineResult.{LineResult}
 use Rattle.bus_model.specs.Run.{Carried, AskedOf, known_or, ended_as, source_of, sources_from, outcome_at, outcomes_in, nth_of, told_by}
 use Rattle.bus_plan.specs.Endings.{AreEnded, outcome_left}
-use Rattle.bus_plan.specs.Outcomes.{AreTold, AreCounted, CountsOn, HasOutcome, HasOutcomes, Tells, left_or}
+use Rattle.bus_plan.specs.Outcomes.{AreTold, AreLeft, HasNext, HasOutcomes, MovesOn, TakesOne, Tells}
 use Rattle.bus_plan.specs.declared.ending.Ending.{Ending}
+use Rattle.bus_plan.specs.declared.ending.Ending.TheVariants.{Rescinded, Closed}
+use Rattle.bus_script.specs.declared.outcome.LineResult.TheVariants.{Gone as LineGone, Closed as LineClosed}
 use Rattle.bus_plan.specs.Heard.{AllBelow}
 use Rattle.bus_plan.proofs.Hearing.{told_taken, told_cut, below_at}
 
@@ -37,50 +39,73 @@ pub tells_one : (o : Option LineResult) (r : LineResult) (old new : List LineRes
 tells_one o r old new is grown = record { told = r ∷ []; more = grown; each = ap (λ x. x ∷ []) (sym is) }
 
 -- the outcome of a request
-pub told_asked : (p : Phase) (channels : List Carried) (before : List Line) (ended : List (Option Ending)) (outcomes : List (List (List LineResult))) (counts : List ℕ) (what : What) (device : ℕ) (ask : Ask) (o : Option Ending) (n : ℕ) (r : LineResult)
-    (old new : List LineResult) → said what ≡ Some (device, Asks ask) → source_of p before what ≡ known_or (ended_as device p.earlier) (AskedOf device (length (asks_of device before))) ∷ []
-    → AreEnded p.earlier ended → AreTold p channels (length ended) outcomes → AreCounted before counts → device < length ended → device < length counts → o ≡ slice_index_or ended device None → n ≡ slice_index_or counts device 0
-    → left_or (outcome_left o) (nth_of (slice_index_or outcomes device []) n) ≡ Some r → new ≡ old ++ r ∷ [] → Tells (map (outcome_at p channels) (source_of p before what)) old new
-told_asked p channels before ended outcomes counts what device ask o n r old new says source are told counted less within ending number is grown =
+pub told_asked : (p : Phase) (channels : List Carried) (before : List Line) (ended : List (Option Ending)) (outcomes outcomes' : List (List (List LineResult))) (what : What) (device : ℕ) (o : Option Ending) (r : LineResult) (old new : List LineResult)
+    → source_of p before what ≡ known_or (ended_as device p.earlier) (AskedOf device (length (asks_of device before))) ∷ []
+    → AreEnded p.earlier ended → AreLeft p channels ended before outcomes → device < length ended → o ≡ slice_index_or ended device None → TakesOne (outcome_left o) device outcomes r outcomes' → new ≡ old ++ r ∷ []
+    → Tells (map (outcome_at p channels) (source_of p before what)) old new
+told_asked p channels before ended outcomes outcomes' what device o r old new source are left less ending takes grown =
     let here : outcome_left o ≡ ended_as device p.earlier = ap outcome_left ending ∙ are device less in
-    let count : n ≡ length (asks_of device before) = number ∙ counted device within in
-    let known : (e : Option LineResult) → outcome_at p channels (known_or e (AskedOf device (length (asks_of device before)))) ≡ left_or e (nth_of (told_by p channels device) (length (asks_of device before))) = by_known in
     let value : outcome_at p channels (known_or (ended_as device p.earlier) (AskedOf device (length (asks_of device before)))) ≡ Some r =
-    known (ended_as device p.earlier)
-    ∙ (ap (λ e. left_or e (nth_of (told_by p channels device) (length (asks_of device before)))) (sym here)
-    ∙ (ap (λ k. left_or (outcome_left o) (nth_of (told_by p channels device) k)) (sym count)
-    ∙ (ap (λ l. left_or (outcome_left o) (nth_of l n)) (sym (told device less)) ∙ is))) in
+    subst (λ e. outcome_at p channels (known_or e (AskedOf device (length (asks_of device before)))) ≡ Some r) here (by_ending o ending takes) in
     subst (λ l. Tells (map (outcome_at p channels) l) old new) (sym source) (tells_one _ r old new value grown)
   where
-    by_known : (e : Option LineResult) → outcome_at p channels (known_or e (AskedOf device (length (asks_of device before)))) ≡ left_or e (nth_of (told_by p channels device) (length (asks_of device before)))
-    by_known None = refl
-    by_known (Some x) = refl
+    by_ending : (o : Option Ending) → o ≡ slice_index_or ended device None → TakesOne (outcome_left o) device outcomes r outcomes' → outcome_at p channels (known_or (outcome_left o) (AskedOf device (length (asks_of device before)))) ≡ Some r
+    by_ending None none takes =
+        let now : length (asks_of device before) + 0 ≡ length (asks_of device before) = omega arith in
+        sym (left device less (sym none) 0 ∙ ap (nth_of (told_by p channels device)) now) ∙ takes.2.first
+    by_ending (Some Rescinded) is takes = ap (λ x. Some x) (sym takes.0)
+    by_ending (Some Closed) is takes = ap (λ x. Some x) (sym takes.0)
 
--- how many requests stand before
+-- what is left behind a line
 
 asked_one : (b : Bool) (ask : Ask) → length (flat_map asked (cond b (Asks ask ∷ []) [])) ≡ cond b 1 0
 asked_one true ask = refl
 asked_one false ask = refl
 
-pub counts_one : (what : What) (counts : List ℕ) (device : ℕ) (ask : Ask) (n : ℕ) → said what ≡ Some (device, Asks ask) → device < length counts → n ≡ slice_index_or counts device 0 + 1 → CountsOn what counts (slice_set counts device n)
-counts_one what counts device ask n says within is = record {
-  count = length-set counts device n;
-  each = λ k less.
-      let heard : length (flat_map asked (heard_by k (said what))) ≡ cond (device == k) 1 0 = ap (λ o. length (flat_map asked (heard_by k o))) says ∙ asked_one (device == k) ask in
-      elim (cases_eq k device) [
+heard_asks : (what : What) (device : ℕ) (ask : Ask) (k : ℕ) → said what ≡ Some (device, Asks ask) → length (flat_map asked (heard_by k (said what))) ≡ cond (device == k) 1 0
+heard_asks what device ask k says = ap (λ o. length (flat_map asked (heard_by k o))) says ∙ asked_one (device == k) ask
+
+pub moves_one : (what : What) (ended : List (Option Ending)) (outcomes outcomes' : List (List (List LineResult))) (device : ℕ) (ask : Ask) (o : Option Ending) (r : LineResult) → said what ≡ Some (device, Asks ask) → device < length outcomes → o ≡ slice_index_or ended device None
+    → TakesOne (outcome_left o) device outcomes r outcomes' → MovesOn what ended outcomes outcomes'
+moves_one what ended outcomes outcomes' device ask o r says within ending takes = by_ending o ending takes
+  where
+    stays : (k n : ℕ) → (k ≡ device → ⊥) → nth_of (slice_index_or outcomes k []) n ≡ nth_of (slice_index_or outcomes k []) (length (flat_map asked (heard_by k (said what))) + n)
+    stays k n ne =
+        let other : (device == k) ≡ false = grind (arith, nat_tests) in
+        let none : length (flat_map asked (heard_by k (said what))) ≡ 0 = heard_asks what device ask k says ∙ ap (λ b. cond b 1 0) other in
+        let same : n ≡ length (flat_map asked (heard_by k (said what))) + n = omega (arith, none) in
+        ap (nth_of (slice_index_or outcomes k [])) same
+
+    unknown : (e : Ending) (k : ℕ) → Some e ≡ slice_index_or ended device None → k ≡ device → slice_index_or ended k None ≡ None → ⊥
+    unknown e k is same none = let both : Some e ≡ None = is ∙ (ap (λ j. slice_index_or ended j None) (sym same) ∙ none) in absurd (cc)
+
+    by_known : (e : Ending) (known : LineResult) → Some e ≡ slice_index_or ended device None → TakesOne (Some known) device outcomes r outcomes' → MovesOn what ended outcomes outcomes'
+    by_known e known is takes = record {
+      count = ap length takes.1;
+      each = λ k less none n. ap (λ l. nth_of (slice_index_or l k []) n) takes.1 ∙ stays k n (λ same. unknown e k is same none);
+    }
+
+    by_ending : (o : Option Ending) → o ≡ slice_index_or ended device None → TakesOne (outcome_left o) device outcomes r outcomes' → MovesOn what ended outcomes outcomes'
+    by_ending None is takes = record {
+      count = ap length takes.1 ∙ length-set outcomes device takes.0;
+      each = λ k less none n. elim (cases_eq k device) [
         | inl e ↦
             let same : (device == k) ≡ true = grind (arith, nat_tests) in
-            let one : length (flat_map asked (heard_by k (said what))) ≡ 1 = heard ∙ ap (λ b. cond b 1 0) same in
-            subst (λ j. slice_index_or (slice_set counts device n) j 0 ≡ slice_index_or counts j 0 + 1) (sym e) (get_or-set_same counts device n 0 within ∙ is) ∙ ap (λ m. slice_index_or counts k 0 + m) (sym one)
-        | inr ne ↦
-            let other : (device == k) ≡ false = grind (arith, nat_tests) in
-            let none : length (flat_map asked (heard_by k (said what))) ≡ 0 = heard ∙ ap (λ b. cond b 1 0) other in
-            get_or-set_other counts device k n 0 ne ∙ omega (arith, none)
+            let one : length (flat_map asked (heard_by k (said what))) ≡ 1 = heard_asks what device ask k says ∙ ap (λ b. cond b 1 0) same in
+            let next : n + 1 ≡ length (flat_map asked (heard_by k (said what))) + n = omega (arith, one) in
+            let here : slice_index_or outcomes' k [] ≡ takes.0 = ap (λ l. slice_index_or l k []) takes.1 ∙ (ap (λ j. slice_index_or (slice_set outcomes device takes.0) j []) e ∙ get_or-set_same outcomes device takes.0 [] within) in
+            ap (λ l. nth_of l n) here ∙ (takes.2.later n ∙ (ap (λ j. nth_of (slice_index_or outcomes j []) (n + 1)) (sym e) ∙ ap (nth_of (slice_index_or outcomes k [])) next))
+        | inr ne ↦ ap (λ l. nth_of (slice_index_or l k []) n) takes.1 ∙ (ap (λ l. nth_of l n) (get_or-set_other outcomes device k takes.0 [] ne) ∙ stays k n ne)
       ];
-}
+    }
+    by_ending (Some Rescinded) is takes = by_known Rescinded LineGone is takes
+    by_ending (Some Closed) is takes = by_known Closed LineClosed is takes
 
-pub counts_none : (what : What) (counts : List ℕ) → ((k : ℕ) → flat_map asked (heard_by k (said what)) ≡ []) → CountsOn what counts counts
-counts_none what counts none = record { count = refl; each = λ k less. let zero_more = ap length (none k) in omega (arith, zero_more) }
+pub moves_none : (what : What) (ended : List (Option Ending)) (outcomes : List (List (List LineResult))) → ((k : ℕ) → flat_map asked (heard_by k (said what)) ≡ []) → MovesOn what ended outcomes outcomes
+moves_none what ended outcomes none = record {
+  count = refl;
+  each = λ k less still n. let zero_more : n ≡ length (flat_map asked (heard_by k (said what))) + n = omega (arith, ap length (none k)) in ap (nth_of (slice_index_or outcomes k [])) zero_more;
+}
 
 -- line by line
 
@@ -91,80 +116,66 @@ sources_push p before (m ∷ part) l =
     ∙ sym (append_assoc (source_of p before m.what) (sources_from p (before ++ m ∷ []) part) (source_of p (before ++ m ∷ part) l.what))
 
 -- the first lines are told
-pub record ToldSoFar (ended : List (Option Ending)) (outcomes : List (List (List LineResult))) (part : List Line) (i : ℕ) (old new : List LineResult) (counts : List ℕ) : Type 0 where
+pub record ToldSoFar (ended : List (Option Ending)) (outcomes : List (List (List LineResult))) (part : List Line) (i : ℕ) (old new : List LineResult) (left : List (List (List LineResult))) : Type 0 where
   pub tells : (p : Phase) (channels : List Carried) → p.part ≡ part → AreEnded p.earlier ended → AreTold p channels (length ended) outcomes → Tells (map (outcome_at p channels) (sources_from p [] (take i part))) old new
-  pub long : length counts ≡ length ended
-  pub counted : AreCounted (take i part) counts
+  pub long : length left ≡ length outcomes
+  pub ahead : (k : ℕ) → k < length ended → slice_index_or ended k None ≡ None → (n : ℕ) → nth_of (slice_index_or left k []) n ≡ nth_of (slice_index_or outcomes k []) (length (asks_of k (take i part)) + n)
 
-pub told_start : (ended : List (Option Ending)) (outcomes : List (List (List LineResult))) (part : List Line) (results : List LineResult) (counts : List ℕ) → counts ≡ replicate (length ended) 0 → ToldSoFar ended outcomes part 0 results results counts
-told_start ended outcomes part results counts none = record {
+pub told_start : (ended : List (Option Ending)) (outcomes : List (List (List LineResult))) (part : List Line) (results : List LineResult) → ToldSoFar ended outcomes part 0 results results outcomes
+told_start ended outcomes part results = record {
   tells = λ p channels is are told. tells_none results;
-  long = ap length none ∙ length-replicate {A = ℕ} (length ended) 0;
-  counted = λ k less. ap (λ l. slice_index_or l k 0) none ∙ get_or-replicate (length ended) k 0 0 (omega (arith, less, ap length none, length-replicate {A = ℕ} (length ended) 0));
+  long = refl;
+  ahead = λ k less none n. let same : n ≡ length (asks_of k (take 0 part)) + n = omega arith in ap (nth_of (slice_index_or outcomes k [])) same;
 }
 
-pub told_more : (ended : List (Option Ending)) (outcomes : List (List (List LineResult))) (part : List Line) (i : ℕ) (line : Line) (old mid new : List LineResult) (counts counts' : List ℕ) → ToldSoFar ended outcomes part i old mid counts → i < length part → line ≡ get_or part i line
-    → ((p : Phase) (channels : List Carried) (before : List Line) → AreEnded p.earlier ended → AreTold p channels (length ended) outcomes → AreCounted before counts → Tells (map (outcome_at p channels) (source_of p before line.what)) mid new)
-    → CountsOn line.what counts counts' → ToldSoFar ended outcomes part (i + 1) old new counts'
-told_more ended outcomes part i line old mid new counts counts' so_far less is one on =
+pub told_more : (ended : List (Option Ending)) (outcomes : List (List (List LineResult))) (part : List Line) (i : ℕ) (line : Line) (old mid new : List LineResult) (left left' : List (List (List LineResult))) → length outcomes ≡ length ended → ToldSoFar ended outcomes part i old mid left
+    → i < length part → line ≡ get_or part i line
+    → ((p : Phase) (channels : List Carried) (before : List Line) → AreEnded p.earlier ended → AreLeft p channels ended before left → Tells (map (outcome_at p channels) (source_of p before line.what)) mid new)
+    → MovesOn line.what ended left left' → ToldSoFar ended outcomes part (i + 1) old new left'
+told_more ended outcomes part i line old mid new left left' devices so_far less is one on =
     let taken : take (i + 1) part ≡ take i part ++ line ∷ [] = take_more part i line less ∙ ap (λ x. take i part ++ x ∷ []) (sym is) in
     record {
       tells = λ p channels same are told.
           let sources : sources_from p [] (take (i + 1) part) ≡ sources_from p [] (take i part) ++ source_of p (take i part) line.what = ap (sources_from p []) taken ∙ sources_push p [] (take i part) line in
           let all : map (outcome_at p channels) (sources_from p [] (take (i + 1) part)) ≡ map (outcome_at p channels) (sources_from p [] (take i part)) ++ map (outcome_at p channels) (source_of p (take i part) line.what) =
           ap (map (outcome_at p channels)) sources ∙ map-append (outcome_at p channels) (sources_from p [] (take i part)) (source_of p (take i part) line.what) in
-          subst (λ l. Tells l old new) (sym all) (tells_join _ _ old mid new (so_far.tells p channels same are told) (one p channels (take i part) are told so_far.counted));
+          let here : AreLeft p channels ended (take i part) left = λ k within none n. so_far.ahead k within none n ∙ ap (λ l. nth_of l (length (asks_of k (take i part)) + n)) (told k within) in
+          subst (λ l. Tells l old new) (sym all) (tells_join _ _ old mid new (so_far.tells p channels same are told) (one p channels (take i part) are here));
       long = on.count ∙ so_far.long;
-      counted = λ k within.
-          let inside : k < length counts = omega (arith, within, on.count) in
-          on.each k inside
-          ∙ (ap (λ n. n + length (flat_map asked (heard_by k (said line.what)))) (so_far.counted k inside)
-          ∙ (sym (length-append (asks_of k (take i part)) (flat_map asked (heard_by k (said line.what)))) ∙ ap length (sym (told_taken asked k part i line less is))));
+      ahead = λ k within none n.
+          let heard = length (flat_map asked (heard_by k (said line.what))) in
+          let more : length (asks_of k (take (i + 1) part)) ≡ length (asks_of k (take i part)) + heard = ap length (told_taken asked k part i line less is) ∙ length-append (asks_of k (take i part)) (flat_map asked (heard_by k (said line.what))) in
+          let along : length (asks_of k (take i part)) + (heard + n) ≡ length (asks_of k (take (i + 1) part)) + n = omega (arith, more) in
+          on.each k (omega (arith, within, so_far.long, devices)) none n ∙ (so_far.ahead k within none (heard + n) ∙ ap (nth_of (slice_index_or outcomes k [])) along);
     }
 
-pub told_end : (ended : List (Option Ending)) (outcomes : List (List (List LineResult))) (part : List Line) (i : ℕ) (old new : List LineResult) (counts : List ℕ) → ToldSoFar ended outcomes part i old new counts → length part ≤ i
+pub told_end : (ended : List (Option Ending)) (outcomes : List (List (List LineResult))) (part : List Line) (i : ℕ) (old new : List LineResult) (left : List (List (List LineResult))) → ToldSoFar ended outcomes part i old new left → length part ≤ i
     → (p : Phase) (channels : List Carried) → p.part ≡ part → AreEnded p.earlier ended → AreTold p channels (length ended) outcomes → Tells (outcomes_in p channels) old new
-told_end ended outcomes part i old new counts so_far over p channels is are told =
+told_end ended outcomes part i old new left so_far over p channels is are told =
     let whole : take i part ≡ p.part = take_all i part over ∙ sym is in
     subst (λ l. Tells (map (outcome_at p channels) (sources_from p [] l)) old new) whole (so_far.tells p channels is are told)
 
 -- the request of a line has an outcome, where each request of the phase has one
-
-asks_long : (k : ℕ) (part : List Line) → length (asks_of k part) ≤ length part
-asks_long k [] = omega arith
-asks_long k (l ∷ part) =
-    omega (arith, ap length (flat_map-append asked (heard_by k (said l.what)) (said_to k part)), length-append (flat_map asked (heard_by k (said l.what))) (asks_of k part), heard_one (said l.what), asks_long k part)
-  where
-    one : (s : Says) (b : Bool) → length (flat_map asked (cond b (s ∷ []) [])) ≤ 1
-    one (Asks ask) true = omega arith
-    one (Rescinds after held) true = omega arith
-    one Shuts true = omega arith
-    one s false = omega arith
-
-    heard_one : (o : Option (ℕ × Says)) → length (flat_map asked (heard_by k o)) ≤ 1
-    heard_one None = omega arith
-    heard_one (Some s) = one s.1 (s.0 == k)
 
 some_asked : (s : Says) (k : ℕ) → (asked s ≡ [] → ⊥) → 1 ≤ length (flat_map asked (heard_by k (Some (k, s))))
 some_asked (Asks ask) k some = let own : (k == k) ≡ true = grind (arith, nat_tests) in omega (arith, ap (λ b. length (flat_map asked (cond b (Asks ask ∷ []) []))) own)
 some_asked (Rescinds after held) k some = absurd (some refl)
 some_asked Shuts k some = absurd (some refl)
 
-pub has_outcome : (ended : List (Option Ending)) (outcomes : List (List (List LineResult))) (part : List Line) (i : ℕ) (line : Line) (old new : List LineResult) (counts : List ℕ) → ToldSoFar ended outcomes part i old new counts → HasOutcomes part ended outcomes → AllBelow (length ended) part
-    → length part < 2 ^ 64 → i < length part → line ≡ get_or part i line → HasOutcome ended outcomes counts line.what
-has_outcome ended outcomes part i line old new counts so_far has below fits less is = by_said (said line.what) refl (below_at (length ended) part i line below less is)
+pub has_next : (ended : List (Option Ending)) (outcomes : List (List (List LineResult))) (part : List Line) (i : ℕ) (line : Line) (old new : List LineResult) (left : List (List (List LineResult))) → ToldSoFar ended outcomes part i old new left → HasOutcomes part ended outcomes
+    → AllBelow (length ended) part → i < length part → line ≡ get_or part i line → HasNext ended left line.what
+has_next ended outcomes part i line old new left so_far has below less is = by_said (said line.what) refl (below_at (length ended) part i line below less is)
   where
     by_said : (o : Option (ℕ × Says)) → said line.what ≡ o → IfSome o (λ s. s.0 < length ended)
-        → IfSome o (λ s. (asked s.1 ≡ [] → ⊥) → (slice_index_or counts s.0 0 + 1 < 2 ^ 64) × (slice_index_or ended s.0 None ≡ None → is_some (nth_of (slice_index_or outcomes s.0 []) (slice_index_or counts s.0 0)) ≡ true))
+        → IfSome o (λ s. (asked s.1 ≡ [] → ⊥) → slice_index_or ended s.0 None ≡ None → is_some (nth_of (slice_index_or left s.0 []) 0) ≡ true)
     by_said None says within = tt
-    by_said (Some s) says within = λ some.
+    by_said (Some s) says within = λ some none.
         let k = s.0 in
-        let count : slice_index_or counts k 0 ≡ length (asks_of k (take i part)) = so_far.counted k (omega (arith, within, so_far.long)) in
         let here = some_asked s.1 k some in
         let heard : length (flat_map asked (heard_by k (said line.what))) ≡ length (flat_map asked (heard_by k (Some (k, s.1)))) = ap (λ o. length (flat_map asked (heard_by k o))) says in
         let cut = ap length (told_cut asked k part i line less is) in
         let rest : List Ask = flat_map asked (said_to k (drop (i + 1) part)) in
         let sizes = length-append (asks_of k (take i part)) (flat_map asked (heard_by k (said line.what)) ++ rest) in
         let more = length-append (flat_map asked (heard_by k (said line.what))) rest in
-        let low : slice_index_or counts k 0 + 1 ≤ length (asks_of k part) = omega (arith, count, here, heard, cut, sizes, more) in
-        (omega (arith, low, asks_long k part, fits), λ none. has k within none (slice_index_or counts k 0) (omega (arith, low)))
+        let low : length (asks_of k (take i part)) + 0 < length (asks_of k part) = omega (arith, here, heard, cut, sizes, more) in
+        ap is_some (so_far.ahead k within none 0) ∙ has k within none (length (asks_of k (take i part)) + 0) low

@@ -1,24 +1,46 @@
 //! The outcomes of a phase's requests, channel by channel.
-ghost use Rattle.std.specs.Prelude.{◌≡◌, ◌<◌, ◌++◌, ◌∷◌, [], Some, true, is_some, length, replicate, slice_set, slice_index_or, IfOk, OnOk};
+ghost use Rattle.std.specs.Prelude.{◌≡◌, ◌<◌, ◌++◌, ◌∷◌, [], List, true, is_some, length, map, replicate, slice_set, slice_index_or, IfOk, OnOk};
+ghost use Rattle.std.specs.Vec.Iter.{into_iter_items};
 ghost use Rattle.bus_model.specs.Run.{nth_of};
+ghost use Rattle.bus_script.specs.declared.outcome.LineResult.{LineResult as OneResult};
+ghost use Rattle.bus_plan.specs.Outcomes.{TakesTurn};
 
 use bus_script::LineResult;
 use std::alloc::{AllocError, Global};
+use std::collections::VecDeque;
 use std::marker::Model;
+use std::vec::IntoIter;
 
-/// For each device, for each of its channels, the outcomes of its requests.
+/// For each device, for each of its channels, the outcomes of its requests that were not taken yet. The channels of a device stand in the order in which
+/// their turns come.
 #[derive(Drop)]
 pub struct Outcomes {
-    devices: Vec<Vec<Vec<LineResult>>>,
+    devices: Vec<VecDeque<IntoIter<LineResult>>>,
 }
 
 impl Model for Outcomes {
     ghost use Rattle.std.specs.Prelude.{List, map};
+    ghost use Rattle.std.specs.Vec.Iter.{into_iter_items};
     ghost use Rattle.bus_script.specs.declared.outcome.LineResult.{LineResult as OneResult};
 
     ghost Value = { List (List (List OneResult)) };
 
-    ghost view = { λ o. map (λ d. map (λ c. c.items) d.items) o.devices.items };
+    ghost view = { λ o. map (λ d. map (λ c. into_iter_items c) d.items) o.devices.items };
+}
+
+/// Takes the next outcome of the channel whose turn it is. The turn of the next channel comes then.
+fn take_turn(channels: &mut VecDeque<IntoIter<LineResult>>) -> LineResult
+    requires { is_some (nth_of (map (λ c. into_iter_items c) channels.old.items) 0) ≡ true }
+    ensures { TakesTurn (map (λ c. into_iter_items c) channels.old.items) result (map (λ c. into_iter_items c) channels.new.items) }
+{
+    let Some(mut channel) = channels.pop_front() else {
+        unreachable!();
+    };
+    let Some(outcome) = channel.next() else {
+        unreachable!();
+    };
+    channels.push_back_reserved(channel);
+    outcome
 }
 
 impl Outcomes {
@@ -28,7 +50,7 @@ impl Outcomes {
     {
         let mut devices = Vec::new(alloc);
         for _ in 0..count {
-            devices.push(Vec::new(alloc))?;
+            devices.push(VecDeque::new(alloc))?;
         }
         Ok(Outcomes { devices })
     }
@@ -38,18 +60,16 @@ impl Outcomes {
         requires { device < length self.old }
         ensures { OnOk result (self.new ≡ slice_set self.old device (slice_index_or self.old device [] ++ channel.items ∷ [])) }
     {
-        self.devices[device].push(channel)?;
+        self.devices[device].push_back(channel.into_iter())?;
         Ok(())
     }
 
-    /// The outcome of the request with this number of a device: its channels have its requests in turn.
-    pub fn nth(&self, device: usize, number: usize) -> LineResult
-        requires device { device < length self.now }
-        requires some { is_some (nth_of (slice_index_or self.now device []) number) ≡ true }
-        ensures { nth_of (slice_index_or self.now device []) number ≡ Some result }
+    /// Takes the outcome of a device's next request: its channels have its requests in turn, and the first channel has the first one.
+    pub fn take_next(&mut self, device: usize) -> LineResult
+        requires device { device < length self.old }
+        requires some { is_some (nth_of (slice_index_or self.old device []) 0) ≡ true }
+        ensures { (after : List (List OneResult)) × (self.new ≡ slice_set self.old device after) × TakesTurn (slice_index_or self.old device []) result after }
     {
-        let channels = &self.devices[device];
-        let many = channels.len();
-        channels[number % many][number / many].again()
+        take_turn(&mut self.devices[device])
     }
 }

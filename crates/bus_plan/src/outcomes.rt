@@ -1,50 +1,43 @@
 //! The outcomes of the lines of a phase.
-ghost use Rattle.std.specs.Prelude.{◌≡◌, ◌+◌, ◌<◌, List, length, map, None, Some, [], true, is_some, OnOk, slice_index_or};
+ghost use Rattle.std.specs.Prelude.{◌≡◌, ◌<◌, List, length, map, None, Some, [], true, is_some, OnOk, slice_index_or};
 ghost use Rattle.script_lines.specs.declared.line.Line.{Line as OneLine};
 ghost use Rattle.script_phases.specs.Openings.{Phase};
 ghost use Rattle.bus_model.specs.Run.{Carried, nth_of, source_of, outcome_at, outcomes_in};
 ghost use Rattle.bus_plan.specs.Heard.{IsBelow, AllBelow};
 ghost use Rattle.bus_plan.specs.Endings.{AreEnded, outcome_left};
-ghost use Rattle.bus_plan.specs.Outcomes.{AreTold, AreCounted, CountsOn, HasOutcome, HasOutcomes, Tells, left_or};
+ghost use Rattle.bus_plan.specs.Outcomes.{AreTold, AreLeft, HasNext, HasOutcomes, MovesOn, TakesOne, Tells};
 
 use crate::{Ending, Outcomes};
 use bus_script::{Line, LineResult, What};
 use contact::tried;
-use std::alloc::{AllocError, Global};
+use std::alloc::AllocError;
 
-/// The outcome of the request with this number of a device, which ended so.
-fn outcome_of(
-    ended: Option<Ending>,
-    outcomes: &Outcomes,
-    device: usize,
-    number: usize,
-) -> LineResult
-    requires device { device < length outcomes.now }
-    requires has { ended ≡ None → is_some (nth_of (slice_index_or outcomes.now device []) number) ≡ true }
-    ensures { left_or (outcome_left ended) (nth_of (slice_index_or outcomes.now device []) number) ≡ Some result }
+/// The outcome of the next request of a device, which ended so. A device that an earlier phase ended serves none, and its outcomes stay.
+fn next_outcome(ended: Option<Ending>, outcomes: &mut Outcomes, device: usize) -> LineResult
+    requires device { device < length outcomes.old }
+    requires has { ended ≡ None → is_some (nth_of (slice_index_or outcomes.old device []) 0) ≡ true }
+    ensures { TakesOne (outcome_left ended) device outcomes.old result outcomes.new }
 {
     match ended {
         Some(Ending::Rescinded) => LineResult::Gone,
         Some(Ending::Closed) => LineResult::Closed,
-        None => outcomes.nth(device, number),
+        None => outcomes.take_next(device),
     }
 }
 
-/// The outcome of one more line. `asked` says how many requests of each device stand before it.
+/// The outcome of one more line, which is moved out of `outcomes` where it is a request's.
 fn tell_line(
     ended: &[Option<Ending>],
-    outcomes: &Outcomes,
+    outcomes: &mut Outcomes,
     what: &What,
-    asked: &mut [usize],
     results: &mut Vec<LineResult>,
 ) -> Result<(), AllocError>
     requires ended { IsBelow (length ended.now) what.now }
-    requires outcomes { IsBelow (length outcomes.now) what.now }
-    requires asked { IsBelow (length asked.old) what.now }
-    requires has { HasOutcome ended.now outcomes.now asked.old what.now }
-    ensures tells { OnOk result ((p : Phase) (channels : List Carried) (before : List OneLine) → AreEnded p.earlier ended.now → AreTold p channels (length ended.now) outcomes.now → AreCounted before asked.old
+    requires outcomes { IsBelow (length outcomes.old) what.now }
+    requires has { HasNext ended.now outcomes.old what.now }
+    ensures tells { OnOk result ((p : Phase) (channels : List Carried) (before : List OneLine) → AreEnded p.earlier ended.now → AreLeft p channels ended.now before outcomes.old
         → Tells (map (outcome_at p channels) (source_of p before what.now)) results.old.items results.new.items) }
-    ensures counts { OnOk result (CountsOn what.now asked.old asked.new) }
+    ensures on { OnOk result (MovesOn what.now ended.now outcomes.old outcomes.new) }
 {
     match what {
         What::Contact { guest, host } => {
@@ -54,32 +47,29 @@ fn tell_line(
         }
         What::Ask { device, .. } => {
             let at = *device as usize;
-            let outcome = outcome_of(ended[at], outcomes, at, asked[at]);
+            let outcome = next_outcome(ended[at], outcomes, at);
             results.push(outcome)?;
-            asked[at] += 1;
             Ok(())
         }
         _ => Ok(()),
     }
 }
 
-/// The outcome of each line of a phase that has one, behind others. `ended` says how an earlier phase ended each device, and `outcomes` has those of the
-/// requests of the phase, channel by channel.
+/// The outcome of each line of a phase that has one, behind others. `ended` says how an earlier phase ended each device. `outcomes` has those of the
+/// requests of the phase, channel by channel, and each is moved out of it.
 pub fn tell(
-    alloc: Global,
     ended: &[Option<Ending>],
-    outcomes: &Outcomes,
+    mut outcomes: Outcomes,
     part: &[Line],
     results: &mut Vec<LineResult>,
 ) -> Result<(), AllocError>
     requires below { AllBelow (length ended.now) part.now }
-    requires devices { length outcomes.now ≡ length ended.now }
-    requires has { HasOutcomes part.now ended.now outcomes.now }
-    ensures { OnOk result ((p : Phase) (channels : List Carried) → p.part ≡ part.now → AreEnded p.earlier ended.now → AreTold p channels (length ended.now) outcomes.now → Tells (outcomes_in p channels) results.old.items results.new.items) }
+    requires devices { length outcomes ≡ length ended.now }
+    requires has { HasOutcomes part.now ended.now outcomes }
+    ensures { OnOk result ((p : Phase) (channels : List Carried) → p.part ≡ part.now → AreEnded p.earlier ended.now → AreTold p channels (length ended.now) outcomes → Tells (outcomes_in p channels) results.old.items results.new.items) }
 {
-    let mut asked = vec![in alloc; 0usize; ended.len()]?;
     for line in part {
-        tell_line(ended, outcomes, &line.what, &mut asked, results)?;
+        tell_line(ended, &mut outcomes, &line.what, results)?;
     }
     Ok(())
 }

@@ -21,6 +21,8 @@ use Rattle.bus_plan.specs.Plans.{EachOf, IsOrdered, order_by}
 use Rattle.bus_plan.specs.declared.opening.ChannelOrder.{ChannelOrder}
 use Rattle.bus_run.specs.Channels.{CanRun, ChannelsRan, IsOf}
 use Rattle.bus_run.specs.Closing.{AllBack, AllClosed, AllCome, AreWhole, Closed, IsClosed, RanAt, closed_of, run_of, told_of}
+use Rattle.bus_run.specs.Due.{due_of}
+use Rattle.bus_run.specs.declared.due.Due.{Due}
 use Rattle.bus_run.specs.Desk.{desk_at, desk_log, spec_of, setup_of, GoesOn, IsKept, IsReady}
 use Rattle.bus_run.specs.Opening.{AllOpened, AreAway, CanOpen, CanOpenAll, Given, OpensAt, order_at, orders_of, quotas_of, seats_at, seats_given}
 use Rattle.bus_run.specs.Seats.{AreSeatsFor, ComesBack, EachWith, IsAway, kind_in, seats_in}
@@ -55,14 +57,22 @@ given_within : (old : List Desk) (given : List Given) → AllByRecursion (λ (x 
 given_within old [] low = tt
 given_within old (g ∷ given) low = (low.0, given_within old given low.1)
 
+dues_given : (given : List Given) → map (λ (g : Given). due_of g.order) given ≡ map due_of (map (λ (g : Given). g.order) given)
+dues_given [] = refl
+dues_given (g ∷ given) = ap (λ l. due_of g.order ∷ l) (dues_given given)
+
+dues_within : (old : List Desk) (plan : List ChannelOrder) → AllByRecursion (λ (x : ChannelOrder). x.opening.device < length old) plan → AllByRecursion (λ (d : Due). d.opening.device < length old) (map due_of plan)
+dues_within old [] low = tt
+dues_within old (x ∷ plan) low = (low.0, dues_within old plan low.1)
+
 pub all_come : (settings : List Settings) (plan : List ChannelOrder) (old held : List Desk) (before seats : List Seats) (pairs : List Pairing) (dones : List PairDone) → CanOpenAll plan old → AreAway plan old held before → (all : AllOpened settings plan old before seats pairs) → EachRuns pairs dones
-    → AllCome plan old all.opened.given seats dones
+    → AllCome (map due_of plan) old all.opened.given seats dones
 all_come settings plan old held before seats pairs dones can away all runs =
     let opened = all.opened in
     let within = all_within plan old can.each in
     record {
-      planned = opened.planned;
-      within = within;
+      planned = dues_given opened.given ∙ ap (map due_of) opened.planned;
+      within = dues_within old plan within;
       places = opened.places ∙ away.places;
       fits = all_fit old before seats opened.given (λ k less. opened.kinds k (omega (arith, less, away.places)))
           (given_within old opened.given (subst (AllByRecursion (λ (x : ChannelOrder). x.opening.device < length old)) (sym opened.planned) within)) opened.fits;

@@ -14,13 +14,14 @@ use Rattle.end_work.specs.declared.device_seat.DeviceSeat.{DeviceSeat}
 use Rattle.end_work.specs.declared.device_seat.DeviceSeat.TheVariants.{Beat as BeatSeat, Down as DownSeat, Disk as DiskSeat}
 use Rattle.phase_run.specs.Pairs.{Ran}
 use Rattle.phase_run.specs.declared.pair.PairDone.{PairDone}
-use Rattle.bus_plan.specs.declared.opening.ChannelOrder.{ChannelOrder}
 use Rattle.bus_run.specs.Desk.{desk_at, GoesOn}
+use Rattle.bus_run.specs.Due.{due_of}
 use Rattle.bus_run.specs.Opening.{Given, order_at, seats_at}
 use Rattle.bus_run.specs.Closing.{AllBack, AllClosed, AllCome, AreWhole, ChannelClosed, Closed, IsClosed, RanAt, closed_of, run_of, told_of}
 use Rattle.bus_run.specs.Seats.{EachWith, ComesBack, kind_in, seats_in}
 use Rattle.bus_run.specs.declared.desk.Desk.{Desk}
 use Rattle.bus_run.specs.declared.desk.Desk.TheVariants.{Out}
+use Rattle.bus_run.specs.declared.due.Due.{Due}
 use Rattle.bus_run.specs.declared.seats.Seats.{Seats}
 use Rattle.bus_run.specs.declared.seats.Seats.TheVariants.{None as NoSeats}
 use Rattle.bus_run.proofs.Items.{At, at, all_at, push_own, push_other}
@@ -41,9 +42,9 @@ pub record ClosedNow (phase i : ℕ) (old : List Desk) (given : List Given) (bef
   pub so_far : AllClosed phase old (take i given) before seats settled settled' outcomes
   pub left : EachWith (RanAt old) (drop i given) dones
 
-pub closed_start : (phase : ℕ) (plan : List ChannelOrder) (old : List Desk) (given : List Given) (before : List Seats) (dones : List PairDone) (settled : List ChannelRun) (outcomes : List (List (List LineResult))) → AllCome plan old given before dones
+pub closed_start : (phase : ℕ) (dues : List Due) (old : List Desk) (given : List Given) (before : List Seats) (dones : List PairDone) (settled : List ChannelRun) (outcomes : List (List (List LineResult))) → AllCome dues old given before dones
     → outcomes ≡ replicate (length before) [] → ClosedNow phase 0 old given before before dones settled settled outcomes
-closed_start phase plan old given before dones settled outcomes all none = record {
+closed_start phase dues old given before dones settled outcomes all none = record {
   so_far = record {
     closed = [];
     given_are = refl;
@@ -58,41 +59,48 @@ closed_start phase plan old given before dones settled outcomes all none = recor
   left = all.ran;
 }
 
+-- what is due of the channel at this place
+abbrev pub due_at : List Due → ℕ → Due
+due_at dues i = get_or dues i (record { opening = record { relid = 0; device = 0; sub = 0 }; count = 0 })
+
+pub due_is : (dues : List Due) (i : ℕ) → i < length dues → due_at dues i ≡ get_or dues i (due_at dues i)
+due_is dues i less = sym (get_or_default dues i (due_at dues i) (record { opening = record { relid = 0; device = 0; sub = 0 }; count = 0 }) less)
+
 -- the channel whose turn it is
-pub record Next (old : List Desk) (given : List Given) (i : ℕ) (before seats : List Seats) (own : Seats) (x : ChannelOrder) (dones : List PairDone) : Type 0 where
+pub record Next (old : List Desk) (given : List Given) (i : ℕ) (before seats : List Seats) (own : Seats) (d : Due) (dones : List PairDone) : Type 0 where
   pub next : At given i
-  pub order_is : next.item.order ≡ x
-  pub place : x.opening.device < length old
-  pub within : x.opening.device < length seats
-  pub own_is : seats_at seats x.opening.device ≡ own
+  pub due_is : due_of next.item.order ≡ d
+  pub place : d.opening.device < length old
+  pub within : d.opening.device < length seats
+  pub own_is : seats_at seats d.opening.device ≡ own
   pub kind : kind_in own ≡ Some (kind_at next.item.seat)
   pub done : PairDone
   pub rest : List PairDone
   pub dones_are : dones ≡ done ∷ rest
-  pub ran : Ran (order_at old x) next.item.seat done
+  pub ran : Ran (order_at old next.item.order) next.item.seat done
   pub more : EachWith (RanAt old) (drop (i + 1) given) rest
 
-pub next : (phase : ℕ) (plan : List ChannelOrder) (i : ℕ) (old : List Desk) (given : List Given) (before seats : List Seats) (own : Seats) (x : ChannelOrder) (all_dones dones : List PairDone) (settled settled' : List ChannelRun) (outcomes : List (List (List LineResult)))
-    → AllCome plan old given before all_dones → ClosedNow phase i old given before seats dones settled settled' outcomes → i < length plan → x ≡ get_or plan i x → own ≡ get_or seats x.opening.device own → Next old given i before seats own x dones
-next phase plan i old given before seats own x all_dones dones settled settled' outcomes all now less is value =
+pub next : (phase : ℕ) (dues : List Due) (i : ℕ) (old : List Desk) (given : List Given) (before seats : List Seats) (own : Seats) (d : Due) (all_dones dones : List PairDone) (settled settled' : List ChannelRun) (outcomes : List (List (List LineResult)))
+    → AllCome dues old given before all_dones → ClosedNow phase i old given before seats dones settled settled' outcomes → i < length dues → d ≡ get_or dues i d → own ≡ get_or seats d.opening.device own → Next old given i before seats own d dones
+next phase dues i old given before seats own d all_dones dones settled settled' outcomes all now less is value =
     let so_far = now.so_far in
-    let long : length given ≡ length plan = sym (length-map given (λ g. g.order)) ∙ ap length all.planned in
+    let long : length given ≡ length dues = sym (length-map given (λ g. due_of g.order)) ∙ ap length all.planned in
     let here = at given i (omega (arith, less, long)) in
     let g = here.item in
-    let order : g.order ≡ x = ap (λ (y : Given). y.order) (sym (here.is g)) ∙ (sym (get_or-map (λ (g : Given). g.order) given i g x (omega (arith, less, long))) ∙ (ap (λ l. get_or l i x) all.planned ∙ sym is)) in
-    let k = x.opening.device in
-    let place : k < length old = subst (λ (y : ChannelOrder). y.opening.device < length old) (sym is) (all_at (λ (y : ChannelOrder). y.opening.device < length old) plan i x all.within less) in
+    let due : due_of g.order ≡ d = ap (λ (y : Given). due_of y.order) (sym (here.is g)) ∙ (sym (get_or-map (λ (g : Given). due_of g.order) given i g d (omega (arith, less, long))) ∙ (ap (λ l. get_or l i d) all.planned ∙ sym is)) in
+    let k = d.opening.device in
+    let place : k < length old = subst (λ (y : Due). y.opening.device < length old) (sym is) (all_at (λ (y : Due). y.opening.device < length old) dues i d all.within less) in
     let low : k < length before = omega (arith, place, all.places) in
     let within : k < length seats = omega (arith, low, so_far.places) in
     let own_is : seats_at seats k ≡ own = sym (value ∙ get_or_default seats k own NoSeats within) in
     let fits : kind_in (seats_at before g.order.opening.device) ≡ Some (kind_at g.seat) =
     subst (λ (y : Given). kind_in (seats_at before y.order.opening.device) ≡ Some (kind_at y.seat)) (here.is g)
     (all_at (λ (y : Given). kind_in (seats_at before y.order.opening.device) ≡ Some (kind_at y.seat)) given i g all.fits (omega (arith, less, long))) in
-    let kind : kind_in own ≡ Some (kind_at g.seat) = ap kind_in (sym own_is) ∙ (so_far.kinds k low ∙ (ap (λ (y : ChannelOrder). kind_in (seats_at before y.opening.device)) (sym order) ∙ fits)) in
+    let kind : kind_in own ≡ Some (kind_at g.seat) = ap kind_in (sym own_is) ∙ (so_far.kinds k low ∙ (ap (λ (y : Due). kind_in (seats_at before y.opening.device)) (sym due) ∙ fits)) in
     let came = comes dones g (drop (i + 1) given) (subst (λ l. EachWith (RanAt old) l dones) here.left now.left) in
     record {
       next = here;
-      order_is = order;
+      due_is = due;
       place = place;
       within = within;
       own_is = own_is;
@@ -100,7 +108,7 @@ next phase plan i old given before seats own x all_dones dones settled settled' 
       done = came.0;
       rest = came.1;
       dones_are = came.2;
-      ran = subst (λ y. Ran (order_at old y) g.seat came.0) order came.3;
+      ran = came.3;
       more = came.4;
     }
   where
@@ -108,23 +116,23 @@ next phase plan i old given before seats own x all_dones dones settled settled' 
     comes [] g gs each = absurd each
     comes (d ∷ ds) g gs each = (d, ds, refl, each.0, each.1)
 
-pub here_within : (phase : ℕ) (plan : List ChannelOrder) (i : ℕ) (old : List Desk) (given : List Given) (before seats : List Seats) (x : ChannelOrder) (all_dones dones : List PairDone) (settled settled' : List ChannelRun) (outcomes : List (List (List LineResult)))
-    → AllCome plan old given before all_dones → ClosedNow phase i old given before seats dones settled settled' outcomes → i < length plan → x ≡ get_or plan i x → (x.opening.device < length seats) × (x.opening.device < length outcomes)
-here_within phase plan i old given before seats x all_dones dones settled settled' outcomes all now less is =
-    let place : x.opening.device < length old = subst (λ (y : ChannelOrder). y.opening.device < length old) (sym is) (all_at (λ (y : ChannelOrder). y.opening.device < length old) plan i x all.within less) in
+pub here_within : (phase : ℕ) (dues : List Due) (i : ℕ) (old : List Desk) (given : List Given) (before seats : List Seats) (d : Due) (all_dones dones : List PairDone) (settled settled' : List ChannelRun) (outcomes : List (List (List LineResult)))
+    → AllCome dues old given before all_dones → ClosedNow phase i old given before seats dones settled settled' outcomes → i < length dues → d ≡ get_or dues i d → (d.opening.device < length seats) × (d.opening.device < length outcomes)
+here_within phase dues i old given before seats d all_dones dones settled settled' outcomes all now less is =
+    let place : d.opening.device < length old = subst (λ (y : Due). y.opening.device < length old) (sym is) (all_at (λ (y : Due). y.opening.device < length old) dues i d all.within less) in
     (omega (arith, place, all.places, now.so_far.places), omega (arith, place, all.places, now.so_far.long))
 
-pub closed_more : (phase i : ℕ) (old : List Desk) (given : List Given) (before seats : List Seats) (own new : Seats) (x : ChannelOrder) (dones rest : List PairDone) (settled settled' settled'' : List ChannelRun) (outcomes : List (List (List LineResult))) (results : List LineResult)
-    → ClosedNow phase i old given before seats dones settled settled' outcomes → (n : Next old given i before seats own x dones) → rest ≡ n.rest → ChannelClosed phase x.opening (order_at old x) n.next.item.seat own new settled' settled'' results
-    → ClosedNow phase (i + 1) old given before (slice_set seats x.opening.device new) rest settled settled'' (slice_set outcomes x.opening.device (slice_index_or outcomes x.opening.device [] ++ results ∷ []))
-closed_more phase i old given before seats own new x dones rest settled settled' settled'' outcomes results now n rest_is one =
+pub closed_more : (phase i : ℕ) (old : List Desk) (given : List Given) (before seats : List Seats) (own new : Seats) (d : Due) (dones rest : List PairDone) (settled settled' settled'' : List ChannelRun) (outcomes : List (List (List LineResult))) (results : List LineResult)
+    → ClosedNow phase i old given before seats dones settled settled' outcomes → (n : Next old given i before seats own d dones) → rest ≡ n.rest → ChannelClosed phase d.opening (order_at old n.next.item.order) n.next.item.seat own new settled' settled'' results
+    → ClosedNow phase (i + 1) old given before (slice_set seats d.opening.device new) rest settled settled'' (slice_set outcomes d.opening.device (slice_index_or outcomes d.opening.device [] ++ results ∷ []))
+closed_more phase i old given before seats own new d dones rest settled settled' settled'' outcomes results now n rest_is one =
     let so_far = now.so_far in
     let g = n.next.item in
-    let k = x.opening.device in
+    let k = d.opening.device in
     let c : Closed = record { given = g; back = one.back; lists = one.lists } in
     let closed = so_far.closed in
     let of : ℕ → Closed → Bool = λ j c. c.given.order.opening.device == j in
-    let device : g.order.opening.device ≡ k = ap (λ (y : ChannelOrder). y.opening.device) n.order_is in
+    let device : g.order.opening.device ≡ k = ap (λ (y : Due). y.opening.device) n.due_is in
     let low : k < length before = omega (arith, n.within, so_far.places) in
     let self : (g.order.opening.device == k) ≡ true = grind (arith, nat_tests, device) in
     let mine : closed_of k (closed ++ c ∷ []) ≡ closed_of k closed ++ c ∷ [] = push_own (of k) closed c self in
@@ -135,9 +143,9 @@ closed_more phase i old given before seats own new x dones rest settled settled'
         given_are = map-append (λ (c : Closed). c.given) closed (c ∷ []) ∙ (ap (λ l. l ++ g ∷ []) so_far.given_are ∙ sym n.next.taken);
         each = each_append (IsClosed old) closed (c ∷ []) so_far.each (closed_here, tt);
         settled_are = one.settled_are
-            ∙ (ap (λ l. l ++ record { phase = phase; relid = x.opening.relid; device = x.opening.device; settled = one.lists } ∷ []) so_far.settled_are
-            ∙ (append_assoc settled (map (run_of phase) closed) (record { phase = phase; relid = x.opening.relid; device = x.opening.device; settled = one.lists } ∷ [])
-            ∙ (ap (λ (y : ChannelOrder). settled ++ (map (run_of phase) closed ++ record { phase = phase; relid = y.opening.relid; device = y.opening.device; settled = one.lists } ∷ [])) (sym n.order_is)
+            ∙ (ap (λ l. l ++ record { phase = phase; relid = d.opening.relid; device = d.opening.device; settled = one.lists } ∷ []) so_far.settled_are
+            ∙ (append_assoc settled (map (run_of phase) closed) (record { phase = phase; relid = d.opening.relid; device = d.opening.device; settled = one.lists } ∷ [])
+            ∙ (ap (λ (y : Due). settled ++ (map (run_of phase) closed ++ record { phase = phase; relid = y.opening.relid; device = y.opening.device; settled = one.lists } ∷ [])) (sym n.due_is)
             ∙ ap (λ l. settled ++ l) (sym (map-append (run_of phase) closed (c ∷ []))))));
         places = length-set seats k new ∙ so_far.places;
         kinds = λ j less. elim (cases_eq j k) [
@@ -170,10 +178,10 @@ closed_more phase i old given before seats own new x dones rest settled settled'
     }
   where
     closed_here : IsClosed old (record { given = n.next.item; back = one.back; lists = one.lists })
-    closed_here = record { channel = subst (λ y. IsChannelRun (order_at old y) one.lists (served_at one.back)) (sym n.order_is) one.ended.channel; same = one.ended.same }
+    closed_here = record { channel = one.ended.channel; same = one.ended.same }
 
     told_here : results ≡ told_of old (record { given = n.next.item; back = one.back; lists = one.lists })
-    told_here = one.ended.outcomes ∙ ap (λ y. outcomes_of (order_at old y) (served_at one.back)) (sym n.order_is)
+    told_here = one.ended.outcomes
 
 pub closed_end : (phase i : ℕ) (old : List Desk) (given : List Given) (before seats : List Seats) (dones : List PairDone) (settled settled' : List ChannelRun) (outcomes : List (List (List LineResult))) → ClosedNow phase i old given before seats dones settled settled' outcomes → length given ≤ i
     → AllClosed phase old given before seats settled settled' outcomes

@@ -1,11 +1,11 @@
 -- The seats of a phase's devices while its channels are opened.
-use Rattle.std.proofs.Common.{◌≡◌, ℕ, zero, suc, ◌+◌, ◌<◌, ◌≤◌, ◌==◌, ◌*◌, Bool, true, false, cond, List, [], ◌∷◌, ◌++◌, length, length-append, append_assoc, take, drop, get_or, refl, ap, sym, ◌∙◌, subst, arith, inl, inr, slice_set, slice_index_or, Option, Some, None}
+use Rattle.std.proofs.Common.{◌≡◌, ℕ, zero, suc, ◌+◌, ◌<◌, ◌≤◌, ◌==◌, ◌*◌, Bool, true, false, cond, List, [], ◌∷◌, ◌++◌, length, length-append, length-drop, append_assoc, take, drop, get_or, refl, ap, sym, ◌∙◌, subst, arith, inl, inr, slice_set, slice_index_or, Option, Some, None}
 use Rattle.std.specs.Prelude.{map, filter, All}
 use Rattle.std.specs.List.{AllByRecursion}
 use Rattle.std.proofs.Math.ListN.{length-set}
 use Rattle.std.proofs.Math.Seq.{get_or-append_seam}
 use Rattle.std.proofs.lemmas.List.Elements.{filter-append}
-use Rattle.std.proofs.lemmas.List.{take_more, take_all, drop_all, map-append, get_or-set_same, get_or-set_other, get_or_default, get_or_append_left}
+use Rattle.std.proofs.lemmas.List.{take_more, take_all, drop_all, drop_more, map-append, get_or-set_same, get_or-set_other, get_or_default, get_or_append_left}
 use Rattle.std.proofs.lemmas.Bool.{cases_eq}
 use Rattle.std.proofs.lemmas.Bool.Decides.{nat_tests}
 use Rattle.bus_model.proofs.Lists.{each_append}
@@ -178,6 +178,21 @@ reopened_more plan i old desks seats seats' new own so_far less away grown = sub
 
 pub reopened_end : (plan : List ChannelOrder) (i : ℕ) (old desks : List Desk) (seats : List Seats) → ReopenedSoFar plan i old desks seats → i ≤ length old → length old ≤ i → AreAway plan old desks seats
 reopened_end plan i old desks seats so_far most least = record { count = so_far.count; places = omega (arith, so_far.places, most, least); each = λ k less. so_far.each k (omega (arith, less, least)) }
+
+-- the channel that is opened next, where these are still to come
+
+pub next_less : (plan left rest : List ChannelOrder) (i : ℕ) (x : ChannelOrder) → left ≡ drop i plan → left ≡ x ∷ rest → i < length plan
+next_less plan left rest i x is next = omega (arith, length-drop i plan, ap length is, ap length next)
+
+pub next_is : (plan left rest : List ChannelOrder) (i : ℕ) (x : ChannelOrder) → left ≡ drop i plan → left ≡ x ∷ rest → x ≡ get_or plan i x
+next_is plan left rest i x is next =
+    let both : x ∷ rest ≡ get_or plan i x ∷ drop (i + 1) plan = sym next ∙ (is ∙ drop_more plan i x (next_less plan left rest i x is next)) in
+    ap (λ (l : List ChannelOrder). get_or l 0 x) both
+
+pub next_left : (plan left rest : List ChannelOrder) (i : ℕ) (x : ChannelOrder) → left ≡ drop i plan → left ≡ x ∷ rest → rest ≡ drop (i + 1) plan
+next_left plan left rest i x is next =
+    let both : x ∷ rest ≡ get_or plan i x ∷ drop (i + 1) plan = sym next ∙ (is ∙ drop_more plan i x (next_less plan left rest i x is next)) in
+    ap (λ (l : List ChannelOrder). drop 1 l) both
 
 -- channels opened one by one
 

@@ -10,12 +10,13 @@ use Rattle.end_work.specs.declared.device_seat.DeviceSeat.{DeviceSeat}
 use Rattle.phase_run.specs.Pairs.{Ran}
 use Rattle.phase_run.specs.declared.pair.PairDone.{PairDone}
 use Rattle.ring_model.specs.Lists.{Lists}
-use Rattle.bus_plan.specs.declared.opening.ChannelOrder.{ChannelOrder}
 use Rattle.bus_plan.specs.declared.opening.Opening.{Opening as Place}
 use Rattle.bus_run.specs.Desk.{desk_at, GoesOn}
 use Rattle.bus_run.specs.Opening.{Given, order_at, seats_at}
 use Rattle.bus_run.specs.Seats.{EachWith, ComesBack, kind_in, seats_in}
+use Rattle.bus_run.specs.Due.{due_of}
 use Rattle.bus_run.specs.declared.desk.Desk.{Desk}
+use Rattle.bus_run.specs.declared.due.Due.{Due}
 use Rattle.bus_run.specs.declared.seats.Seats.{Seats}
 
 -- a channel with this order and this seat carried what was ordered, its seat is this now, and these are the outcomes of its requests
@@ -36,10 +37,10 @@ pub record ChannelClosed (phase : ℕ) (place : Place) (order : Order) (first : 
 abbrev pub RanAt : List Desk → Given → PairDone → Type 0
 RanAt desks g done = Ran (order_at desks g.order) g.seat done
 
--- the channels of a phase, opened with these seats, have run; no seat stands here
-pub record AllCome (plan : List ChannelOrder) (old : List Desk) (given : List Given) (seats : List Seats) (dones : List PairDone) : Type 0 where
-  pub planned : map (λ g. g.order) given ≡ plan
-  pub within : AllByRecursion (λ x. x.opening.device < length old) plan
+-- the channels of a phase, of which this is due, were opened with these seats, and have run; no seat stands here
+pub record AllCome (dues : List Due) (old : List Desk) (given : List Given) (seats : List Seats) (dones : List PairDone) : Type 0 where
+  pub planned : map (λ g. due_of g.order) given ≡ dues
+  pub within : AllByRecursion (λ x. x.opening.device < length old) dues
   pub places : length seats ≡ length old
   pub fits : AllByRecursion (λ g. kind_in (seats_at seats g.order.opening.device) ≡ Some (kind_at g.seat)) given
   pub ran : EachWith (RanAt old) given dones

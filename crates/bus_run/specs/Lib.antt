@@ -6,3 +6,4 @@ pub mod Closing
 pub mod Channels
 pub mod Whole
 pub mod Outcomes
+pub mod Due

@@ -7,6 +7,7 @@ ghost use Rattle.bus_run.specs.Settings.{HasLimits};
 
 use crate::closing::{close_all, close_desks};
 use crate::desk::Desk;
+use crate::due::all_due;
 use crate::opening::{open_all, reopen_all};
 use crate::settings::Settings;
 use bus_model::ChannelRun;
@@ -16,31 +17,32 @@ use std::alloc::{AllocError, Global};
 use std::sync::Wait;
 use std::thread::Threads;
 
-/// Runs all channels that a phase opens, and answers the outcomes of their requests.
+/// Runs all channels that a phase opens, and answers the outcomes of their requests. The requests are moved out of the plan to the workers that ask them.
 pub fn run_channels<R: Threads + Wait + Sync, G: Gate>(
     rt: &R,
     gate: &G,
     alloc: Global,
     phase: u32,
-    plan: &[ChannelOrder],
+    plan: Vec<ChannelOrder>,
     settings: &[Settings],
     desks: &mut Vec<Desk>,
     settled: &mut Vec<ChannelRun>,
 ) -> Result<Outcomes, AllocError>
-    requires can { (p : Phase) × CanRun phase plan.now desks.old.items p }
+    requires can { (p : Phase) × CanRun phase plan.items desks.old.items p }
     requires ready { All (IsReady (4096 * phase)) desks.old.items }
     requires settings { length settings.now ≡ length desks.old.items }
     requires limits { All HasLimits settings.now }
     requires phase { phase ≤ 20000 }
     requires few { length desks.old.items ≤ 16 }
-    ensures ran { IfOk result (λ outcomes. (p : Phase) → CanRun phase plan.now desks.old.items p → ChannelsRan p desks.old.items desks.new.items settled.old.items settled.new.items outcomes) }
+    ensures ran { IfOk result (λ outcomes. (p : Phase) → CanRun phase plan.items desks.old.items p → ChannelsRan p desks.old.items desks.new.items settled.old.items settled.new.items outcomes) }
     ensures ready { OnOk result (All (IsReady (4096 * (phase + 1))) desks.new.items) }
 {
-    let mut seats = reopen_all(alloc, phase, plan, desks)?;
+    let mut seats = reopen_all(alloc, phase, &plan, desks)?;
+    let dues = all_due(alloc, &plan)?;
     let pairs = open_all(alloc, plan, settings, desks, &mut seats)?;
     let mut done = Vec::with_capacity(alloc, pairs.len())?;
     phase_run::run_phase(rt, pairs, &mut done, gate);
-    let outcomes = close_all(alloc, phase, plan, done, &mut seats, settled)?;
+    let outcomes = close_all(alloc, phase, &dues, done, &mut seats, settled)?;
     close_desks(desks, seats);
     Ok(outcomes)
 }

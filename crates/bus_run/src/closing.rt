@@ -17,9 +17,10 @@ ghost use Rattle.bus_run.specs.Outcomes.{served_line, served_lines};
 ghost use Rattle.bus_run.specs.Seats.{kind_in, seats_in};
 
 use crate::desk::Desk;
+use crate::due::Due;
 use crate::seats::Seats;
 use bus_model::ChannelRun;
-use bus_plan::{ChannelOrder, Outcomes};
+use bus_plan::Outcomes;
 use bus_script::{LineResult, Reply};
 use end_work::DeviceSeat;
 use phase_run::{PairDone, serving_seat};
@@ -109,25 +110,25 @@ fn end_channel(
 fn close_channel(
     alloc: Global,
     phase: u32,
-    channel: &ChannelOrder,
+    due: &Due,
     seats: &mut Seats,
     dones: &mut IntoIter<PairDone>,
     settled: &mut Vec<ChannelRun>,
 ) -> Result<Vec<LineResult>, AllocError>
-    requires { (order : OneOrder) × (first : OneSeat) × (done : OneDone) × (rest : List OneDone) × (length order.asks ≡ length channel.now.asks.items) × (kind_in seats.old ≡ Some (kind_at first)) × (into_iter_items dones.old ≡ done ∷ rest) × Ran order first done }
-    ensures closed { IfOk result (λ results. (order : OneOrder) (first : OneSeat) (done : OneDone) (rest : List OneDone) → length order.asks ≡ length channel.now.asks.items → into_iter_items dones.old ≡ done ∷ rest → Ran order first done
-        → ChannelClosed phase channel.now.opening order first seats.old seats.new settled.old.items settled.new.items results.items) }
+    requires { (order : OneOrder) × (first : OneSeat) × (done : OneDone) × (rest : List OneDone) × (length order.asks ≡ due.now.count) × (kind_in seats.old ≡ Some (kind_at first)) × (into_iter_items dones.old ≡ done ∷ rest) × Ran order first done }
+    ensures closed { IfOk result (λ results. (order : OneOrder) (first : OneSeat) (done : OneDone) (rest : List OneDone) → length order.asks ≡ due.now.count → into_iter_items dones.old ≡ done ∷ rest → Ran order first done
+        → ChannelClosed phase due.now.opening order first seats.old seats.new settled.old.items settled.new.items results.items) }
     ensures rest { OnOk result ((done : OneDone) (rest : List OneDone) → into_iter_items dones.old ≡ done ∷ rest → into_iter_items dones.new ≡ rest) }
 {
     let Some(done) = dones.next() else {
         unreachable!();
     };
-    let (lists, seat, results) = end_channel(alloc, channel.asks.len(), done)?;
+    let (lists, seat, results) = end_channel(alloc, due.count, done)?;
     seats.give_back(seat)?;
     settled.push(ChannelRun {
         phase,
-        relid: channel.opening.relid,
-        device: channel.opening.device,
+        relid: due.opening.relid,
+        device: due.opening.device,
         settled: lists,
     })?;
     Ok(results)
@@ -137,19 +138,19 @@ fn close_channel(
 pub fn close_all(
     alloc: Global,
     phase: u32,
-    plan: &[ChannelOrder],
+    dues: &[Due],
     done: Vec<PairDone>,
     seats: &mut Vec<Seats>,
     settled: &mut Vec<ChannelRun>,
 ) -> Result<Outcomes, AllocError>
-    requires { (old : List OneDesk) × (given : List Given) × AllCome plan.now old given seats.old.items done.items }
-    ensures { IfOk result (λ outcomes. (old : List OneDesk) (given : List Given) → AllCome plan.now old given seats.old.items done.items → AllClosed phase old given seats.old.items seats.new.items settled.old.items settled.new.items outcomes) }
+    requires { (old : List OneDesk) × (given : List Given) × AllCome dues.now old given seats.old.items done.items }
+    ensures { IfOk result (λ outcomes. (old : List OneDesk) (given : List Given) → AllCome dues.now old given seats.old.items done.items → AllClosed phase old given seats.old.items seats.new.items settled.old.items settled.new.items outcomes) }
 {
     let mut dones = done.into_iter();
     let mut outcomes = Outcomes::make(alloc, seats.len())?;
-    for channel in plan {
-        let at = channel.opening.device as usize;
-        let results = close_channel(alloc, phase, channel, &mut seats[at], &mut dones, settled)?;
+    for due in dues {
+        let at = due.opening.device as usize;
+        let results = close_channel(alloc, phase, due, &mut seats[at], &mut dones, settled)?;
         outcomes.push(at, results)?;
     }
     Ok(outcomes)

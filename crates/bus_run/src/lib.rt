@@ -5,6 +5,7 @@ mod bads;
 mod channels;
 mod closing;
 mod desk;
+mod due;
 mod opening;
 mod phase;
 mod runner;

@@ -87,21 +87,22 @@ fn kind_at(seat: &DeviceSeat) -> Kind
     }
 }
 
-/// The two workers of a channel, with this seat of its device, which has so many channels beside the first one. The device's end stops where the order says.
+/// The two workers of a channel, with this seat of its device, which has so many channels beside the first one. The device's end stops where the order says,
+/// and the requests are moved to the end that asks.
 fn open_channel(
     alloc: Global,
     settings: &Settings,
     subs: u32,
-    channel: &ChannelOrder,
+    channel: ChannelOrder,
     seat: DeviceSeat,
 ) -> Result<Pair, AllocError>
-    requires suits { Suits 4096 (order_with channel.now (kind_at seat) subs) }
-    requires sub { channel.now.opening.sub ≤ 3 }
+    requires suits { Suits 4096 (order_with channel (kind_at seat) subs) }
+    requires sub { channel.opening.sub ≤ 3 }
     requires subs { subs ≤ 3 }
     requires limits { HasLimits settings.now }
     requires fresh { served_at seat ≡ [] }
-    requires left { left_at seat ≡ length channel.now.asks.items }
-    ensures { IfOk result (IsOpenedWith settings.now channel.now.opening.relid (order_with channel.now (kind_at seat) subs) seat) }
+    requires left { left_at seat ≡ length channel.asks.items }
+    ensures { IfOk result (IsOpenedWith settings.now channel.opening.relid (order_with channel (kind_at seat) subs) seat) }
 {
     let kind = kind_at(&seat);
     open_pair(
@@ -113,7 +114,7 @@ fn open_channel(
         settings.pages,
         settings.window,
         seat,
-        &channel.asks,
+        channel.asks,
         channel.stop,
     )
 }
@@ -121,15 +122,15 @@ fn open_channel(
 /// Opens all channels of a phase, each with the next seat of its device.
 pub fn open_all(
     alloc: Global,
-    plan: &[ChannelOrder],
+    plan: Vec<ChannelOrder>,
     settings: &[Settings],
     desks: &[Desk],
     seats: &mut Vec<Seats>,
 ) -> Result<Vec<Pair>, AllocError>
-    requires away { (old : List OneDesk) × CanOpenAll plan.now old × AreAway plan.now old desks.now seats.old.items }
+    requires away { (old : List OneDesk) × CanOpenAll plan.items old × AreAway plan.items old desks.now seats.old.items }
     requires settings { length settings.now ≡ length desks.now }
     requires limits { All HasLimits settings.now }
-    ensures { IfOk result (λ pairs. (old : List OneDesk) → CanOpenAll plan.now old → AreAway plan.now old desks.now seats.old.items → AllOpened settings.now plan.now old seats.old.items seats.new.items pairs.items) }
+    ensures { IfOk result (λ pairs. (old : List OneDesk) → CanOpenAll plan.items old → AreAway plan.items old desks.now seats.old.items → AllOpened settings.now plan.items old seats.old.items seats.new.items pairs.items) }
 {
     let mut pairs = Vec::with_capacity(alloc, plan.len())?;
     for channel in plan {

@@ -58,8 +58,8 @@ pub fn run_phase<R: Threads + Wait + Sync, G: Gate>(
 {
     let subs = all_subs(alloc, desks)?;
     let plan = plan_part(alloc, ended, &subs, relid, part)?;
-    let outcomes = run_channels(rt, gate, alloc, phase, &plan, settings, desks, settled)?;
-    tell(alloc, ended, &outcomes, part, results)?;
+    let outcomes = run_channels(rt, gate, alloc, phase, plan, settings, desks, settled)?;
+    tell(ended, outcomes, part, results)?;
     mark_ended(ended, part);
     Ok(())
 }

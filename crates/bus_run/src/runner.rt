@@ -1,5 +1,5 @@
 //! The run of a script, phase by phase.
-ghost use Rattle.std.specs.Prelude.{◌≡◌, ◌+◌, ◌<◌, ◌≤◌, ◌∷◌, [], ◌++◌, List, length, map, take, drop, replicate, None, All, IfOk, OnOk, IsTrue, ◌↔◌, count_by, MatchOption, ⊤};
+ghost use Rattle.std.specs.Prelude.{◌≡◌, ◌+◌, ◌<◌, ◌≤◌, ◌∷◌, [], ◌++◌, List, length, map, take, drop, replicate, None, All, IfOk, OnOk, IsTrue, vec_capacity, ◌↔◌, count_by, MatchOption, ⊤};
 ghost use Rattle.bus_model.specs.Logs.{log_of, EachHistory};
 ghost use Rattle.bus_model.specs.Run.{IsBusRun};
 ghost use Rattle.script_lines.specs.Parts.{parts, offered, offered_by};
@@ -113,6 +113,22 @@ fn first_relid(offers: usize) -> u32
     offers as u32 + 1
 }
 
+/// Whether a line has an outcome, which prints.
+fn prints(line: &Line) -> bool
+    ensures { result ≡ prints line.now }
+{
+    matches!(line.what, What::Contact { .. } | What::Ask { .. })
+}
+
+/// Room for an outcome of each line that prints.
+fn new_results(alloc: Global, lines: &[Line]) -> Result<Vec<LineResult>, AllocError>
+    ensures none { IfOk result (λ results. results.items ≡ []) }
+    ensures room { IfOk result (λ results. count_by prints lines.now ≤ vec_capacity results) }
+{
+    let count = lines.iter().filter(|line| prints(line)).count();
+    Vec::with_capacity(alloc, count)
+}
+
 /// A place counted from another one.
 fn behind(at: usize, next: Option<usize>) -> Option<usize>
     requires { MatchOption next ⊤ (λ n. at + n ≤ 20000) }
@@ -135,6 +151,7 @@ impl Runner {
         let settings = all_settings(alloc, desks.len(), lines)?;
         let ended = none_ended(alloc, desks.len())?;
         let relid = first_relid(desks.len());
+        let results = new_results(alloc, lines)?;
         Ok(Runner {
             desks,
             settings,
@@ -143,7 +160,7 @@ impl Runner {
             next: Some(0),
             relid,
             settled: Vec::new(alloc),
-            results: Vec::new(alloc),
+            results,
         })
     }
 

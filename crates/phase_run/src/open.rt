@@ -25,22 +25,22 @@ use std::alloc::{AllocError, Global};
 use util_ic::IcAsk;
 
 // The command for a disk that a request is.
-fn disk_of(kind: Kind, ask: &Ask) -> DiskRequest
-    requires kind { kind_asked ask.now ≡ kind }
+fn disk_of(kind: Kind, ask: Ask) -> DiskRequest
+    requires kind { kind_asked ask ≡ kind }
     requires disk { kind ≡ DiskKind }
-    ensures { AskedDisk result ≡ ask.now }
+    ensures { AskedDisk result ≡ ask }
 {
-    match ask.again() {
+    match ask {
         Ask::Disk(request) => request,
         Ask::Ic(_) => unreachable!(),
     }
 }
 
-// The commands for a disk.
-fn disk_requests(alloc: Global, kind: Kind, asks: &[Ask]) -> Result<Vec<DiskRequest>, AllocError>
-    requires asks { AllCarried kind asks.now }
+// The commands for a disk, each of which is moved.
+fn disk_requests(alloc: Global, kind: Kind, asks: Vec<Ask>) -> Result<Vec<DiskRequest>, AllocError>
+    requires asks { AllCarried kind asks.items }
     requires disk { kind ≡ DiskKind }
-    ensures { IfOk result (λ all. map AskedDisk all.items ≡ asks.now) }
+    ensures { IfOk result (λ all. map AskedDisk all.items ≡ asks.items) }
 {
     let mut all = Vec::with_capacity(alloc, asks.len())?;
     for ask in asks {
@@ -50,22 +50,22 @@ fn disk_requests(alloc: Global, kind: Kind, asks: &[Ask]) -> Result<Vec<DiskRequ
 }
 
 // The request to a service that a request is.
-fn ic_of(kind: Kind, ask: &Ask) -> IcAsk
-    requires kind { kind_asked ask.now ≡ kind }
+fn ic_of(kind: Kind, ask: Ask) -> IcAsk
+    requires kind { kind_asked ask ≡ kind }
     requires host { side_that_asks kind ≡ HostSide }
-    ensures { AskedIc result ≡ ask.now }
+    ensures { AskedIc result ≡ ask }
 {
     match ask {
-        Ask::Ic(ask) => *ask,
+        Ask::Ic(ask) => ask,
         Ask::Disk(_) => unreachable!(),
     }
 }
 
 // The requests to a service.
-fn ic_requests(alloc: Global, kind: Kind, asks: &[Ask]) -> Result<Vec<IcAsk>, AllocError>
-    requires asks { AllCarried kind asks.now }
+fn ic_requests(alloc: Global, kind: Kind, asks: Vec<Ask>) -> Result<Vec<IcAsk>, AllocError>
+    requires asks { AllCarried kind asks.items }
     requires host { side_that_asks kind ≡ HostSide }
-    ensures { IfOk result (λ all. map AskedIc all.items ≡ asks.now) }
+    ensures { IfOk result (λ all. map AskedIc all.items ≡ asks.items) }
 {
     let mut all = Vec::with_capacity(alloc, asks.len())?;
     for ask in asks {
@@ -215,7 +215,7 @@ fn open_service(
     pages: u32,
     window: u32,
     seat: GuestSeat,
-    asks: &[Ask],
+    asks: Vec<Ask>,
     stop: Option<Stop>,
 ) -> Result<Pair, AllocError>
     requires host { side_that_asks kind ≡ HostSide }
@@ -223,10 +223,10 @@ fn open_service(
     requires subs { subs ≤ 3 }
     requires pages { (1 ≤ pages) × (pages ≤ 16) }
     requires window { (1 ≤ window) × (window ≤ 64) }
-    requires few { length asks.now ≤ 4096 }
-    requires asks { AllCarried kind asks.now }
-    requires seat { IsNewSeat kind (length asks.now) (at_guest seat) }
-    ensures opens { IfOk result (OpensWith (record { kind = kind; sub = sub; subs = subs; asks = asks.now; stop = stop_of stop }) (at_guest seat)) }
+    requires few { length asks.items ≤ 4096 }
+    requires asks { AllCarried kind asks.items }
+    requires seat { IsNewSeat kind (length asks.items) (at_guest seat) }
+    ensures opens { IfOk result (OpensWith (record { kind = kind; sub = sub; subs = subs; asks = asks.items; stop = stop_of stop }) (at_guest seat)) }
     ensures channel { IfOk result (AreOnChannel relid (512 * pages) window) }
 {
     let count = asks.len() as u32;
@@ -246,7 +246,7 @@ fn open_disk(
     pages: u32,
     window: u32,
     seat: HostSeat,
-    asks: &[Ask],
+    asks: Vec<Ask>,
     stop: Option<Stop>,
 ) -> Result<Pair, AllocError>
     requires disk { kind ≡ DiskKind }
@@ -254,10 +254,10 @@ fn open_disk(
     requires subs { subs ≤ 3 }
     requires pages { (1 ≤ pages) × (pages ≤ 16) }
     requires window { (1 ≤ window) × (window ≤ 64) }
-    requires few { length asks.now ≤ 4096 }
-    requires asks { AllCarried kind asks.now }
-    requires seat { IsNewSeat kind (length asks.now) (at_host seat) }
-    ensures opens { IfOk result (OpensWith (record { kind = kind; sub = sub; subs = subs; asks = asks.now; stop = stop_of stop }) (at_host seat)) }
+    requires few { length asks.items ≤ 4096 }
+    requires asks { AllCarried kind asks.items }
+    requires seat { IsNewSeat kind (length asks.items) (at_host seat) }
+    ensures opens { IfOk result (OpensWith (record { kind = kind; sub = sub; subs = subs; asks = asks.items; stop = stop_of stop }) (at_host seat)) }
     ensures channel { IfOk result (AreOnChannel relid (512 * pages) window) }
 {
     let count = asks.len() as u32;
@@ -279,7 +279,7 @@ pub fn open_pair(
     pages: u32,
     window: u32,
     seat: DeviceSeat,
-    asks: &[Ask],
+    asks: Vec<Ask>,
     stop: Option<Stop>,
 ) -> Result<Pair, AllocError>
     requires kind { kind_at seat ≡ kind }
@@ -287,11 +287,11 @@ pub fn open_pair(
     requires subs { subs ≤ 3 }
     requires pages { (1 ≤ pages) × (pages ≤ 16) }
     requires window { (1 ≤ window) × (window ≤ 64) }
-    requires few { length asks.now ≤ 4096 }
-    requires asks { AllCarried kind asks.now }
+    requires few { length asks.items ≤ 4096 }
+    requires asks { AllCarried kind asks.items }
     requires fresh { served_at seat ≡ [] }
-    requires left { length asks.now ≤ left_at seat }
-    ensures opens { IfOk result (Opens (record { kind = kind; sub = sub; subs = subs; asks = asks.now; stop = stop_of stop }) seat) }
+    requires left { length asks.items ≤ left_at seat }
+    ensures opens { IfOk result (Opens (record { kind = kind; sub = sub; subs = subs; asks = asks.items; stop = stop_of stop }) seat) }
     ensures channel { IfOk result (AreOnChannel relid (512 * pages) window) }
 {
     match seat {

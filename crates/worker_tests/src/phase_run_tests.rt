@@ -21,14 +21,24 @@ use std::process::Abort;
 use std::sync::Wait;
 use util_ic::{BeatMachine, DownMachine, IcAsk};
 
+// Three requests.
+fn three(rt: &(impl Abort + AllocGlobal), asks: [Ask; 3]) -> Vec<Ask>
+    ensures { result.items ≡ asks }
+{
+    Vec::from_array(rt.alloc(), asks).expect(rt, "memory")
+}
+
 // The heartbeats 7, 8 and 9.
 fn beats(rt: &(impl Abort + AllocGlobal)) -> Pair {
     let alloc = rt.alloc();
-    let asks = [
-        Ask::Ic(IcAsk::Beat { seq: 7 }),
-        Ask::Ic(IcAsk::Beat { seq: 8 }),
-        Ask::Ic(IcAsk::Beat { seq: 9 }),
-    ];
+    let asks = three(
+        rt,
+        [
+            Ask::Ic(IcAsk::Beat { seq: 7 }),
+            Ask::Ic(IcAsk::Beat { seq: 8 }),
+            Ask::Ic(IcAsk::Beat { seq: 9 }),
+        ],
+    );
     let seat = only_seat(alloc, BeatMachine::make(), 3).expect(rt, "memory");
     open_pair(
         alloc,
@@ -39,7 +49,7 @@ fn beats(rt: &(impl Abort + AllocGlobal)) -> Pair {
         1,
         2,
         DeviceSeat::Beat(seat),
-        &asks,
+        asks,
         None,
     )
     .expect(rt, "memory")
@@ -60,7 +70,7 @@ fn down(flags: u32) -> Ask
 // Two shutdowns, and a hibernation between them.
 fn downs(rt: &(impl Abort + AllocGlobal)) -> Pair {
     let alloc = rt.alloc();
-    let asks = [down(0), down(4), down(1)];
+    let asks = three(rt, [down(0), down(4), down(1)]);
     let seat = only_seat(alloc, DownMachine::make(), 3).expect(rt, "memory");
     open_pair(
         alloc,
@@ -71,7 +81,7 @@ fn downs(rt: &(impl Abort + AllocGlobal)) -> Pair {
         2,
         1,
         DeviceSeat::Down(seat),
-        &asks,
+        asks,
         None,
     )
     .expect(rt, "memory")
@@ -110,11 +120,14 @@ fn blocks(rt: &(impl Abort + AllocGlobal), stop: Option<Stop>) -> Pair
     requires { CanStop OneKind.Disk (stop_of stop) }
 {
     let alloc = rt.alloc();
-    let asks = [
-        command(rt, [0x2a, 0, 0, 0, 0, 3, 0, 0, 1, 0], &[9; 512]),
-        command(rt, [0x28, 0, 0, 0, 0, 3, 0, 0, 1, 0], &[]),
-        command(rt, [0x28, 0, 0, 0, 0, 5, 0, 0, 1, 0], &[]),
-    ];
+    let asks = three(
+        rt,
+        [
+            command(rt, [0x2a, 0, 0, 0, 0, 3, 0, 0, 1, 0], &[9; 512]),
+            command(rt, [0x28, 0, 0, 0, 0, 3, 0, 0, 1, 0], &[]),
+            command(rt, [0x28, 0, 0, 0, 0, 5, 0, 0, 1, 0], &[]),
+        ],
+    );
     let disk = Disk::make(alloc, 64, &[5]).expect(rt, "memory");
     let seat = only_seat(alloc, disk, 3).expect(rt, "memory");
     open_pair(
@@ -126,7 +139,7 @@ fn blocks(rt: &(impl Abort + AllocGlobal), stop: Option<Stop>) -> Pair
         1,
         4,
         DeviceSeat::Disk(seat),
-        &asks,
+        asks,
         stop,
     )
     .expect(rt, "memory")

@@ -6,6 +6,6 @@ use Rattle.bus_run.specs.declared.desk.Desk.{Desk}
 use Rattle.bus_run.proofs.Closed.{ClosedNow}
 use Rattle.bus_run.proofs.closing.close_all.Given as goal
 
-abbrev pub invariant-loop-channel : goal.invariant-loop-channel
-invariant-loop-channel l = (old : List Desk) (given : List Given) → AllCome l.plan old given l.fn.seats.items l.fn.done.items
-    → ClosedNow l.phase l.channel-index old given l.fn.seats.items l.seats.items (into_iter_items l.dones) l.fn.settled.items l.settled.items l.outcomes
+abbrev pub invariant-loop-due : goal.invariant-loop-due
+invariant-loop-due l = (old : List Desk) (given : List Given) → AllCome l.dues old given l.fn.seats.items l.fn.done.items
+    → ClosedNow l.phase l.due-index old given l.fn.seats.items l.seats.items (into_iter_items l.dones) l.fn.settled.items l.settled.items l.outcomes

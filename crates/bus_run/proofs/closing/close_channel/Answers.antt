@@ -7,13 +7,13 @@ pub end_channel-requires : goal.end_channel-requires
 end_channel-requires c =
     let w = c.requires in
     let same : w.2 ≡ c.in-Some.done = ap (λ l. get_or l 0 w.2) (sym w.6 ∙ c.in-Some.ensures.items) in
-    (w.0, w.1, omega (arith, w.4, c.len.ensures), subst (Ran w.0 w.1) same w.7)
+    (w.0, w.1, w.4, subst (Ran w.0 w.1) same w.7)
 
 pub give_back-requires : goal.give_back-requires
 give_back-requires c =
     let w = c.requires in
     let same : w.2 ≡ c.in-Some.done = ap (λ l. get_or l 0 w.2) (sym w.6 ∙ c.in-Some.ensures.items) in
-    let ended = c.in_ok-lists.ensures w.0 w.1 (omega (arith, w.4, c.len.ensures)) (subst (Ran w.0 w.1) same w.7) in
+    let ended = c.in_ok-lists.ensures w.0 w.1 w.4 (subst (Ran w.0 w.1) same w.7) in
     w.5 ∙ ap (λ k. Some k) (sym (same_kind w.1 c.in_ok-lists.seat ended.same))
 
 pub returns-clause-closed : goal.returns-clause-closed
@@ -22,7 +22,7 @@ returns-clause-closed c order first done rest many are ran =
     record {
       lists = c.in_ok-lists.lists;
       back = c.in_ok-lists.seat;
-      ended = c.in_ok-lists.ensures order first (omega (arith, many, c.len.ensures)) (subst (Ran order first) same ran);
+      ended = c.in_ok-lists.ensures order first many (subst (Ran order first) same ran);
       seats = c.in_ok-give_back.ensures.seats;
       kind = c.in_ok-give_back.ensures.kind;
       settled_are = c.in_ok-push.ensures.items;

@@ -2,8 +2,6 @@ use Rattle.std.proofs.Common.{map, ◌∙◌, ◌*◌, ap, sym, subst, length, a
 use Rattle.std.proofs.lemmas.List.{length-map}
 use Rattle.bus_plan.specs.Heard.{AllBelow}
 use Rattle.bus_plan.specs.Outcomes.{AreTold}
-use Rattle.bus_plan.specs.Plans.{EachOrdered}
-use Rattle.script_phases.specs.Openings.{by_relid}
 use Rattle.bus_run.specs.Desk.{spec_of, subs_of as subs_beside}
 use Rattle.bus_run.specs.Whole.{specs_of}
 use Rattle.bus_run.proofs.Asking.{below_all}
@@ -15,8 +13,8 @@ run_channels-requires-clause-can g c κs asked =
     let p = c.requires.this.0 in
     let this = c.requires.this.1 in
     let desks = c.args.desks.now.items in
-    let ordered = subst (EachOrdered p (by_relid p.opened)) (sym c.deref-3.ensures.value) (c.in_ok-plan.ensures.plan (specs_of desks) p (known_subs (4096 * c.args.phase) desks c.requires.ready ∙ sym (c.deref-2.ensures.value ∙ (c.in_ok-subs.ensures ∙ ap (map subs_beside) c.deref.ensures.value))) this.of) in
-    (p, can_run c.args.phase c.args.part.now c.args.ended.now c.args.relid.now c.deref-3.result.now desks p this ordered c.requires.ready c.requires.right c.requires.go c.requires.asks c.requires.subs c.requires.channels)
+    let ordered = (c.in_ok-plan.ensures.plan (specs_of desks) p (known_subs (4096 * c.args.phase) desks c.requires.ready ∙ sym (c.deref-2.ensures.value ∙ (c.in_ok-subs.ensures ∙ ap (map subs_beside) c.deref.ensures.value))) this.of) in
+    (p, can_run c.args.phase c.args.part.now c.args.ended.now c.args.relid.now c.in_ok-plan.plan.items desks p this ordered c.requires.ready c.requires.right c.requires.go c.requires.asks c.requires.subs c.requires.channels)
 
 pub tell-requires-clause-below : goal.tell-requires-clause-below
 tell-requires-clause-below g c =
@@ -30,23 +28,23 @@ pub tell-requires-clause-devices : goal.tell-requires-clause-devices
 tell-requires-clause-devices g c =
     let p = c.requires.this.0 in
     let desks = c.args.desks.now.items in
-    let ordered = subst (EachOrdered p (by_relid p.opened)) (sym c.deref-3.ensures.value) (c.in_ok-plan.ensures.plan (specs_of desks) p (known_subs (4096 * c.args.phase) desks c.requires.ready ∙ sym (c.deref-2.ensures.value ∙ (c.in_ok-subs.ensures ∙ ap (map subs_beside) c.deref.ensures.value))) c.requires.this.1.of) in
-    let can = can_run c.args.phase c.args.part.now c.args.ended.now c.args.relid.now c.deref-3.result.now desks p c.requires.this.1 ordered c.requires.ready c.requires.right c.requires.go c.requires.asks c.requires.subs c.requires.channels in
+    let ordered = (c.in_ok-plan.ensures.plan (specs_of desks) p (known_subs (4096 * c.args.phase) desks c.requires.ready ∙ sym (c.deref-2.ensures.value ∙ (c.in_ok-subs.ensures ∙ ap (map subs_beside) c.deref.ensures.value))) c.requires.this.1.of) in
+    let can = can_run c.args.phase c.args.part.now c.args.ended.now c.args.relid.now c.in_ok-plan.plan.items desks p c.requires.this.1 ordered c.requires.ready c.requires.right c.requires.go c.requires.asks c.requires.subs c.requires.channels in
     (c.in_ok-outcomes.ensures.ran p can).long ∙ sym c.requires.ended
 
 pub tell-requires-clause-has : goal.tell-requires-clause-has
 tell-requires-clause-has g c =
     let p = c.requires.this.0 in
     let desks = c.args.desks.now.items in
-    let ordered = subst (EachOrdered p (by_relid p.opened)) (sym c.deref-3.ensures.value) (c.in_ok-plan.ensures.plan (specs_of desks) p (known_subs (4096 * c.args.phase) desks c.requires.ready ∙ sym (c.deref-2.ensures.value ∙ (c.in_ok-subs.ensures ∙ ap (map subs_beside) c.deref.ensures.value))) c.requires.this.1.of) in
-    let can = can_run c.args.phase c.args.part.now c.args.ended.now c.args.relid.now c.deref-3.result.now desks p c.requires.this.1 ordered c.requires.ready c.requires.right c.requires.go c.requires.asks c.requires.subs c.requires.channels in
+    let ordered = (c.in_ok-plan.ensures.plan (specs_of desks) p (known_subs (4096 * c.args.phase) desks c.requires.ready ∙ sym (c.deref-2.ensures.value ∙ (c.in_ok-subs.ensures ∙ ap (map subs_beside) c.deref.ensures.value))) c.requires.this.1.of) in
+    let can = can_run c.args.phase c.args.part.now c.args.ended.now c.args.relid.now c.in_ok-plan.plan.items desks p c.requires.this.1 ordered c.requires.ready c.requires.right c.requires.go c.requires.asks c.requires.subs c.requires.channels in
     have_outcomes c.args.phase c.args.part.now c.args.ended.now c.args.relid.now desks c.run_channels.new.desks.items c.args.settled.now.items c.run_channels.new.settled.items c.in_ok-outcomes.outcomes p c.requires.this.1 (c.in_ok-outcomes.ensures.ran p can)
 
 pub returns-clause-ran : goal.returns-clause-ran
 returns-clause-ran g c p this =
     let desks = c.args.desks.now.items in
-    let ordered = subst (EachOrdered p (by_relid p.opened)) (sym c.deref-3.ensures.value) (c.in_ok-plan.ensures.plan (specs_of desks) p (known_subs (4096 * c.args.phase) desks c.requires.ready ∙ sym (c.deref-2.ensures.value ∙ (c.in_ok-subs.ensures ∙ ap (map subs_beside) c.deref.ensures.value))) this.of) in
-    let can = can_run c.args.phase c.args.part.now c.args.ended.now c.args.relid.now c.deref-3.result.now desks p this ordered c.requires.ready c.requires.right c.requires.go c.requires.asks c.requires.subs c.requires.channels in
+    let ordered = (c.in_ok-plan.ensures.plan (specs_of desks) p (known_subs (4096 * c.args.phase) desks c.requires.ready ∙ sym (c.deref-2.ensures.value ∙ (c.in_ok-subs.ensures ∙ ap (map subs_beside) c.deref.ensures.value))) this.of) in
+    let can = can_run c.args.phase c.args.part.now c.args.ended.now c.args.relid.now c.in_ok-plan.plan.items desks p this ordered c.requires.ready c.requires.right c.requires.go c.requires.asks c.requires.subs c.requires.channels in
     let ran = c.in_ok-outcomes.ensures.ran p can in
     let told = subst (λ n. AreTold p ran.channels n c.in_ok-outcomes.outcomes) (sym c.requires.ended) ran.told in
     phase_ran p desks c.run_channels.new.desks.items c.args.settled.now.items c.run_channels.new.settled.items c.in_ok-outcomes.outcomes c.args.results.now.items c.tell.new.results.items ran (c.in_ok-tell.ensures p ran.channels this.of.part_is this.of.ended_are told)

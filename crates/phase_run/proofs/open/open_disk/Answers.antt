@@ -9,16 +9,16 @@ use Rattle.phase_run.proofs.open.open_disk.Goals as goal
 pub make_pair-requires-clause-guest : goal.make_pair-requires-clause-guest
 make_pair-requires-clause-guest c = subst (CanPlan Guest) (sym c.guest_plan-guest.ensures) (record {
   window = c.requires.window;
-  few = c.requires.few;
+  few = omega (arith, c.len-count.ensures, c.args.asks.ok.0, c.requires.few);
   subs = c.requires.subs;
   stop = tt;
-  asks = λ side. (ap length c.in_ok-requests.ensures, subst (AllCarried c.args.kind) (sym c.in_ok-requests.ensures) c.requires.asks);
+  asks = λ side. (omega (arith, ap length c.in_ok-requests.ensures, c.len-count.ensures, c.args.asks.ok.0), subst (AllCarried c.args.kind) (sym c.in_ok-requests.ensures) c.requires.asks);
 })
 
 pub make_pair-requires-clause-host : goal.make_pair-requires-clause-host
 make_pair-requires-clause-host c = subst (CanPlan Host) (sym c.host_plan-host.ensures) (record {
   window = c.requires.window;
-  few = c.requires.few;
+  few = omega (arith, c.len-count.ensures, c.args.asks.ok.0, c.requires.few);
   subs = c.requires.subs;
   stop = c.requires.stop;
   asks = λ side. let no : Host ≡ Guest = side ∙ ap side_that_asks c.requires.disk in absurd (cc);
@@ -26,16 +26,18 @@ make_pair-requires-clause-host c = subst (CanPlan Host) (sym c.host_plan-host.en
 
 pub make_pair-requires-clause-roles : goal.make_pair-requires-clause-roles
 make_pair-requires-clause-roles c guest host asked served =
-    host_roles (ordered c.args.kind c.args.sub c.args.subs c.args.asks.now (stop_of c.args.stop)) (at_host c.args.seat) (guest_planned c.guest_plan-guest.result) (host_planned c.host_plan-host.result) guest host c.requires.seat
-    (plan_for c.args.kind c.args.sub c.args.subs c.args.asks.now (stop_of c.args.stop) c.host_plan-host.ensures) (ap (λ (p : Planned). p.count) c.host_plan-host.ensures) (ap (λ (p : Planned). p.stop) c.host_plan-host.ensures)
-    (plan_for c.args.kind c.args.sub c.args.subs c.args.asks.now (stop_of c.args.stop) c.guest_plan-guest.ensures) (ap (λ (p : Planned). p.asks) c.guest_plan-guest.ensures ∙ c.in_ok-requests.ensures) served asked
+    let many : c.len-count.result ≡ length c.args.asks.items = omega (arith, c.len-count.ensures, c.args.asks.ok.0) in
+    host_roles (ordered c.args.kind c.args.sub c.args.subs c.args.asks.items (stop_of c.args.stop)) (at_host c.args.seat) (guest_planned c.guest_plan-guest.result) (host_planned c.host_plan-host.result) guest host c.requires.seat
+    (plan_for c.args.kind c.args.sub c.args.subs c.args.asks.items (stop_of c.args.stop) c.host_plan-host.ensures) (ap (λ (p : Planned). p.count) c.host_plan-host.ensures ∙ many) (ap (λ (p : Planned). p.stop) c.host_plan-host.ensures)
+    (plan_for c.args.kind c.args.sub c.args.subs c.args.asks.items (stop_of c.args.stop) c.guest_plan-guest.ensures) (ap (λ (p : Planned). p.asks) c.guest_plan-guest.ensures ∙ c.in_ok-requests.ensures) served asked
 
 pub returns-clause-opens : goal.returns-clause-opens
 returns-clause-opens c =
-    made_opens (ordered c.args.kind c.args.sub c.args.subs c.args.asks.now (stop_of c.args.stop)) (at_host c.args.seat) (guest_planned c.guest_plan-guest.result) (host_planned c.host_plan-host.result) None (at_host c.args.seat) c.make_pair.result
-    (λ guest host asked served. host_opens (ordered c.args.kind c.args.sub c.args.subs c.args.asks.now (stop_of c.args.stop)) (at_host c.args.seat) (guest_planned c.guest_plan-guest.result) (host_planned c.host_plan-host.result) guest host (ap side_that_asks c.requires.disk) c.requires.seat
-    (plan_for c.args.kind c.args.sub c.args.subs c.args.asks.now (stop_of c.args.stop) c.host_plan-host.ensures) (ap (λ (p : Planned). p.count) c.host_plan-host.ensures) (ap (λ (p : Planned). p.stop) c.host_plan-host.ensures)
-    (plan_for c.args.kind c.args.sub c.args.subs c.args.asks.now (stop_of c.args.stop) c.guest_plan-guest.ensures) (ap (λ (p : Planned). p.asks) c.guest_plan-guest.ensures ∙ c.in_ok-requests.ensures) served asked)
+    let many : c.len-count.result ≡ length c.args.asks.items = omega (arith, c.len-count.ensures, c.args.asks.ok.0) in
+    made_opens (ordered c.args.kind c.args.sub c.args.subs c.args.asks.items (stop_of c.args.stop)) (at_host c.args.seat) (guest_planned c.guest_plan-guest.result) (host_planned c.host_plan-host.result) None (at_host c.args.seat) c.make_pair.result
+    (λ guest host asked served. host_opens (ordered c.args.kind c.args.sub c.args.subs c.args.asks.items (stop_of c.args.stop)) (at_host c.args.seat) (guest_planned c.guest_plan-guest.result) (host_planned c.host_plan-host.result) guest host (ap side_that_asks c.requires.disk) c.requires.seat
+    (plan_for c.args.kind c.args.sub c.args.subs c.args.asks.items (stop_of c.args.stop) c.host_plan-host.ensures) (ap (λ (p : Planned). p.count) c.host_plan-host.ensures ∙ many) (ap (λ (p : Planned). p.stop) c.host_plan-host.ensures)
+    (plan_for c.args.kind c.args.sub c.args.subs c.args.asks.items (stop_of c.args.stop) c.guest_plan-guest.ensures) (ap (λ (p : Planned). p.asks) c.guest_plan-guest.ensures ∙ c.in_ok-requests.ensures) served asked)
     c.make_pair.ensures.guest c.make_pair.ensures.host
 
 pub returns-clause-channel : goal.returns-clause-channel

@@ -8,7 +8,7 @@ use Rattle.phase_run.proofs.open.open_service.Goals as goal
 pub make_pair-requires-clause-guest : goal.make_pair-requires-clause-guest
 make_pair-requires-clause-guest c = subst (CanPlan Guest) (sym c.guest_plan-guest.ensures) (record {
   window = c.requires.window;
-  few = c.requires.few;
+  few = omega (arith, c.len-count.ensures, c.args.asks.ok.0, c.requires.few);
   subs = c.requires.subs;
   stop = tt;
   asks = λ side. let no : Guest ≡ Host = side ∙ c.requires.host in absurd (cc);
@@ -17,24 +17,26 @@ make_pair-requires-clause-guest c = subst (CanPlan Guest) (sym c.guest_plan-gues
 pub make_pair-requires-clause-host : goal.make_pair-requires-clause-host
 make_pair-requires-clause-host c = subst (CanPlan Host) (sym c.host_plan-host.ensures) (record {
   window = c.requires.window;
-  few = c.requires.few;
+  few = omega (arith, c.len-count.ensures, c.args.asks.ok.0, c.requires.few);
   subs = c.requires.subs;
   stop = c.requires.stop;
-  asks = λ side. (ap length c.in_ok-requests.ensures, subst (AllCarried c.args.kind) (sym c.in_ok-requests.ensures) c.requires.asks);
+  asks = λ side. (omega (arith, ap length c.in_ok-requests.ensures, c.len-count.ensures, c.args.asks.ok.0), subst (AllCarried c.args.kind) (sym c.in_ok-requests.ensures) c.requires.asks);
 })
 
 pub make_pair-requires-clause-roles : goal.make_pair-requires-clause-roles
 make_pair-requires-clause-roles c guest host =
-    guest_roles (ordered c.args.kind c.args.sub c.args.subs c.args.asks.now (stop_of c.args.stop)) (at_guest c.args.seat) (guest_planned c.guest_plan-guest.result) (host_planned c.host_plan-host.result) guest host c.requires.seat
-    (plan_for c.args.kind c.args.sub c.args.subs c.args.asks.now (stop_of c.args.stop) c.guest_plan-guest.ensures) (ap (λ (p : Planned). p.count) c.guest_plan-guest.ensures) (ap (λ (p : Planned). p.stop) c.guest_plan-guest.ensures ∙ goes_on c.args.kind (stop_of c.args.stop) c.requires.host c.requires.stop)
-    (plan_for c.args.kind c.args.sub c.args.subs c.args.asks.now (stop_of c.args.stop) c.host_plan-host.ensures) (ap (λ (p : Planned). p.asks) c.host_plan-host.ensures ∙ c.in_ok-requests.ensures)
+    let many : c.len-count.result ≡ length c.args.asks.items = omega (arith, c.len-count.ensures, c.args.asks.ok.0) in
+    guest_roles (ordered c.args.kind c.args.sub c.args.subs c.args.asks.items (stop_of c.args.stop)) (at_guest c.args.seat) (guest_planned c.guest_plan-guest.result) (host_planned c.host_plan-host.result) guest host c.requires.seat
+    (plan_for c.args.kind c.args.sub c.args.subs c.args.asks.items (stop_of c.args.stop) c.guest_plan-guest.ensures) (ap (λ (p : Planned). p.count) c.guest_plan-guest.ensures ∙ many) (ap (λ (p : Planned). p.stop) c.guest_plan-guest.ensures ∙ goes_on c.args.kind (stop_of c.args.stop) c.requires.host c.requires.stop)
+    (plan_for c.args.kind c.args.sub c.args.subs c.args.asks.items (stop_of c.args.stop) c.host_plan-host.ensures) (ap (λ (p : Planned). p.asks) c.host_plan-host.ensures ∙ c.in_ok-requests.ensures)
 
 pub returns-clause-opens : goal.returns-clause-opens
 returns-clause-opens c =
-    made_opens (ordered c.args.kind c.args.sub c.args.subs c.args.asks.now (stop_of c.args.stop)) (at_guest c.args.seat) (guest_planned c.guest_plan-guest.result) (host_planned c.host_plan-host.result) (at_guest c.args.seat) None c.make_pair.result
-    (λ guest host. guest_opens (ordered c.args.kind c.args.sub c.args.subs c.args.asks.now (stop_of c.args.stop)) (at_guest c.args.seat) (guest_planned c.guest_plan-guest.result) (host_planned c.host_plan-host.result) guest host c.requires.host c.requires.seat
-    (plan_for c.args.kind c.args.sub c.args.subs c.args.asks.now (stop_of c.args.stop) c.guest_plan-guest.ensures) (ap (λ (p : Planned). p.count) c.guest_plan-guest.ensures) (ap (λ (p : Planned). p.stop) c.guest_plan-guest.ensures ∙ goes_on c.args.kind (stop_of c.args.stop) c.requires.host c.requires.stop)
-    (plan_for c.args.kind c.args.sub c.args.subs c.args.asks.now (stop_of c.args.stop) c.host_plan-host.ensures) (ap (λ (p : Planned). p.asks) c.host_plan-host.ensures ∙ c.in_ok-requests.ensures))
+    let many : c.len-count.result ≡ length c.args.asks.items = omega (arith, c.len-count.ensures, c.args.asks.ok.0) in
+    made_opens (ordered c.args.kind c.args.sub c.args.subs c.args.asks.items (stop_of c.args.stop)) (at_guest c.args.seat) (guest_planned c.guest_plan-guest.result) (host_planned c.host_plan-host.result) (at_guest c.args.seat) None c.make_pair.result
+    (λ guest host. guest_opens (ordered c.args.kind c.args.sub c.args.subs c.args.asks.items (stop_of c.args.stop)) (at_guest c.args.seat) (guest_planned c.guest_plan-guest.result) (host_planned c.host_plan-host.result) guest host c.requires.host c.requires.seat
+    (plan_for c.args.kind c.args.sub c.args.subs c.args.asks.items (stop_of c.args.stop) c.guest_plan-guest.ensures) (ap (λ (p : Planned). p.count) c.guest_plan-guest.ensures ∙ many) (ap (λ (p : Planned). p.stop) c.guest_plan-guest.ensures ∙ goes_on c.args.kind (stop_of c.args.stop) c.requires.host c.requires.stop)
+    (plan_for c.args.kind c.args.sub c.args.subs c.args.asks.items (stop_of c.args.stop) c.host_plan-host.ensures) (ap (λ (p : Planned). p.asks) c.host_plan-host.ensures ∙ c.in_ok-requests.ensures))
     c.make_pair.ensures.guest c.make_pair.ensures.host
 
 pub returns-clause-channel : goal.returns-clause-channel

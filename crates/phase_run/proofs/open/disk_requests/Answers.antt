@@ -1,7 +1,0 @@
-use Rattle.std.proofs.Common.{◌∙◌, ap}
-use Rattle.script_lines.specs.Parts.{kind_asked}
-use Rattle.end_work.proofs.Opening.{carried_kind}
-use Rattle.phase_run.proofs.open.disk_requests.Goals as goal
-
-pub disk_of-requires-clause-kind : goal.disk_of-requires-clause-kind
-disk_of-requires-clause-kind c = ap kind_asked c.ask-item.is ∙ carried_kind c.args.kind c.args.asks.now c.loop-ask.ask-index c.ask-item.result c.requires.asks c.loop-ask-test.true
