@@ -7,3 +7,4 @@ pub mod Channels
 pub mod Whole
 pub mod Outcomes
 pub mod Due
+pub mod Parts

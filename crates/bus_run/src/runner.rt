@@ -8,6 +8,7 @@ ghost use Rattle.script_lines.specs.declared.line.DeviceSpec.{DeviceSpec as OneS
 ghost use Rattle.bus_script.specs.Report.{prints};
 ghost use Rattle.script_lines.specs.WellFormed.{AllRight};
 ghost use Rattle.bus_run.specs.Desk.{IsKept, spec_of, setup_of, desk_log};
+ghost use Rattle.bus_run.specs.Parts.{AreOpen};
 ghost use Rattle.bus_run.specs.Whole.{AreFresh, CanMake, RunsSoFar, behind, setups_from};
 
 use crate::bads::bad_places;
@@ -17,6 +18,7 @@ use crate::settings::{Settings, all_settings};
 use bus_model::{ChannelRun, DeviceHistory};
 use bus_plan::{Ending, first_part};
 use bus_script::{Line, LineResult, Script, What};
+use control_run::ControlPath;
 use io_edge::Gate;
 use std::alloc::{AllocError, Global};
 use std::mem;
@@ -178,16 +180,19 @@ impl Runner {
         self.next.is_some()
     }
 
-    /// Runs the next phase: its channels are opened in order of their relids, run all at once, and are closed.
+    /// Runs the next phase: its channels are opened in order of their relids, run all at once, and are closed. `path` shows that the controls opened them:
+    /// both are done with the start of this phase, and with nothing behind it.
     pub fn run_next<R: Threads + Wait + Sync, G: Gate>(
         &mut self,
         rt: &R,
         gate: &G,
         alloc: Global,
         script: &Script,
+        path: &ControlPath,
     ) -> Result<(), AllocError>
         requires so_far { RunsSoFar script.now self.old }
         requires more { self.old.phase < length (parts script.now) }
+        requires open { AreOpen script.now self.old.phase path.now }
         ensures so_far { OnOk result (RunsSoFar script.now self.new) }
         ensures phase { OnOk result (self.new.phase ≡ self.old.phase + 1) }
     {

@@ -6,6 +6,7 @@ use Rattle.contact.specs.declared.part.Part.TheVariants.{Contact, PhaseStart, Ph
 use Rattle.script_lines.specs.declared.line.Line.{Line}
 use Rattle.script_lines.specs.Parts.{parts}
 use Rattle.bus_run.specs.declared.runner.Runner.{Runner}
+use Rattle.bus_run.specs.Parts.{AreOpen}
 use Rattle.bus_run.specs.Whole.{RunsSoFar}
 use Rattle.control_model.specs.Plan.{IsPlan, part_after}
 use Rattle.control_model.specs.Openings.{plan_of}
@@ -40,6 +41,20 @@ starts lines r p between more =
     let some : nat_lt r.phase (length (plan_of lines).phases) ≡ true = lt_true r.phase (length (plan_of lines).phases) (omega (arith, more, phases_are lines)) in
     let at : part_at (plan_of lines) r.phase ≡ PhaseStart r.phase = rw some refl in
     rw between.plan (between.next ∙ ap Some at)
+
+-- behind its start its channels are open
+pub opens : (lines : List Line) (r : Runner) (p q : ControlPath) (phase : ℕ) → IsBetween lines r p → phase ≡ r.phase → Ran p q (PhaseStart phase) → AreOpen lines r.phase q
+opens lines r p q phase between is start =
+    let ran : Ran p q (PhaseStart r.phase) = subst (λ (k : ℕ). Ran p q (PhaseStart k)) is start in
+    record {
+      rests = ran.rests;
+      guest_plan = ran.plan ∙ between.plan;
+      host_plan = ran.rests.plan ∙ (ran.plan ∙ between.plan);
+      guest_part = ran.guest_part;
+      host_part = ran.host_part;
+      guest_done = ran.guest_done;
+      host_done = ran.host_done;
+    }
 
 -- it ends
 pub ends : (old new : ControlPath) (phase : ℕ) → Ran old new (PhaseStart phase) → part_after new.guest.plan new.guest.part ≡ Some (PhaseEnd phase)

@@ -120,6 +120,6 @@ fn run_next<R: Threads + Wait + Sync, G: Gate>(
 {
     let phase = runner.phase();
     let path = path.run(rt, Part::PhaseStart(phase))?;
-    runner.run_next(rt, gate, alloc, script)?;
+    runner.run_next(rt, gate, alloc, script, &path)?;
     Ok(path.run(rt, Part::PhaseEnd(phase))?)
 }

@@ -1,11 +1,15 @@
 use Rattle.std.proofs.Common.{◌∙◌, Some, sym, ap}
 use Rattle.contact.specs.declared.part.Part.TheVariants.{PhaseStart}
-use Rattle.vmbus_main.proofs.Parting.{starts, then_between}
+use Rattle.vmbus_main.proofs.Parting.{opens, starts, then_between}
 use Rattle.vmbus_main.proofs.run.run_next.Goals as goal
 
 pub run-requires-clause-part : goal.run-requires-clause-part
 run-requires-clause-part g c =
     λ κs lives. starts c.args.script.now c.args.runner.now c.args.path c.requires.between c.requires.more ∙ ap (λ k. Some (PhaseStart k)) (sym c.phase-phase.ensures)
+
+pub run_next-requires-clause-open : goal.run_next-requires-clause-open
+run_next-requires-clause-open g c = λ κs asked.
+    opens c.args.script.now c.args.runner.now c.args.path c.in_ok-path.path c.phase-phase.result c.requires.between c.phase-phase.ensures c.in_ok-path.ensures.ran
 
 pub returns-clause-between : goal.returns-clause-between
 returns-clause-between g c =
