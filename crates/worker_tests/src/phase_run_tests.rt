@@ -4,7 +4,7 @@ ghost use Rattle.contact.specs.declared.kind.Kind.{Kind as OneKind};
 ghost use Rattle.script_lines.specs.Parts.{kind_asked};
 ghost use Rattle.script_lines.specs.Requests.{IsCarried};
 ghost use Rattle.script_lines.specs.WellFormed.{CanGo};
-ghost use Rattle.end_work.specs.Plans.{CanStop, stop_of};
+ghost use Rattle.end_work.specs.Plans.{AllCarried, CanStop, stop_of};
 
 use crate::check::check;
 use crate::only_seat::only_seat;
@@ -21,9 +21,11 @@ use std::process::Abort;
 use std::sync::Wait;
 use util_ic::{BeatMachine, DownMachine, IcAsk};
 
-// Three requests.
-fn three(rt: &(impl Abort + AllocGlobal), asks: [Ask; 3]) -> Vec<Ask>
-    ensures { result.items ≡ asks }
+// Three requests to a device of this kind, in a list.
+fn three(rt: &(impl Abort + AllocGlobal), kind: Kind, asks: [Ask; 3]) -> Vec<Ask>
+    requires { AllCarried kind asks }
+    ensures all { AllCarried kind result.items }
+    ensures count { length result.items ≡ 3 }
 {
     Vec::from_array(rt.alloc(), asks).expect(rt, "memory")
 }
@@ -33,6 +35,7 @@ fn beats(rt: &(impl Abort + AllocGlobal)) -> Pair {
     let alloc = rt.alloc();
     let asks = three(
         rt,
+        Kind::Beat,
         [
             Ask::Ic(IcAsk::Beat { seq: 7 }),
             Ask::Ic(IcAsk::Beat { seq: 8 }),
@@ -70,7 +73,7 @@ fn down(flags: u32) -> Ask
 // Two shutdowns, and a hibernation between them.
 fn downs(rt: &(impl Abort + AllocGlobal)) -> Pair {
     let alloc = rt.alloc();
-    let asks = three(rt, [down(0), down(4), down(1)]);
+    let asks = three(rt, Kind::Down, [down(0), down(4), down(1)]);
     let seat = only_seat(alloc, DownMachine::make(), 3).expect(rt, "memory");
     open_pair(
         alloc,
@@ -122,6 +125,7 @@ fn blocks(rt: &(impl Abort + AllocGlobal), stop: Option<Stop>) -> Pair
     let alloc = rt.alloc();
     let asks = three(
         rt,
+        Kind::Disk,
         [
             command(rt, [0x2a, 0, 0, 0, 0, 3, 0, 0, 1, 0], &[9; 512]),
             command(rt, [0x28, 0, 0, 0, 0, 3, 0, 0, 1, 0], &[]),
