@@ -1,19 +1,18 @@
 -- A step of a ring keeps the pages' rule: it is a send's store of the write index, a take's last load, or it touches no page.
-use Rattle.std.proofs.Common.{◌≡◌, ◌≢◌, ℕ, zero, suc, ◌+◌, ◌*◌, ◌<◌, ◌≤◌, Bool, true, false, ◌&&◌, cond, eqb, ltb, List, [], ◌∷◌, ◌++◌, length, take, get_or, set, Some, None, refl, sym, ap, ◌∙◌, subst, arith, ⊎_elim, length-set}
+use Rattle.std.proofs.Common.{◌≡◌, ◌≢◌, ℕ, zero, suc, ◌+◌, ◌*◌, ◌<◌, ◌≤◌, Bool, true, false, cond, eqb, ltb, List, [], ◌∷◌, ◌++◌, length, take, get_or, set, Some, refl, sym, ap, ◌∙◌, subst, arith, ⊎_elim, length-set}
 use Rattle.std.proofs.lemmas.Bool.Decides.{nat_tests}
 use Rattle.std.proofs.lemmas.List.{get_or-set_other, get_or-take, take-set-le}
 use Rattle.io_edge.specs.declared.side.Side.{Side}
 use Rattle.page_kept.specs.Items.{packets}
 use Rattle.page_kept.specs.Keepers.{Keeper, keeper, MaySend, MayStore}
 use Rattle.page_kept.specs.Kept.{pages_sent, pages_took}
-use Rattle.page_kept.specs.Layouts.{Loan, layout}
+use Rattle.page_kept.specs.Layouts.{layout}
 use Rattle.page_kept.specs.Stepped.{word_in, page_stored, page_loaded, page_loaded_at}
 use Rattle.page_kept.specs.declared.due.Due.{Due}
 use Rattle.page_kept.specs.declared.due.Due.TheVariants.{Loads, Clear}
 use Rattle.page_kept.specs.declared.kept.Kept.{Kept}
 use Rattle.page_rule.specs.Laws.{Lawful}
 use Rattle.page_rule.specs.Pages.{PagesOwned}
-use Rattle.pkt_desc.specs.Packets.{kind_of}
 use Rattle.ring_machine.specs.PageCalls.{with_pages}
 use Rattle.ring_seat.proofs.PageLists.{sent_same, TookSame, took_refl, took_same}
 use Rattle.ring_seat.proofs.PageStages.{is_early_at, Comes, comes}

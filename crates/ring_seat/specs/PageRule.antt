@@ -1,25 +1,16 @@
 -- What holds of a channel with data pages between any two steps, beside the rule of its rings.
-use Rattle.std.specs.Prelude.{◌≡◌, ◌≢◌, ◌⊎◌, ℕ, ◌+◌, ◌*◌, ◌<◌, ◌≤◌, Bool, true, false, List, [], ◌∷◌, ◌++◌, length, take, slice_set, Some}
+use Rattle.std.specs.Prelude.{◌≡◌, ℕ, ◌+◌, ◌*◌, ◌≤◌, Bool, true, false, List, length, take}
 use Rattle.io_edge.specs.declared.side.Side.{Side}
 use Rattle.page_kept.specs.Items.{packets}
 use Rattle.page_kept.specs.Keepers.{Keeper, keeper, MaySend}
-use Rattle.page_kept.specs.Kept.{owner_in}
 use Rattle.page_kept.specs.Layouts.{layout}
-use Rattle.page_kept.specs.Stepped.{word_in, page_stored, page_loaded}
-use Rattle.page_kept.specs.declared.due.Due.TheVariants.{Loads, Clear}
-use Rattle.page_kept.specs.declared.kept.Kept.{Kept}
-use Rattle.page_kept.specs.declared.owner.Owner.TheVariants.{Has, Held}
+use Rattle.page_kept.specs.Stepped.{word_in}
+use Rattle.page_kept.specs.declared.due.Due.TheVariants.{Clear}
 use Rattle.page_rule.specs.Pages.{PagesOwned}
 use Rattle.ring_machine.specs.declared.machine.Stage.{Stage}
-use Rattle.ring_machine.specs.declared.machine.Stage.TheVariants.{Idle, SendRead, SendCell, SendWrite, TakeWrite, TakeFirst, TakeCell}
-use Rattle.ring_machine.specs.declared.machine.Machine.{Machine}
+use Rattle.ring_machine.specs.declared.machine.Stage.TheVariants.{SendRead, SendCell, SendWrite, TakeWrite, TakeFirst, TakeCell}
 use Rattle.ring_machine.specs.declared.state.EndState.{EndState}
-use Rattle.ring_machine.specs.declared.place.Op.{Op}
 use Rattle.ring_machine.specs.Places.{words_of, peer_of}
-use Rattle.ring_machine.specs.Steps.{next_of}
-use Rattle.ring_machine.specs.States.{after, entered, Begins}
-use Rattle.ring_core.specs.Told.{written, answer_in}
-use Rattle.ring_seat.specs.Rule.{ChannelInvariant, with_end}
 
 -- the words of both rings, of the signals and of the marks: those before the page words
 abbrev pub ring_words : ℕ → List ℕ → List ℕ
