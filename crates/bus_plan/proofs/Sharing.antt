@@ -44,3 +44,18 @@ shared_more many channel device part i line asks asks' number number' heard so_f
   where
     from_none : (n : ℕ) → n ≡ 0 + n
     from_none n = omega arith
+
+-- how many requests the first lines have
+pub record CountedSoFar (device : ℕ) (part : List Line) (i number : ℕ) : Type 0 where
+  pub count : number ≡ length (asks_of device (take i part))
+  pub most : number ≤ i
+
+pub counted_more : (device : ℕ) (part : List Line) (i : ℕ) (line : Line) (number more : ℕ) (heard : List Says) → CountedSoFar device part i number → i < length part → line ≡ get_or part i line → heard ≡ heard_by device (said line.what)
+    → more ≡ length (flat_map asked heard) → more ≤ 1 → CountedSoFar device part (i + 1) (number + more)
+counted_more device part i line number more heard so_far less is here counts most =
+    let new : asks_of device (take (i + 1) part) ≡ asks_of device (take i part) ++ flat_map asked heard =
+    told_taken asked device part i line less is ∙ ap (λ h. asks_of device (take i part) ++ flat_map asked h) (sym here) in
+    record {
+      count = omega (arith, counts, so_far.count, ap length new, length-append (asks_of device (take i part)) (flat_map asked heard));
+      most = omega (arith, most, so_far.most);
+    }

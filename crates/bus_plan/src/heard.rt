@@ -94,6 +94,30 @@ fn push_ask(
     }
 }
 
+// How many requests are heard.
+fn asks_heard(heard: Option<Heard<'_>>) -> usize
+    ensures value { result ≡ length (flat_map asked (heard_told heard.entry)) }
+    ensures most { result ≤ 1 }
+{
+    match heard {
+        Some(Heard::Asks(_)) => 1,
+        Some(Heard::Stops(_)) => 0,
+        Some(Heard::Shuts) => 0,
+        None => 0,
+    }
+}
+
+/// How many requests these lines have for a device.
+fn count_asks(device: u32, part: &[Line]) -> usize
+    ensures { result ≡ length (asks_of device part.now) }
+{
+    let mut number = 0;
+    for line in part {
+        number += asks_heard(heard_by(device, &line.what));
+    }
+    number
+}
+
 /// Of the requests of these lines to a device, those of one of its channels, of which there are so many, in order.
 pub fn share_of(
     alloc: Global,
@@ -109,7 +133,8 @@ pub fn share_of(
         many: many as usize,
         channel: channel as usize,
     };
-    let mut asks = Vec::new(alloc);
+    let most = (count_asks(device, part) / wanted.many).saturating_add(1);
+    let mut asks = Vec::with_capacity(alloc, most)?;
     let mut number = 0;
     for line in part {
         push_ask(&mut asks, &mut number, wanted, heard_by(device, &line.what))?;

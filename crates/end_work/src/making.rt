@@ -73,16 +73,22 @@ fn all_can(kind: Kind, asks: &[Ask])
 pub(crate) fn disk_asks(alloc: Global, disk: Vec<DiskRequest>) -> Result<Vec<Ask>, AllocError>
     ensures { IfOk result (λ asks. asks.items ≡ map AskedDisk disk.items) }
 {
-    disk.into_iter()
-        .map(|request| Ask::Disk(request))
-        .collect(alloc)
+    let mut asks = Vec::with_capacity(alloc, disk.len())?;
+    for request in disk {
+        asks.push_reserved(Ask::Disk(request));
+    }
+    Ok(asks)
 }
 
 /// What a service is asked.
 pub(crate) fn ic_asks(alloc: Global, asks: Vec<IcAsk>) -> Result<Vec<Ask>, AllocError>
     ensures { IfOk result (λ all. all.items ≡ map AskedIc asks.items) }
 {
-    asks.into_iter().map(|ask| Ask::Ic(ask)).collect(alloc)
+    let mut all = Vec::with_capacity(alloc, asks.len())?;
+    for ask in asks {
+        all.push_reserved(Ask::Ic(ask));
+    }
+    Ok(all)
 }
 
 // A worker that asks.

@@ -26,7 +26,7 @@ pub fn load_script(alloc: Global, seed: u32, count: u32) -> Result<Script, Alloc
     ensures requests { IfOk result (λ script. asks_in script ≡ count) }
 {
     let half = count / 2;
-    let mut lines = Vec::new(alloc);
+    let mut lines = Vec::with_capacity(alloc, count as usize + 2)?;
     lines.push(offer_line())?;
     push_writes(&mut lines, seed, half)?;
     lines.push(phase_line(half))?;

@@ -6,7 +6,7 @@ use Rattle.bus_plan.proofs.Sharing.{SharedSoFar, shared_more}
 use Rattle.bus_plan.proofs.heard.share_of.Goals as goal
 
 pub loop-line-init : goal.loop-line-init
-loop-line-init c = record { shared = c.new-asks.ensures.items; count = refl; most = omega arith }
+loop-line-init c = record { shared = c.in_ok-asks.ensures.items; count = refl; most = omega arith }
 
 pub loop-line-preserved : goal.loop-line-preserved
 loop-line-preserved c =

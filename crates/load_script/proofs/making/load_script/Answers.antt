@@ -9,12 +9,12 @@ use Rattle.load_script.proofs.making.load_script.Goals as goal
 pub of-requires : goal.of-requires
 of-requires c =
     subst IsScript
-    (sym (in_order c.args.seed (c.args.count / 2) _ _ _ _ _ _ (c.in_ok-push.ensures.items ∙ ap (λ (ls : List Line). ls ++ c.offer_line.result ∷ []) c.new-lines.ensures.items) c.offer_line.ensures c.in_ok-push_writes.ensures c.in_ok-push-2.ensures.items c.phase_line.ensures c.in_ok-push_reads.ensures))
+    (sym (in_order c.args.seed (c.args.count / 2) _ _ _ _ _ _ (c.in_ok-push.ensures.items ∙ ap (λ (ls : List Line). ls ++ c.offer_line.result ∷ []) c.in_ok-lines.ensures.items) c.offer_line.ensures c.in_ok-push_writes.ensures c.in_ok-push-2.ensures.items c.phase_line.ensures c.in_ok-push_reads.ensures))
     (load_is_script c.args.seed c.args.count c.requires.most)
 
 pub returns-clause-requests : goal.returns-clause-requests
 returns-clause-requests c =
     ap asks_in c.of.ensures
     ∙ ap asks_in
-    (in_order c.args.seed (c.args.count / 2) _ _ _ _ _ _ (c.in_ok-push.ensures.items ∙ ap (λ (ls : List Line). ls ++ c.offer_line.result ∷ []) c.new-lines.ensures.items) c.offer_line.ensures c.in_ok-push_writes.ensures c.in_ok-push-2.ensures.items c.phase_line.ensures c.in_ok-push_reads.ensures)
+    (in_order c.args.seed (c.args.count / 2) _ _ _ _ _ _ (c.in_ok-push.ensures.items ∙ ap (λ (ls : List Line). ls ++ c.offer_line.result ∷ []) c.in_ok-lines.ensures.items) c.offer_line.ensures c.in_ok-push_writes.ensures c.in_ok-push-2.ensures.items c.phase_line.ensures c.in_ok-push_reads.ensures)
     ∙ load_asks c.args.seed c.args.count c.requires.even
