@@ -1,5 +1,5 @@
 -- For each plan and for calls that fit it there are lists of a run: no field of a run excludes another one.
-use Rattle.std.proofs.Common.{◌≡◌, ℕ, zero, suc, ◌+◌, ◌≤◌, ◌^◌, Bool, true, false, List, [], ◌∷◌, ◌++◌, map, length, length-append, filter, refl, sym, ap, ◌∙◌, subst, arith, Some}
+use Rattle.std.proofs.Common.{◌≡◌, ℕ, zero, suc, ◌+◌, ◌≤◌, ◌^◌, Bool, true, false, List, [], ◌∷◌, ◌++◌, map, length, length-append, filter, refl, sym, ap, ◌∙◌, subst, arith, Some, None}
 use Rattle.std.specs.Prelude.{◌==◌, ◌&&◌, filter_map}
 use Rattle.std.proofs.lemmas.List.{append-nil}
 use Rattle.std.proofs.lemmas.List.Elements.{filter-append, filter_map-append}
@@ -7,7 +7,9 @@ use Rattle.std.proofs.lemmas.Bool.Decides.{nat_tests}
 use Rattle.scsi_disk.proofs.RoomLaws.{by_test}
 use Rattle.chan_run.specs.Runs.{IsFront}
 use Rattle.hist_lock.specs.Seat.{Call}
-use Rattle.work_model.specs.Speech.{Speech, Keeps}
+use Rattle.work_model.specs.Speech.{Speech, Keeps, packets_of, packets_in}
+use Rattle.work_model.specs.Acks.{acks_for}
+use Rattle.work_model.proofs.Serving.{serves_idle}
 use Rattle.work_model.specs.Asker.{Encoded}
 use Rattle.work_model.specs.Server.{Serves, ServesAsk, ServesOne, IsCall, answered}
 use Rattle.work_model.specs.Channel.{Plan, count_of, held_of, AllFixed, AllAsk, IsPlan, asks_of, IsChannelRun}
@@ -39,7 +41,45 @@ module _ {P A Q R : Type 0} (s : Speech P A Q R) (keeps : Keeps s) where
 
   encoded : (id : ℕ) (asks : List A) → id + length asks ≤ 2 ^ 64 → Encoded s asks (packets id asks)
   encoded id [] low = tt
-  encoded id (a ∷ asks) low = (ap (λ i. s.encode i a) (sym (keeps.id_kept id a (omega (arith, low)))), encoded (id + 1) asks (omega (arith, low)))
+  encoded id (a ∷ asks) low = (
+    by_test (s.has_answer a)
+        (λ yes. ap (λ i. s.encode i a) (sym (keeps.id_kept id a (omega (arith, low)) yes)))
+        (λ no. sym (keeps.id_own id a no)),
+    encoded (id + 1) asks (omega (arith, low)),
+  )
+
+  -- no ask acknowledges a message
+  no_ack : (id : ℕ) (asks : List A) → filter s.is_ack (packets id asks) ≡ []
+  no_ack id [] = refl
+  no_ack id (a ∷ asks) =
+      by_test (s.is_ack (s.encode id a))
+      (λ yes. let bad : true ≡ false = sym (keeps.encodes id a) ∙ keeps.ack_asks (s.encode id a) yes in absurd (cc))
+      (λ no. dropped s.is_ack (s.encode id a) (packets (id + 1) asks) no ∙ no_ack (id + 1) asks)
+
+  -- what acknowledges messages does, and asks nothing
+  pub record Acknowledges (ps : List P) : Type 0 where
+    pub acks : filter s.is_ack ps ≡ ps
+    pub asks : filter s.is_request ps ≡ []
+    pub reads : filter_map s.read ps ≡ []
+
+  acknowledge : (ps : List P) → Acknowledges (acks_for s ps)
+  acknowledge [] = record { acks = refl; asks = refl; reads = refl }
+  acknowledge (p ∷ ps) =
+      by_test (s.is_message p)
+      (λ yes.
+      let on = acknowledge ps in
+      let ack : s.is_ack (s.ack p) ≡ true = (keeps.acks p yes).0 in
+      let silent : s.is_request (s.ack p) ≡ false = keeps.ack_asks (s.ack p) ack in
+      let unread : s.read (s.ack p) ≡ None = keeps.unread (s.ack p) (keeps.asks (s.ack p) silent) in
+      subst Acknowledges (sym (ap (map s.ack) (kept s.is_message p ps yes))) (record {
+        acks = kept s.is_ack (s.ack p) (acks_for s ps) ack ∙ ap (λ (l : List P). s.ack p ∷ l) on.acks;
+        asks = dropped s.is_request (s.ack p) (acks_for s ps) silent ∙ on.asks;
+        reads = passed (s.ack p) (acks_for s ps) unread ∙ on.reads;
+      }))
+      (λ no. subst Acknowledges (sym (ap (map s.ack) (dropped s.is_message p ps no))) (acknowledge ps))
+    where
+      passed : (x : P) (xs : List P) → s.read x ≡ None → filter_map s.read (x ∷ xs) ≡ filter_map s.read xs
+      passed x xs e = grind (arith, e)
 
   waiting : (id : ℕ) (asks : List A) → length (filter s.waits (packets id asks)) ≡ length (filter s.has_answer asks)
   waiting id [] = refl
@@ -88,9 +128,9 @@ module _ {P A Q R : Type 0} (s : Speech P A Q R) (keeps : Keeps s) where
       })
       (λ no.
       record {
-        sent = s.gives p c.reply 0 ++ on.sent;
-        serves = subst (λ o. ServesOne s held p o (suc n) (c ∷ calls) (s.gives p c.reply 0 ++ on.sent) more) (sym fit.0)
-            (call, subst (λ b. ServesAsk s b p n c calls (s.gives p c.reply 0 ++ on.sent) more) (sym no) (0, on.sent, refl, on.serves));
+        sent = packets_of 0 (s.gives p c.reply) ++ on.sent;
+        serves = subst (λ o. ServesOne s held p o (suc n) (c ∷ calls) (packets_of 0 (s.gives p c.reply) ++ on.sent) more) (sym fit.0)
+            (call, subst (λ b. ServesAsk s b p n c calls (packets_of 0 (s.gives p c.reply) ++ on.sent) more) (sym no) (0, on.sent, refl, on.serves));
       })
     where
       ends : (held : Bool) (n : ℕ) → (held && n == 0) ≡ true → n ≡ 0
@@ -108,8 +148,8 @@ module _ {P A Q R : Type 0} (s : Speech P A Q R) (keeps : Keeps s) where
       let p = s.encode id a in
       let on = start_back held n (id + 1) start ps calls fixed.1 back in
       record {
-        sent = s.fixed p ++ on.sent;
-        serves = subst (λ o. ServesOne s held p o n calls (s.fixed p ++ on.sent) (λ m later rest. Serves s held (packets (id + 1) start ++ ps) m later rest)) (sym (fixed.0 id)) (on.sent, refl, on.serves);
+        sent = packets_in 0 (s.fixed p) ++ on.sent;
+        serves = subst (λ o. ServesOne s held p o n calls (packets_in 0 (s.fixed p) ++ on.sent) (λ m later rest. Serves s held (packets (id + 1) start ++ ps) m later rest)) (sym (fixed.0 id)) (0, on.sent, refl, on.serves);
       }
 
   none_read : (id : ℕ) (start : List A) → AllFixed s start → filter_map s.read (packets id start) ≡ []
@@ -139,11 +179,15 @@ module _ {P A Q R : Type 0} (s : Speech P A Q R) (keeps : Keeps s) where
   made plan calls is low few fit =
       let n = count_of plan.stop (length plan.script) in
       let held = held_of plan.stop (length plan.script) in
-      let sent = packets 1 (asks_of s plan) in
+      let asked = packets 1 (asks_of s plan) in
       let two = packets_append 1 plan.start plan.script in
       let back = start_back held n 1 plan.start (packets (1 + length plan.start) plan.script) calls is.fixed (script_back held n (1 + length plan.start) plan.script calls is.asks fit) in
       let first = read_first n (1 + length plan.start) plan.script calls fit in
-      let all = all_ask 1 (asks_of s plan) in
+      let acks = acks_for s back.sent in
+      let sent = asked ++ acks in
+      let ack = acknowledge back.sent in
+      let all : filter s.is_request sent ≡ asked = filter-append s.is_request asked acks ∙ (ap (λ l. l ++ filter s.is_request acks) (all_ask 1 (asks_of s plan)) ∙ (ap (λ l. asked ++ l) ack.asks ∙ append-nil asked)) in
+      let acked : filter s.is_ack sent ≡ acks = filter-append s.is_ack asked acks ∙ (ap (λ l. l ++ filter s.is_ack acks) (no_ack 1 (asks_of s plan)) ∙ ack.acks) in
       record {
         sent = sent;
         back = back.sent;
@@ -152,15 +196,20 @@ module _ {P A Q R : Type 0} (s : Speech P A Q R) (keeps : Keeps s) where
           whole_got = λ e. refl;
           answers_got = refl;
           requests = subst (Encoded s (asks_of s plan)) (sym all) (encoded 1 (asks_of s plan) low);
+          acks = ([], acks_same acked);
+          all_acked = λ e. acked;
           whole = λ e. ap length all ∙ length-packets 1 (asks_of s plan);
-          served = subst (λ l. Serves s held l n calls back.sent) (sym two) back.serves;
+          served = serves_idle s keeps held asked acks n calls back.sent (ap (filter s.waits) ack.asks) (subst (λ l. Serves s held l n calls back.sent) (sym two) back.serves);
           started = omega (arith, ap (λ l. length (filter s.waits l)) all, waiting 1 (asks_of s plan), ap length (filter-append s.has_answer plan.start plan.script), length-append (filter s.has_answer plan.start) (filter s.has_answer plan.script));
           asked = (
             first.0,
-            ap (filter_map s.read) two ∙ (filter_map-append s.read (packets 1 plan.start) (packets (1 + length plan.start) plan.script)
+            filter_map-append s.read asked acks ∙ (ap (λ l. filter_map s.read asked ++ l) ack.reads ∙ append-nil (filter_map s.read asked)) ∙ ap (filter_map s.read) two ∙ (filter_map-append s.read (packets 1 plan.start) (packets (1 + length plan.start) plan.script)
                 ∙ (ap (λ l. l ++ filter_map s.read (packets (1 + length plan.start) plan.script)) (none_read 1 plan.start is.fixed) ∙ first.1)),
           );
           count = fit_count n (1 + length plan.start) plan.script calls few fit;
           replies = refl;
         };
       }
+    where
+      acks_same : {ps qs : List P} → ps ≡ qs → qs ≡ ps ++ []
+      acks_same {ps} e = sym e ∙ sym (append-nil ps)

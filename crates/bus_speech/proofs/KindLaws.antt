@@ -9,12 +9,13 @@ use Rattle.scsi_disk.specs.declared.reply.DiskReply.{DiskReply}
 use Rattle.stor_proto.specs.Packets.{vstor_bytes}
 use Rattle.stor_proto.specs.Srbs.{ask_of}
 use Rattle.pkt_desc.specs.Packets.{id_of}
+use Rattle.work_model.specs.Amounts.{HasNoMessages}
 use Rattle.work_model.specs.Speech.{Keeps}
 use Rattle.bus_speech.specs.Codecs.{WantOf, Step, Request, speech_by}
 use Rattle.bus_speech.specs.Packets.{is_inband}
 use Rattle.bus_speech.specs.Services.{service_read, service_fixed, service_answer, service_result, service_fits, service_encode, service_codec}
 use Rattle.bus_speech.specs.Disks.{sent_packet, done_packet, disk_waits, disk_read, disk_fixed, disk_answer, disk_start, disk_ask, disk_encode, disk_codec, start_vstor}
-use Rattle.bus_speech.proofs.CodecLaws.{Sound, codec_keeps}
+use Rattle.bus_speech.proofs.CodecLaws.{Sound, codec_keeps, codec_silent}
 use Rattle.bus_speech.proofs.DiskLaws.{waits_any, read_any}
 use Rattle.bus_speech.proofs.DoneLaws.{reply_read as disk_reply_read}
 use Rattle.bus_speech.proofs.ServiceLaws.{inband_any, service_any, reply_read}
@@ -63,6 +64,9 @@ module _ (kind : Kind) where
   pub service_keeps : Keeps (speech_by (service_codec kind))
   service_keeps = codec_keeps (service_codec kind) service_sound
 
+  pub service_silent : HasNoMessages (speech_by (service_codec kind))
+  service_silent = codec_silent (service_codec kind) service_sound
+
 id_disk : (id : ℕ) (a : WantOf DiskRequest) → id_of (disk_encode id a) ≡ id
 unfolding disk_start disk_ask sent_packet
 id_disk id (Step k) = refl
@@ -103,3 +107,6 @@ disk_sound = record {
 
 pub disk_keeps : Keeps (speech_by disk_codec)
 disk_keeps = codec_keeps disk_codec disk_sound
+
+pub disk_silent : HasNoMessages (speech_by disk_codec)
+disk_silent = codec_silent disk_codec disk_sound

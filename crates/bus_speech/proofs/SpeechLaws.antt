@@ -1,6 +1,6 @@
 -- Each kind of channel keeps to the laws of a speech.
-use Rattle.std.proofs.Common.{◌≡◌, ◌≢◌, ℕ, zero, suc, ◌+◌, Bool, true, List, [], ◌∷◌, Option, Some, None, ◌⊎◌, inl, inr, refl, sym, ap, subst, ◌∙◌}
-use Rattle.std.specs.Prelude.{map}
+use Rattle.std.proofs.Common.{◌≡◌, ◌≢◌, ℕ, zero, suc, ◌+◌, Bool, true, false, List, [], ◌∷◌, Option, Some, None, ◌⊎◌, inl, inr, refl, sym, ap, subst, ◌∙◌}
+use Rattle.std.specs.Prelude.{map, is_some}
 use Rattle.std.specs.List.{AllByRecursion}
 use Rattle.contact.specs.declared.kind.Kind.{Kind}
 use Rattle.contact.specs.declared.kind.Kind.TheVariants.{Beat, Down, Disk, Net}
@@ -16,22 +16,24 @@ use Rattle.script_lines.specs.declared.line.Ask.TheVariants.{Ic as AskIc, Disk a
 use Rattle.bus_script.specs.declared.outcome.Reply.{Reply}
 use Rattle.bus_script.specs.declared.outcome.Reply.TheVariants.{Ic as ReplyIc, Disk as ReplyDisk}
 use Rattle.pkt_desc.specs.Packets.{id_of}
-use Rattle.work_model.specs.Speech.{Keeps}
+use Rattle.chan_talk.specs.Listed.{has_message_in, message_in}
+use Rattle.work_model.specs.Amounts.{HasNoMessages, MayHaveMessages}
+use Rattle.work_model.specs.Speech.{Keeps, Back, under_own}
 use Rattle.work_model.specs.Channel.{AllFixed, AllAsk}
 use Rattle.work_model.specs.Lift.{IsAmong, mapped, or_else, both_hold}
 use Rattle.work_model.proofs.Lifting.{lifts}
 use Rattle.bus_speech.specs.declared.want.Want.TheVariants.{Starts, Script}
-use Rattle.bus_speech.specs.Packets.{is_inband, bare_packet}
+use Rattle.bus_speech.specs.Packets.{is_inband}
 use Rattle.bus_speech.specs.Codecs.{WantOf, Step, Request, Codec, speech_by}
 use Rattle.bus_speech.specs.Services.{service_read, service_fixed, service_answer, service_fits, service_encode, service_codec}
 use Rattle.bus_speech.specs.Disks.{disk_codec, IsDiskAsk}
 use Rattle.bus_speech.specs.Kinds.{ic_request, disk_request, ic_reply, disk_reply, services, disks}
 use Rattle.bus_speech.specs.Wants.{startup, CanBe, IsBeatAsk, IsDownAsk, IsAskable}
-use Rattle.bus_speech.specs.Speeches.{encode_on, waits_on, read_on, fits_on, answer_on, has_answer_on, silent_speech, speech_of}
+use Rattle.bus_speech.specs.Speeches.{besides_on, encode_on, waits_on, read_on, fits_on, answer_on, has_answer_on, silent_speech, speech_of}
 use Rattle.bus_speech.proofs.DiskLaws.{by_test, start_waits as disk_start_waits, start_read as disk_start_read, ask_read as disk_ask_read}
 use Rattle.bus_speech.proofs.DoneLaws.{sized_fits}
 use Rattle.bus_speech.proofs.ServiceLaws.{served_answers, ask_read, start_waits, start_read, reply_fits}
-use Rattle.bus_speech.proofs.KindLaws.{service_keeps, disk_keeps}
+use Rattle.bus_speech.proofs.KindLaws.{service_keeps, service_silent, disk_keeps, disk_silent}
 
 -- each kind's requests and replies are among all
 
@@ -58,18 +60,20 @@ among_disks : IsAmong disks
 among_disks = record { found = λ q. refl; whole = disk_replied }
 
 silent_keeps : Keeps silent_speech
-unfolding bare_packet
 silent_keeps = record {
-  given = λ p r back waits. cc;
+  given = λ p r waits. cc;
   fixes = λ p waits none. cc;
   unread = λ p not. refl;
   silent = λ p not. refl;
   asks = λ p not. cc;
   encodes = λ id a. refl;
-  id_kept = λ id a fits. refl;
   waits_ask = λ id a. refl;
-  reads = λ id a q r back h fits. cc;
-  no_result = λ id a part h. refl;
+  id_kept = λ id a fits waits. cc;
+  id_own = λ id a none. refl;
+  reads = λ id a q r h fits. cc;
+  no_result = λ id a before p h. refl;
+  acks = λ p is. cc;
+  ack_asks = λ p is. cc;
 }
 
 pub keeps : (kind : Kind) → Keeps (speech_of kind)
@@ -90,6 +94,49 @@ all_answer Beat p = refl
 all_answer Down p = refl
 all_answer Disk p = refl
 all_answer Net p = refl
+
+-- on none of them are there messages
+pub none_acks : (kind : Kind) (p : List ℕ) → (speech_of kind).is_ack p ≡ false
+none_acks Beat p = refl
+none_acks Down p = refl
+none_acks Disk p = refl
+none_acks Net p = refl
+
+pub none_message : (kind : Kind) (p : List ℕ) → (speech_of kind).is_message p ≡ false
+none_message Beat p = refl
+none_message Down p = refl
+none_message Disk p = refl
+none_message Net p = refl
+
+pub no_messages : (kind : Kind) → HasNoMessages (speech_of kind)
+no_messages Beat = record { gives = λ p r. refl; fixed = (service_silent Beat).fixed }
+no_messages Down = record { gives = λ p r. refl; fixed = (service_silent Down).fixed }
+no_messages Disk = record { gives = λ p r. refl; fixed = disk_silent.fixed }
+no_messages Net = record { gives = λ p r. refl; fixed = λ p back is. cc }
+
+pub may_have : (kind : Kind) → MayHaveMessages (speech_of kind) (besides_on kind)
+may_have Beat = no_messages Beat
+may_have Down = no_messages Down
+may_have Disk = no_messages Disk
+may_have Net = no_messages Net
+
+none_in_back : (o : Option (Back (List ℕ))) → ((b : Back (List ℕ)) → o ≡ Some b → b.message ≡ None) → has_message_in o ≡ false
+none_in_back None none = refl
+none_in_back (Some b) none = ap is_some (none b refl)
+
+none_for : (own : ℕ) (o : Option (Back (List ℕ))) → ((b : Back (List ℕ)) → o ≡ Some b → b.message ≡ None) → message_in own o ≡ None
+none_for own None none = refl
+none_for own (Some b) none = ap (under_own own) (none b refl)
+
+-- so none goes back
+pub none_fixed : (kind : Kind) (p : List ℕ) → has_message_in ((speech_of kind).fixed p) ≡ false
+none_fixed kind p = none_in_back ((speech_of kind).fixed p) ((no_messages kind).fixed p)
+
+pub none_fixed_in : (kind : Kind) (own : ℕ) (p : List ℕ) → message_in own ((speech_of kind).fixed p) ≡ None
+none_fixed_in kind own p = none_for own ((speech_of kind).fixed p) ((no_messages kind).fixed p)
+
+pub none_given : (kind : Kind) (p : List ℕ) (r : Reply) → ((speech_of kind).gives p r).message ≡ None
+none_given kind p r = (no_messages kind).gives p r
 
 pub id_is : (kind : Kind) (p : List ℕ) → (speech_of kind).id_of p ≡ id_of p
 id_is Beat p = refl

@@ -13,11 +13,11 @@ use Rattle.bus_speech.specs.declared.want.Want.{Want}
 use Rattle.bus_speech.specs.declared.want.Want.TheVariants.{Starts, Script}
 use Rattle.work_model.specs.Lift.{mapped}
 use Rattle.bus_speech.specs.Codecs.{Codec, result_in}
-use Rattle.bus_speech.specs.Services.{service_fixed, service_answer, service_codec}
-use Rattle.bus_speech.specs.Disks.{done_packet, disk_fixed, disk_answer, disk_codec}
+use Rattle.bus_speech.specs.Services.{service_fixed, service_codec}
+use Rattle.bus_speech.specs.Disks.{done_packet, disk_fixed, disk_codec}
 use Rattle.bus_speech.specs.Kinds.{services, disks}
 use Rattle.bus_speech.specs.Wants.{startup, step_at, IsAskable}
-use Rattle.bus_speech.specs.Speeches.{said_on, answer_on, has_answer_on, speech_of}
+use Rattle.bus_speech.specs.Speeches.{said_on, has_answer_on, speech_of}
 use Rattle.bus_speech.specs.Talks.{Talked, asks_of, CanAsk}
 use Rattle.bus_speech.proofs.SpeechLaws.{keeps, step_read, asked_is, script_waits, start_has_answer}
 
@@ -77,14 +77,14 @@ some_mapped : {X Y : Type 0} (f : X → Y) (o : Option X) (y : Y) → mapped f o
 some_mapped f None y h = cc
 some_mapped f (Some x) y h = refl
 
-says_so : {A Q R : Type 0} (x : Codec A Q R) (request : Q → Ask) (reply : R → Reply) (a : A) (p : List ℕ) (ask : Ask) → mapped request (x.read (x.encode 0 a)) ≡ Some ask → mapped reply (result_in x a (p ∷ [])) ≡ mapped reply (x.said p)
-says_so x request reply a p ask h = rw (some_mapped request (x.read (x.encode 0 a)) ask h) refl
+says_so : {A Q R : Type 0} (x : Codec A Q R) (request : Q → Ask) (reply : R → Reply) (a : A) (before : Option (List ℕ)) (p : List ℕ) (ask : Ask) → mapped request (x.read (x.encode 0 a)) ≡ Some ask → mapped reply (result_in x a before p) ≡ mapped reply (x.said p)
+says_so x request reply a before p ask h = rw (some_mapped request (x.read (x.encode 0 a)) ask h) refl
 
-answer_says : (kind : Kind) (ask : Ask) (p : List ℕ) → IsAskable kind ask → (speech_of kind).result (Script ask) (p ∷ []) ≡ said_on kind p
-answer_says Beat ask p can = says_so (service_codec Beat) services.request services.reply (services.ask (Script ask)) p ask (asked_is Beat 0 ask can)
-answer_says Down ask p can = says_so (service_codec Down) services.request services.reply (services.ask (Script ask)) p ask (asked_is Down 0 ask can)
-answer_says Disk ask p can = says_so disk_codec disks.request disks.reply (disks.ask (Script ask)) p ask (asked_is Disk 0 ask can)
-answer_says Net ask p can = absurd can
+answer_says : (kind : Kind) (ask : Ask) (before : Option (List ℕ)) (p : List ℕ) → IsAskable kind ask → (speech_of kind).result (Script ask) before p ≡ said_on kind p
+answer_says Beat ask before p can = says_so (service_codec Beat) services.request services.reply (services.ask (Script ask)) before p ask (asked_is Beat 0 ask can)
+answer_says Down ask before p can = says_so (service_codec Down) services.request services.reply (services.ask (Script ask)) before p ask (asked_is Down 0 ask can)
+answer_says Disk ask before p can = says_so disk_codec disks.request disks.reply (disks.ask (Script ask)) before p ask (asked_is Disk 0 ask can)
+answer_says Net ask before p can = absurd can
 
 module _ (t : Talked) (can : CanAsk t.kind t.asks) where
   pub length-asks : length (asks_of t) ≡ length (startup t.kind t.sub t.subs) + length t.asks
@@ -103,16 +103,16 @@ module _ (t : Talked) (can : CanAsk t.kind t.asks) where
   pub can_at : (j : ℕ) (ask : Ask) → slice_get t.asks j ≡ Some ask → IsAskable t.kind ask
   can_at j ask h = all_at (IsAskable t.kind) t.asks j ask can.can h
 
-  -- what came back says nothing to a request of the start-up
-  pub start_says_nothing : (k : ℕ) (a : Want) (part : List (List ℕ)) → k < length (startup t.kind t.sub t.subs) → slice_get (asks_of t) k ≡ Some a → (speech_of t.kind).result a part ≡ None
-  start_says_nothing k a part lt h =
-      ap (λ x. (speech_of t.kind).result x part) (at_start k a lt h) ∙ (keeps t.kind).no_result 0 (Starts (step_at t.subs k)) part (step_read t.kind 0 (step_at t.subs k))
+  -- an answer says nothing to a request of the start-up
+  pub start_says_nothing : (k : ℕ) (a : Want) (before : Option (List ℕ)) (p : List ℕ) → k < length (startup t.kind t.sub t.subs) → slice_get (asks_of t) k ≡ Some a → (speech_of t.kind).result a before p ≡ None
+  start_says_nothing k a before p lt h =
+      ap (λ x. (speech_of t.kind).result x before p) (at_start k a lt h) ∙ (keeps t.kind).no_result 0 (Starts (step_at t.subs k)) before p (step_read t.kind 0 (step_at t.subs k))
 
   -- to one of the script it says what the answer says
-  pub script_says : (k : ℕ) (a : Want) (p : List ℕ) → length (startup t.kind t.sub t.subs) ≤ k → slice_get (asks_of t) k ≡ Some a → (speech_of t.kind).result a (p ∷ []) ≡ said_on t.kind p
-  script_says k a p le h =
+  pub script_says : (k : ℕ) (a : Want) (before : Option (List ℕ)) (p : List ℕ) → length (startup t.kind t.sub t.subs) ≤ k → slice_get (asks_of t) k ≡ Some a → (speech_of t.kind).result a before p ≡ said_on t.kind p
+  script_says k a before p le h =
       let at = at_script k a le h in
-      ap (λ x. (speech_of t.kind).result x (p ∷ [])) at.2 ∙ answer_says t.kind at.0 p (can_at (k - length (startup t.kind t.sub t.subs)) at.0 at.1)
+      ap (λ x. (speech_of t.kind).result x before p) at.2 ∙ answer_says t.kind at.0 before p (can_at (k - length (startup t.kind t.sub t.subs)) at.0 at.1)
 
   -- each has an answer
   pub all_wait : (k : ℕ) (a : Want) → slice_get (asks_of t) k ≡ Some a → has_answer_on t.kind a ≡ true
@@ -129,13 +129,6 @@ module _ (t : Talked) (can : CanAsk t.kind t.asks) where
       not_net Net (suc s) subs k lt = absurd (omega arith)
 
 -- packets have words
-
-pub listed_answer : (kind : Kind) (p : List ℕ) (r : Reply) (back : ℕ) → (speech_of kind).gives p r back ≡ listed_packet (answer_on kind p r)
-unfolding service_answer disk_answer done_packet
-listed_answer Beat p r back = refl
-listed_answer Down p r back = refl
-listed_answer Disk p r back = refl
-listed_answer Net p r back = refl
 
 pub listed_service : (kind : Kind) (p : List ℕ) → listed_packet (service_fixed kind p) ≡ service_fixed kind p ∷ []
 unfolding service_fixed

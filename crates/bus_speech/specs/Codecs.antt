@@ -1,7 +1,7 @@
 -- Channels on which one packet answers each request.
-use Rattle.std.specs.Prelude.{ℕ, Bool, true, ◌&&◌, List, [], ◌∷◌, Option, None, is_some, is_none, if◌then◌else◌}
+use Rattle.std.specs.Prelude.{ℕ, Bool, true, false, ◌&&◌, List, Option, Some, None, is_some, is_none, if◌then◌else◌}
 use Rattle.pkt_desc.specs.Packets.{id_of}
-use Rattle.work_model.specs.Speech.{Speech}
+use Rattle.work_model.specs.Speech.{Speech, Back}
 
 -- what the end that asks has to ask of a device of one kind: a step of the start-up, or a request
 pub data WantOf (Q : Type 0) : Type 0 where
@@ -25,32 +25,38 @@ pub record Codec (A Q R : Type 0) : Type 0 where
   -- what an answer says
   pub said : List ℕ → Option R
 
+-- an answer that goes back with no message besides
+abbrev pub alone : List ℕ → Back (List ℕ)
+alone p = record { message = None; answer = p }
+
 module _ {A Q R : Type 0} (x : Codec A Q R) where
   -- what goes back for a packet that asks nothing of the device
-  abbrev pub fixed_back : List ℕ → List (List ℕ)
-  fixed_back p = if x.waits p && is_none (x.read p) then x.fixed p ∷ [] else []
+  abbrev pub fixed_back : List ℕ → Option (Back (List ℕ))
+  fixed_back p = if x.waits p && is_none (x.read p) then Some (alone (x.fixed p)) else None
 
   -- whether an ask asks the device: under whatever id
   abbrev pub asks_device : A → Bool
   asks_device a = is_some (x.read (x.encode 0 a))
 
-  -- what came back says to an ask, where that asks the device
-  abbrev pub result_in : A → List (List ℕ) → Option R
-  result_in a [] = None
-  result_in a (p ∷ ps) = if asks_device a then x.said p else None
+  -- what an answer says to an ask, where that asks the device
+  abbrev pub result_in : A → Option (List ℕ) → List ℕ → Option R
+  result_in a before p = if asks_device a then x.said p else None
 
-  -- what both ends of such a channel say: all packets are requests or answers
+  -- what both ends of such a channel say: all packets are requests or answers, and there are no messages
   abbrev pub speech_by : Speech (List ℕ) A Q R
   speech_by = record {
     id_of = λ p. id_of p;
     is_request = λ p. true;
     waits = x.waits;
+    is_ack = λ p. false;
     is_answer = λ p. true;
+    is_message = λ p. false;
+    ack = λ p. p;
     encode = x.encode;
     has_answer = λ a. x.waits (x.encode 0 a);
     read = x.read;
     fixed = fixed_back;
     fits = x.fits;
-    gives = λ p r back. x.answer p r ∷ [];
+    gives = λ p r. alone (x.answer p r);
     result = result_in;
   }

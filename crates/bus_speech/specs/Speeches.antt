@@ -1,5 +1,5 @@
 -- What the packets of each kind of channel say.
-use Rattle.std.specs.Prelude.{ℕ, Bool, true, false, List, [], ◌∷◌, Option, None}
+use Rattle.std.specs.Prelude.{ℕ, Bool, true, false, List, Option, None}
 use Rattle.contact.specs.declared.kind.Kind.{Kind}
 use Rattle.contact.specs.declared.kind.Kind.TheVariants.{Beat, Down, Disk, Net}
 use Rattle.script_lines.specs.declared.line.Ask.{Ask}
@@ -9,7 +9,7 @@ use Rattle.work_model.specs.Speech.{Speech}
 use Rattle.work_model.specs.Lift.{lift, mapped}
 use Rattle.bus_speech.specs.declared.want.Want.{Want}
 use Rattle.bus_speech.specs.Packets.{bare_packet}
-use Rattle.bus_speech.specs.Codecs.{speech_by}
+use Rattle.bus_speech.specs.Codecs.{alone, speech_by}
 use Rattle.bus_speech.specs.Services.{service_result, service_codec}
 use Rattle.bus_speech.specs.Disks.{disk_result, disk_codec}
 use Rattle.bus_speech.specs.Kinds.{services, disks}
@@ -20,14 +20,17 @@ silent_speech = record {
   id_of = λ p. id_of p;
   is_request = λ p. true;
   waits = λ p. false;
+  is_ack = λ p. false;
   is_answer = λ p. true;
-  encode = λ id a. bare_packet id;
+  is_message = λ p. false;
+  ack = λ p. p;
+  encode = λ id a. bare_packet 0;
   has_answer = λ a. false;
   read = λ p. None;
-  fixed = λ p. [];
+  fixed = λ p. None;
   fits = λ q r. false;
-  gives = λ p r back. [];
-  result = λ a part. None;
+  gives = λ p r. alone p;
+  result = λ a before p. None;
 }
 
 -- what both ends of a channel of this kind say: its own speech, in the asks and replies of all kinds. Nothing is asked of a network
@@ -36,6 +39,13 @@ speech_of Beat = lift (speech_by (service_codec Beat)) services
 speech_of Down = lift (speech_by (service_codec Down)) services
 speech_of Disk = lift (speech_by disk_codec) disks
 speech_of Net = silent_speech
+
+-- whether messages go back besides the answers
+abbrev pub besides_on : Kind → Bool
+besides_on Beat = false
+besides_on Down = false
+besides_on Disk = false
+besides_on Net = false
 
 -- the packet that asks, under an id
 abbrev pub encode_on : Kind → ℕ → Want → List ℕ
@@ -63,11 +73,6 @@ said_on Net p = None
 abbrev pub fits_on : Kind → Ask → Reply → Bool
 fits_on kind q r = (speech_of kind).fits q r
 
--- the first of these packets
-abbrev pub first_of : List (List ℕ) → List ℕ
-first_of [] = []
-first_of (p ∷ ps) = p
-
--- the answer with the device's reply: nothing else goes back
+-- the answer with the device's reply
 abbrev pub answer_on : Kind → List ℕ → Reply → List ℕ
-answer_on kind p r = first_of ((speech_of kind).gives p r 0)
+answer_on kind p r = ((speech_of kind).gives p r).answer

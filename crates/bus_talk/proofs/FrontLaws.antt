@@ -13,8 +13,9 @@ use Rattle.stor_proto.specs.declared.fault.VstorFault.TheVariants.{Short}
 use Rattle.stor_proto.proofs.PacketLaws.{vstor_found, vstor_only}
 use Rattle.stor_proto.specs.Opening.{answer_of}
 use Rattle.stor_proto.specs.Srbs.{request_of, stop_of}
-use Rattle.chan_talk.specs.Listed.{listed_packet}
-use Rattle.bus_speech.specs.Codecs.{fixed_back}
+use Rattle.chan_talk.specs.Listed.{answer_in, listed_packet}
+use Rattle.work_model.specs.Speech.{listed}
+use Rattle.bus_speech.specs.Codecs.{alone, fixed_back}
 use Rattle.bus_speech.specs.Packets.{is_inband, content_of}
 use Rattle.bus_speech.specs.Disks.{has_vstor, vstor_of, data_of, done_packet, disk_waits, disk_asked, disk_read, stopped_by, fixed_vstor, disk_fixed, disk_codec}
 use Rattle.bus_speech.proofs.TalkLaws.{listed_disk}
@@ -71,7 +72,7 @@ other_read p v is other =
     by_test (disk_waits p) (λ waits. rw (waits, no) refl) (λ not. rw not refl)
 
 -- and its answer is the one that goes back
-pub other_fixed : (p : List ℕ) (v w : Vstor) (out : List ℕ) → is_inband p ≡ true → has_vstor p ≡ true → v ≡ vstor_of p → (v.operation == 3) ≡ false → w ≡ answer_of v → out ≡ done_packet (id_of p) w [] → listed_packet out ≡ fixed_back disk_codec p
+pub other_fixed : (p : List ℕ) (v w : Vstor) (out : List ℕ) → is_inband p ≡ true → has_vstor p ≡ true → v ≡ vstor_of p → (v.operation == 3) ≡ false → w ≡ answer_of v → out ≡ done_packet (id_of p) w [] → listed_packet out ≡ listed (answer_in (fixed_back disk_codec p))
 unfolding disk_waits disk_fixed fixed_vstor
 other_fixed p v w out inband has is other answers put =
     let none = other_read p v is other in
@@ -80,4 +81,4 @@ other_fixed p v w out inband has is other answers put =
     let all : (disk_waits p && is_none (disk_read p)) ≡ true = rw (waits, none) refl in
     let same : out ≡ disk_fixed p =
     put ∙ (ap (λ x. done_packet (id_of p) x []) (answers ∙ (ap answer_of is ∙ ap (λ t. cond t (stop_of (vstor_of p) (stopped_by (request_of (vstor_of p) (data_of p)))) (answer_of (vstor_of p))) (sym no)))) in
-    ap listed_packet same ∙ (listed_disk p ∙ ap (λ t. cond t (disk_fixed p ∷ []) []) (sym all))
+    ap listed_packet same ∙ (listed_disk p ∙ ap (λ t. listed (answer_in (cond t (Some (alone (disk_fixed p))) None))) (sym all))

@@ -9,7 +9,8 @@ ghost use Rattle.scsi_disk.specs.Commands.{command_of};
 ghost use Rattle.scsi_disk.specs.DiskModel.{most_back};
 ghost use Rattle.stor_proto.specs.Packets.{IsAllowed, vstor_bytes, vstor_in, vstor_fault};
 ghost use Rattle.stor_proto.specs.Srbs.{done_of};
-ghost use Rattle.chan_talk.specs.Listed.{listed_packet};
+ghost use Rattle.chan_talk.specs.Listed.{answer_in, listed_packet};
+ghost use Rattle.work_model.specs.Speech.{listed};
 ghost use Rattle.bus_speech.specs.Packets.{content_of};
 ghost use Rattle.bus_speech.specs.Codecs.{fixed_back};
 ghost use Rattle.bus_speech.specs.Disks.{vstor_of, data_of, has_vstor, sent_packet, done_packet, disk_waits as waits, disk_asked as asked_of, disk_read, fixed_vstor as fixed_of};
@@ -230,7 +231,7 @@ fn stopped(v: &Vstor, more: &[u8]) -> Option<Vstor>
 pub(crate) fn write_disk_fixed(packet: &[u64], out: &mut [u64]) -> usize
     requires packet { IsPacket packet.now }
     requires out { length out.old ≡ 384 }
-    ensures value { listed_packet (take result out.new) ≡ fixed_back disk_codec packet.now }
+    ensures value { listed_packet (take result out.new) ≡ listed (answer_in (fixed_back disk_codec packet.now)) }
     ensures written { 0 < result → IsPacket (take result out.new) }
     ensures most { result ≤ 384 }
 {

@@ -2,14 +2,15 @@
 ghost use Rattle.std.specs.Prelude.{◌≡◌, ◌≤◌, ◌<◌, ◌^◌, ◌&&◌, ◌∷◌, [], length, take, true, Some, is_some};
 ghost use Rattle.std.specs.List.{AllByRecursion};
 ghost use Rattle.ring_machine.specs.States.{IsPacket};
-ghost use Rattle.chan_talk.specs.Listed.{listed_packet};
+ghost use Rattle.chan_talk.specs.Listed.{answer_in, listed_packet};
+ghost use Rattle.work_model.specs.Speech.{listed};
 ghost use Rattle.pkt_desc.specs.Packets.{id_of};
 ghost use Rattle.script_lines.specs.declared.line.Ask.{Ask as OneAsk};
 ghost use Rattle.bus_speech.specs.declared.want.Want.{Want as OneWant};
 ghost use Rattle.bus_speech.specs.declared.want.Want.TheVariants.{Starts, Script};
 ghost use Rattle.bus_speech.specs.Kinds.{ic_request as ic_of, disk_request as disk_of, disk_reply as disk_reply_of};
 ghost use Rattle.bus_speech.specs.Wants.{first_steps, subs_asked, startup, step_at, IsAskable};
-ghost use Rattle.bus_speech.specs.Speeches.{encode_on, waits_on, read_on, fits_on, answer_on, said_on, speech_of};
+ghost use Rattle.bus_speech.specs.Speeches.{besides_on, encode_on, waits_on, read_on, fits_on, answer_on, said_on, speech_of};
 ghost use Rattle.bus_speech.specs.Talks.{asks_of};
 
 use crate::disks::{
@@ -74,6 +75,15 @@ impl KindTalk {
         ensures { result ≡ self.now.kind }
     {
         self.kind
+    }
+}
+
+/// Whether messages go back besides the answers: a disk and a service give one packet for each request.
+fn besides_on(kind: Kind) -> bool
+    ensures { result ≡ besides_on kind }
+{
+    match kind {
+        Kind::Beat | Kind::Down | Kind::Disk | Kind::Net => false,
     }
 }
 
@@ -218,7 +228,7 @@ fn read(kind: Kind, packet: &[u64]) -> Option<Ask>
 fn write_fixed_on(kind: Kind, packet: &[u64], out: &mut [u64]) -> usize
     requires packet { IsPacket packet.now }
     requires out { length out.old ≡ 384 }
-    ensures value { listed_packet (take result out.new) ≡ (speech_of kind).fixed packet.now }
+    ensures value { listed_packet (take result out.new) ≡ listed (answer_in ((speech_of kind).fixed packet.now)) }
     ensures written { 0 < result → IsPacket (take result out.new) }
     ensures most { result ≤ 384 }
 {
@@ -264,13 +274,13 @@ fn said(kind: Kind, packet: &[u64]) -> Option<Reply>
 }
 
 impl Talk for KindTalk {
-    ghost use Rattle.std.specs.Prelude.{[], length, map};
-    ghost use Rattle.bus_speech.specs.Speeches.{answer_on, speech_of};
+    ghost use Rattle.std.specs.Prelude.{length, map};
+    ghost use Rattle.bus_speech.specs.Speeches.{besides_on, speech_of};
     ghost use Rattle.bus_speech.specs.Talks.{asks_of};
     ghost use Rattle.bus_speech.specs.Wants.{startup};
     ghost use Rattle.bus_speech.specs.declared.want.Want.TheVariants.{Script};
-    ghost use Rattle.bus_speech.proofs.SpeechLaws.{all_answer, keeps};
-    ghost use Rattle.bus_speech.proofs.TalkLaws.{listed_answer, starts_within};
+    ghost use Rattle.bus_speech.proofs.SpeechLaws.{keeps, may_have};
+    ghost use Rattle.bus_speech.proofs.TalkLaws.{starts_within};
 
     type Ask = Want;
 
@@ -282,9 +292,9 @@ impl Talk for KindTalk {
 
     ghost keeps = { λ s. keeps s.kind };
 
-    ghost answers = { λ s p. all_answer s.kind p };
+    ghost besides = { λ s. besides_on s.kind };
 
-    ghost gives = { λ s p r back. listed_answer s.kind p r back };
+    ghost may = { λ s. may_have s.kind };
 
     ghost asks = { asks_of };
 
@@ -292,16 +302,16 @@ impl Talk for KindTalk {
 
     ghost within = { λ s. starts_within s.kind s.sub s.subs (map Script s.asks) };
 
-    ghost message = { λ s p r back. [] };
-
-    ghost answer = { λ s p r. answer_on s.kind p r };
-
     fn count(&self) -> u32 {
         count_starts(self.kind, self.sub, self.subs) + self.asks.len() as u32
     }
 
     fn starts(&self) -> u32 {
         count_starts(self.kind, self.sub, self.subs)
+    }
+
+    fn besides(&self) -> bool {
+        besides_on(self.kind)
     }
 
     /// Each has one: the requests of both start-ups, and those of a script, which can be asked.
@@ -327,21 +337,51 @@ impl Talk for KindTalk {
         waits(self.kind, packet)
     }
 
+    #[tactic(auto, using(bus_speech::proofs::SpeechLaws::none_acks))]
+    fn is_ack(&self, _packet: &[u64]) -> bool {
+        false
+    }
+
+    #[tactic(auto, using(bus_speech::proofs::SpeechLaws::all_answer))]
+    fn is_answer(&self, _packet: &[u64]) -> bool {
+        true
+    }
+
+    #[tactic(auto, using(bus_speech::proofs::SpeechLaws::none_message))]
+    fn is_message(&self, _packet: &[u64]) -> bool {
+        false
+    }
+
+    #[tactic(auto, using(bus_speech::proofs::SpeechLaws::none_message))]
+    fn write_ack(&self, _packet: &[u64], _out: &mut [u64]) -> usize {
+        0
+    }
+
     fn read(&self, packet: &[u64]) -> Option<Ask> {
         read(self.kind, packet)
+    }
+
+    #[tactic(auto, using(bus_speech::proofs::SpeechLaws::none_fixed))]
+    fn has_fixed_message(&self, _packet: &[u64]) -> bool {
+        false
+    }
+
+    #[tactic(auto, using(bus_speech::proofs::SpeechLaws::none_fixed_in))]
+    fn write_fixed_message(&self, _packet: &[u64], _own: u64, _out: &mut [u64]) -> usize {
+        0
     }
 
     fn write_fixed(&self, packet: &[u64], out: &mut [u64]) -> usize {
         write_fixed_on(self.kind, packet, out)
     }
 
-    fn write_message(
-        &self,
-        _packet: &[u64],
-        _reply: &Reply,
-        _back: u64,
-        _out: &mut [u64],
-    ) -> usize {
+    #[tactic(auto, using(bus_speech::proofs::SpeechLaws::none_given))]
+    fn has_message(&self, _packet: &[u64], _reply: &Reply) -> bool {
+        false
+    }
+
+    #[tactic(auto, using(bus_speech::proofs::SpeechLaws::none_given))]
+    fn write_message(&self, _packet: &[u64], _reply: &Reply, _own: u64, _out: &mut [u64]) -> usize {
         0
     }
 
@@ -349,7 +389,7 @@ impl Talk for KindTalk {
         write_answer_on(self.kind, packet, reply, out)
     }
 
-    fn result(&self, k: u32, packet: &[u64]) -> Option<Reply> {
+    fn result(&self, k: u32, _before: &[u64], packet: &[u64]) -> Option<Reply> {
         if k < count_starts(self.kind, self.sub, self.subs) {
             return None;
         }

@@ -5,7 +5,8 @@ ghost use Rattle.std.specs.Prelude.{◌≡◌, ◌≤◌, ◌<◌, length, take,
 ghost use Rattle.ring_machine.specs.States.{IsPacket};
 ghost use Rattle.util_ic.specs.Messages.{IsUtility};
 ghost use Rattle.util_ic.specs.Packets.{ask_packet, negotiate_packet, served_packet};
-ghost use Rattle.chan_talk.specs.Listed.{listed_packet};
+ghost use Rattle.chan_talk.specs.Listed.{answer_in, listed_packet};
+ghost use Rattle.work_model.specs.Speech.{listed};
 ghost use Rattle.bus_speech.specs.Codecs.{fixed_back};
 ghost use Rattle.bus_speech.specs.Packets.{is_inband as inband};
 ghost use Rattle.bus_speech.specs.Services.{service_read, service_fixed, service_result, service_codec};
@@ -75,7 +76,7 @@ pub(crate) fn write_service_fixed(kind: Kind, packet: &[u64], out: &mut [u64]) -
     requires kind { IsUtility kind }
     requires packet { IsPacket packet.now }
     requires out { length out.old ≡ 384 }
-    ensures value { listed_packet (take result out.new) ≡ fixed_back (service_codec kind) packet.now }
+    ensures value { listed_packet (take result out.new) ≡ listed (answer_in (fixed_back (service_codec kind) packet.now)) }
     ensures written { 0 < result → IsPacket (take result out.new) }
     ensures most { result ≤ 384 }
 {

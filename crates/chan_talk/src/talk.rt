@@ -4,10 +4,11 @@
 ///
 /// Packets are written into 384 words, as many as a packet of this program has at most. A call that writes no packet answers 0.
 pub trait Talk: Drop {
-    ghost use Rattle.std.specs.Prelude.{◌≡◌, ◌≤◌, ◌<◌, ◌^◌, ◌&&◌, ℕ, true, List, [], ◌∷◌, ◌++◌, length, take, slice_get, Some};
+    ghost use Rattle.std.specs.Prelude.{◌≡◌, ◌≤◌, ◌<◌, ◌⊎◌, ◌&&◌, ℕ, Bool, true, List, [], length, take, slice_get, Some, is_some};
     ghost use Rattle.ring_machine.specs.States.{IsPacket};
-    ghost use Rattle.work_model.specs.Speech.{Speech, Keeps};
-    ghost use Rattle.chan_talk.specs.Listed.{listed_packet};
+    ghost use Rattle.work_model.specs.Amounts.{MayHaveMessages};
+    ghost use Rattle.work_model.specs.Speech.{Speech, Keeps, listed, under_own};
+    ghost use Rattle.chan_talk.specs.Listed.{answer_in, has_message_in, listed_packet, message_in, packet_in};
 
     /// What can be asked: a request of the start-up, or one of the script. No value of it is made.
     type Ask;
@@ -23,8 +24,10 @@ pub trait Talk: Drop {
 
     ghost keeps: { (s : Self) → Keeps (speech s) };
 
-    /// Each packet of the end that serves is an answer.
-    ghost answers: { (s : Self) (p : List ℕ) → (speech s).is_answer p ≡ true };
+    /// Whether messages may go back besides the answers.
+    ghost besides: { Self → Bool };
+
+    ghost may: { (s : Self) → MayHaveMessages (speech s) (besides s) };
 
     /// What the end that asks has to ask in this phase, in order: the start-up first.
     ghost asks: { Self → List Self.Ask };
@@ -34,13 +37,6 @@ pub trait Talk: Drop {
 
     ghost within: { (s : Self) → starts s ≤ length (asks s) };
 
-    /// The words of the message that goes back before an answer, under an id of the serving end's, and the words of the answer.
-    ghost message: { Self → List ℕ → Self.Reply → ℕ → List ℕ };
-
-    ghost answer: { Self → List ℕ → Self.Reply → List ℕ };
-
-    ghost gives: { (s : Self) (p : List ℕ) (r : Self.Reply) (back : ℕ) → (speech s).gives p r back ≡ listed_packet (message s p r back) ++ listed_packet (answer s p r) };
-
     /// How much there is to ask.
     fn count(&self) -> u32
         ensures { result ≡ length (asks self.now) };
@@ -48,6 +44,10 @@ pub trait Talk: Drop {
     /// How many of these are the start-up's.
     fn starts(&self) -> u32
         ensures { result ≡ starts self.now };
+
+    /// Whether messages may go back besides the answers, and so how much room the workers make.
+    fn besides(&self) -> bool
+        ensures { result ≡ besides self.now };
 
     /// Whether the k-th ask has an answer.
     fn has_answer(&self, k: u32) -> bool
@@ -72,31 +72,67 @@ pub trait Talk: Drop {
         requires { IsPacket packet.now }
         ensures { result ≡ ((speech self.now).is_request packet.now && (speech self.now).waits packet.now) };
 
+    /// Whether a packet of the end that asks acknowledges a message.
+    fn is_ack(&self, packet: &[u64]) -> bool
+        requires { IsPacket packet.now }
+        ensures { result ≡ (speech self.now).is_ack packet.now };
+
+    /// Whether a packet of the end that serves is an answer.
+    fn is_answer(&self, packet: &[u64]) -> bool
+        requires { IsPacket packet.now }
+        ensures { result ≡ (speech self.now).is_answer packet.now };
+
+    /// Whether a packet of the end that serves is a message, which is to be acknowledged.
+    fn is_message(&self, packet: &[u64]) -> bool
+        requires { IsPacket packet.now }
+        ensures { result ≡ (speech self.now).is_message packet.now };
+
+    /// Writes what acknowledges a message.
+    fn write_ack(&self, packet: &[u64], out: &mut [u64]) -> usize
+        requires packet { IsPacket packet.now }
+        requires out { length out.old ≡ 384 }
+        ensures value { (speech self.now).is_message packet.now ≡ true → take result out.new ≡ (speech self.now).ack packet.now }
+        ensures written { (speech self.now).is_message packet.now ≡ true → IsPacket (take result out.new) }
+        ensures most { result ≤ 384 };
+
     /// What a packet asks of the device, or nothing where what goes back is fixed.
     fn read(&self, packet: &[u64]) -> Option<Self::Request>
         requires { IsPacket packet.now }
         ensures { result ≡ (speech self.now).read packet.now };
 
-    /// Writes what goes back for a packet that asks nothing of the device, if something does.
-    fn write_fixed(&self, packet: &[u64], out: &mut [u64]) -> usize
+    /// Whether a message goes back for a packet that asks nothing of the device, besides the answer.
+    fn has_fixed_message(&self, packet: &[u64]) -> bool
+        requires { IsPacket packet.now }
+        ensures { result ≡ has_message_in ((speech self.now).fixed packet.now) };
+
+    /// Writes that message, if there is one, under an id of the serving end's own.
+    fn write_fixed_message(&self, packet: &[u64], own: u64, out: &mut [u64]) -> usize
         requires packet { IsPacket packet.now }
         requires out { length out.old ≡ 384 }
-        ensures value { listed_packet (take result out.new) ≡ (speech self.now).fixed packet.now }
+        ensures value { listed_packet (take result out.new) ≡ listed (message_in own ((speech self.now).fixed packet.now)) }
         ensures written { 0 < result → IsPacket (take result out.new) }
         ensures most { result ≤ 384 };
 
-    /// Writes the message that goes back before the answer, if there is one.
-    fn write_message(
-        &self,
-        packet: &[u64],
-        reply: &Self::Reply,
-        back: u64,
-        out: &mut [u64],
-    ) -> usize
+    /// Writes the answer that goes back for such a packet, if one does.
+    fn write_fixed(&self, packet: &[u64], out: &mut [u64]) -> usize
+        requires packet { IsPacket packet.now }
+        requires out { length out.old ≡ 384 }
+        ensures value { listed_packet (take result out.new) ≡ listed (answer_in ((speech self.now).fixed packet.now)) }
+        ensures written { 0 < result → IsPacket (take result out.new) }
+        ensures most { result ≤ 384 };
+
+    /// Whether a message goes back besides the answer with the device's reply.
+    fn has_message(&self, packet: &[u64], reply: &Self::Reply) -> bool
+        requires packet { IsPacket packet.now }
+        requires fits { (q : Self.Request) × ((speech self.now).read packet.now ≡ Some q) × ((speech self.now).fits q reply.now ≡ true) }
+        ensures { result ≡ is_some ((speech self.now).gives packet.now reply.now).message };
+
+    /// Writes that message, if there is one, under an id of the serving end's own.
+    fn write_message(&self, packet: &[u64], reply: &Self::Reply, own: u64, out: &mut [u64]) -> usize
         requires packet { IsPacket packet.now }
         requires fits { (q : Self.Request) × ((speech self.now).read packet.now ≡ Some q) × ((speech self.now).fits q reply.now ≡ true) }
         requires out { length out.old ≡ 384 }
-        ensures value { take result out.new ≡ message self.now packet.now reply.now back }
+        ensures value { listed_packet (take result out.new) ≡ listed (under_own own ((speech self.now).gives packet.now reply.now).message) }
         ensures written { 0 < result → IsPacket (take result out.new) }
         ensures most { result ≤ 384 };
 
@@ -105,13 +141,15 @@ pub trait Talk: Drop {
         requires packet { IsPacket packet.now }
         requires fits { (q : Self.Request) × ((speech self.now).read packet.now ≡ Some q) × ((speech self.now).fits q reply.now ≡ true) }
         requires out { length out.old ≡ 384 }
-        ensures value { take result out.new ≡ answer self.now packet.now reply.now }
-        ensures written { 0 < result → IsPacket (take result out.new) }
+        ensures value { take result out.new ≡ ((speech self.now).gives packet.now reply.now).answer }
+        ensures packet { IsPacket (take result out.new) }
         ensures most { result ≤ 384 };
 
-    /// What came back says to the k-th ask, where that asked the device.
-    fn result(&self, k: u32, packet: &[u64]) -> Option<Self::Reply>
+    /// What an answer says to the k-th ask, where that asked the device. `before` is the packet that came just before it, where that was no answer, and
+    /// else empty.
+    fn result(&self, k: u32, before: &[u64], packet: &[u64]) -> Option<Self::Reply>
         requires which { k < length (asks self.now) }
+        requires before { before.now ≡ [] ⊎ IsPacket before.now }
         requires packet { IsPacket packet.now }
-        ensures { (a : Self.Ask) → slice_get (asks self.now) k ≡ Some a → result ≡ (speech self.now).result a (packet.now ∷ []) };
+        ensures { (a : Self.Ask) → slice_get (asks self.now) k ≡ Some a → result ≡ (speech self.now).result a (packet_in before.now) packet.now };
 }

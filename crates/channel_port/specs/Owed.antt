@@ -24,15 +24,22 @@ abbrev pub need_of : List (List ℕ) → Option ℕ
 need_of [] = None
 need_of (p ∷ ps) = Some (8 * length p + 8)
 
--- the first of these packets, which has at most 384 words, lacks the room of the list of what was sent
+-- a packet, which has at most 384 words, lacks the room of the list of what was sent
+pub record LacksSendOf (packets words : ℕ) (p : List ℕ) (e : Seen TableSeat) : Type 0 where
+  pub most : length p ≤ 384
+  pub packets_is : packets ≡ e.spare_sent.packets
+  pub words_is : words ≡ e.spare_sent.words
+  pub lacks : (packets ≡ 0) ⊎ (words < length p)
+
+-- the first of these packets lacks it
 pub record LacksSend (packets words : ℕ) (owed : List (List ℕ)) (e : Seen TableSeat) : Type 0 where
   pub packet : List ℕ
   pub rest : List (List ℕ)
   pub first : owed ≡ packet ∷ rest
-  pub most : length packet ≤ 384
-  pub packets_is : packets ≡ e.spare_sent.packets
-  pub words_is : words ≡ e.spare_sent.words
-  pub lacks : (packets ≡ 0) ⊎ (words < length packet)
+  pub room : LacksSendOf packets words packet e
+
+abbrev pub HasSendRoom : List ℕ → Seen TableSeat → Type 0
+HasSendRoom p e = (0 < e.spare_sent.packets) × (length p ≤ e.spare_sent.words)
 
 -- the first of these packets found too little room in the ring: no more free cells than its words and its trailer take
 pub record MetFull (owed : List (List ℕ)) (e : Seen TableSeat) : Type 0 where

@@ -5,8 +5,10 @@
 mod ended;
 pub mod laws;
 mod port;
+mod room;
 mod sheet;
 
 pub use ended::{Ended, Turn};
 pub use port::{Looked, Port};
+pub use room::room_of;
 pub use sheet::Sheet;

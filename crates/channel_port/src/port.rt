@@ -5,7 +5,7 @@ ghost use Rattle.chan_run.specs.Runs.{got_of, has_marked};
 ghost use Rattle.ring_machine.specs.Endings.{want_of};
 ghost use Rattle.ring_machine.specs.States.{IsPacket};
 ghost use Rattle.ring_seat.specs.Seats.{new_end};
-ghost use Rattle.channel_port.specs.Owed.{IsNeed};
+ghost use Rattle.channel_port.specs.Owed.{HasSendRoom, IsNeed, LacksSendOf};
 ghost use Rattle.channel_port.specs.Rooms.{GotInto, SentInto};
 ghost use Rattle.channel_port.specs.Line.{IsReady, Stays, TookOne, looked, look_of, is_asleep, armed_by, polled_by, PolledOnce, HasTakeRoom, LacksTake};
 
@@ -62,14 +62,6 @@ impl Port {
         self.end.reserve(sent, got)
     }
 
-    /// The packets and words for which the list of what was sent has room.
-    pub fn spare_sent(&self) -> Room
-        ensures value { result ≡ self.now.spare_sent }
-        ensures got { got_of self.now.state.past ≡ self.now.state.got }
-    {
-        self.end.spare_sent()
-    }
-
     /// The packets and words for which the list of what was got has room.
     pub fn spare_got(&self) -> Room
         ensures value { result ≡ self.now.spare_got }
@@ -85,6 +77,19 @@ impl Port {
     {
         let room = self.end.spare_got();
         if room.packets == 0 || room.words < self.end.cells() as u64 {
+            return Some(room);
+        }
+        None
+    }
+
+    /// The room that is left of the list of what was sent, where it is too little for this packet.
+    pub fn lacks_send(&self, packet: &[u64]) -> Option<Room>
+        requires { length packet.now ≤ 384 }
+        ensures lacks { MatchOption result (HasSendRoom packet.now self.now) (λ r. LacksSendOf r.packets r.words packet.now self.now) }
+        ensures got { got_of self.now.state.past ≡ self.now.state.got }
+    {
+        let room = self.end.spare_sent();
+        if room.packets == 0 || room.words < packet.len() as u64 {
             return Some(room);
         }
         None
@@ -138,11 +143,12 @@ impl Port {
         requires ready { IsReady self.old }
         requires packet { IsPacket packet.now }
         requires most { length packet.now ≤ 384 }
-        requires room { (0 < self.old.spare_sent.packets) × (length packet.now ≤ self.old.spare_sent.words) }
+        requires room { HasSendRoom packet.now self.old }
         ensures past { self.new.state.past ≡ (if result then Sent packet.now ∷ self.old.state.past else self.old.state.past) }
         ensures ready { IsReady self.new }
         ensures stays { Stays self.old self.new }
         ensures got { (self.new.state.got ≡ self.old.state.got) × (self.new.spare_got ≡ self.old.spare_got) }
+        ensures unmarked { has_marked self.old.state.past ≡ false }
         ensures full { result ≡ false → self.new.spare_sent ≡ self.old.spare_sent }
         ensures found { result ≡ false → (self.new.state.machine.room ≤ length packet.now + 1) × (self.new.state.machine.words ≡ length packet.now) }
         ensures into { SentInto (length packet.now) self.old self.new }
@@ -154,6 +160,7 @@ impl Port {
     pub fn take(&mut self) -> bool
         requires ready { IsReady self.old }
         requires room { (0 < self.old.spare_got.packets) × (self.old.state.machine.cells ≤ self.old.spare_got.words) }
+        ensures list { got_of self.old.state.past ≡ self.old.state.got }
         ensures took { TookOne result self.old.state self.new.state }
         ensures ready { IsReady self.new }
         ensures stays { Stays self.old self.new }

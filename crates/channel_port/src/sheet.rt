@@ -1,6 +1,7 @@
 //! A sheet on which a packet is written.
 ghost use Rattle.std.specs.Prelude.{◌≡◌, ◌<◌, ◌≤◌, ◌+◌, ◌*◌, [], ℕ, length, slice_get, Some, IfOk, true, ◌⊎◌};
-ghost use Rattle.chan_talk.specs.Listed.{listed_packet};
+ghost use Rattle.chan_talk.specs.Listed.{answer_in, listed_packet, message_in};
+ghost use Rattle.work_model.specs.Speech.{listed, under_own};
 ghost use Rattle.ring_machine.specs.States.{IsPacket};
 ghost use Rattle.channel_port.specs.Owed.{is_nil, FitsReply};
 
@@ -80,28 +81,48 @@ impl Sheet {
         self.len = talk.encode(k, id, self.words.as_mut_slice());
     }
 
-    /// Writes what goes back for a packet that asks nothing of the device.
+    /// Writes what acknowledges a message.
+    pub fn write_ack<T: Talk>(&mut self, talk: &T, packet: &[u64])
+        requires packet { IsPacket packet.now }
+        requires message { (T.speech talk.now).is_message packet.now ≡ true }
+        ensures value { self.new ≡ (T.speech talk.now).ack packet.now }
+        ensures packet { IsPacket self.new }
+        ensures most { length self.new ≤ 384 }
+    {
+        self.len = talk.write_ack(packet, self.words.as_mut_slice());
+    }
+
+    /// Writes the message that goes back for a packet that asks nothing of the device, if there is one, under an id of the serving end's own.
+    pub fn write_fixed_message<T: Talk>(&mut self, talk: &T, packet: &[u64], own: u64)
+        requires packet { IsPacket packet.now }
+        ensures { listed_packet self.new ≡ listed (message_in own ((T.speech talk.now).fixed packet.now)) }
+    {
+        self.len = talk.write_fixed_message(packet, own, self.words.as_mut_slice());
+    }
+
+    /// Writes the answer that goes back for it, if one does.
     pub fn write_fixed<T: Talk>(&mut self, talk: &T, packet: &[u64])
         requires packet { IsPacket packet.now }
-        ensures { listed_packet self.new ≡ (T.speech talk.now).fixed packet.now }
+        ensures { listed_packet self.new ≡ listed (answer_in ((T.speech talk.now).fixed packet.now)) }
     {
         self.len = talk.write_fixed(packet, self.words.as_mut_slice());
     }
 
-    /// Writes the message that goes back before the answer.
-    pub fn write_message<T: Talk>(&mut self, talk: &T, packet: &[u64], reply: &T::Reply, back: u64)
+    /// Writes the message that goes back before the answer, if there is one, under an id of the serving end's own.
+    pub fn write_message<T: Talk>(&mut self, talk: &T, packet: &[u64], reply: &T::Reply, own: u64)
         requires packet { IsPacket packet.now }
         requires fits { FitsReply (T.speech talk.now) packet.now reply.now }
-        ensures { self.new ≡ T.message talk.now packet.now reply.now back }
+        ensures { listed_packet self.new ≡ listed (under_own own ((T.speech talk.now).gives packet.now reply.now).message) }
     {
-        self.len = talk.write_message(packet, reply, back, self.words.as_mut_slice());
+        self.len = talk.write_message(packet, reply, own, self.words.as_mut_slice());
     }
 
     /// Writes the answer with the device's reply.
     pub fn write_answer<T: Talk>(&mut self, talk: &T, packet: &[u64], reply: &T::Reply)
         requires packet { IsPacket packet.now }
         requires fits { FitsReply (T.speech talk.now) packet.now reply.now }
-        ensures { self.new ≡ T.answer talk.now packet.now reply.now }
+        ensures value { self.new ≡ ((T.speech talk.now).gives packet.now reply.now).answer }
+        ensures packet { IsPacket self.new }
     {
         self.len = talk.write_answer(packet, reply, self.words.as_mut_slice());
     }

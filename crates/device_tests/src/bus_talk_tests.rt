@@ -60,7 +60,7 @@ fn starts(rt: &impl Abort, talk: &KindTalk, k: u32, asked: [u8; 14], back: &[u8]
     let len = talk.write_fixed(packet, &mut out);
     check(rt, len > 0);
     is_packet(rt, &out[..len], DONE, 40, back);
-    check(rt, talk.result(k, &out[..len]).is_none());
+    check(rt, talk.result(k, &[], &out[..len]).is_none());
 }
 
 #[test]
@@ -149,7 +149,7 @@ fn disk_round(rt: &impl Abort, disk: &mut Disk, talk: &KindTalk, words: &mut [u6
     let back = talk.write_answer(packet, &reply, &mut out);
     check(rt, back > 0);
     check(rt, talk.id(&out[..back]) == 77);
-    talk.result(4, &out[..back])
+    talk.result(4, &[], &out[..back])
 }
 
 /// A command for a disk with this data.
@@ -257,7 +257,7 @@ fn negotiates(rt: &impl Abort, talk: &KindTalk) {
     let back = talk.write_fixed(packet, &mut out);
     check(rt, back > 0);
     check(rt, talk.id(&out[..back]) == 4);
-    check(rt, talk.result(0, &out[..back]).is_none());
+    check(rt, talk.result(0, &[], &out[..back]).is_none());
 }
 
 /// A heartbeat's sequence number comes back one greater.
@@ -297,7 +297,7 @@ fn beat_round(rt: &impl Abort, talk: &KindTalk) -> Option<Reply>
     let back = talk.write_answer(packet, &reply, &mut out);
     check(rt, back > 0);
     check(rt, talk.id(&out[..back]) == 5);
-    talk.result(1, &out[..back])
+    talk.result(1, &[], &out[..back])
 }
 
 /// A guest refuses to hibernate.
@@ -336,5 +336,5 @@ fn down_round(rt: &impl Abort, talk: &KindTalk) -> Option<Reply>
     let mut out = [0; 384];
     let back = talk.write_answer(packet, &reply, &mut out);
     check(rt, back > 0);
-    talk.result(1, &out[..back])
+    talk.result(1, &[], &out[..back])
 }

@@ -1,7 +1,7 @@
 -- The workers of a channel, as contracts see them.
 use Rattle.std.specs.Prelude.{ℕ, ◌≡◌, false, length, Option, Some, None}
 use Rattle.io_edge.specs.declared.side.Side.{Side}
-use Rattle.bus_speech.specs.Speeches.{speech_of}
+use Rattle.bus_speech.specs.Speeches.{besides_on, speech_of}
 use Rattle.bus_speech.specs.Talks.{asks_of}
 use Rattle.ring_core.specs.Seen.{Seen}
 use Rattle.ring_seat.specs.declared.table_seat.TableSeat.{TableSeat}
@@ -46,8 +46,8 @@ pub record IsOfSide (side : Side) (w : ChannelWorker) : Type 0 where
 
 -- how a turn ends, by what the worker does
 abbrev pub Turned : Turn → ChannelWorker → Type 0
-Turned turn (Asks w) = AskTurns (speech_of w.talk.kind) (asks_of w.talk) turn w × AskEnds (speech_of w.talk.kind) w.starts (asks_of w.talk) turn w.end.state.past
-Turned turn (Serves w) = Turns left_at (speech_of w.desk.talk.kind) turn w × ServeEnds (speech_of w.desk.talk.kind) turn w
+Turned turn (Asks w) = AskTurns (speech_of w.talk.kind) (besides_on w.talk.kind) (asks_of w.talk) turn w × AskEnds (speech_of w.talk.kind) (besides_on w.talk.kind) w.starts (asks_of w.talk) turn w.end.state.past
+Turned turn (Serves w) = Turns left_at (speech_of w.desk.talk.kind) (besides_on w.desk.talk.kind) turn w × ServeEnds (speech_of w.desk.talk.kind) (besides_on w.desk.talk.kind) turn w
 
 -- why it went so: what the worker did in it
 abbrev pub Caused : Turn → ChannelWorker → ChannelWorker → Type 0

@@ -9,7 +9,7 @@ use Rattle.work_model.proofs.Opens.{by_test}
 use Rattle.work_model.proofs.Served.{filter_first, filter_past}
 use Rattle.requester.specs.Asking.{AsksBy}
 use Rattle.requester.proofs.AskSteps.{encoded_few}
-use Rattle.server.specs.Serving.{is_asked}
+use Rattle.channel_port.specs.Rooms.{is_asked}
 use Rattle.channel_port.specs.declared.ended.Ended.{Ended}
 use Rattle.channel_port.specs.declared.ended.Ended.TheVariants.{Marked, PeerMarked, Room}
 

@@ -1,5 +1,5 @@
 -- What both workers of a pair come to, once they ended.
-use Rattle.std.proofs.Common.{◌≡◌, ◌≤◌, ◌+◌, ℕ, length, filter, arith, true, false, List, [], ◌++◌, map, Option, refl, sym, ap, ◌∙◌, subst}
+use Rattle.std.proofs.Common.{◌≡◌, ◌≤◌, ◌+◌, ℕ, length, filter, arith, Bool, true, false, List, [], ◌++◌, map, Option, refl, sym, ap, ◌∙◌, subst}
 use Rattle.std.proofs.lemmas.List.{length-map, append-nil}
 use Rattle.chan_run.specs.declared.event.Event.{Event}
 use Rattle.chan_run.specs.Laws.{AreOfOneRun}
@@ -11,7 +11,7 @@ use Rattle.bus_model.proofs.FromLists.{serves_first_lem}
 use Rattle.bus_model.specs.Served.{Served}
 use Rattle.script_lines.specs.declared.line.Ask.{Ask}
 use Rattle.bus_script.specs.declared.outcome.Reply.{Reply}
-use Rattle.bus_speech.specs.Speeches.{speech_of}
+use Rattle.bus_speech.specs.Speeches.{besides_on, speech_of}
 use Rattle.bus_speech.specs.Wants.{startup}
 use Rattle.bus_speech.proofs.SpeechLaws.{keeps, start_is_fixed}
 use Rattle.bus_speech.specs.Talks.{Talked, asks_of}
@@ -27,8 +27,8 @@ use Rattle.work_model.specs.Channel.{AskerEnds, ServerEnds, count_of, held_of, I
 use Rattle.work_model.specs.Roles.{side_that_asks}
 use Rattle.work_model.specs.Speech.{Speech}
 use Rattle.requester.specs.Asking.{Asking, AsksAll, AsksBy}
-use Rattle.channel_port.specs.Rooms.{has_room}
-use Rattle.server.specs.Serving.{Serving, EndsAll, EndsBy, calls_behind, is_asked}
+use Rattle.channel_port.specs.Rooms.{AskedWithin, AskLacksFor, has_room, is_asked}
+use Rattle.server.specs.Serving.{Serving, EndsAll, EndsBy, calls_behind}
 use Rattle.channel_port.specs.declared.ended.Ended.{Ended}
 use Rattle.channel_port.specs.declared.ended.Ended.TheVariants.{Marked, PeerMarked, Room}
 use Rattle.channel_port.proofs.RoomLaws.{never_lacks}
@@ -75,7 +75,11 @@ few_for a s asked agree leaves go =
 -- neither ended for want of room, or of a call
 both_whole : (a : Asking Talked Reply) (s : Serving Talked DeviceSeat Ask Reply) (asked served : WorkerDone) (lists : Lists) (side : Side) → BothLeave a s asked served lists side → (is_whole asked.ended ≡ true) × (is_whole served.ended ≡ true)
 both_whole a s asked served lists side both =
-    let whole = never_lacks (is_asked (speech_of s.desk.talk.kind)) (length (asks_of a.talk)) (s.starts + s.come) s.serve s.stops asked.end.state.past served.end.state.past asked.ended served.ended both.agree.room (few_for a s asked both.agree both.asker_leaves) both.joins.one both.asker_leaves.sent both.asker_leaves.room both.server_leaves.sent both.server_leaves.room in
+    let kind = s.desk.talk.kind in
+    let count = length (asks_of a.talk) in
+    let sent = subst (λ k. AskedWithin (speech_of k) count asked.end.state.past) both.agree.kind both.asker_leaves.sent in
+    let lacks = subst (λ k. AskLacksFor (speech_of k) (besides_on k) count asked.ended asked.end.state.past) both.agree.kind both.asker_leaves.room in
+    let whole = never_lacks (speech_of kind) (besides_on kind) count (s.starts + s.come) s.serve s.stops asked.end.state.past served.end.state.past asked.ended served.ended both.agree.room (few_for a s asked both.agree both.asker_leaves) both.joins.one sent lacks both.server_leaves.sent both.server_leaves.room in
     (is_whole_of asked.ended whole.0, is_whole_of served.ended whole.1)
 
 asks_all : (s : Speech (List ℕ) Want Ask Reply) (how : Ended) (asks : List Want) (past : List (Event (List ℕ))) (told : List Reply) → is_whole how ≡ true → AsksBy s how asks past told → AsksAll s asks past told
@@ -83,10 +87,10 @@ asks_all s Marked asks past told whole by = by.0
 asks_all s PeerMarked asks past told whole by = by.0
 asks_all s (Room packets words left) asks past told whole by = absurd (cc (whole))
 
-ends_all : (s : Speech (List ℕ) Want Ask Reply) (how : Ended) (w : Serving Talked DeviceSeat Ask Reply) (e : Seen TableSeat) (calls : List Served) → is_whole how ≡ true → EndsBy s how w e calls → EndsAll s w e.state.past calls
-ends_all s Marked w e calls whole by = by.0
-ends_all s PeerMarked w e calls whole by = by.0
-ends_all s (Room packets words left) w e calls whole by = absurd (cc (whole))
+ends_all : (s : Speech (List ℕ) Want Ask Reply) (besides : Bool) (how : Ended) (w : Serving Talked DeviceSeat Ask Reply) (e : Seen TableSeat) (calls : List Served) → is_whole how ≡ true → EndsBy s besides how w e calls → EndsAll s w e.state.past calls
+ends_all s besides Marked w e calls whole by = by.0
+ends_all s besides PeerMarked w e calls whole by = by.0
+ends_all s besides (Room packets words left) w e calls whole by = absurd (cc (whole))
 
 -- the end that asks, for what the phase orders
 asker_ends : (order : Order) (talk : Talked) (past : List (Event (List ℕ))) (told : List Reply) → talk ≡ record { kind = order.kind; sub = order.sub; subs = order.subs; asks = order.asks } → AsksAll (speech_of talk.kind) (asks_of talk) past told
@@ -131,7 +135,7 @@ ran order seat a s asked served lists side at_side made ended =
       can = made.can;
       one = at.one;
       asker_ends = asker_ends order a.talk asked.end.state.past told made.talk (asks_all _ asked.ended _ _ _ whole.0 ended.asker_leaves.asks);
-      server_ends = server_ends order seat a s served.end.state.past calls made (ends_all _ served.ended _ _ _ whole.1 (subst (λ l. EndsBy (speech_of s.desk.talk.kind) served.ended s served.end l) none_before ended.server_leaves.serves));
+      server_ends = server_ends order seat a s served.end.state.past calls made (ends_all _ _ served.ended _ _ _ whole.1 (subst (λ l. EndsBy (speech_of s.desk.talk.kind) (besides_on s.desk.talk.kind) served.ended s served.end l) none_before ended.server_leaves.serves));
     } in
     let carried : Carries (side_that_asks order.kind) order lists calls =
     lists_are (side_that_asks order.kind) order _ _ _ _ lists calls at.asker_sent at.asker_got at.server_sent at.server_got (runs order asked.end.state.past served.end.state.past calls told both) in

@@ -1,28 +1,35 @@
 -- The asking worker's steps keep what it keeps.
-use Rattle.std.proofs.Common.{◌≡◌, ℕ, zero, suc, ◌+◌, ◌-◌, ◌<◌, ◌≤◌, ◌^◌, List, [], ◌∷◌, ◌++◌, length, drop, replicate, refl, sym, ap, ◌∙◌, subst, arith, Option, Some, None, Bool, true, false, cond, count_by, is_some}
+use Rattle.std.proofs.Common.{◌≡◌, ℕ, ◌+◌, ◌-◌, ◌<◌, ◌≤◌, ◌^◌, List, [], ◌∷◌, ◌++◌, length, drop, replicate, refl, sym, ap, ◌∙◌, subst, arith, Option, Some, None, Bool, true, false, cond, count_by, is_some, inl, inr}
 use Rattle.std.specs.Prelude.{◌==◌, ◌||◌, if◌then◌else◌, slice_get, slice_set}
-use Rattle.std.proofs.lemmas.List.{drop_all, drop_more, length-drop}
-use Rattle.std.proofs.lemmas.Option.{get_or_from_slice_get, slice_get_within}
+use Rattle.std.proofs.lemmas.List.{drop_all, drop-append-le, length-append, length-drop}
+use Rattle.std.proofs.lemmas.Option.{slice_get_within}
 use Rattle.std.proofs.lemmas.Bool.Decides.{nat_tests}
 use Rattle.chan_run.specs.declared.event.Event.{Event}
 use Rattle.chan_run.specs.declared.event.Event.TheVariants.{Sent, Got, Empty, Marked, Saw}
-use Rattle.chan_run.specs.Runs.{has_marked, has_seen, is_drained}
+use Rattle.chan_run.specs.Runs.{sent_of, got_of, has_marked, has_seen, is_drained}
 use Rattle.chan_run.proofs.Pasts.{drained_seen, follows_unmarked}
 use Rattle.ring_core.specs.Seen.{Seen}
 use Rattle.ring_seat.specs.declared.table_seat.TableSeat.{TableSeat}
 use Rattle.txn_table.specs.Open.{request_of}
 use Rattle.work_model.specs.Speech.{Speech, Keeps}
-use Rattle.work_model.specs.Asker.{Encoded, opened, said, under, without, open_of, requests_of}
+use Rattle.work_model.specs.Asker.{Encoded, opened, said, since, under, without, open_of, requests_of}
 use Rattle.work_model.specs.Channel.{AskerBreaks}
-use Rattle.work_model.specs.Workers.{ask_of, Apart, AskerKept}
+use Rattle.work_model.specs.Workers.{ask_of, Apart, AskerKept, AcksKept}
+use Rattle.work_model.specs.Amounts.{room_of, besides_of, AsksAtMost}
+use Rattle.work_model.proofs.Acking.{acks_new, acks_came, acks_gave, acks_asked, acks_quiet}
+use Rattle.work_model.proofs.Amounts.{asks_at_most, kinds_asked, kinds_acked}
 use Rattle.work_model.proofs.Opens.{by_test}
-use Rattle.work_model.proofs.Asking.{asker_accepted, asker_sent, asker_told, asker_answered, asker_stray, asker_open, asker_empty, asker_marked, asker_saw, asker_settled, asker_stopped}
+use Rattle.work_model.proofs.Asking.{since_more, asker_accepted, asker_sent, asker_told, asker_answered, asker_stray, asker_came, asker_acked, asker_breaks, asker_open, asker_empty, asker_marked, asker_saw, asker_settled, asker_stopped}
 use Rattle.channel_port.specs.Line.{SleepsFor}
-use Rattle.requester.specs.Asking.{Asking, IsAsking, IsPaced, AsksAll, Holds, HasSettled, answer_of, ask_at, asked_in, waits_in, waits_under, want_by, pending, AsksOn, AsksBy}
+use Rattle.requester.specs.Asking.{Asking, IsAsking, IsPaced, AsksAll, Holds, HasSettled, AskerLacks, LacksNext, id_in, answer_of, ask_at, asked_in, waits_in, waits_under, want_by, pending, AsksOn, AsksBy}
 use Rattle.requester.specs.declared.requester.Hold.{Hold}
-use Rattle.requester.specs.declared.requester.Hold.TheVariants.{Done, Place, Answer, Room}
+use Rattle.requester.specs.declared.requester.Hold.TheVariants.{Done, Place, Answer, Ack, Room}
 use Rattle.channel_port.specs.declared.ended.Ended.{Ended}
 use Rattle.channel_port.specs.Owed.{IsNeed}
+use Rattle.channel_port.specs.Rooms.{AreShort, AskedWithin, CameOver, HasReservedSent, KeepsRoom}
+use Rattle.channel_port.proofs.RoomLaws.{asks_over, ask_left, ack_left, takes_over}
+use Rattle.requester.specs.Acking.{IsNext}
+use Rattle.requester.proofs.NextLaws.{acks_skipped, first_of}
 use Rattle.requester.proofs.Tables.{set_request, none_open, none_in}
 
 not_both : {X : Type 0} (b : Bool) → b ≡ false → b ≡ true → X
@@ -43,9 +50,6 @@ set_if true n x k e f g = f (some_same n k e)
 set_if false n x k e f g = g e
 
 module _ {A : Type 0} where
-  first_of : (asks : List A) (k : ℕ) (a : A) → slice_get asks k ≡ Some a → drop k asks ≡ a ∷ drop (k + 1) asks
-  first_of asks k a e = drop_more asks k a (slice_get_within asks k a e) ∙ ap (λ x. x ∷ drop (k + 1) asks) (get_or_from_slice_get asks k a a e)
-
   ask_if : (asks : List A) (b : Bool) (x : Option ℕ) → ask_at asks (if b then None else x) ≡ (if b then None else ask_at asks x)
   ask_if asks true x = refl
   ask_if asks false x = refl
@@ -53,11 +57,6 @@ module _ {A : Type 0} where
   ask_set : (asks : List A) (b : Bool) (k : ℕ) (a : A) (x : Option ℕ) → slice_get asks k ≡ Some a → ask_at asks (if b then Some k else x) ≡ (if b then Some a else ask_at asks x)
   ask_set asks true k a x e = e
   ask_set asks false k a x e = refl
-
-  pub at_least : (asks : List A) (k : ℕ) → k < length asks → (a : A) × (slice_get asks k ≡ Some a)
-  at_least [] k lt = absurd (omega (arith, lt))
-  at_least (a ∷ asks) zero lt = (a, refl)
-  at_least (a ∷ asks) (suc k) lt = at_least asks k (omega (arith, lt))
 
 module _ {A Q R : Type 0} (s : Speech (List ℕ) A Q R) where
   -- who waits under no such id
@@ -82,9 +81,13 @@ module _ {A Q R : Type 0} (s : Speech (List ℕ) A Q R) where
       (λ e. let same : o.0 ≡ id = grind (arith, nat_tests, e) in last_found os id a (subst (λ k. under s k (os ++ (id, a) ∷ []) ≡ None) same h.0))
       (λ e. ap (λ b. cond b (Some o) (under s id os)) e ∙ apart_last os id a h.1)
 
-  said_answer : (o : Option (ℕ × A)) (found : Option A) (p : List ℕ) → found ≡ ask_of o → said s o ([] ++ p ∷ []) ≡ answer_of s found p
-  said_answer None found p e = ap (λ f. answer_of s f p) (sym e)
-  said_answer (Some o) found p e = ap (λ f. answer_of s f p) (sym e)
+  said_answer : (o : Option (ℕ × A)) (found : Option A) (before : Option (List ℕ)) (p : List ℕ) → found ≡ ask_of o → said s o before p ≡ answer_of s found before p
+  said_answer None found before p e = ap (λ f. answer_of s f before p) (sym e)
+  said_answer (Some o) found before p e = ap (λ f. answer_of s f before p) (sym e)
+
+  -- what came last, where it is no answer: the last packet of the list tells
+  pub last_of : (got : List (List ℕ)) (q : List ℕ) → since s None (got ++ q ∷ []) ≡ cond (s.is_answer q) None (Some q)
+  last_of got q = since_more s None got q
 
 cond_none : {A : Type 0} (b : Bool) → cond {A = List A} b [] [] ≡ []
 cond_none true = refl
@@ -107,6 +110,11 @@ module _ {A Q R : Type 0} (s : Speech (List ℕ) A Q R) where
   encoded_few [] (p ∷ ps) enc = absurd enc
   encoded_few (a ∷ asks) (p ∷ ps) enc = omega (arith, encoded_few asks ps enc.1)
 
+module _ {A Q R : Type 0} (s : Speech (List ℕ) A Q R) where
+  -- the packet at the place of a message is that message
+  pub message_here : (got : List (List ℕ)) (k : ℕ) (m p : List ℕ) → slice_get got k ≡ Some m → s.is_message m ≡ true → slice_get got k ≡ Some p → s.is_message p ≡ true
+  message_here got k m p at is here = ap s.is_message (some_same p m (sym here ∙ at)) ∙ is
+
 module _ {T A Q R : Type 0} (s : Speech (List ℕ) A Q R) (asks : List A) (w : Asking T R) where
   -- as many requests were sent as stand before the next one
   sent_next : IsAsking s asks w → length (requests_of s w.end.state.past) ≡ w.next
@@ -118,7 +126,7 @@ module _ {T A Q R : Type 0} (s : Speech (List ℕ) A Q R) (asks : List A) (w : A
   none_stands : IsAsking s asks w → count_by is_some w.table ≡ 0 → open_of s asks w.end.state.past ≡ []
   none_stands h none = none_left s (open_of s asks w.end.state.past) (waits_in (drop w.next asks) w.waiting) (λ id. sym (h.kept.opens id) ∙ ap (ask_at asks) (none_open w.table none id))
 
-module _ {T A Q R : Type 0} (s : Speech (List ℕ) A Q R) (keeps : Keeps s) (single : (p : List ℕ) → s.is_answer p ≡ true) (asks : List A) (w : Asking T R) where
+module _ {T A Q R : Type 0} (s : Speech (List ℕ) A Q R) (keeps : Keeps s) (asks : List A) (w : Asking T R) where
   -- the table as a map, and what waits
   abbrev tabled : ℕ → Option A
   tabled = asked_in asks w.table
@@ -126,9 +134,20 @@ module _ {T A Q R : Type 0} (s : Speech (List ℕ) A Q R) (keeps : Keeps s) (sin
   abbrev todo : List A
   todo = drop w.next asks
 
-  pub empty_kept : (end' : Seen TableSeat) → end'.state.past ≡ Empty ∷ w.end.state.past → end'.state.machine.asleep ≡ false → IsAsking s asks w → IsAsking s asks (record w { end = end' })
-  empty_kept end' is awake h = record {
-    kept = rw is (asker_empty s asks w.end.state.past todo (waits_in todo w.waiting) tabled [] w.told h.kept);
+  -- what is still to be looked at, once one more came
+  came_more : (got' : List (List ℕ)) (p : List ℕ) → got' ≡ w.end.state.got ++ p ∷ [] → IsAsking s asks w → AcksKept s (Got p ∷ w.end.state.past) (drop w.acked got')
+  came_more got' p more h =
+      subst (AcksKept s (Got p ∷ w.end.state.past)) (sym (ap (drop w.acked) more ∙ drop-append-le w.acked w.end.state.got (p ∷ []) h.looked)) (acks_came s w.end.state.past (drop w.acked w.end.state.got) p h.acks)
+
+  looked_more : (got' : List (List ℕ)) (p : List ℕ) → got' ≡ w.end.state.got ++ p ∷ [] → IsAsking s asks w → w.acked ≤ length got'
+  looked_more got' p more h = omega (arith, h.looked, ap length more, length-append w.end.state.got (p ∷ []))
+
+  pub empty_kept : (end' : Seen TableSeat) → end'.state.past ≡ Empty ∷ w.end.state.past → end'.state.got ≡ w.end.state.got → end'.state.machine.asleep ≡ false → IsAsking s asks w → IsAsking s asks (record w { end = end' })
+  empty_kept end' is got awake h = record {
+    kept = rw is (asker_empty s asks w.end.state.past todo (waits_in todo w.waiting) tabled w.told h.kept);
+    acks = rw (is, got) (acks_quiet s w.end.state.past Empty (drop w.acked w.end.state.got) refl refl h.acks);
+    kinds = rw is h.kinds;
+    looked = omega (arith, h.looked, ap length got);
     within = h.within;
     places = h.places;
     asked = h.asked;
@@ -138,9 +157,12 @@ module _ {T A Q R : Type 0} (s : Speech (List ℕ) A Q R) (keeps : Keeps s) (sin
     alone = λ id e few. ap (open_of s asks) is ∙ h.alone id e few;
   }
 
-  pub saw_kept : (end' : Seen TableSeat) (hold' : Hold) → end'.state.past ≡ Saw ∷ w.end.state.past → end'.state.machine.asleep ≡ false → IsAsking s asks w → IsAsking s asks (record w { end = end'; seen = true; hold = hold' })
-  saw_kept end' hold' is awake h = record {
-    kept = rw is (asker_saw s asks w.end.state.past todo (waits_in todo w.waiting) tabled [] w.told h.kept);
+  pub saw_kept : (end' : Seen TableSeat) (hold' : Hold) → end'.state.past ≡ Saw ∷ w.end.state.past → end'.state.got ≡ w.end.state.got → end'.state.machine.asleep ≡ false → IsAsking s asks w → IsAsking s asks (record w { end = end'; seen = true; hold = hold' })
+  saw_kept end' hold' is got awake h = record {
+    kept = rw is (asker_saw s asks w.end.state.past todo (waits_in todo w.waiting) tabled w.told h.kept);
+    acks = rw (is, got) (acks_quiet s w.end.state.past Saw (drop w.acked w.end.state.got) refl refl h.acks);
+    kinds = rw is h.kinds;
+    looked = omega (arith, h.looked, ap length got);
     within = h.within;
     places = h.places;
     asked = h.asked;
@@ -151,10 +173,13 @@ module _ {T A Q R : Type 0} (s : Speech (List ℕ) A Q R) (keeps : Keeps s) (sin
   }
 
   -- nothing was done that the peer sees
-  pub still_kept : (end' : Seen TableSeat) (hold' : Hold) → end'.state.past ≡ w.end.state.past → (end'.state.machine.asleep ≡ true → Holds s asks hold' (record w { end = end'; hold = hold' }) × SleepsFor (want_by hold') end' × (w.seen ≡ false))
+  pub still_kept : (end' : Seen TableSeat) (hold' : Hold) → end'.state.past ≡ w.end.state.past → end'.state.got ≡ w.end.state.got → (end'.state.machine.asleep ≡ true → Holds s asks hold' (record w { end = end'; hold = hold' }) × SleepsFor (want_by hold') end' × (w.seen ≡ false))
       → IsAsking s asks w → IsAsking s asks (record w { end = end'; hold = hold' })
-  still_kept end' hold' is rests h = record {
+  still_kept end' hold' is got rests h = record {
     kept = rw is h.kept;
+    acks = rw (is, got) h.acks;
+    kinds = rw is h.kinds;
+    looked = omega (arith, h.looked, ap length got);
     within = h.within;
     places = h.places;
     asked = h.asked;
@@ -164,18 +189,24 @@ module _ {T A Q R : Type 0} (s : Speech (List ℕ) A Q R) (keeps : Keeps s) (sin
     alone = λ id e few. ap (open_of s asks) is ∙ h.alone id e few;
   }
 
-  -- an answer was taken
-  pub took_kept : (end' : Seen TableSeat) (table' : List (Option ℕ)) (told' : List R) (p : List ℕ) → end'.state.past ≡ Got p ∷ w.end.state.past → end'.state.machine.asleep ≡ false → waits_under w.waiting (s.id_of p) ≡ false
-      → ((j : ℕ) → request_of table' j ≡ (if j == s.id_of p then None else request_of w.table j)) → told' ≡ w.told ++ answer_of s (asked_in asks w.table (s.id_of p)) p → IsAsking s asks w
+  -- an answer was taken: the packet that came just before it is read with it, where that was none
+  pub took_kept : (end' : Seen TableSeat) (table' : List (Option ℕ)) (told' : List R) (p : List ℕ) → s.is_answer p ≡ true → got_of w.end.state.past ≡ w.end.state.got → end'.state.past ≡ Got p ∷ w.end.state.past
+      → end'.state.got ≡ w.end.state.got ++ p ∷ [] → end'.state.machine.asleep ≡ false → waits_under w.waiting (s.id_of p) ≡ false
+      → ((j : ℕ) → request_of table' j ≡ (if j == s.id_of p then None else request_of w.table j)) → told' ≡ w.told ++ answer_of s (asked_in asks w.table (s.id_of p)) (since s None w.end.state.got) p → IsAsking s asks w
       → IsAsking s asks (record w { end = end'; table = table'; told = told' })
-  took_kept end' table' told' p is awake free set more h =
+  took_kept end' table' told' p answers line is more awake free set new h =
       let other = not_waiting s todo w.waiting (s.id_of p) free in
-      let open' = asker_open s asks w.end.state.past todo (waits_in todo w.waiting) tabled [] w.told (s.id_of p) other h.kept in
-      let says : told' ≡ w.told ++ said s (under s (s.id_of p) (open_of s asks w.end.state.past)) ([] ++ p ∷ []) =
-      more ∙ ap (λ l. w.told ++ l) (sym (said_answer s (under s (s.id_of p) (open_of s asks w.end.state.past)) (tabled (s.id_of p)) p open')) in
+      let open' = asker_open s asks w.end.state.past todo (waits_in todo w.waiting) tabled w.told (s.id_of p) other h.kept in
+      let before : Option (List ℕ) = since s None (got_of w.end.state.past) in
+      let says : told' ≡ w.told ++ said s (under s (s.id_of p) (open_of s asks w.end.state.past)) before p =
+      new ∙ (ap (λ g. w.told ++ answer_of s (tabled (s.id_of p)) (since s None g) p) (sym line)
+      ∙ ap (λ l. w.told ++ l) (sym (said_answer s (under s (s.id_of p) (open_of s asks w.end.state.past)) (tabled (s.id_of p)) before p open'))) in
       let set' : (j : ℕ) → asked_in asks table' j ≡ (if j == s.id_of p then None else tabled j) = λ j. ap (ask_at asks) (set j) ∙ ask_if asks (j == s.id_of p) (request_of w.table j) in
       record {
-        kept = rw (is, says) (asker_answered s asks w.end.state.past todo (waits_in todo w.waiting) tabled (asked_in asks table') [] w.told p (single p) other set' h.kept);
+        kept = rw (is, says) (asker_answered s asks w.end.state.past todo (waits_in todo w.waiting) tabled (asked_in asks table') w.told p answers other set' h.kept);
+        acks = rw is (came_more end'.state.got p more h);
+        kinds = rw is h.kinds;
+        looked = looked_more end'.state.got p more h;
         within = h.within;
         places = λ id k e. h.places id k (kept_if (id == s.id_of p) (request_of w.table id) k (sym (set id) ∙ e));
         asked = h.asked;
@@ -185,11 +216,66 @@ module _ {T A Q R : Type 0} (s : Speech (List ℕ) A Q R) (keeps : Keeps s) (sin
         alone = λ id e few. ap (open_of s asks) is ∙ none_opens s p (open_of s asks w.end.state.past) (h.alone id e few);
       }
 
-module _ {T A Q R : Type 0} (s : Speech (List ℕ) A Q R) (keeps : Keeps s) (single : (p : List ℕ) → s.is_answer p ≡ true) (asks : List A) (w : Asking T R) where
-  -- an answer to the request that isn't sent yet was dropped
-  pub stray_kept : (end' : Seen TableSeat) (p : List ℕ) (id : ℕ) → w.waiting ≡ Some id → end'.state.past ≡ Got p ∷ w.end.state.past → end'.state.machine.asleep ≡ false → (id == s.id_of p) ≡ true → IsAsking s asks w
+  -- a packet was taken that is no answer
+  pub came_kept : (end' : Seen TableSeat) (p : List ℕ) → s.is_answer p ≡ false → end'.state.past ≡ Got p ∷ w.end.state.past → end'.state.got ≡ w.end.state.got ++ p ∷ [] → end'.state.machine.asleep ≡ false → IsAsking s asks w
       → IsAsking s asks (record w { end = end' })
-  stray_kept end' p id waits is awake same h =
+  came_kept end' p none is more awake h = record {
+    kept = rw is (asker_came s asks w.end.state.past todo (waits_in todo w.waiting) tabled w.told p none h.kept);
+    acks = rw is (came_more end'.state.got p more h);
+    kinds = rw is h.kinds;
+    looked = looked_more end'.state.got p more h;
+    within = h.within;
+    places = h.places;
+    asked = h.asked;
+    saw = ap has_seen is ∙ h.saw;
+    rests = λ e. not_both end'.state.machine.asleep awake e;
+    paced = subst (IsPaced s w.starts asks) (sym is) h.paced;
+    alone = λ id e few. ap (open_of s asks) is ∙ none_opens s p (open_of s asks w.end.state.past) (h.alone id e few);
+  }
+
+  -- the packets before the next message were passed over
+  pub skipped_kept : (next : ℕ) → IsNext s w.end.state.got w.acked next → w.end.state.machine.asleep ≡ false → IsAsking s asks w → IsAsking s asks (record w { acked = next })
+  skipped_kept next is awake h = record {
+    kept = h.kept;
+    acks = acks_skipped s w.end.state.got w.end.state.past w.acked next is h.acks;
+    kinds = h.kinds;
+    looked = is.within;
+    within = h.within;
+    places = h.places;
+    asked = h.asked;
+    saw = h.saw;
+    rests = λ e. not_both w.end.state.machine.asleep awake e;
+    paced = h.paced;
+    alone = h.alone;
+  }
+
+  -- the next message was acknowledged
+  pub acked_kept : (end' : Seen TableSeat) (m p : List ℕ) → slice_get w.end.state.got w.acked ≡ Some m → s.is_message m ≡ true → p ≡ s.ack m → end'.state.past ≡ Sent p ∷ w.end.state.past → end'.state.got ≡ w.end.state.got
+      → end'.state.machine.asleep ≡ false → w.seen ≡ false → IsAsking s asks w → IsAsking s asks (record w { end = end'; acked = w.acked + 1 })
+  acked_kept end' m p at is_message made is got awake unseen h =
+      let silent : s.is_request (s.ack m) ≡ false = keeps.ack_asks (s.ack m) (keeps.acks m is_message).0 in
+      let first : drop w.acked w.end.state.got ≡ m ∷ drop (w.acked + 1) w.end.state.got = first_of w.end.state.got w.acked m at in
+      let opens : open_of s asks (Sent (s.ack m) ∷ w.end.state.past) ≡ open_of s asks w.end.state.past =
+      ap (λ b. cond b (open_of s asks w.end.state.past ++ opened s (s.ack m) (drop (length (requests_of s w.end.state.past)) asks)) (open_of s asks w.end.state.past)) silent in
+      record {
+        kept = rw (is, made) (asker_acked s keeps asks w.end.state.past todo (waits_in todo w.waiting) tabled w.told m is_message h.kept);
+        acks = rw (is, made, got) (acks_gave s keeps w.end.state.past m (drop (w.acked + 1) w.end.state.got) is_message (subst (AcksKept s w.end.state.past) first h.acks));
+        kinds = rw (is, made) (kinds_acked s w.end.state.past (s.ack m) (keeps.acks m is_message).0 h.kinds);
+        looked = omega (arith, slice_get_within w.end.state.got w.acked m at, ap length got);
+        within = h.within;
+        places = h.places;
+        asked = h.asked;
+        saw = ap has_seen is ∙ h.saw;
+        rests = λ e. not_both end'.state.machine.asleep awake e;
+        paced = subst (IsPaced s w.starts asks) (sym is) (λ asks_one few. not_both (s.is_request p) (ap s.is_request made ∙ silent) asks_one, h.saw ∙ unseen, h.paced);
+        alone = λ id e few. ap (open_of s asks) (is ∙ ap (λ q. Sent q ∷ w.end.state.past) made) ∙ (opens ∙ h.alone id e few);
+      }
+
+module _ {T A Q R : Type 0} (s : Speech (List ℕ) A Q R) (keeps : Keeps s) (asks : List A) (w : Asking T R) where
+  -- an answer to the request that isn't sent yet was dropped
+  pub stray_kept : (end' : Seen TableSeat) (p : List ℕ) (id : ℕ) → s.is_answer p ≡ true → w.waiting ≡ Some id → end'.state.past ≡ Got p ∷ w.end.state.past → end'.state.got ≡ w.end.state.got ++ p ∷ [] → end'.state.machine.asleep ≡ false → (id == s.id_of p) ≡ true → IsAsking s asks w
+      → IsAsking s asks (record w { end = end' })
+  stray_kept end' p id answers waits is more awake same h =
       let a = h.asked id waits in
       let first = first_of asks w.next a.0 a.1 in
       let here : waits_in (drop w.next asks) w.waiting ≡ (id, a.0) ∷ [] = ap (waits_in (drop w.next asks)) waits ∙ ap (λ l. waits_in l (Some id)) first in
@@ -197,7 +283,10 @@ module _ {T A Q R : Type 0} (s : Speech (List ℕ) A Q R) (keeps : Keeps s) (sin
       let apart : Apart s (open_of s asks w.end.state.past ++ (s.id_of p, a.0) ∷ []) =
       subst (λ k. Apart s (open_of s asks w.end.state.past ++ (k, a.0) ∷ [])) is_id (subst (λ l. Apart s (open_of s asks w.end.state.past ++ l)) here h.kept.apart) in
       record {
-        kept = rw is (asker_stray s asks w.end.state.past (drop w.next asks) (waits_in (drop w.next asks) w.waiting) (asked_in asks w.table) [] w.told p (single p) (apart_last s (open_of s asks w.end.state.past) (s.id_of p) a.0 apart) h.kept);
+        kept = rw is (asker_stray s asks w.end.state.past (drop w.next asks) (waits_in (drop w.next asks) w.waiting) (asked_in asks w.table) w.told p answers (apart_last s (open_of s asks w.end.state.past) (s.id_of p) a.0 apart) h.kept);
+        acks = rw is (came_more s keeps asks w end'.state.got p more h);
+        kinds = rw is h.kinds;
+        looked = looked_more s keeps asks w end'.state.got p more h;
         within = h.within;
         places = h.places;
         asked = h.asked;
@@ -216,10 +305,13 @@ module _ {T A Q R : Type 0} (s : Speech (List ℕ) A Q R) (keeps : Keeps s) (sin
       let here : waits_in (drop w.next asks) (Some id) ≡ (id, a) ∷ [] = ap (λ l. waits_in l (Some id)) first in
       let set : (j : ℕ) → request_of table' j ≡ (if j == id then Some w.next else request_of w.table j) = λ j. ap (λ l. request_of l j) is ∙ set_request w.table id (Some w.next) j one le in
       let set' : (j : ℕ) → asked_in asks table' j ≡ (if j == id then Some a else asked_in asks w.table j) = λ j. ap (ask_at asks) (set j) ∙ ask_set asks (j == id) w.next a (request_of w.table j) at in
-      let k = subst (λ l. AskerKept s asks w.end.state.past (drop w.next asks) l (asked_in asks w.table) [] w.told) none' h.kept in
+      let k = subst (λ l. AskerKept s asks w.end.state.past (drop w.next asks) l (asked_in asks w.table) w.told) none' h.kept in
       record {
-        kept = subst (λ l. AskerKept s asks w.end.state.past (drop w.next asks) l (asked_in asks table') [] w.told) (sym here)
-            (asker_accepted s asks w.end.state.past (drop w.next asks) (asked_in asks w.table) (asked_in asks table') [] w.told id a (ap (ask_at asks) free) set' k);
+        kept = subst (λ l. AskerKept s asks w.end.state.past (drop w.next asks) l (asked_in asks table') w.told) (sym here)
+            (asker_accepted s asks w.end.state.past (drop w.next asks) (asked_in asks w.table) (asked_in asks table') w.told id a (ap (ask_at asks) free) set' k);
+        acks = h.acks;
+        kinds = h.kinds;
+        looked = h.looked;
         within = h.within;
         places = λ j k e. set_if (j == id) w.next (request_of w.table j) k (sym (set j) ∙ e) (λ same. subst (λ n. n < length asks) same (slice_get_within asks w.next a at)) (λ f. h.places j k f);
         asked = λ j e. (a, at, answers, subst (λ n. n < 2 ^ 64) (some_same id j e) (omega (arith, le, few)));
@@ -230,24 +322,27 @@ module _ {T A Q R : Type 0} (s : Speech (List ℕ) A Q R) (keeps : Keeps s) (sin
       }
 
   -- it was sent
-  pub sent_kept : (end' : Seen TableSeat) (id : ℕ) (a : A) (p : List ℕ) → slice_get asks w.next ≡ Some a → w.waiting ≡ Some id → p ≡ s.encode id a → end'.state.past ≡ Sent p ∷ w.end.state.past → end'.state.machine.asleep ≡ false
+  pub sent_kept : (end' : Seen TableSeat) (id : ℕ) (a : A) (p : List ℕ) → slice_get asks w.next ≡ Some a → w.waiting ≡ Some id → p ≡ s.encode id a → end'.state.past ≡ Sent p ∷ w.end.state.past → end'.state.got ≡ w.end.state.got → end'.state.machine.asleep ≡ false
       → w.seen ≡ false → IsAsking s asks w → IsAsking s asks (record w { end = end'; next = w.next + 1; waiting = None })
-  sent_kept end' id a p at waits made is awake unseen h =
+  sent_kept end' id a p at waits made is got awake unseen h =
       let asked = h.asked id waits in
       let same_ask : asked.0 ≡ a = some_same asked.0 a (sym asked.1 ∙ at) in
       let answers : s.has_answer a ≡ true = ap s.has_answer (sym same_ask) ∙ asked.2 in
       let first = first_of asks w.next a at in
       let here : waits_in (drop w.next asks) w.waiting ≡ (id, a) ∷ [] = ap (waits_in (drop w.next asks)) waits ∙ ap (λ l. waits_in l (Some id)) first in
-      let k : AskerKept s asks w.end.state.past (a ∷ drop (w.next + 1) asks) ((id, a) ∷ []) (asked_in asks w.table) [] w.told =
-      subst (λ l. AskerKept s asks w.end.state.past l ((id, a) ∷ []) (asked_in asks w.table) [] w.told) first
-      (subst (λ l. AskerKept s asks w.end.state.past (drop w.next asks) l (asked_in asks w.table) [] w.told) here h.kept) in
-      let same : s.id_of (s.encode id a) ≡ id = keeps.id_kept id a asked.3 in
+      let k : AskerKept s asks w.end.state.past (a ∷ drop (w.next + 1) asks) ((id, a) ∷ []) (asked_in asks w.table) w.told =
+      subst (λ l. AskerKept s asks w.end.state.past l ((id, a) ∷ []) (asked_in asks w.table) w.told) first
+      (subst (λ l. AskerKept s asks w.end.state.past (drop w.next asks) l (asked_in asks w.table) w.told) here h.kept) in
+      let same : s.id_of (s.encode id a) ≡ id = keeps.id_kept id a asked.3 answers in
       let waits' : s.waits (s.encode id a) ≡ true = keeps.waits_ask id a ∙ answers in
       let opens : (id, a) ∷ [] ≡ opened s (s.encode id a) (a ∷ drop (w.next + 1) asks) =
       ap (λ n. (n, a) ∷ []) (sym same) ∙ ap (λ b. cond b ((s.id_of (s.encode id a), a) ∷ []) []) (sym waits') in
-      let sent = asker_sent s asks w.end.state.past a (drop (w.next + 1) asks) ((id, a) ∷ []) (asked_in asks w.table) [] w.told (s.encode id a) (keeps.encodes id a) (ap (λ n. s.encode n a) (sym same)) opens k in
+      let sent = asker_sent s asks w.end.state.past a (drop (w.next + 1) asks) ((id, a) ∷ []) (asked_in asks w.table) w.told (s.encode id a) (keeps.encodes id a) (ap (λ n. s.encode n a) (sym same)) opens k in
       record {
         kept = rw (is, made) sent;
+        acks = rw (is, made, got) (acks_asked s keeps w.end.state.past id a (drop w.acked w.end.state.got) h.acks);
+        kinds = rw (is, made) (kinds_asked s w.end.state.past (s.encode id a) (keeps.encodes id a) h.kinds);
+        looked = omega (arith, h.looked, ap length got);
         within = omega (arith, slice_get_within asks w.next a at);
         places = h.places;
         asked = λ j e. some_none j (sym e);
@@ -258,18 +353,21 @@ module _ {T A Q R : Type 0} (s : Speech (List ℕ) A Q R) (keeps : Keeps s) (sin
       }
 
   -- a request that has no answer was sent
-  pub told_kept : (end' : Seen TableSeat) (a : A) (p : List ℕ) → slice_get asks w.next ≡ Some a → w.waiting ≡ None → (w.next ≤ w.starts → count_by is_some w.table ≡ 0) → s.has_answer a ≡ false → p ≡ s.encode 0 a → end'.state.past ≡ Sent p ∷ w.end.state.past → end'.state.machine.asleep ≡ false
+  pub told_kept : (end' : Seen TableSeat) (a : A) (p : List ℕ) → slice_get asks w.next ≡ Some a → w.waiting ≡ None → (w.next ≤ w.starts → count_by is_some w.table ≡ 0) → s.has_answer a ≡ false → p ≡ s.encode 0 a → end'.state.past ≡ Sent p ∷ w.end.state.past → end'.state.got ≡ w.end.state.got → end'.state.machine.asleep ≡ false
       → w.seen ≡ false → IsAsking s asks w → IsAsking s asks (record w { end = end'; next = w.next + 1 })
-  told_kept end' a p at none alone silent made is awake unseen h =
+  told_kept end' a p at none alone silent made is got awake unseen h =
       let first = first_of asks w.next a at in
       let none' : waits_in (drop w.next asks) w.waiting ≡ [] = ap (waits_in (drop w.next asks)) none in
       let none'' : waits_in (drop (w.next + 1) asks) w.waiting ≡ [] = ap (waits_in (drop (w.next + 1) asks)) none in
-      let k : AskerKept s asks w.end.state.past (a ∷ drop (w.next + 1) asks) [] (asked_in asks w.table) [] w.told =
-      subst (λ l. AskerKept s asks w.end.state.past l [] (asked_in asks w.table) [] w.told) first
-      (subst (λ l. AskerKept s asks w.end.state.past (drop w.next asks) l (asked_in asks w.table) [] w.told) none' h.kept) in
-      let sent = asker_told s keeps asks w.end.state.past a (drop (w.next + 1) asks) (asked_in asks w.table) [] w.told 0 (omega arith) silent k in
+      let k : AskerKept s asks w.end.state.past (a ∷ drop (w.next + 1) asks) [] (asked_in asks w.table) w.told =
+      subst (λ l. AskerKept s asks w.end.state.past l [] (asked_in asks w.table) w.told) first
+      (subst (λ l. AskerKept s asks w.end.state.past (drop w.next asks) l (asked_in asks w.table) w.told) none' h.kept) in
+      let sent = asker_told s keeps asks w.end.state.past a (drop (w.next + 1) asks) (asked_in asks w.table) w.told 0 silent k in
       record {
         kept = rw (is, made, none'') sent;
+        acks = rw (is, made, got) (acks_asked s keeps w.end.state.past 0 a (drop w.acked w.end.state.got) h.acks);
+        kinds = rw (is, made) (kinds_asked s w.end.state.past (s.encode 0 a) (keeps.encodes 0 a) h.kinds);
+        looked = omega (arith, h.looked, ap length got);
         within = omega (arith, slice_get_within asks w.next a at);
         places = h.places;
         asked = λ j e. some_none j (sym e ∙ none);
@@ -279,33 +377,63 @@ module _ {T A Q R : Type 0} (s : Speech (List ℕ) A Q R) (keeps : Keeps s) (sin
         alone = λ j e few. some_none j (sym e ∙ none);
       }
 
-  marked_kept : IsAsking s asks w → AskerKept s asks (Marked ∷ w.end.state.past) (drop w.next asks) (waits_in (drop w.next asks) w.waiting) (asked_in asks w.table) [] w.told
-  marked_kept h = asker_marked s asks w.end.state.past (drop w.next asks) (waits_in (drop w.next asks) w.waiting) (asked_in asks w.table) [] w.told h.kept
+  marked_kept : IsAsking s asks w → AskerKept s asks (Marked ∷ w.end.state.past) (drop w.next asks) (waits_in (drop w.next asks) w.waiting) (asked_in asks w.table) w.told
+  marked_kept h = asker_marked s asks w.end.state.past (drop w.next asks) (waits_in (drop w.next asks) w.waiting) (asked_in asks w.table) w.told h.kept
+
+  marked_acks : IsAsking s asks w → AcksKept s (Marked ∷ w.end.state.past) (drop w.acked w.end.state.got)
+  marked_acks h = acks_quiet s w.end.state.past Marked (drop w.acked w.end.state.got) refl refl h.acks
 
   -- all was asked and settled
   pub marks_settled : (past' : List (Event (List ℕ))) → past' ≡ Marked ∷ w.end.state.past → HasSettled asks w → IsAsking s asks w → AsksAll s asks past' w.told
   marks_settled past' is settled h plan same =
-      let nothing : drop w.next asks ≡ [] = drop_all w.next asks (omega (arith, settled.0)) in
-      let k = subst (λ l. AskerKept s l (Marked ∷ w.end.state.past) [] (waits_in (drop w.next asks) w.waiting) (asked_in asks w.table) [] w.told) (sym same)
-      (subst (λ l. AskerKept s asks (Marked ∷ w.end.state.past) l (waits_in (drop w.next asks) w.waiting) (asked_in asks w.table) [] w.told) nothing (marked_kept h)) in
-      rw is (asker_settled s plan (Marked ∷ w.end.state.past) (waits_in (drop w.next asks) w.waiting) (asked_in asks w.table) [] w.told k (λ id. ap (ask_at asks) (none_open w.table settled.1 id)))
+      let nothing : drop w.next asks ≡ [] = drop_all w.next asks (omega (arith, settled.all)) in
+      let k = subst (λ l. AskerKept s l (Marked ∷ w.end.state.past) [] (waits_in (drop w.next asks) w.waiting) (asked_in asks w.table) w.told) (sym same)
+      (subst (λ l. AskerKept s asks (Marked ∷ w.end.state.past) l (waits_in (drop w.next asks) w.waiting) (asked_in asks w.table) w.told) nothing (marked_kept h)) in
+      let rest : drop w.acked w.end.state.got ≡ [] = drop_all w.acked w.end.state.got (omega (arith, settled.acked)) in
+      rw is (asker_settled s plan (Marked ∷ w.end.state.past) (waits_in (drop w.next asks) w.waiting) (asked_in asks w.table) w.told k (subst (AcksKept s (Marked ∷ w.end.state.past)) rest (marked_acks h)) (λ id. ap (ask_at asks) (none_open w.table settled.none id)))
 
   -- the other end stopped
   pub marks_drained : (past' : List (Event (List ℕ))) → past' ≡ Marked ∷ w.end.state.past → is_drained w.end.state.past ≡ true → has_marked w.end.state.past ≡ false → IsAsking s asks w → AsksAll s asks past' w.told
   marks_drained past' is drained unmarked h plan same =
-      let k = subst (λ l. AskerKept s l (Marked ∷ w.end.state.past) (drop w.next asks) (waits_in (drop w.next asks) w.waiting) (asked_in asks w.table) [] w.told) (sym same) (marked_kept h) in
-      rw is (asker_stopped s plan (Marked ∷ w.end.state.past) (drop w.next asks) (waits_in (drop w.next asks) w.waiting) (asked_in asks w.table) [] w.told k drained (drained_seen w.end.state.past drained, follows_unmarked w.end.state.past unmarked))
+      let k = subst (λ l. AskerKept s l (Marked ∷ w.end.state.past) (drop w.next asks) (waits_in (drop w.next asks) w.waiting) (asked_in asks w.table) w.told) (sym same) (marked_kept h) in
+      rw is (asker_stopped s plan (Marked ∷ w.end.state.past) (drop w.next asks) (waits_in (drop w.next asks) w.waiting) (asked_in asks w.table) w.told (drop w.acked w.end.state.got) k (marked_acks h) drained (drained_seen w.end.state.past drained, follows_unmarked w.end.state.past unmarked))
 
   pub drains : (end' : Seen TableSeat) → end'.state.past ≡ Empty ∷ w.end.state.past → IsAsking s asks w → w.seen ≡ true → is_drained end'.state.past ≡ true
   drains end' is h seen = ap is_drained is ∙ ap (λ b. b || is_drained w.end.state.past) (h.saw ∙ seen)
 
   pub breaks : IsAsking s asks w → AskerBreaks s asks w.end.state.past w.told
-  breaks h = record { encoded = h.kept.encoded; replies = h.kept.says }
+  breaks h = asker_breaks s asks w.end.state.past (drop w.next asks) (waits_in (drop w.next asks) w.waiting) (asked_in asks w.table) w.told (drop w.acked w.end.state.got) h.kept h.acks
 
-  pub stray_by : (o : Option ℕ) → w.waiting ≡ o → (end' : Seen TableSeat) (p : List ℕ) → waits_under o (s.id_of p) ≡ true → end'.state.past ≡ Got p ∷ w.end.state.past → end'.state.machine.asleep ≡ false → IsAsking s asks w
-      → IsAsking s asks (record w { end = end' })
-  stray_by None waits end' p e is awake h = absurd (cc)
-  stray_by (Some id) waits end' p e is awake h = stray_kept end' p id waits is awake e h
+  -- what was sent so far
+  few_sent : IsAsking s asks w → AsksAtMost s (length asks) w.end.state.past
+  few_sent h = asks_at_most s asks w.end.state.past (drop w.next asks) (waits_in (drop w.next asks) w.waiting) (asked_in asks w.table) w.told (drop w.acked w.end.state.got) h.kept h.acks h.kinds
+
+  pub asked_so_far : IsAsking s asks w → AreShort (sent_of w.end.state.past) → AskedWithin s (length asks) w.end.state.past
+  asked_so_far h short = record { kinds = few_sent h; short = short }
+
+  -- where what is to be sent next lacks room, more messages came than there are asks
+  pub next_over : (besides : Bool) (packets words : ℕ) → IsAsking s asks w → HasReservedSent (room_of besides (length asks)) w.end → LacksNext s asks packets words w
+      → CameOver s.is_message (besides_of besides (length asks)) (room_of besides (length asks)) w.end.state.past
+  next_over besides packets words h room lacks = by lacks
+    where
+      by : LacksNext s asks packets words w → CameOver s.is_message (besides_of besides (length asks)) (room_of besides (length asks)) w.end.state.past
+      by (inl (m, at, is, l)) =
+          asks_over s besides (length asks) packets words (s.ack m) w.end (few_sent h) room l
+          (ack_left s (length asks) m (drop (w.acked + 1) w.end.state.got) w.end (few_sent h) (subst (AcksKept s w.end.state.past) (first_of w.end.state.got w.acked m at) h.acks) is)
+      by (inr (a, at, id, l)) =
+          asks_over s besides (length asks) packets words (s.encode (id_in w.waiting) a) w.end (few_sent h) room l
+          (ask_left s asks w.next w.end (few_sent h) (omega (arith, sent_next s asks w h)) (slice_get_within asks w.next a at))
+
+  -- and so where the next packet that comes lacks it
+  pub lacks_by : (besides : Bool) (packets words : ℕ) → got_of w.end.state.past ≡ w.end.state.got → IsAsking s asks w → KeepsRoom (room_of besides (length asks)) w.end → AskerLacks s asks packets words w
+      → CameOver s.is_message (besides_of besides (length asks)) (room_of besides (length asks)) w.end.state.past
+  lacks_by besides packets words line h room (inl l) = takes_over s.is_message (besides_of besides (length asks)) (room_of besides (length asks)) packets words w.end room.got line l
+  lacks_by besides packets words line h room (inr l) = next_over besides packets words h room.sent l
+
+  pub stray_by : (o : Option ℕ) → w.waiting ≡ o → (end' : Seen TableSeat) (p : List ℕ) → s.is_answer p ≡ true → waits_under o (s.id_of p) ≡ true → end'.state.past ≡ Got p ∷ w.end.state.past → end'.state.got ≡ w.end.state.got ++ p ∷ []
+      → end'.state.machine.asleep ≡ false → IsAsking s asks w → IsAsking s asks (record w { end = end' })
+  stray_by None waits end' p answers e is more awake h = absurd (cc)
+  stray_by (Some id) waits end' p answers e is more awake h = stray_kept end' p id answers waits is more awake e h
 
   pub reply_room : (n c cap : ℕ) → n + c + (length asks - w.next) ≤ cap + pending w.waiting → IsAsking s asks w → n + c ≤ cap
   reply_room n c cap e h = by w.waiting refl
@@ -315,9 +443,12 @@ module _ {T A Q R : Type 0} (s : Speech (List ℕ) A Q R) (keeps : Keeps s) (sin
       by (Some id) q = omega (arith, e, ap pending q, slice_get_within asks w.next (h.asked id q).0 (h.asked id q).1)
 
   -- a new worker
-  pub new_kept : (n : ℕ) → w.end.state.past ≡ [] → w.table ≡ replicate n None → w.next ≡ 0 → w.waiting ≡ None → w.told ≡ [] → w.seen ≡ false → w.end.state.machine.asleep ≡ false → IsAsking s asks w
-  new_kept n past table next waiting told seen awake = record {
-    kept = rw (past, table, next, waiting, told) (record { encoded = tt; rest = refl; opens = λ id. ap (ask_at asks) (none_in n id); apart = tt; came = refl; says = refl });
+  pub new_kept : (n : ℕ) → w.end.state.past ≡ [] → w.end.state.got ≡ [] → w.acked ≡ 0 → w.table ≡ replicate n None → w.next ≡ 0 → w.waiting ≡ None → w.told ≡ [] → w.seen ≡ false → w.end.state.machine.asleep ≡ false → IsAsking s asks w
+  new_kept n past got acked table next waiting told seen awake = record {
+    kept = rw (past, table, next, waiting, told) (record { encoded = tt; rest = refl; opens = λ id. ap (ask_at asks) (none_in n id); apart = tt; says = refl });
+    acks = rw (past, got, acked) (acks_new s);
+    kinds = rw past (omega arith);
+    looked = omega (arith, acked);
     within = omega (arith, next);
     places = λ id k e. some_none k (sym e ∙ (ap (λ t. request_of t id) table ∙ none_in n id));
     asked = λ id e. some_none id (sym e ∙ waiting);
@@ -328,16 +459,18 @@ module _ {T A Q R : Type 0} (s : Speech (List ℕ) A Q R) (keeps : Keeps s) (sin
   }
 
   -- why nothing is sent doesn't lie with the end
-  pub holds_on : (end' : Seen TableSeat) (hold hold' : Hold) → Holds s asks hold w → Holds s asks hold (record w { end = end'; hold = hold' })
-  holds_on end' Done hold' h = h
-  holds_on end' Place hold' h = h
-  holds_on end' Answer hold' h = h
-  holds_on end' (Room need) hold' h = h
+  pub holds_on : (end' : Seen TableSeat) (hold hold' : Hold) → end'.state.got ≡ w.end.state.got → Holds s asks hold w → Holds s asks hold (record w { end = end'; hold = hold' })
+  holds_on end' Done hold' got h = rw got h
+  holds_on end' Place hold' got h = rw got h
+  holds_on end' Answer hold' got h = rw got h
+  holds_on end' (Ack need) hold' got h = rw got h
+  holds_on end' (Room need) hold' got h = rw got h
 
   pub need_in : (hold : Hold) → Holds s asks hold w → IsNeed (want_by hold)
   need_in Done h = tt
   need_in Place h = tt
   need_in Answer h = tt
+  need_in (Ack need) h = (h.4, h.5)
   need_in (Room need) h = (h.4, h.5)
 
 pub ask_trans : {T R : Type 0} (u v w : Asking T R) → AsksOn u v → AsksOn v w → AsksOn u w

@@ -1,2 +1,4 @@
 pub mod Tables
+pub mod NextLaws
+pub mod CameLaws
 pub mod AskSteps

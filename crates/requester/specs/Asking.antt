@@ -1,36 +1,40 @@
 -- The asking worker, as contracts see it.
-use Rattle.std.specs.Prelude.{ℕ, ◌≡◌, ◌<◌, ◌≤◌, ◌+◌, ◌*◌, ◌^◌, ◌==◌, Bool, true, false, List, [], ◌∷◌, length, drop, Option, Some, None, IsSome, All, is_some, slice_get}
+use Rattle.std.specs.Prelude.{ℕ, ◌≡◌, ◌<◌, ◌≤◌, ◌+◌, ◌*◌, ◌^◌, ◌==◌, ◌⊎◌, Bool, true, false, List, [], ◌∷◌, length, drop, Option, Some, None, IsSome, All, is_some, slice_get}
 use Rattle.std.specs.List.{count_by}
 use Rattle.chan_run.specs.declared.event.Event.{Event}
 use Rattle.chan_run.specs.declared.event.Event.TheVariants.{Sent, Got, Empty, Marked as EventMarked, Saw}
-use Rattle.chan_run.specs.Runs.{has_marked, has_seen}
+use Rattle.chan_run.specs.Runs.{got_of, has_marked, has_seen}
 use Rattle.ring_core.specs.Seen.{Seen}
 use Rattle.ring_seat.specs.Settling.{IsSameEnd}
 use Rattle.ring_seat.specs.declared.table_seat.TableSeat.{TableSeat}
 use Rattle.txn_table.specs.Open.{request_of}
-use Rattle.work_model.specs.Speech.{Speech}
-use Rattle.work_model.specs.Asker.{listed, requests_of, open_of}
+use Rattle.work_model.specs.Speech.{Speech, listed}
+use Rattle.work_model.specs.Amounts.{room_of, SendsKinds}
+use Rattle.work_model.specs.Asker.{requests_of, open_of}
 use Rattle.work_model.specs.Channel.{Plan, asks_of, AskerEnds, AskerBreaks}
-use Rattle.work_model.specs.Workers.{AskerKept}
+use Rattle.work_model.specs.Workers.{AskerKept, AcksKept}
 use Rattle.channel_port.specs.Line.{SleepsFor, LacksTake}
-use Rattle.channel_port.specs.Rooms.{SentAtMost, CameOver, HasReserved, LacksFor}
+use Rattle.channel_port.specs.Owed.{LacksSendOf}
+use Rattle.channel_port.specs.Rooms.{AskedWithin, AskLacksFor, KeepsRoom}
 use Rattle.channel_port.specs.declared.ended.Ended.{Ended}
 use Rattle.channel_port.specs.declared.ended.Ended.TheVariants.{Marked, PeerMarked, Room}
 use Rattle.channel_port.specs.declared.ended.Turn.{Turn}
 use Rattle.channel_port.specs.declared.ended.Turn.TheVariants.{Moved, Idle, Ended as TurnEnded}
 use Rattle.requester.specs.declared.requester.Hold.{Hold}
-use Rattle.requester.specs.declared.requester.Hold.TheVariants.{Done as HoldDone, Place as HoldPlace, Answer as HoldAnswer, Room as HoldRoom}
+use Rattle.requester.specs.declared.requester.Hold.TheVariants.{Done as HoldDone, Place as HoldPlace, Answer as HoldAnswer, Ack as HoldAck, Room as HoldRoom}
 use Rattle.requester.specs.declared.requester.Asked.{Asked}
-use Rattle.requester.specs.declared.requester.Asked.TheVariants.{Sent as AskedSent, Held as AskedHeld}
+use Rattle.requester.specs.declared.requester.Asked.TheVariants.{Sent as AskedSent, Held as AskedHeld, Lacks as AskedLacks}
 
--- the talk, the end, the open requests by the number of their ask, the next ask, its id where it waits for room, the replies, how many asks are the
--- start-up's, whether the other end's mark was seen, why the last arm had nothing to send, and the relid of the channel
+-- the talk, the end, the open requests by the number of their ask, the next ask, its id where it waits for room, how many of the packets that came were
+-- looked at for messages to acknowledge, the replies, how many asks are the start-up's, whether the other end's mark was seen, why the last arm had nothing
+-- to send, and the relid of the channel
 pub record Asking (T R : Type 0) : Type 0 where
   pub talk : T
   pub end : Seen TableSeat
   pub table : List (Option ℕ)
   pub next : ℕ
   pub waiting : Option ℕ
+  pub acked : ℕ
   pub told : List R
   pub starts : ℕ
   pub seen : Bool
@@ -63,18 +67,28 @@ abbrev pub id_in : Option ℕ → ℕ
 id_in None = 0
 id_in (Some id) = id
 
+-- each packet that came was looked at, and each message acknowledged
+abbrev pub HasAcked : {T R : Type 0} → Asking T R → Type 0
+HasAcked w = w.acked ≡ length w.end.state.got
+
+-- the next packet that is to be looked at is a message
+abbrev pub HasMessage : {T A Q R : Type 0} → Speech (List ℕ) A Q R → Asking T R → Type 0
+HasMessage s w = (m : List ℕ) × (slice_get w.end.state.got w.acked ≡ Some m) × (s.is_message m ≡ true)
+
 -- why nothing more is sent: all was, and a request is open; or the next ask has no id yet, and none is free, or an answer of the start-up is missing; or its
--- packet waits for the room that it needs
+-- packet waits for the room that it needs; or what acknowledges a message does, which goes before any ask
 abbrev pub Holds : {T A Q R : Type 0} → Speech (List ℕ) A Q R → List A → Hold → Asking T R → Type 0
-Holds s asks HoldDone w = (w.next ≡ length asks) × (0 < count_by is_some w.table)
-Holds s asks HoldPlace w = (w.waiting ≡ None) × All IsSome w.table
-Holds s asks HoldAnswer w = (w.waiting ≡ None) × (w.next ≤ w.starts) × (0 < count_by is_some w.table)
+Holds s asks HoldDone w = (w.next ≡ length asks) × (0 < count_by is_some w.table) × HasAcked w
+Holds s asks HoldPlace w = (w.waiting ≡ None) × All IsSome w.table × HasAcked w
+Holds s asks HoldAnswer w = (w.waiting ≡ None) × (w.next ≤ w.starts) × (0 < count_by is_some w.table) × HasAcked w
+Holds s asks (HoldAck need) w = (m : List ℕ) × (slice_get w.end.state.got w.acked ≡ Some m) × (s.is_message m ≡ true) × (need ≡ 8 * length (s.ack m) + 8) × (24 ≤ need) × (need ≤ 3080)
 Holds {A = A} s asks (HoldRoom need) w =
-    (a : A) × (slice_get asks w.next ≡ Some a) × (is_some w.waiting ≡ s.has_answer a) × (need ≡ 8 * length (s.encode (id_in w.waiting) a) + 8) × (24 ≤ need) × (need ≤ 3080)
+    (a : A) × (slice_get asks w.next ≡ Some a) × (is_some w.waiting ≡ s.has_answer a) × (need ≡ 8 * length (s.encode (id_in w.waiting) a) + 8) × (24 ≤ need) × (need ≤ 3080) × HasAcked w
 
 -- the room in bytes that the next packet waits for
 abbrev pub want_by : Hold → Option ℕ
 want_by (HoldRoom need) = Some need
+want_by (HoldAck need) = Some need
 want_by _ = None
 
 -- what was sent was sent before the other end's mark was seen; and each request of the start-up, of which there are so many, and the first one behind them,
@@ -89,7 +103,10 @@ IsPaced s starts asks (Saw ∷ past) = IsPaced s starts asks past
 
 -- while this end isn't marked
 pub record IsAsking {T A Q R : Type 0} (s : Speech (List ℕ) A Q R) (asks : List A) (w : Asking T R) : Type 0 where
-  pub kept : AskerKept s asks w.end.state.past (drop w.next asks) (waits_in (drop w.next asks) w.waiting) (asked_in asks w.table) [] w.told
+  pub kept : AskerKept s asks w.end.state.past (drop w.next asks) (waits_in (drop w.next asks) w.waiting) (asked_in asks w.table) w.told
+  pub acks : AcksKept s w.end.state.past (drop w.acked w.end.state.got)
+  pub kinds : SendsKinds s w.end.state.past
+  pub looked : w.acked ≤ length w.end.state.got
   pub within : w.next ≤ length asks
   pub places : (id k : ℕ) → request_of w.table id ≡ Some k → k < length asks
   pub asked : (id : ℕ) → w.waiting ≡ Some id → (a : A) × (slice_get asks w.next ≡ Some a) × (s.has_answer a ≡ true) × (id < 2 ^ 64)
@@ -98,14 +115,16 @@ pub record IsAsking {T A Q R : Type 0} (s : Speech (List ℕ) A Q R) (asks : Lis
   pub paced : IsPaced s w.starts asks w.end.state.past
   pub alone : (id : ℕ) → w.waiting ≡ Some id → w.next ≤ w.starts → open_of s asks w.end.state.past ≡ []
 
--- what a request says to an answer
-abbrev pub answer_of : {A Q R : Type 0} → Speech (List ℕ) A Q R → Option A → List ℕ → List R
-answer_of s None p = []
-answer_of s (Some a) p = listed (s.result a (p ∷ []))
+-- what a request says to an answer, and to what came just before it where that was no answer
+abbrev pub answer_of : {A Q R : Type 0} → Speech (List ℕ) A Q R → Option A → Option (List ℕ) → List ℕ → List R
+answer_of s None before p = []
+answer_of s (Some a) before p = listed (s.result a before p)
 
--- all was asked, and no request is open
-abbrev pub HasSettled : {T A R : Type 0} → List A → Asking T R → Type 0
-HasSettled asks w = (w.next ≡ length asks) × (count_by is_some w.table ≡ 0)
+-- all was asked, no request is open, and each message is acknowledged
+pub record HasSettled {T A R : Type 0} (asks : List A) (w : Asking T R) : Type 0 where
+  pub all : w.next ≡ length asks
+  pub none : count_by is_some w.table ≡ 0
+  pub acked : HasAcked w
 
 -- where all was asked, a request is open
 abbrev pub HasOpen : {T A R : Type 0} → List A → Asking T R → Type 0
@@ -125,30 +144,42 @@ AsksBy s (Room packets words left) asks past told = AskerBreaks s asks past told
 abbrev pub HasNone : List (Option ℕ) → Type 0
 HasNone rs = (id : ℕ) → request_of rs id ≡ None
 
--- The table is empty; or the next packet that comes lacks room, and so more came than room was reserved for. No send lacks room: what was sent is at most
--- one packet an ask, those of the start-up one at a time
-abbrev pub AskLacks : {T A Q R : Type 0} → Speech (List ℕ) A Q R → List A → Ended → Asking T R → Type 0
-AskLacks s asks Marked w = HasNone w.table × SentAtMost (length asks) w.end.state.past × IsPaced s w.starts asks w.end.state.past
-AskLacks s asks PeerMarked w = HasNone w.table × SentAtMost (length asks) w.end.state.past × IsPaced s w.starts asks w.end.state.past
-AskLacks s asks (Room packets words left) w =
-    (left ≡ 0) × LacksTake packets words w.end × HasReserved (length asks) w.end × CameOver (length asks) w.end.state.past × SentAtMost (length asks) w.end.state.past × IsPaced s w.starts asks w.end.state.past
+-- what is to be sent next lacks room: what acknowledges a message, or the next ask
+abbrev pub LacksNext : {T A Q R : Type 0} → Speech (List ℕ) A Q R → List A → ℕ → ℕ → Asking T R → Type 0
+LacksNext {A = A} s asks packets words w =
+    ((m : List ℕ) × (slice_get w.end.state.got w.acked ≡ Some m) × (s.is_message m ≡ true) × LacksSendOf packets words (s.ack m) w.end)
+    ⊎ ((a : A) × (slice_get asks w.next ≡ Some a) × (is_some w.waiting ≡ s.has_answer a) × LacksSendOf packets words (s.encode (id_in w.waiting) a) w.end)
+
+-- the next packet that comes lacks room, or the one that is sent next
+abbrev pub AskerLacks : {T A Q R : Type 0} → Speech (List ℕ) A Q R → List A → ℕ → ℕ → Asking T R → Type 0
+AskerLacks s asks packets words w = LacksTake packets words w.end ⊎ LacksNext s asks packets words w
+
+-- The table is empty; or the next packet that comes, or goes, lacks room, and so more came than room was reserved for. What was sent are at most its asks, those
+-- of the start-up one at a time, and one acknowledgement for each message
+abbrev pub AskLacks : {T A Q R : Type 0} → Speech (List ℕ) A Q R → Bool → List A → Ended → Asking T R → Type 0
+AskLacks s besides asks Marked w = HasNone w.table × AskedWithin s (length asks) w.end.state.past × IsPaced s w.starts asks w.end.state.past
+AskLacks s besides asks PeerMarked w = HasNone w.table × AskedWithin s (length asks) w.end.state.past × IsPaced s w.starts asks w.end.state.past
+AskLacks s besides asks (Room packets words left) w =
+    (left ≡ 0) × AskerLacks s asks packets words w × KeepsRoom (room_of besides (length asks)) w.end
+    × AskLacksFor s besides (length asks) (Room packets words left) w.end.state.past × AskedWithin s (length asks) w.end.state.past × IsPaced s w.starts asks w.end.state.past
 
 -- how a turn ends; one that is idle leaves the end asleep for what it holds, before the other end's mark was seen
-abbrev pub AskTurns : {T A Q R : Type 0} → Speech (List ℕ) A Q R → List A → Turn → Asking T R → Type 0
-AskTurns s asks Moved w = w.end.state.machine.marked ≡ false
-AskTurns s asks Idle w = (w.end.state.machine.marked ≡ false) × (w.end.state.machine.asleep ≡ true) × Holds s asks w.hold w × SleepsFor (want_by w.hold) w.end × (w.seen ≡ false)
-AskTurns s asks (TurnEnded how) w = AsksBy s how asks w.end.state.past w.told × AskLacks s asks how w
+abbrev pub AskTurns : {T A Q R : Type 0} → Speech (List ℕ) A Q R → Bool → List A → Turn → Asking T R → Type 0
+AskTurns s besides asks Moved w = w.end.state.machine.marked ≡ false
+AskTurns s besides asks Idle w = (w.end.state.machine.marked ≡ false) × (w.end.state.machine.asleep ≡ true) × Holds s asks w.hold w × SleepsFor (want_by w.hold) w.end × (w.seen ≡ false)
+AskTurns s besides asks (TurnEnded how) w = AsksBy s how asks w.end.state.past w.told × AskLacks s besides asks how w
 
 -- of a turn that ends: what was sent, and when; and that room lacks only where more came than room was made for
-abbrev pub AskEnds : {A Q R : Type 0} → Speech (List ℕ) A Q R → ℕ → List A → Turn → List (Event (List ℕ)) → Type 0
-AskEnds s starts asks Moved past = Unit {0}
-AskEnds s starts asks Idle past = Unit {0}
-AskEnds s starts asks (TurnEnded how) past = SentAtMost (length asks) past × LacksFor (length asks) how past × IsPaced s starts asks past
+abbrev pub AskEnds : {A Q R : Type 0} → Speech (List ℕ) A Q R → Bool → ℕ → List A → Turn → List (Event (List ℕ)) → Type 0
+AskEnds s besides starts asks Moved past = Unit {0}
+AskEnds s besides starts asks Idle past = Unit {0}
+AskEnds s besides starts asks (TurnEnded how) past = AskedWithin s (length asks) past × AskLacksFor s besides (length asks) how past × IsPaced s starts asks past
 
--- the next request was sent, or why it wasn't
+-- the next packet was sent, or why it wasn't
 abbrev pub AskedBy : {T A Q R : Type 0} → Speech (List ℕ) A Q R → List A → Asked → Asking T R → Type 0
 AskedBy s asks AskedSent w = Unit {0}
 AskedBy s asks (AskedHeld hold) w = Holds s asks hold w
+AskedBy s asks (AskedLacks packets words) w = LacksNext s asks packets words w × (got_of w.end.state.past ≡ w.end.state.got)
 
 -- the same worker, with as many places in its table
 pub record AsksOn {T R : Type 0} (old new : Asking T R) : Type 0 where

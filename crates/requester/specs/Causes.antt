@@ -8,20 +8,21 @@ use Rattle.channel_port.specs.Causes.{FellAsleep, FoundWork, HasSent, HasTaken, 
 use Rattle.channel_port.specs.declared.ended.Turn.{Turn}
 use Rattle.channel_port.specs.declared.ended.Turn.TheVariants.{Moved, Idle, Ended as TurnEnded}
 use Rattle.requester.specs.declared.requester.Asked.{Asked}
-use Rattle.requester.specs.declared.requester.Asked.TheVariants.{Sent as AskedSent, Held as AskedHeld}
+use Rattle.requester.specs.declared.requester.Asked.TheVariants.{Sent as AskedSent, Held as AskedHeld, Lacks as AskedLacks}
 
--- the next request was sent after this past, or nothing was done
+-- the next packet was sent after this past, or nothing was done
 abbrev pub AsksOne : Asked → List (Event (List ℕ)) → Seen TableSeat → Type 0
 AsksOne AskedSent before e = HasSent before e
 AsksOne (AskedHeld hold) before e = e.state.past ≡ before
+AsksOne (AskedLacks packets words) before e = e.state.past ≡ before
 
--- a turn that sends the next request after this past, or arms
+-- a turn that sends the next packet after this past, what acknowledges a message or a request, or arms
 abbrev pub AsksOrArms : Turn → List (Event (List ℕ)) → Seen TableSeat → Type 0
 AsksOrArms Moved before e = HasSent before e ⊎ FoundWork before e
 AsksOrArms Idle before e = FellAsleep before e
-AsksOrArms (TurnEnded how) before e = ⊥
+AsksOrArms (TurnEnded how) before e = Unit {0}
 
--- a turn of the asking worker, awake, after this past: it took a packet; or none came, and it sent the next request, or armed
+-- a turn of the asking worker, awake, after this past: it took a packet; or none came, and it sent the next packet, or armed
 abbrev pub AskerActs : Turn → List (Event (List ℕ)) → Seen TableSeat → Type 0
 AskerActs Moved before e = HasTaken before e ⊎ AsksOrArms Moved (Empty ∷ before) e
 AskerActs Idle before e = AsksOrArms Idle (Empty ∷ before) e

@@ -1,2 +1,3 @@
+pub mod Acking
 pub mod Asking
 pub mod Causes

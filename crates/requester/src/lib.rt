@@ -1,6 +1,8 @@
 //! The worker of the end of a channel that asks, for every kind of device.
 #![tactic(auto)]
 
+mod came;
+mod next;
 mod requester;
 mod settle;
 

@@ -7,13 +7,16 @@ ghost use Rattle.work_model.specs.Channel.{AskerBreaks};
 ghost use Rattle.channel_port.specs.declared.ended.Ended.TheVariants.{Marked as MarkedEnd, PeerMarked as PeerMarkedEnd, Room as RoomEnd};
 ghost use Rattle.channel_port.specs.Causes.{Arms, Polls};
 ghost use Rattle.requester.specs.Causes.{AskCause, AskerActs, AsksOne, AsksOrArms};
-ghost use Rattle.channel_port.specs.Line.{IsReady, HasTakeRoom, LacksTake, TookOne};
-ghost use Rattle.requester.specs.Asking.{AsksBy, AskTurns, IsPaced, AskLacks, AsksOn, AskEnds, Holds, HasOpen, HasSettled, HasNone, waits_under, want_by, AskedBy};
-ghost use Rattle.channel_port.specs.Rooms.{CameOver, HasReserved, LacksFor, SentAtMost};
+ghost use Rattle.channel_port.specs.Line.{IsReady, HasTakeRoom, TookOne};
+ghost use Rattle.requester.specs.Asking.{AsksBy, AskTurns, IsPaced, AskLacks, AskerLacks, AsksOn, AskEnds, Holds, HasAcked, HasMessage, HasOpen, HasSettled, HasNone, waits_under, want_by, AskedBy};
+ghost use Rattle.channel_port.specs.Rooms.{AskedWithin, AskLacksFor, KeepsRoom};
+ghost use Rattle.work_model.specs.Amounts.{room_of};
 
+use crate::came::came_before;
+use crate::next::next_message;
 use crate::settle::settle;
 use chan_talk::Talk;
-use channel_port::{Ended, Looked, Port, Sheet, Turn};
+use channel_port::{Ended, Looked, Port, Sheet, Turn, room_of};
 use io_edge::{Gate, Side};
 use ring_core::{End, Room};
 use ring_seat::TableSeat;
@@ -31,18 +34,22 @@ pub enum Hold {
     Place,
     /// An answer of the start-up is missing.
     Answer,
-    /// The next packet needs so many bytes of room.
+    /// What acknowledges a message needs so many bytes of room.
+    Ack { need: u32 },
+    /// The next request needs so many bytes of room.
     Room { need: u32 },
 }
 
-// What became of the next request.
+// What became of the packet that is sent next.
 #[derive(Clone, Copy)]
 enum Asked {
     Sent,
     Held(Hold),
+    // The list of what was sent has no room: this is what it has.
+    Lacks { packets: u64, words: u64 },
 }
 
-/// The worker of the end that asks: it asks all that its talk has to ask, in order, and reads the replies.
+/// The worker of the end that asks: it asks all that its talk has to ask, in order, reads the replies, and acknowledges the messages that come with them.
 #[derive(Drop)]
 pub struct Requester<T: Talk> {
     talk: T,
@@ -50,6 +57,8 @@ pub struct Requester<T: Talk> {
     table: TxnTable<u32>,
     next: u32,
     waiting: Option<u64>,
+    // How many of the packets that came were looked at for messages.
+    acked: usize,
     replies: Vec<T::Reply>,
     starts: u32,
     seen: bool,
@@ -65,13 +74,14 @@ pub struct Requester<T: Talk> {
 impl<T: Talk> Model for Requester<T> {
     ghost use Rattle.std.specs.Prelude.{◌≡◌, ◌≤◌, ◌+◌, ◌-◌, false, length, count_by, is_some, vec_len, vec_capacity};
     ghost use Rattle.requester.specs.Asking.{Asking, IsAsking, pending};
-    ghost use Rattle.channel_port.specs.Rooms.{AsksInRoom};
+    ghost use Rattle.channel_port.specs.Rooms.{KeepsRoom};
+    ghost use Rattle.work_model.specs.Amounts.{room_of};
 
     ghost Value = { Asking T T.Reply };
 
-    ghost view = { λ w. record { talk = w.talk; end = w.port; table = w.table; next = w.next; waiting = w.waiting; told = w.replies.items; starts = w.starts; seen = w.seen; hold = w.hold; relid = w.relid } };
+    ghost view = { λ w. record { talk = w.talk; end = w.port; table = w.table; next = w.next; waiting = w.waiting; acked = w.acked; told = w.replies.items; starts = w.starts; seen = w.seen; hold = w.hold; relid = w.relid } };
 
-    ghost invariant = { λ w. w.port.state.machine.marked ≡ false → record { live : IsAsking (T.speech w.talk) (T.asks w.talk) (record { talk = w.talk; end = w.port; table = w.table; next = w.next; waiting = w.waiting; told = w.replies.items; starts = w.starts; seen = w.seen; hold = w.hold; relid = w.relid }); replies : vec_len w.replies + count_by is_some w.table + (length (T.asks w.talk) - w.next) ≤ vec_capacity w.replies + pending w.waiting; spare : vec_len w.rescinded + length w.table ≤ vec_capacity w.rescinded; size : length w.table ≤ 64; room : AsksInRoom (length (T.asks w.talk)) w.next w.port; side : w.side ≡ w.port.state.machine.side } };
+    ghost invariant = { λ w. w.port.state.machine.marked ≡ false → record { live : IsAsking (T.speech w.talk) (T.asks w.talk) (record { talk = w.talk; end = w.port; table = w.table; next = w.next; waiting = w.waiting; acked = w.acked; told = w.replies.items; starts = w.starts; seen = w.seen; hold = w.hold; relid = w.relid }); replies : vec_len w.replies + count_by is_some w.table + (length (T.asks w.talk) - w.next) ≤ vec_capacity w.replies + pending w.waiting; spare : vec_len w.rescinded + length w.table ≤ vec_capacity w.rescinded; size : length w.table ≤ 64; room : KeepsRoom (room_of (T.besides w.talk) (length (T.asks w.talk))) w.port; side : w.side ≡ w.port.state.machine.side } };
 }
 
 /// What an asking worker gives once it has ended.
@@ -84,7 +94,7 @@ pub struct RequesterDone<T: Talk> {
 }
 
 impl<T: Talk> Requester<T> {
-    // Takes a packet, if one waits, and settles the request that it answers. An answer to the request that isn't sent yet is dropped.
+    // Takes a packet, if one waits, and settles the request that it answers, if it is an answer. One to the request that isn't sent yet is dropped.
     fn take_one(&mut self) -> bool
         requires ready { IsReady self.old.end }
         requires room { HasTakeRoom self.old.end }
@@ -97,17 +107,65 @@ impl<T: Talk> Requester<T> {
         if !self.port.take() {
             return false;
         }
-        let id = self.talk.id(self.port.last());
+        let packet = self.port.last();
+        if !self.talk.is_answer(packet) {
+            return true;
+        }
+        let id = self.talk.id(packet);
         if is_waiting_under(self.waiting, id) {
             return true;
         }
+        let before = came_before(&self.talk, &self.port);
         settle(
             &self.talk,
             &mut self.table,
             &mut self.replies,
-            self.port.last(),
+            before,
+            packet,
         );
         true
+    }
+
+    // Passes over the packets that came and are no messages. Whether a message is left that is to be acknowledged.
+    fn find_message(&mut self) -> bool
+        requires ready { IsReady self.old.end }
+        ensures message { result ≡ true → HasMessage (T.speech self.new.talk) self.new }
+        ensures none { result ≡ false → HasAcked self.new }
+        ensures same { (self.new.end ≡ self.old.end) × (self.new.seen ≡ self.old.seen) }
+        ensures on { AsksOn self.old self.new }
+    {
+        self.acked = next_message(&self.talk, &self.port, self.acked);
+        self.acked < self.port.got_len()
+    }
+
+    // Acknowledges the message that is next.
+    fn acknowledge(&mut self) -> Asked
+        requires ready { IsReady self.old.end }
+        requires message { HasMessage (T.speech self.old.talk) self.old }
+        requires unseen { self.old.seen ≡ false }
+        ensures asked { AskedBy (T.speech self.new.talk) (T.asks self.new.talk) result self.new }
+        ensures unseen { self.new.seen ≡ false }
+        ensures cause { AsksOne result self.old.end.state.past self.new.end }
+        ensures ready { IsReady self.new.end }
+        ensures on { AsksOn self.old self.new }
+    {
+        let came = self.port.got_len();
+        prove!(self.acked < came);
+        self.sheet.write_ack(&self.talk, self.port.got(self.acked));
+        let packet = self.sheet.packet();
+        if let Some(room) = self.port.lacks_send(packet) {
+            return Asked::Lacks {
+                packets: room.packets,
+                words: room.words,
+            };
+        }
+        if !self.port.send(packet) {
+            return Asked::Held(Hold::Ack {
+                need: self.sheet.need(),
+            });
+        }
+        self.acked += 1;
+        Asked::Sent
     }
 
     // Gives the next request a free id.
@@ -117,7 +175,7 @@ impl<T: Talk> Requester<T> {
         requires none { self.old.waiting ≡ None }
         requires alone { self.old.next ≤ self.old.starts → count_by is_some self.old.table ≡ 0 }
         requires answers { (a : T.Ask) → slice_get (T.asks self.old.talk) self.old.next ≡ Some a → (T.speech self.old.talk).has_answer a ≡ true }
-        ensures next { (self.new.next ≡ self.old.next) × (self.new.end ≡ self.old.end) × (self.new.seen ≡ self.old.seen) }
+        ensures next { (self.new.next ≡ self.old.next) × (self.new.end ≡ self.old.end) × (self.new.seen ≡ self.old.seen) × (self.new.acked ≡ self.old.acked) }
         ensures waits { result ≡ true → (id : ℕ) × (self.new.waiting ≡ Some id) }
         ensures full { result ≡ false → (self.new.waiting ≡ None) × All IsSome self.new.table }
         ensures on { AsksOn self.old self.new }
@@ -136,6 +194,7 @@ impl<T: Talk> Requester<T> {
         requires ready { IsReady self.old.end }
         requires next { self.old.next < length (T.asks self.old.talk) }
         requires waits { self.old.waiting ≡ Some id }
+        requires acked { HasAcked self.old }
         requires unseen { self.old.seen ≡ false }
         ensures asked { AskedBy (T.speech self.new.talk) (T.asks self.new.talk) result self.new }
         ensures unseen { self.new.seen ≡ false }
@@ -146,7 +205,14 @@ impl<T: Talk> Requester<T> {
         let count = self.talk.count();
         prove!(self.next < count);
         self.sheet.encode(&self.talk, self.next, id);
-        if !self.port.send(self.sheet.packet()) {
+        let packet = self.sheet.packet();
+        if let Some(room) = self.port.lacks_send(packet) {
+            return Asked::Lacks {
+                packets: room.packets,
+                words: room.words,
+            };
+        }
+        if !self.port.send(packet) {
             return Asked::Held(Hold::Room {
                 need: self.sheet.need(),
             });
@@ -163,6 +229,7 @@ impl<T: Talk> Requester<T> {
         requires next { self.old.next < length (T.asks self.old.talk) }
         requires none { self.old.waiting ≡ None }
         requires alone { self.old.next ≤ self.old.starts → count_by is_some self.old.table ≡ 0 }
+        requires acked { HasAcked self.old }
         requires unseen { self.old.seen ≡ false }
         requires answers { (a : T.Ask) → slice_get (T.asks self.old.talk) self.old.next ≡ Some a → (T.speech self.old.talk).has_answer a ≡ false }
         ensures asked { AskedBy (T.speech self.new.talk) (T.asks self.new.talk) result self.new }
@@ -174,7 +241,14 @@ impl<T: Talk> Requester<T> {
         let count = self.talk.count();
         prove!(self.next < count);
         self.sheet.encode(&self.talk, self.next, 0);
-        if !self.port.send(self.sheet.packet()) {
+        let packet = self.sheet.packet();
+        if let Some(room) = self.port.lacks_send(packet) {
+            return Asked::Lacks {
+                packets: room.packets,
+                words: room.words,
+            };
+        }
+        if !self.port.send(packet) {
             return Asked::Held(Hold::Room {
                 need: self.sheet.need(),
             });
@@ -209,6 +283,7 @@ impl<T: Talk> Requester<T> {
     fn ask<G: Gate>(&mut self, gate: &G) -> Asked
         requires ready { IsReady self.old.end }
         requires unseen { self.old.seen ≡ false }
+        requires acked { HasAcked self.old }
         requires open { HasOpen (T.asks self.old.talk) self.old }
         ensures asked { AskedBy (T.speech self.new.talk) (T.asks self.new.talk) result self.new }
         ensures unseen { self.new.seen ≡ false }
@@ -244,7 +319,7 @@ impl<T: Talk> Requester<T> {
         requires ready { IsReady self.old.end }
         requires unseen { self.old.seen ≡ false }
         requires holds { Holds (T.speech self.old.talk) (T.asks self.old.talk) hold self.old }
-        ensures turns { AskTurns (T.speech self.new.talk) (T.asks self.new.talk) result self.new }
+        ensures turns { AskTurns (T.speech self.new.talk) (T.besides self.new.talk) (T.asks self.new.talk) result self.new }
         ensures cause { Arms result self.old.end.state.past self.new.end }
         ensures on { AsksOn self.old self.new }
     {
@@ -259,8 +334,9 @@ impl<T: Talk> Requester<T> {
         }
     }
 
-    // Whether all was asked and answered. Where all was asked and that isn't so, a request is open.
+    // Whether all was asked and answered, once each message is acknowledged. Where all was asked and that isn't so, a request is open.
     fn is_settled(&self) -> bool
+        requires acked { HasAcked self.now }
         ensures settled { result ≡ true → HasSettled (T.asks self.now.talk) self.now }
         ensures open { result ≡ false → HasOpen (T.asks self.now.talk) self.now }
     {
@@ -274,7 +350,7 @@ impl<T: Talk> Requester<T> {
         requires unseen { self.old.seen ≡ false }
         ensures ends { AsksBy (T.speech self.new.talk) MarkedEnd (T.asks self.new.talk) self.new.end.state.past self.new.told }
         ensures none { HasNone self.new.table }
-        ensures sent { SentAtMost (length (T.asks self.new.talk)) self.new.end.state.past }
+        ensures sent { AskedWithin (T.speech self.new.talk) (length (T.asks self.new.talk)) self.new.end.state.past }
         ensures paced { IsPaced (T.speech self.new.talk) self.new.starts (T.asks self.new.talk) self.new.end.state.past }
         ensures on { AsksOn self.old self.new }
     {
@@ -287,7 +363,7 @@ impl<T: Talk> Requester<T> {
         requires drained { is_drained self.old.end.state.past ≡ true }
         ensures ends { AsksBy (T.speech self.new.talk) PeerMarkedEnd (T.asks self.new.talk) self.new.end.state.past self.new.told }
         ensures none { HasNone self.new.table }
-        ensures sent { SentAtMost (length (T.asks self.new.talk)) self.new.end.state.past }
+        ensures sent { AskedWithin (T.speech self.new.talk) (length (T.asks self.new.talk)) self.new.end.state.past }
         ensures paced { IsPaced (T.speech self.new.talk) self.new.starts (T.asks self.new.talk) self.new.end.state.past }
         ensures on { AsksOn self.old self.new }
     {
@@ -299,12 +375,12 @@ impl<T: Talk> Requester<T> {
     fn broken(&self, packets: u64, words: u64) -> Ended
         requires unmarked { self.now.end.state.machine.marked ≡ false }
         requires list { got_of self.now.end.state.past ≡ self.now.end.state.got }
-        requires lacks { LacksTake packets words self.now.end }
+        requires lacks { AskerLacks (T.speech self.now.talk) (T.asks self.now.talk) packets words self.now }
         ensures room { result ≡ RoomEnd packets words 0 }
         ensures breaks { AskerBreaks (T.speech self.now.talk) (T.asks self.now.talk) self.now.end.state.past self.now.told }
-        ensures reserved { HasReserved (length (T.asks self.now.talk)) self.now.end }
-        ensures over { CameOver (length (T.asks self.now.talk)) self.now.end.state.past }
-        ensures sent { SentAtMost (length (T.asks self.now.talk)) self.now.end.state.past }
+        ensures reserved { KeepsRoom (room_of (T.besides self.now.talk) (length (T.asks self.now.talk))) self.now.end }
+        ensures over { AskLacksFor (T.speech self.now.talk) (T.besides self.now.talk) (length (T.asks self.now.talk)) (RoomEnd packets words 0) self.now.end.state.past }
+        ensures sent { AskedWithin (T.speech self.now.talk) (length (T.asks self.now.talk)) self.now.end.state.past }
         ensures paced { IsPaced (T.speech self.now.talk) self.now.starts (T.asks self.now.talk) self.now.end.state.past }
     {
         let _ = &self.next;
@@ -315,26 +391,44 @@ impl<T: Talk> Requester<T> {
         }
     }
 
+    // Acknowledges the message that is next, or rests.
+    fn acknowledge_or_rest(&mut self) -> Turn
+        requires ready { IsReady self.old.end }
+        requires message { HasMessage (T.speech self.old.talk) self.old }
+        requires unseen { self.old.seen ≡ false }
+        ensures turns { AskTurns (T.speech self.new.talk) (T.besides self.new.talk) (T.asks self.new.talk) result self.new }
+        ensures cause { AsksOrArms result self.old.end.state.past self.new.end }
+        ensures on { AsksOn self.old self.new }
+    {
+        match self.acknowledge() {
+            Asked::Sent => Turn::Moved,
+            Asked::Held(hold) => self.rest(hold),
+            Asked::Lacks { packets, words } => Turn::Ended(self.broken(packets, words)),
+        }
+    }
+
     // Asks, or rests.
     fn ask_or_rest<G: Gate>(&mut self, gate: &G) -> Turn
         requires ready { IsReady self.old.end }
         requires unseen { self.old.seen ≡ false }
+        requires acked { HasAcked self.old }
         requires open { HasOpen (T.asks self.old.talk) self.old }
-        ensures turns { AskTurns (T.speech self.new.talk) (T.asks self.new.talk) result self.new }
+        ensures turns { AskTurns (T.speech self.new.talk) (T.besides self.new.talk) (T.asks self.new.talk) result self.new }
         ensures cause { AsksOrArms result self.old.end.state.past self.new.end }
         ensures on { AsksOn self.old self.new }
     {
         match self.ask(gate) {
             Asked::Sent => Turn::Moved,
             Asked::Held(hold) => self.rest(hold),
+            Asked::Lacks { packets, words } => Turn::Ended(self.broken(packets, words)),
         }
     }
 
-    // A turn of an end that is awake: it takes what comes. Where nothing comes once the other end's mark was seen it gives up, with all settled it
-    // ends, and else it asks the next request or rests.
+    // A turn of an end that is awake: it takes what comes. Where nothing comes once the other end's mark was seen it gives up; else it acknowledges the next
+    // message, with all settled it ends, and else it asks the next request. Or it rests.
     fn work<G: Gate>(&mut self, gate: &G) -> Turn
         requires ready { IsReady self.old.end }
-        ensures turns { AskTurns (T.speech self.new.talk) (T.asks self.new.talk) result self.new }
+        ensures turns { AskTurns (T.speech self.new.talk) (T.besides self.new.talk) (T.asks self.new.talk) result self.new }
         ensures cause { AskerActs result self.old.end.state.past self.new.end }
         ensures on { AsksOn self.old self.new }
     {
@@ -349,6 +443,9 @@ impl<T: Talk> Requester<T> {
             self.give_up();
             return Turn::Ended(Ended::PeerMarked);
         }
+        if self.find_message() {
+            return self.acknowledge_or_rest();
+        }
         if self.is_settled() {
             self.finish();
             return Turn::Ended(Ended::Marked);
@@ -360,7 +457,7 @@ impl<T: Talk> Requester<T> {
     fn doze(&mut self) -> Turn
         requires asleep { self.old.end.state.machine.asleep ≡ true }
         requires unmarked { self.old.end.state.machine.marked ≡ false }
-        ensures turns { AskTurns (T.speech self.new.talk) (T.asks self.new.talk) result self.new }
+        ensures turns { AskTurns (T.speech self.new.talk) (T.besides self.new.talk) (T.asks self.new.talk) result self.new }
         ensures cause { Polls result self.old.end self.new.end }
         ensures on { AsksOn self.old self.new }
     {
@@ -370,7 +467,8 @@ impl<T: Talk> Requester<T> {
         Turn::Idle
     }
 
-    /// A worker over a new end, that has at most `window` requests open. It takes all its memory here.
+    /// A worker over a new end, that has at most `window` requests open. It takes all its memory here: room for as many packets as it has asks, each way, and
+    /// for as many messages and what acknowledges them, where there are messages.
     pub fn make(
         alloc: Global,
         talk: T,
@@ -391,15 +489,16 @@ impl<T: Talk> Requester<T> {
     {
         let mut port = Port::over(end);
         let count = talk.count() as u64;
+        let packets = room_of(talk.besides(), count);
         let cells = port.cells() as u64;
         port.reserve(
             Room {
-                packets: count,
-                words: 384 * count,
+                packets,
+                words: 384 * packets,
             },
             Room {
-                packets: count + 1,
-                words: 384 * count + cells,
+                packets: packets + 1,
+                words: 384 * packets + cells,
             },
         )?;
         let table = TxnTable::make(alloc, window)?;
@@ -413,6 +512,7 @@ impl<T: Talk> Requester<T> {
             table,
             next: 0,
             waiting: None,
+            acked: 0,
             replies,
             starts,
             seen: false,
@@ -428,9 +528,9 @@ impl<T: Talk> Requester<T> {
     /// A turn: an end that is asleep polls its signal. Otherwise the worker takes a packet, asks the next request, ends, or rests.
     pub fn turn<R: Wait, G: Gate>(&mut self, _rt: &R, gate: &G) -> Turn
         requires unmarked { self.old.end.state.machine.marked ≡ false }
-        ensures turns { AskTurns (T.speech self.new.talk) (T.asks self.new.talk) result self.new }
+        ensures turns { AskTurns (T.speech self.new.talk) (T.besides self.new.talk) (T.asks self.new.talk) result self.new }
         ensures cause { AskCause result self.old.end self.new.end }
-        ensures room { AskEnds (T.speech self.new.talk) self.new.starts (T.asks self.new.talk) result self.new.end.state.past }
+        ensures room { AskEnds (T.speech self.new.talk) (T.besides self.new.talk) self.new.starts (T.asks self.new.talk) result self.new.end.state.past }
         ensures on { AsksOn self.old self.new }
     {
         if self.port.is_asleep() {
@@ -461,6 +561,7 @@ impl<T: Talk> Requester<T> {
             table,
             next: _,
             waiting: _,
+            acked: _,
             replies,
             starts: _,
             seen: _,
@@ -487,8 +588,8 @@ impl<T: Talk> Requester<T> {
         requires unmarked { self.end.state.machine.marked ≡ false }
         ensures ends { AsksBy (T.speech self.talk) result.ended (T.asks self.talk) result.end.state.past result.replies.items }
         ensures end { IsSameEnd self.end result.end }
-        ensures sent { SentAtMost (length (T.asks self.talk)) result.end.state.past }
-        ensures room { LacksFor (length (T.asks self.talk)) result.ended result.end.state.past }
+        ensures sent { AskedWithin (T.speech self.talk) (length (T.asks self.talk)) result.end.state.past }
+        ensures room { AskLacksFor (T.speech self.talk) (T.besides self.talk) (length (T.asks self.talk)) result.ended result.end.state.past }
         ensures paced { IsPaced (T.speech self.talk) self.starts (T.asks self.talk) result.end.state.past }
     {
         for _ in rt.forever() {
@@ -517,7 +618,7 @@ fn want_for(hold: Hold) -> Option<u32>
     ensures { result ≡ want_by hold }
 {
     match hold {
-        Hold::Room { need } => Some(need),
+        Hold::Ack { need } | Hold::Room { need } => Some(need),
         Hold::Done | Hold::Place | Hold::Answer => None,
     }
 }

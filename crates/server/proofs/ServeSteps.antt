@@ -1,5 +1,5 @@
 -- The serving worker's steps keep what it keeps.
-use Rattle.std.proofs.Common.{◌≡◌, ℕ, ◌+◌, ◌-◌, ◌≤◌, List, [], ◌∷◌, ◌++◌, length, filter, drop, refl, sym, ap, ◌∙◌, subst, arith, Option, Some, None, is_some, Bool, true, false, inl, inr, ◌⊎◌, length-append}
+use Rattle.std.proofs.Common.{◌≡◌, ℕ, ◌+◌, ◌-◌, ◌≤◌, List, [], ◌∷◌, ◌++◌, length, map, filter, drop, replicate, refl, sym, ap, ◌∙◌, subst, arith, Option, Some, None, is_some, Bool, true, false, inl, inr, ◌⊎◌, length-append}
 use Rattle.std.specs.Prelude.{◌&&◌, ◌||◌, ◌<◌, ◌==◌, not, zero, suc, take, if◌then◌else◌, slice_get}
 use Rattle.std.specs.Option.{option_map_or}
 use Rattle.std.proofs.lemmas.List.{append-nil, drop-append-le, drop_all, drop_more, take-append-le, take-append-drop, take_all, take_more}
@@ -7,7 +7,7 @@ use Rattle.std.proofs.lemmas.List.Elements.{filter-append}
 use Rattle.std.proofs.lemmas.Option.{get_or_from_slice_get, slice_get_within}
 use Rattle.std.proofs.lemmas.Bool.Decides.{nat_tests}
 use Rattle.chan_run.specs.declared.event.Event.{Event}
-use Rattle.chan_run.specs.declared.event.Event.TheVariants.{Sent, Got, Empty, Marked}
+use Rattle.chan_run.specs.declared.event.Event.TheVariants.{Sent, Got, Empty, Marked, Saw}
 use Rattle.chan_run.specs.Runs.{sent_of, got_of, has_marked, has_seen, is_drained}
 use Rattle.chan_run.specs.Laws.{Follows}
 use Rattle.chan_run.proofs.Pasts.{drained_seen, follows_unmarked}
@@ -15,16 +15,21 @@ use Rattle.hist_lock.specs.Seat.{Call}
 use Rattle.ring_core.specs.Seen.{Seen}
 use Rattle.ring_seat.specs.declared.table_seat.TableSeat.{TableSeat}
 use Rattle.work_model.specs.Speech.{Speech, Keeps}
+use Rattle.work_model.specs.Acks.{is_in, own_open, OwnFrom, AllOwnOpen}
+use Rattle.work_model.specs.Amounts.{MayHaveMessages}
 use Rattle.work_model.specs.Server.{Serves, ServesOne, ServesAsk}
 use Rattle.work_model.specs.Channel.{Plan, count_of, held_of, ServerStops, ServerEnds, ServerBreaks}
-use Rattle.work_model.specs.Workers.{ServerKept}
+use Rattle.work_model.specs.Workers.{ServerKept, OwnKept, Owes}
+use Rattle.work_model.proofs.Acking.{own_new, own_gave, own_from, own_served, own_acked, own_early, own_came, own_empty, own_saw}
+use Rattle.work_model.proofs.Amounts.{own_none}
 use Rattle.work_model.proofs.Opens.{by_test, filter_yes, filter_no}
 use Rattle.work_model.proofs.Counts.{calls_left}
 use Rattle.work_model.proofs.Serving.{server_took, server_served, server_passed, server_gave, server_quiet, server_new, server_ends, server_follows, server_breaks}
 use Rattle.channel_port.specs.Line.{SleepsFor}
 use Rattle.channel_port.specs.Owed.{is_nil, need_of, MetFull}
-use Rattle.channel_port.specs.Rooms.{SentAtMost, AskedOver, ServeLacksFor}
-use Rattle.server.specs.Serving.{Desk, Serving, IsServing, Rests, ServesPacket, Orders, EndsAll, BreaksOff, CallsEach, AnswersAll, LetsGo, EndsBy, LeavesOff, LacksRoom, ServesOn, has_done, has_served, is_asked, lacks_call, marked_by}
+use Rattle.channel_port.specs.Rooms.{ServedWithin, AskedOver, ServeLacksFor, OnlyWith, is_asked}
+use Rattle.server.specs.Serving.{Desk, Serving, IsServing, Rests, HasServed, HasToWait, Closes, ServesPacket, Orders, EndsAll, BreaksOff, CallsEach, AnswersAll, LetsGo, LacksPlace, LeftOff, EndsBy, LeavesOff, LacksRoom, ServesOn, HasNone, IsFull, own_in, has_done, has_served, lacks_call, marked_by}
+use Rattle.server.proofs.OwnLaws.{own_within, full_open, none_full, table_empty}
 use Rattle.channel_port.specs.declared.ended.Ended.{Ended}
 use Rattle.channel_port.specs.declared.ended.Ended.TheVariants.{Marked as EndedMarked, PeerMarked, Room}
 
@@ -35,11 +40,49 @@ pub on_either : {X Y Z W : Type 0} → (X → Z) → (Y → W) → X ⊎ Y → Z
 on_either f g (inl x) = inl (f x)
 on_either f g (inr y) = inr (g y)
 
+only_on : (b : Bool) {X Y : Type 0} → (X → Y) → OnlyWith b X → OnlyWith b Y
+only_on true f x = f x
+only_on false f x = x
+
 -- the end that met Full has done nothing since of which the room that it found tells
 pub full_still : (owed : List (List ℕ)) (old new : Seen TableSeat) → (new.state.machine.room ≡ old.state.machine.room) × (new.state.machine.words ≡ old.state.machine.words) → MetFull owed old → MetFull owed new
 full_still owed old new same full = record { packet = full.packet; rest = full.rest; first = full.first; room = omega (arith, full.room, same.0); words = same.1 ∙ full.words }
 
-module _ {T S A Q R : Type 0} (s : Speech (List ℕ) A Q R) (keeps : Keeps s) (w : Serving T S Q R) where
+module _ {T S Q R : Type 0} (w : Serving T S Q R) where
+  -- a worker that has done what its plan says
+  pub done_parts : has_done w ≡ true → (w.stops ≡ true) × (w.missing ≡ 0) × (has_served w.desk.left ≡ true)
+  done_parts e =
+      let both = and_parts (w.stops && (w.missing == 0)) (has_served w.desk.left) e in
+      let parts = and_parts w.stops (w.missing == 0) both.0 in
+      (parts.0, let zero_is : w.missing ≡ 0 = grind (arith, nat_tests, parts.1) in zero_is, both.1)
+    where
+      and_parts : (b c : Bool) → (b && c) ≡ true → (b ≡ true) × (c ≡ true)
+      and_parts true c e = (refl, e)
+      and_parts false c e = absurd (cc)
+
+module _ {T S A Q R : Type 0} (s : Speech (List ℕ) A Q R) (besides : Bool) (w : Serving T S Q R) where
+  -- why it has to wait: packets that came aren't served, or there is more to do than to stop
+  pub waits_full : w.served < length w.end.state.got → HasServed s besides w → HasToWait s besides w
+  waits_full less (inl all) = absurd (omega (arith, less, all))
+  waits_full less (inr full) = inr full
+
+  pub wait_served : HasToWait s besides w → HasServed s besides w
+  wait_served (inl (all, more)) = inl all
+  wait_served (inr full) = inr full
+
+-- and it does where none waited, and nothing of that changed
+pub waits_on : {T S A Q R : Type 0} (sp : T → Speech (List ℕ) A Q R) (besides : T → Bool) (old new : Serving T S Q R) → new.desk ≡ old.desk → new.served ≡ old.served → new.missing ≡ old.missing → new.stops ≡ old.stops → new.end.state.got ≡ old.end.state.got
+    → new.end.state.past ≡ Empty ∷ old.end.state.past → HasToWait (sp old.desk.talk) (besides old.desk.talk) old → HasToWait (sp new.desk.talk) (besides new.desk.talk) new
+waits_on sp besides old new desk served missing stops got past (inl (all, more)) =
+    inl (
+      served ∙ (all ∙ ap length (sym got)),
+      ap (λ b. (b && (new.missing == 0)) && has_served new.desk.left) stops
+          ∙ (ap (λ n. (old.stops && (n == 0)) && has_served new.desk.left) missing ∙ (ap (λ d. (old.stops && (old.missing == 0)) && has_served d.left) desk ∙ more)),
+    )
+waits_on sp besides old new desk served missing stops got past (inr full) =
+    inr (subst (λ d. OnlyWith (besides d.talk) (AllOwnOpen (sp d.talk) 64 new.end.state.past)) (sym desk) (subst (λ l. OnlyWith (besides old.desk.talk) (AllOwnOpen (sp old.desk.talk) 64 l)) (sym past) full))
+
+module _ {T S A Q R : Type 0} (s : Speech (List ℕ) A Q R) (keeps : Keeps s) (besides : Bool) (w : Serving T S Q R) where
   waited_more : (p : List ℕ) (got : List (List ℕ)) → length (filter s.waits (filter s.is_request (got ++ p ∷ []))) ≡ length (filter s.waits (filter s.is_request got)) + (if s.is_request p && s.waits p then 1 else 0)
   waited_more p got =
       by_test (s.is_request p)
@@ -53,16 +96,29 @@ module _ {T S A Q R : Type 0} (s : Speech (List ℕ) A Q R) (keeps : Keeps s) (w
       ∙ ap (λ b. length (filter s.waits (filter s.is_request got)) + (if s.is_request p && b then 1 else 0)) (sym f)))))
       (λ e. ap (λ l. length (filter s.waits l)) (filter_no s.is_request got p e) ∙ (omega arith ∙ ap (λ b. length (filter s.waits (filter s.is_request got)) + (if b && s.waits p then 1 else 0)) (sym e)))
 
+  -- what came closes what it acknowledges
+  closes : (p : List ℕ) (table' : List (Option ℕ)) → Closes s w.desk.owed p w.desk.table table' → OwnKept s w.end.state.past w.desk.owed (own_in w.desk.table) → OwnKept s (Got p ∷ w.end.state.past) w.desk.owed (own_in table')
+  closes p table' c own =
+      by_test (s.is_ack p)
+      (λ e. by_test (is_in (s.id_of p) (map s.id_of (filter s.is_message w.desk.owed)))
+      (λ f. subst (λ t. OwnKept s (Got p ∷ w.end.state.past) w.desk.owed (own_in t)) (sym (c.early e f)) (own_early s w.end.state.past p w.desk.owed (own_in w.desk.table) e f own))
+      (λ f. own_acked s w.end.state.past p w.desk.owed (own_in w.desk.table) (own_in table') e f (c.acked e f) own))
+      (λ e. subst (λ t. OwnKept s (Got p ∷ w.end.state.past) w.desk.owed (own_in t)) (sym (c.other e)) (own_came s w.end.state.past p w.desk.owed (own_in w.desk.table) e own))
+
   -- a packet was taken
-  pub took_kept : (end' : Seen TableSeat) (missing' : ℕ) (p : List ℕ) → end'.state.past ≡ Got p ∷ w.end.state.past → end'.state.got ≡ w.end.state.got ++ p ∷ [] → end'.state.machine.asleep ≡ false
-      → missing' ≡ w.missing - (if s.is_request p && s.waits p then 1 else 0) → IsServing s w → IsServing s (record w { end = end'; missing = missing' })
-  took_kept end' missing' p is more awake less h =
+  pub took_kept : (end' : Seen TableSeat) (table' : List (Option ℕ)) (missing' : ℕ) (p : List ℕ) → end'.state.past ≡ Got p ∷ w.end.state.past → end'.state.got ≡ w.end.state.got ++ p ∷ [] → end'.state.machine.asleep ≡ false
+      → missing' ≡ w.missing - (if s.is_request p && s.waits p then 1 else 0) → Closes s w.desk.owed p w.desk.table table' → length table' ≡ length w.desk.table → w.end.state.machine.marked ≡ false → IsServing s besides w
+      → IsServing s besides (record w { end = end'; missing = missing'; desk = record w.desk { table = table' } })
+  took_kept end' table' missing' p is more awake less close size unmarked h =
       let got = w.end.state.got in
       let rest : drop w.served end'.state.got ≡ drop w.served got ++ p ∷ [] = ap (drop w.served) more ∙ drop-append-le w.served got (p ∷ []) h.within in
       let k = server_took s keeps w.desk.held w.serve w.end.state.past w.desk.calls w.desk.owed w.desk.left (drop w.served got) p h.kept in
       record {
         kept = subst (λ l. ServerKept s w.desk.held w.serve l w.desk.calls w.desk.owed w.desk.left (drop w.served end'.state.got)) (sym is)
             (subst (λ l. ServerKept s w.desk.held w.serve (Got p ∷ w.end.state.past) w.desk.calls w.desk.owed w.desk.left l) (sym rest) k);
+        own = λ u. subst (λ l. OwnKept s l w.desk.owed (own_in table')) (sym is) (closes p table' close (h.own unmarked));
+        from = subst (OwnFrom s 64) (sym is) h.from;
+        places = size ∙ h.places;
         within = omega (arith, h.within, ap length more, length-append got (p ∷ []));
         few = h.few;
         missing_is = omega (arith, h.missing_is, less, waited_more p (got_of w.end.state.past), ap (λ l. length (filter s.waits (filter s.is_request (got_of l)))) is);
@@ -74,12 +130,16 @@ module _ {T S A Q R : Type 0} (s : Speech (List ℕ) A Q R) (keeps : Keeps s) (w
   -- nothing was sent or got
   pub quiet_kept : (end' : Seen TableSeat) (seen' : Bool) (want' : Option ℕ) (e : Event (List ℕ)) → end'.state.past ≡ e ∷ w.end.state.past → sent_of (e ∷ w.end.state.past) ≡ sent_of w.end.state.past
       → got_of (e ∷ w.end.state.past) ≡ got_of w.end.state.past → end'.state.got ≡ w.end.state.got → end'.state.machine.asleep ≡ false → has_seen (e ∷ w.end.state.past) ≡ seen'
-      → IsServing s w → IsServing s (record w { end = end'; seen = seen'; want = want' })
-  quiet_kept end' seen' want' e is same same' got awake saw h =
+      → (end'.state.machine.marked ≡ false → OwnKept s (e ∷ w.end.state.past) w.desk.owed (own_in w.desk.table)) → OwnFrom s 64 (e ∷ w.end.state.past)
+      → IsServing s besides w → IsServing s besides (record w { end = end'; seen = seen'; want = want' })
+  quiet_kept end' seen' want' e is same same' got awake saw own from h =
       let k = server_quiet s keeps w.desk.held w.serve w.end.state.past e w.desk.calls w.desk.owed w.desk.left (drop w.served w.end.state.got) same same' h.kept in
       record {
         kept = subst (λ l. ServerKept s w.desk.held w.serve l w.desk.calls w.desk.owed w.desk.left (drop w.served end'.state.got)) (sym is)
             (subst (λ l. ServerKept s w.desk.held w.serve (e ∷ w.end.state.past) w.desk.calls w.desk.owed w.desk.left (drop w.served l)) (sym got) k);
+        own = λ u. subst (λ l. OwnKept s l w.desk.owed (own_in w.desk.table)) (sym is) (own u);
+        from = subst (OwnFrom s 64) (sym is) from;
+        places = h.places;
         within = omega (arith, h.within, ap length got);
         few = h.few;
         missing_is = omega (arith, h.missing_is, ap (λ l. length (filter s.waits (filter s.is_request (got_of l)))) is, ap (λ l. length (filter s.waits (filter s.is_request l))) same');
@@ -88,13 +148,26 @@ module _ {T S A Q R : Type 0} (s : Speech (List ℕ) A Q R) (keeps : Keeps s) (w
         each = λ go. ap (λ l. length (filter (is_asked s) (take w.served l))) got ∙ h.each go;
       }
 
+  -- none waited, or the other end's mark was seen
+  pub empty_kept : (end' : Seen TableSeat) → end'.state.past ≡ Empty ∷ w.end.state.past → end'.state.got ≡ w.end.state.got → end'.state.machine.asleep ≡ false → w.end.state.machine.marked ≡ false → IsServing s besides w → IsServing s besides (record w { end = end' })
+  empty_kept end' is got awake unmarked h =
+      quiet_kept end' w.seen w.want Empty is refl refl got awake h.saw (λ u. own_empty s w.end.state.past w.desk.owed (own_in w.desk.table) (h.own unmarked)) h.from h
+
+  pub saw_kept : (end' : Seen TableSeat) (want' : Option ℕ) → end'.state.past ≡ Saw ∷ w.end.state.past → end'.state.got ≡ w.end.state.got → end'.state.machine.asleep ≡ false → w.end.state.machine.marked ≡ false → IsServing s besides w
+      → IsServing s besides (record w { end = end'; seen = true; want = want' })
+  saw_kept end' want' is got awake unmarked h =
+      quiet_kept end' true want' Saw is refl refl got awake refl (λ u. own_saw s w.end.state.past w.desk.owed (own_in w.desk.table) (h.own unmarked)) h.from h
+
   -- nothing was done that the peer sees
   pub still_kept : (end' : Seen TableSeat) (want' : Option ℕ) → end'.state.past ≡ w.end.state.past → end'.state.got ≡ w.end.state.got
-      → (end'.state.machine.asleep ≡ true → Rests (record w { end = end'; want = want' })) → IsServing s w → IsServing s (record w { end = end'; want = want' })
-  still_kept end' want' is got rests h =
+      → (end'.state.machine.asleep ≡ true → Rests s besides (record w { end = end'; want = want' })) → w.end.state.machine.marked ≡ false → IsServing s besides w → IsServing s besides (record w { end = end'; want = want' })
+  still_kept end' want' is got rests unmarked h =
       record {
         kept = subst (λ l. ServerKept s w.desk.held w.serve l w.desk.calls w.desk.owed w.desk.left (drop w.served end'.state.got)) (sym is)
             (subst (λ l. ServerKept s w.desk.held w.serve w.end.state.past w.desk.calls w.desk.owed w.desk.left (drop w.served l)) (sym got) h.kept);
+        own = λ u. subst (λ l. OwnKept s l w.desk.owed (own_in w.desk.table)) (sym is) (h.own unmarked);
+        from = subst (OwnFrom s 64) (sym is) h.from;
+        places = h.places;
         within = omega (arith, h.within, ap length got);
         few = h.few;
         missing_is = omega (arith, h.missing_is, ap (λ l. length (filter s.waits (filter s.is_request (got_of l)))) is);
@@ -105,14 +178,19 @@ module _ {T S A Q R : Type 0} (s : Speech (List ℕ) A Q R) (keeps : Keeps s) (w
 
   -- a packet that was owed was sent
   pub gave_kept : (end' : Seen TableSeat) (desk' : Desk T S Q R) (p : List ℕ) → end'.state.past ≡ Sent p ∷ w.end.state.past → w.desk.owed ≡ p ∷ drop 1 w.desk.owed
-      → desk' ≡ record w.desk { owed = drop 1 w.desk.owed } → end'.state.got ≡ w.end.state.got → end'.state.machine.asleep ≡ false
-      → IsServing s w → IsServing s (record w { end = end'; desk = desk' })
-  gave_kept end' desk' p is first desk got awake h =
+      → desk' ≡ record w.desk { owed = drop 1 w.desk.owed } → end'.state.got ≡ w.end.state.got → end'.state.machine.asleep ≡ false → w.end.state.machine.marked ≡ false
+      → IsServing s besides w → IsServing s besides (record w { end = end'; desk = desk' })
+  gave_kept end' desk' p is first desk got awake unmarked h =
       let k = server_gave s keeps w.desk.held w.serve w.end.state.past w.desk.calls p (drop 1 w.desk.owed) w.desk.left (drop w.served w.end.state.got)
       (subst (λ l. ServerKept s w.desk.held w.serve w.end.state.past w.desk.calls l w.desk.left (drop w.served w.end.state.got)) first h.kept) in
-      subst (λ d. IsServing s (record w { end = end'; desk = d })) (sym desk) (record {
+      let own : OwnKept s w.end.state.past (p ∷ drop 1 w.desk.owed) (own_in w.desk.table) = subst (λ l. OwnKept s w.end.state.past l (own_in w.desk.table)) first (h.own unmarked) in
+      subst (λ d. IsServing s besides (record w { end = end'; desk = d })) (sym desk) (record {
         kept = subst (λ l. ServerKept s w.desk.held w.serve l w.desk.calls (drop 1 w.desk.owed) w.desk.left (drop w.served end'.state.got)) (sym is)
             (subst (λ l. ServerKept s w.desk.held w.serve (Sent p ∷ w.end.state.past) w.desk.calls (drop 1 w.desk.owed) w.desk.left (drop w.served l)) (sym got) k);
+        own = λ u. subst (λ l. OwnKept s l (drop 1 w.desk.owed) (own_in w.desk.table)) (sym is) (own_gave s w.end.state.past p (drop 1 w.desk.owed) (own_in w.desk.table) own);
+        from = subst (OwnFrom s 64) (sym is)
+            (own_from s 64 w.end.state.past p (drop 1 w.desk.owed) (own_in w.desk.table) (λ id e. let in_table = own_within w.desk.table id e in (in_table.0, omega (arith, in_table.1, h.places))) own h.from);
+        places = h.places;
         within = omega (arith, h.within, ap length got);
         few = omega (arith, h.few, ap length first);
         missing_is = omega (arith, h.missing_is, ap (λ l. length (filter s.waits (filter s.is_request (got_of l)))) is);
@@ -130,7 +208,7 @@ module _ {T S A Q R : Type 0} (s : Speech (List ℕ) A Q R) (keeps : Keeps s) (w
   -- it makes a call exactly where it asks the device
   ask_calls : (o : Option Q) (m : ℕ) (p : List ℕ) (cs : List (Call Q R)) (owed : List (List ℕ)) → (is_some o ≡ true → (m == 0) ≡ false) → ServesOne s w.desk.held p o m cs owed (λ k later rest. Serves s w.desk.held [] k later rest)
       → length cs ≡ (if is_some o then 1 else 0)
-  ask_calls None m p cs owed go h = ap length h.2.0
+  ask_calls None m p cs owed go h = ap length h.3.0
   ask_calls (Some q) zero p cs owed go h = let bad : true ≡ false = go refl in absurd (cc)
   ask_calls (Some q) (suc n) p [] owed go h = absurd h
   ask_calls (Some q) (suc n) p (c ∷ cs) owed go h = one (w.desk.held && n == 0) h.1
@@ -163,16 +241,16 @@ module _ {T S A Q R : Type 0} (s : Speech (List ℕ) A Q R) (keeps : Keeps s) (w
       (λ some. some)
 
   each_served : (p : List ℕ) (calls' : List (Call Q R)) (owed' : List (List ℕ)) (left' : Option ℕ) → w.served + 1 ≤ length w.end.state.got → slice_get w.end.state.got w.served ≡ Some p → lacks_call s w ≡ false
-      → ServesPacket s w.desk.held p w.desk.left w.desk.calls calls' owed' left' → IsServing s w → w.stops ≡ false → length (filter (is_asked s) (take (w.served + 1) w.end.state.got)) ≡ length calls'
+      → ServesPacket s w.desk.held p w.desk.left w.desk.calls calls' owed' left' → IsServing s besides w → w.stops ≡ false → length (filter (is_asked s) (take (w.served + 1) w.end.state.got)) ≡ length calls'
   each_served p calls' owed' left' less at not_lacks one h go =
       let got = w.end.state.got in
       let grown : take (w.served + 1) got ≡ take w.served got ++ p ∷ [] = take_more got w.served [] (omega (arith, less)) ∙ ap (λ x. take w.served got ++ x ∷ []) (get_or_from_slice_get got w.served p [] at) in
       omega (arith, ap (λ l. length (filter (is_asked s) l)) grown, asked_more p (take w.served got), h.each go, calls_one p w.desk.calls calls' owed' w.desk.left left' (has_call p at not_lacks go) one)
 
   pub served_kept : (desk' : Desk T S Q R) (p : List ℕ) → w.served + 1 ≤ length w.end.state.got → slice_get w.end.state.got w.served ≡ Some p → w.desk.owed ≡ [] → lacks_call s w ≡ false → length desk'.owed ≤ 2 → desk'.held ≡ w.desk.held
-      → ServesPacket s desk'.held p w.desk.left w.desk.calls desk'.calls desk'.owed desk'.left → w.end.state.machine.asleep ≡ false
-      → IsServing s w → IsServing s (record w { desk = desk'; served = w.served + 1 })
-  served_kept desk' p less at none not_lacks few held one awake h =
+      → ServesPacket s desk'.held p w.desk.left w.desk.calls desk'.calls desk'.owed desk'.left → Owes s desk'.owed (own_in w.desk.table) (own_in desk'.table) → length desk'.table ≡ length w.desk.table → w.end.state.machine.asleep ≡ false
+      → IsServing s besides w → IsServing s besides (record w { desk = desk'; served = w.served + 1 })
+  served_kept desk' p less at none not_lacks few held one owes size awake h =
       let got = w.end.state.got in
       let first : drop w.served got ≡ p ∷ drop (w.served + 1) got = drop_more got w.served [] (omega (arith, less)) ∙ ap (λ x. x ∷ drop (w.served + 1) got) (get_or_from_slice_get got w.served p [] at) in
       let k : ServerKept s w.desk.held w.serve w.end.state.past w.desk.calls [] w.desk.left (p ∷ drop (w.served + 1) got) =
@@ -182,6 +260,9 @@ module _ {T S A Q R : Type 0} (s : Speech (List ℕ) A Q R) (keeps : Keeps s) (w
       record {
         kept = subst (λ b. ServerKept s b w.serve w.end.state.past desk'.calls desk'.owed desk'.left (drop (w.served + 1) got)) (sym held)
             (served_left w.end.state.past w.desk.calls desk'.calls desk'.owed w.desk.left desk'.left p (drop (w.served + 1) got) one' k);
+        own = λ unmarked. own_served s w.end.state.past desk'.owed (own_in w.desk.table) (own_in desk'.table) owes (subst (λ l. OwnKept s w.end.state.past l (own_in w.desk.table)) none (h.own unmarked));
+        from = h.from;
+        places = size ∙ h.places;
         within = omega (arith, less);
         few = few;
         missing_is = h.missing_is;
@@ -191,13 +272,13 @@ module _ {T S A Q R : Type 0} (s : Speech (List ℕ) A Q R) (keeps : Keeps s) (w
       }
 
   -- a worker that ended gives what the plan asks for
-  kept_plan : (plan : Plan A) → Orders s plan w → IsServing s w
+  kept_plan : (plan : Plan A) → Orders s plan w → IsServing s besides w
       → ServerKept s (held_of plan.stop (length plan.script)) (count_of plan.stop (length plan.script)) w.end.state.past w.desk.calls w.desk.owed w.desk.left (drop w.served w.end.state.got)
   kept_plan plan is h =
       subst (λ b. ServerKept s b (count_of plan.stop (length plan.script)) w.end.state.past w.desk.calls w.desk.owed w.desk.left (drop w.served w.end.state.got)) is.held
       (subst (λ n. ServerKept s w.desk.held n w.end.state.past w.desk.calls w.desk.owed w.desk.left (drop w.served w.end.state.got)) is.serve h.kept)
 
-  ends_plan : (plan : Plan A) → Orders s plan w → IsServing s w → w.desk.owed ≡ [] → w.served ≡ length w.end.state.got → ServerStops s plan w.end.state.past w.desk.calls → ServerEnds s plan w.end.state.past w.desk.calls
+  ends_plan : (plan : Plan A) → Orders s plan w → IsServing s besides w → w.desk.owed ≡ [] → w.served ≡ length w.end.state.got → ServerStops s plan w.end.state.past w.desk.calls → ServerEnds s plan w.end.state.past w.desk.calls
   ends_plan plan is h none all end =
       let nothing : drop w.served w.end.state.got ≡ [] = drop_all w.served w.end.state.got (omega (arith, all)) in
       let k : ServerKept s (held_of plan.stop (length plan.script)) (count_of plan.stop (length plan.script)) w.end.state.past w.desk.calls [] w.desk.left [] =
@@ -212,7 +293,7 @@ module _ {T S A Q R : Type 0} (s : Speech (List ℕ) A Q R) (keeps : Keeps s) (w
       omega (arith, none, (calls_left s keeps w.desk.held h.served w.serve w.desk.calls (sent_of w.end.state.past ++ w.desk.owed) h.serves).0 m h.stands)
 
   -- each packet that came and asks the device was a call, once all that came is served
-  pub calls_each : (past : List (Event (List ℕ))) → got_of past ≡ w.end.state.got → w.served ≡ length w.end.state.got → IsServing s w → CallsEach s w past w.desk.calls
+  pub calls_each : (past : List (Event (List ℕ))) → got_of past ≡ w.end.state.got → w.served ≡ length w.end.state.got → IsServing s besides w → CallsEach s w past w.desk.calls
   calls_each past is all h go = ap (λ l. length (filter (is_asked s) l)) (is ∙ sym (take_all w.served w.end.state.got (omega (arith, all)))) ∙ h.each go
 
   -- no call is left for what is served next: more asked the device than there were calls for
@@ -227,7 +308,7 @@ module _ {T S A Q R : Type 0} (s : Speech (List ℕ) A Q R) (keeps : Keeps s) (w
       next true None e = let bad : false ≡ true = e in absurd (cc)
       next true (Some p) e = (refl, (p, refl, e))
 
-  pub asked_over : got_of w.end.state.past ≡ w.end.state.got → IsServing s w → lacks_call s w ≡ true → (w.stops ≡ false) × AskedOver (is_asked s) w.serve w.end.state.past
+  pub asked_over : got_of w.end.state.past ≡ w.end.state.got → IsServing s besides w → lacks_call s w ≡ true → (w.stops ≡ false) × AskedOver (is_asked s) w.serve w.end.state.past
   asked_over is h lacks =
       let got = w.end.state.got in
       let part = parts (has_served w.desk.left) (slice_get got w.served) lacks in
@@ -243,7 +324,7 @@ module _ {T S A Q R : Type 0} (s : Speech (List ℕ) A Q R) (keeps : Keeps s) (w
       (part.0, omega (arith, front, more, calls, ap (λ l. length (filter (is_asked s) l)) is))
 
   -- with nothing owed and all served, all is answered
-  pub answers_all : w.desk.owed ≡ [] → got_of w.end.state.past ≡ w.end.state.got → w.served ≡ length w.end.state.got → IsServing s w → AnswersAll s w w.end.state.past w.desk.calls
+  pub answers_all : w.desk.owed ≡ [] → got_of w.end.state.past ≡ w.end.state.got → w.served ≡ length w.end.state.got → IsServing s besides w → AnswersAll s w w.end.state.past w.desk.calls
   answers_all none is all h =
       let nothing : drop w.served w.end.state.got ≡ [] = drop_all w.served w.end.state.got (omega (arith, all)) in
       let whole : got_of w.end.state.past ≡ h.kept.served = h.kept.got_is ∙ (ap (λ l. h.kept.served ++ l) nothing ∙ append-nil h.kept.served) in
@@ -253,8 +334,24 @@ module _ {T S A Q R : Type 0} (s : Speech (List ℕ) A Q R) (keeps : Keeps s) (w
         each = calls_each w.end.state.past is all h;
       }
 
+  -- where the table is full each id has an open message
+  pub lacks_place : w.desk.owed ≡ [] → w.end.state.machine.marked ≡ false → IsFull w.desk.table → IsServing s besides w → AllOwnOpen s 64 w.end.state.past
+  lacks_place none unmarked full h id low high =
+      let own : OwnKept s w.end.state.past [] (own_in w.desk.table) = subst (λ l. OwnKept s w.end.state.past l (own_in w.desk.table)) none (h.own unmarked) in
+      sym (own.opens id ∙ ap (is_in id) (append-nil (own_open s w.end.state.past))) ∙ full_open w.desk.table id full low (omega (arith, high, h.places))
+
+  -- it never is where there are no messages
+  pub only_full : MayHaveMessages s besides → w.desk.owed ≡ [] → w.end.state.machine.marked ≡ false → IsFull w.desk.table → IsServing s besides w → OnlyWith besides (AllOwnOpen s 64 w.end.state.past)
+  only_full may none unmarked full h = by besides may
+    where
+      by : (b : Bool) → MayHaveMessages s b → OnlyWith b (AllOwnOpen s 64 w.end.state.past)
+      by true may = lacks_place none unmarked full h
+      by false silent =
+          none_full w.desk.table (omega (arith, h.places)) full
+          (own_none s keeps silent w.desk.held w.serve w.end.state.past w.desk.calls w.desk.owed w.desk.left (drop w.served w.end.state.got) (own_in w.desk.table) h.kept (h.own unmarked))
+
   -- what is owed is let go
-  pub lets_go : MetFull w.desk.owed w.end → IsServing s w → LetsGo s w w.end w.desk.calls
+  pub lets_go : MetFull w.desk.owed w.end → IsServing s besides w → LetsGo s w w.end w.desk.calls
   lets_go full h = record { served = h.kept.served; first = (drop w.served w.end.state.got, h.kept.got_is); missing = w.desk.owed; serves = h.kept.serves; few = h.few; full = full }
 
   the_stop : (o : Option (ℕ × Bool)) → true ≡ is_some o → (after : ℕ × Bool) × (o ≡ Some after)
@@ -262,7 +359,7 @@ module _ {T S A Q R : Type 0} (s : Speech (List ℕ) A Q R) (keeps : Keeps s) (w
   the_stop (Some after) e = (after, refl)
 
   -- it stopped
-  ends_stopped : w.stops ≡ true → w.desk.owed ≡ [] → w.served ≡ length w.end.state.got → has_served w.desk.left ≡ true → w.missing ≡ 0 → IsServing s w → EndsAll s w w.end.state.past w.desk.calls
+  ends_stopped : w.stops ≡ true → w.desk.owed ≡ [] → w.served ≡ length w.end.state.got → has_served w.desk.left ≡ true → w.missing ≡ 0 → IsServing s besides w → EndsAll s w w.end.state.past w.desk.calls
   ends_stopped stops none all served started h plan is =
       let after = the_stop plan.stop (sym stops ∙ is.stops) in
       ends_plan plan is h none all (record {
@@ -273,58 +370,103 @@ module _ {T S A Q R : Type 0} (s : Speech (List ℕ) A Q R) (keeps : Keeps s) (w
       })
 
   -- the other end had ended
-  ends_drained : is_drained w.end.state.past ≡ true → Follows w.end.state.past → IsServing s w → EndsAll s w w.end.state.past w.desk.calls
+  ends_drained : is_drained w.end.state.past ≡ true → Follows w.end.state.past → IsServing s besides w → EndsAll s w w.end.state.past w.desk.calls
   ends_drained drained follows h plan is = server_follows s plan w.end.state.past w.desk.calls w.desk.left w.desk.owed (drop w.served w.end.state.got) (kept_plan plan is h) drained follows
 
-module _ {T S A Q R : Type 0} (s : Speech (List ℕ) A Q R) (keeps : Keeps s) (w : Serving T S Q R) where
-  marked_kept : (end' : Seen TableSeat) → end'.state.past ≡ Marked ∷ w.end.state.past → end'.state.got ≡ w.end.state.got → end'.state.machine.asleep ≡ false → IsServing s w → IsServing s (record w { end = end' })
-  marked_kept end' is got awake h = quiet_kept s keeps w end' w.seen w.want Marked is refl refl got awake h.saw h
+module _ {T S A Q R : Type 0} (s : Speech (List ℕ) A Q R) (keeps : Keeps s) (besides : Bool) (w : Serving T S Q R) where
+  -- the mark, with the table emptied
+  abbrev gone : Desk T S Q R
+  gone = record w.desk { table = replicate 64 None }
+
+  pub marked_kept : (end' : Seen TableSeat) → end'.state.past ≡ Marked ∷ w.end.state.past → end'.state.got ≡ w.end.state.got → end'.state.machine.asleep ≡ false → end'.state.machine.marked ≡ true → IsServing s besides w → IsServing s besides (record w { end = end'; desk = gone })
+  marked_kept end' is got awake marked h =
+      let q = quiet_kept s keeps besides w end' w.seen w.want Marked is refl refl got awake h.saw (λ u. absurd (let bad : true ≡ false = sym marked ∙ u in cc)) h.from h in
+      record {
+        kept = q.kept;
+        own = λ u. absurd (let bad : true ≡ false = sym marked ∙ u in cc);
+        from = q.from;
+        places = refl;
+        within = q.within;
+        few = q.few;
+        missing_is = q.missing_is;
+        saw = q.saw;
+        rests = λ b. not_both end'.state.machine.asleep awake b;
+        each = q.each;
+      }
 
   -- a mark is an end
-  pub marks_stopped : (end' : Seen TableSeat) → end'.state.past ≡ Marked ∷ w.end.state.past → end'.state.got ≡ w.end.state.got → end'.state.machine.asleep ≡ false
-      → w.stops ≡ true → w.desk.owed ≡ [] → w.served ≡ length w.end.state.got → has_served w.desk.left ≡ true → w.missing ≡ 0 → IsServing s w → EndsAll s (record w { end = end' }) end'.state.past w.desk.calls
-  marks_stopped end' is got awake stops none all served started h =
-      ends_stopped s keeps (record w { end = end' }) stops none (all ∙ ap length (sym got)) served started (marked_kept end' is got awake h)
+  pub marks_stopped : (end' : Seen TableSeat) → end'.state.past ≡ Marked ∷ w.end.state.past → end'.state.got ≡ w.end.state.got → end'.state.machine.asleep ≡ false → end'.state.machine.marked ≡ true
+      → w.stops ≡ true → w.desk.owed ≡ [] → w.served ≡ length w.end.state.got → has_served w.desk.left ≡ true → w.missing ≡ 0 → IsServing s besides w → EndsAll s (record w { end = end'; desk = gone }) end'.state.past w.desk.calls
+  marks_stopped end' is got awake marked stops none all served started h =
+      ends_stopped s keeps besides (record w { end = end'; desk = gone }) stops none (all ∙ ap length (sym got)) served started (marked_kept end' is got awake marked h)
 
-  pub marks_answered : (end' : Seen TableSeat) → end'.state.past ≡ Marked ∷ w.end.state.past → end'.state.got ≡ w.end.state.got → end'.state.machine.asleep ≡ false → got_of end'.state.past ≡ end'.state.got
-      → w.desk.owed ≡ [] → w.served ≡ length w.end.state.got → IsServing s w → AnswersAll s (record w { end = end' }) end'.state.past w.desk.calls
-  marks_answered end' is got awake list none all h = answers_all s keeps (record w { end = end' }) none list (all ∙ ap length (sym got)) (marked_kept end' is got awake h)
+  pub marks_answered : (end' : Seen TableSeat) → end'.state.past ≡ Marked ∷ w.end.state.past → end'.state.got ≡ w.end.state.got → end'.state.machine.asleep ≡ false → end'.state.machine.marked ≡ true → got_of end'.state.past ≡ end'.state.got
+      → w.desk.owed ≡ [] → w.served ≡ length w.end.state.got → IsServing s besides w → AnswersAll s (record w { end = end'; desk = gone }) end'.state.past w.desk.calls
+  marks_answered end' is got awake marked list none all h = answers_all s keeps besides (record w { end = end'; desk = gone }) none list (all ∙ ap length (sym got)) (marked_kept end' is got awake marked h)
 
-  pub marks_gone : (end' : Seen TableSeat) → end'.state.past ≡ Marked ∷ w.end.state.past → end'.state.got ≡ w.end.state.got → end'.state.machine.asleep ≡ false
-      → MetFull w.desk.owed end' → IsServing s w → LetsGo s (record w { end = end' }) end' w.desk.calls
-  marks_gone end' is got awake full h = lets_go s keeps (record w { end = end' }) full (marked_kept end' is got awake h)
+  pub marks_gone : (end' : Seen TableSeat) → end'.state.past ≡ Marked ∷ w.end.state.past → end'.state.got ≡ w.end.state.got → end'.state.machine.asleep ≡ false → end'.state.machine.marked ≡ true
+      → MetFull w.desk.owed end' → IsServing s besides w → LetsGo s (record w { end = end'; desk = gone }) end' w.desk.calls
+  marks_gone end' is got awake marked full h = lets_go s keeps besides (record w { end = end'; desk = gone }) full (marked_kept end' is got awake marked h)
 
-  pub marks_drained : (end' : Seen TableSeat) → end'.state.past ≡ Marked ∷ w.end.state.past → end'.state.got ≡ w.end.state.got → end'.state.machine.asleep ≡ false
-      → is_drained w.end.state.past ≡ true → has_marked w.end.state.past ≡ false → IsServing s w → EndsAll s (record w { end = end' }) end'.state.past w.desk.calls
-  marks_drained end' is got awake drained unmarked h =
-      ends_drained s keeps (record w { end = end' }) (ap is_drained is ∙ drained) (subst Follows (sym is) (drained_seen w.end.state.past drained, follows_unmarked w.end.state.past unmarked))
-      (marked_kept end' is got awake h)
+  pub marks_drained : (end' : Seen TableSeat) → end'.state.past ≡ Marked ∷ w.end.state.past → end'.state.got ≡ w.end.state.got → end'.state.machine.asleep ≡ false → end'.state.machine.marked ≡ true
+      → is_drained w.end.state.past ≡ true → has_marked w.end.state.past ≡ false → IsServing s besides w → EndsAll s (record w { end = end'; desk = gone }) end'.state.past w.desk.calls
+  marks_drained end' is got awake marked drained unmarked h =
+      ends_drained s keeps besides (record w { end = end'; desk = gone }) (ap is_drained is ∙ drained) (subst Follows (sym is) (drained_seen w.end.state.past drained, follows_unmarked w.end.state.past unmarked))
+      (marked_kept end' is got awake marked h)
+
+  -- a place of the table is missing
+  pub marks_lacking : (end' : Seen TableSeat) → end'.state.past ≡ Marked ∷ w.end.state.past → w.desk.owed ≡ [] → AllOwnOpen s 64 w.end.state.past → IsServing s besides w → LacksPlace s (record w { end = end'; desk = gone }) end'.state.past w.desk.calls
+  marks_lacking end' is none opens h = record {
+    served = h.kept.served;
+    first = (drop w.served w.end.state.got, ap got_of is ∙ h.kept.got_is);
+    serves = subst (λ l. Serves s w.desk.held h.kept.served w.serve w.desk.calls (sent_of l)) (sym is)
+        (subst (Serves s w.desk.held h.kept.served w.serve w.desk.calls) (ap (λ l. sent_of w.end.state.past ++ l) none ∙ append-nil (sent_of w.end.state.past)) h.kept.serves);
+    full = λ id low high. ap (λ l. is_in id (own_open s l)) is ∙ opens id low high;
+  }
+
+  -- so it leaves off that follows with nothing owed
+  pub follows_off : (end' : Seen TableSeat) → end'.state.past ≡ Marked ∷ w.end.state.past → end'.state.got ≡ w.end.state.got → end'.state.machine.asleep ≡ false → end'.state.machine.marked ≡ true → got_of end'.state.past ≡ end'.state.got
+      → w.desk.owed ≡ [] → HasServed s besides w → IsServing s besides w
+      → LeftOff s besides (record w { end = end'; desk = gone }) end' w.desk.calls × LeavesOff s besides (record w { end = end'; desk = gone })
+  follows_off end' is got awake marked list none (inl all) h =
+      (inl (inl (marks_answered end' is got awake marked list none all h)), inl (inl (none, all ∙ ap length (sym got), calls_each s keeps besides w end'.state.past (list ∙ got) all h)))
+  follows_off end' is got awake marked list none (inr full) h = by besides full
+    where
+      by : (b : Bool) → OnlyWith b (AllOwnOpen s 64 w.end.state.past) → LeftOff s b (record w { end = end'; desk = gone }) end' w.desk.calls × LeavesOff s b (record w { end = end'; desk = gone })
+      by true f = let lacks = marks_lacking end' is none f h in (inr lacks, inr (none, lacks.full))
+      by false f = absurd f
 
   -- none waited after the mark was seen
-  pub drains : (end' : Seen TableSeat) → end'.state.past ≡ Empty ∷ w.end.state.past → IsServing s w → w.seen ≡ true → is_drained end'.state.past ≡ true
+  pub drains : (end' : Seen TableSeat) → end'.state.past ≡ Empty ∷ w.end.state.past → IsServing s besides w → w.seen ≡ true → is_drained end'.state.past ≡ true
   drains end' is h seen = ap is_drained is ∙ ap (λ b. b || is_drained w.end.state.past) (h.saw ∙ seen)
 
   -- it sleeps
-  pub rests_at : (end' : Seen TableSeat) (want' : Option ℕ) → want' ≡ need_of w.desk.owed → SleepsFor want' end' → end'.state.got ≡ w.end.state.got → (is_nil w.desk.owed ≡ true → w.served ≡ length w.end.state.got)
-      → (is_nil w.desk.owed ≡ true → has_done w ≡ false) → w.seen ≡ false → Rests (record w { end = end'; want = want' })
-  rests_at end' want' want armed got all more unseen = record { want = want; armed = armed; served = λ e. all e ∙ ap length (sym got); more = more; unseen = unseen }
+  pub rests_at : (end' : Seen TableSeat) (want' : Option ℕ) → want' ≡ need_of w.desk.owed → SleepsFor want' end' → end'.state.got ≡ w.end.state.got → (is_nil w.desk.owed ≡ true → HasToWait s besides w) → end'.state.past ≡ w.end.state.past → w.seen ≡ false → Rests s besides (record w { end = end'; want = want' })
+  rests_at end' want' want armed got waits is unseen = record { want = want; armed = armed; waits = λ e. still (waits e); unseen = unseen }
+    where
+      still : HasToWait s besides w → HasToWait s besides (record w { end = end'; want = want' })
+      still (inl (all, more)) = inl (all ∙ ap length (sym got), more)
+      still (inr full) = inr (subst (λ l. OnlyWith besides (AllOwnOpen s 64 l)) (sym is) full)
 
   -- a mark ends it, whether the other end's mark was seen or not
-  pub ends_by : (seen : Bool) → EndsAll s w w.end.state.past w.desk.calls → AnswersAll s w w.end.state.past w.desk.calls → has_marked w.end.state.past ≡ true → has_seen w.end.state.past ≡ seen → EndsBy s (marked_by seen) w w.end w.desk.calls
-  ends_by true all answers marked saw = (all, inl answers, marked, saw)
-  ends_by false all answers marked saw = (all, answers, marked, saw)
+  pub ends_by : (seen : Bool) → EndsAll s w w.end.state.past w.desk.calls → AnswersAll s w w.end.state.past w.desk.calls → OwnFrom s 64 w.end.state.past → has_marked w.end.state.past ≡ true → has_seen w.end.state.past ≡ seen → EndsBy s besides (marked_by seen) w w.end w.desk.calls
+  ends_by true all answers from marked saw = (all, inl (inl answers), from, marked, saw)
+  ends_by false all answers from marked saw = (all, answers, from, marked, saw)
 
-  pub lacks_none : (left_at : S → ℕ) (seen : Bool) → SentAtMost (length (got_of w.end.state.past)) w.end.state.past → LeavesOff s w → LacksRoom left_at s (marked_by seen) w
-  lacks_none left_at true sent leaves = (sent, leaves)
-  lacks_none left_at false sent leaves = sent
+  pub lacks_none : (left_at : S → ℕ) (seen : Bool) → HasNone w.desk.table → ServedWithin s besides w.end.state.past → LeavesOff s besides w → LacksRoom left_at s besides (marked_by seen) w
+  lacks_none left_at true none sent leaves = (none, sent, leaves)
+  lacks_none left_at false none sent leaves = (none, sent)
 
-  pub breaks : IsServing s w → BreaksOff s w w.end.state.past w.desk.calls
+  pub breaks : IsServing s besides w → BreaksOff s w w.end.state.past w.desk.calls
   breaks h = server_breaks s w.desk.held w.serve w.end.state.past w.desk.calls w.desk.owed w.desk.left (drop w.served w.end.state.got) h.kept
 
   -- a new worker
-  pub new_kept : w.end.state.past ≡ [] → w.end.state.got ≡ [] → w.desk.calls ≡ [] → w.desk.owed ≡ [] → w.desk.left ≡ Some w.serve → w.served ≡ 0 → w.missing ≡ w.starts → w.seen ≡ false → w.end.state.machine.asleep ≡ false → IsServing s w
-  new_kept past got calls owed left served missing seen awake = record {
+  pub new_kept : w.end.state.past ≡ [] → w.end.state.got ≡ [] → w.desk.calls ≡ [] → w.desk.table ≡ replicate 64 None → w.desk.owed ≡ [] → w.desk.left ≡ Some w.serve → w.served ≡ 0 → w.missing ≡ w.starts → w.seen ≡ false → w.end.state.machine.asleep ≡ false → IsServing s besides w
+  new_kept past got calls table owed left served missing seen awake = record {
     kept = rw (past, got, calls, owed, left, served) (server_new s keeps w.desk.held w.serve);
+    own = λ u. rw (past, owed, table) (own_new s (own_in (replicate 64 None)) (λ id. table_empty 64 id));
+    from = subst (OwnFrom s 64) (sym past) tt;
+    places = ap length table;
     within = omega (arith, served);
     few = omega (arith, ap length owed);
     missing_is = let none : length (filter s.waits (filter s.is_request (got_of w.end.state.past))) ≡ 0 = ap (λ l. length (filter s.waits (filter s.is_request (got_of l)))) past in omega (arith, missing, none);
@@ -333,19 +475,44 @@ module _ {T S A Q R : Type 0} (s : Speech (List ℕ) A Q R) (keeps : Keeps s) (w
     each = λ go. ap (λ n. length (filter (is_asked s) (take n w.end.state.got))) served ∙ ap length (sym calls);
   }
 
-module _ {T S A Q R : Type 0} (sp : T → Speech (List ℕ) A Q R) (keeps : (t : T) → Keeps (sp t)) (w : Serving T S Q R) where
+module _ {T S A Q R : Type 0} (sp : T → Speech (List ℕ) A Q R) (keeps : (t : T) → Keeps (sp t)) (besides : T → Bool) (w : Serving T S Q R) where
+  pub took_by : (end' : Seen TableSeat) (desk' : Desk T S Q R) (missing' : ℕ) (p : List ℕ) → end'.state.past ≡ Got p ∷ w.end.state.past → end'.state.got ≡ w.end.state.got ++ p ∷ [] → end'.state.machine.asleep ≡ false
+      → missing' ≡ w.missing - (if (sp w.desk.talk).is_request p && (sp w.desk.talk).waits p then 1 else 0) → Closes (sp w.desk.talk) w.desk.owed p w.desk.table desk'.table → length desk'.table ≡ length w.desk.table
+      → desk' ≡ record w.desk { table = desk'.table } → w.end.state.machine.marked ≡ false → IsServing (sp w.desk.talk) (besides w.desk.talk) w → IsServing (sp desk'.talk) (besides desk'.talk) (record w { end = end'; missing = missing'; desk = desk' })
+  took_by end' desk' missing' p is more awake less close size desk unmarked h =
+      subst (λ d. IsServing (sp d.talk) (besides d.talk) (record w { end = end'; missing = missing'; desk = d })) (sym desk)
+      (took_kept (sp w.desk.talk) (keeps w.desk.talk) (besides w.desk.talk) w end' desk'.table missing' p is more awake less close size unmarked h)
+
+  pub marked_by_talk : (end' : Seen TableSeat) (desk' : Desk T S Q R) → end'.state.past ≡ Marked ∷ w.end.state.past → end'.state.got ≡ w.end.state.got → end'.state.machine.asleep ≡ false → end'.state.machine.marked ≡ true → desk' ≡ record w.desk { table = replicate 64 None }
+      → IsServing (sp w.desk.talk) (besides w.desk.talk) w → IsServing (sp desk'.talk) (besides desk'.talk) (record w { end = end'; desk = desk' })
+  marked_by_talk end' desk' is got awake marked desk h =
+      subst (λ d. IsServing (sp d.talk) (besides d.talk) (record w { end = end'; desk = d })) (sym desk) (marked_kept (sp w.desk.talk) (keeps w.desk.talk) (besides w.desk.talk) w end' is got awake marked h)
+
+  -- what a worker gives whose table was emptied
+  pub ends_gone : (how : Ended) (end' : Seen TableSeat) (desk' : Desk T S Q R) → desk' ≡ record w.desk { table = replicate 64 None }
+      → EndsBy (sp w.desk.talk) (besides w.desk.talk) how (record w { end = end'; desk = record w.desk { table = replicate 64 None } }) end' w.desk.calls
+      → EndsBy (sp desk'.talk) (besides desk'.talk) how (record w { end = end'; desk = desk' }) end' desk'.calls
+  ends_gone how end' desk' desk h = subst (λ d. EndsBy (sp d.talk) (besides d.talk) how (record w { end = end'; desk = d }) end' d.calls) (sym desk) h
+
+  pub room_gone : (left_at : S → ℕ) (how : Ended) (end' : Seen TableSeat) (desk' : Desk T S Q R) → desk' ≡ record w.desk { table = replicate 64 None }
+      → LacksRoom left_at (sp w.desk.talk) (besides w.desk.talk) how (record w { end = end'; desk = record w.desk { table = replicate 64 None } })
+      → LacksRoom left_at (sp desk'.talk) (besides desk'.talk) how (record w { end = end'; desk = desk' })
+  room_gone left_at how end' desk' desk h = subst (λ d. LacksRoom left_at (sp d.talk) (besides d.talk) how (record w { end = end'; desk = d })) (sym desk) h
+
   pub gave_by : (end' : Seen TableSeat) (desk' : Desk T S Q R) (p : List ℕ) → end'.state.past ≡ Sent p ∷ w.end.state.past → w.desk.owed ≡ p ∷ drop 1 w.desk.owed
-      → desk' ≡ record w.desk { owed = drop 1 w.desk.owed } → end'.state.got ≡ w.end.state.got → end'.state.machine.asleep ≡ false
-      → IsServing (sp w.desk.talk) w → IsServing (sp desk'.talk) (record w { end = end'; desk = desk' })
-  gave_by end' desk' p is first desk got awake h =
-      subst (λ t. IsServing (sp t) (record w { end = end'; desk = desk' })) (sym (ap (λ (d : Desk T S Q R). d.talk) desk)) (gave_kept (sp w.desk.talk) (keeps w.desk.talk) w end' desk' p is first desk got awake h)
+      → desk' ≡ record w.desk { owed = drop 1 w.desk.owed } → end'.state.got ≡ w.end.state.got → end'.state.machine.asleep ≡ false → w.end.state.machine.marked ≡ false
+      → IsServing (sp w.desk.talk) (besides w.desk.talk) w → IsServing (sp desk'.talk) (besides desk'.talk) (record w { end = end'; desk = desk' })
+  gave_by end' desk' p is first desk got awake unmarked h =
+      subst (λ t. IsServing (sp t) (besides t) (record w { end = end'; desk = desk' })) (sym (ap (λ (d : Desk T S Q R). d.talk) desk))
+      (gave_kept (sp w.desk.talk) (keeps w.desk.talk) (besides w.desk.talk) w end' desk' p is first desk got awake unmarked h)
 
   pub served_by : (desk' : Desk T S Q R) (p : List ℕ) → w.served + 1 ≤ length w.end.state.got → slice_get w.end.state.got w.served ≡ Some p → w.desk.owed ≡ [] → lacks_call (sp w.desk.talk) w ≡ false → length desk'.owed ≤ 2 → desk'.held ≡ w.desk.held → desk'.talk ≡ w.desk.talk
-      → ServesPacket (sp desk'.talk) desk'.held p w.desk.left w.desk.calls desk'.calls desk'.owed desk'.left → w.end.state.machine.asleep ≡ false
-      → IsServing (sp w.desk.talk) w → IsServing (sp desk'.talk) (record w { desk = desk'; served = w.served + 1 })
-  served_by desk' p less at none not_lacks few held talk one awake h =
-      subst (λ t. IsServing (sp t) (record w { desk = desk'; served = w.served + 1 })) (sym talk)
-      (served_kept (sp w.desk.talk) (keeps w.desk.talk) w desk' p less at none not_lacks few held (subst (λ t. ServesPacket (sp t) desk'.held p w.desk.left w.desk.calls desk'.calls desk'.owed desk'.left) talk one) awake h)
+      → ServesPacket (sp desk'.talk) desk'.held p w.desk.left w.desk.calls desk'.calls desk'.owed desk'.left → Owes (sp desk'.talk) desk'.owed (own_in w.desk.table) (own_in desk'.table) → length desk'.table ≡ length w.desk.table
+      → w.end.state.machine.asleep ≡ false → IsServing (sp w.desk.talk) (besides w.desk.talk) w → IsServing (sp desk'.talk) (besides desk'.talk) (record w { desk = desk'; served = w.served + 1 })
+  served_by desk' p less at none not_lacks few held talk one owes size awake h =
+      subst (λ t. IsServing (sp t) (besides t) (record w { desk = desk'; served = w.served + 1 })) (sym talk)
+      (served_kept (sp w.desk.talk) (keeps w.desk.talk) (besides w.desk.talk) w desk' p less at none not_lacks few held (subst (λ t. ServesPacket (sp t) desk'.held p w.desk.left w.desk.calls desk'.calls desk'.owed desk'.left) talk one)
+      (subst (λ t. Owes (sp t) desk'.owed (own_in w.desk.table) (own_in desk'.table)) talk owes) size awake h)
 
 module _ {T S Q R : Type 0} (same : S → S → Type 0) where
   -- the same worker still
@@ -378,23 +545,34 @@ module _ {T S Q R : Type 0} (same : S → S → Type 0) where
   gone_on : {A : Type 0} (s : Speech (List ℕ) A Q R) (u w : Serving T S Q R) (e : Seen TableSeat) (calls : List (Call Q R)) → ServesOn same u w → LetsGo s w e calls → LetsGo s u e calls
   gone_on s u w e calls on h = record { served = h.served; first = h.first; missing = h.missing; serves = serves_on s u w h.served (sent_of e.state.past ++ h.missing) calls on h.serves; few = h.few; full = h.full }
 
+  place_on : {A : Type 0} (s : Speech (List ℕ) A Q R) (u w : Serving T S Q R) (past : List (Event (List ℕ))) (calls : List (Call Q R)) → ServesOn same u w → LacksPlace s w past calls → LacksPlace s u past calls
+  place_on s u w past calls on h = record { served = h.served; first = h.first; serves = serves_on s u w h.served (sent_of past) calls on h.serves; full = h.full }
+
   -- what it gives at its end is what was asked of it at its beginning
-  pub ends_on : {A : Type 0} (sp : T → Speech (List ℕ) A Q R) (how : Ended) (u w : Serving T S Q R) (e : Seen TableSeat) (calls : List (Call Q R)) → ServesOn same u w
-      → EndsBy (sp w.desk.talk) how w e calls → EndsBy (sp u.desk.talk) how u e calls
-  ends_on {A = A} sp how u w e calls on h = by how (subst (λ t. EndsBy (sp t) how w e calls) on.talk h)
+  pub ends_on : {A : Type 0} (sp : T → Speech (List ℕ) A Q R) (besides : T → Bool) (how : Ended) (u w : Serving T S Q R) (e : Seen TableSeat) (calls : List (Call Q R)) → ServesOn same u w
+      → EndsBy (sp w.desk.talk) (besides w.desk.talk) how w e calls → EndsBy (sp u.desk.talk) (besides u.desk.talk) how u e calls
+  ends_on {A = A} sp besides how u w e calls on h = by how (subst (λ t. EndsBy (sp t) (besides t) how w e calls) on.talk h)
     where
-      by : (how : Ended) → EndsBy (sp u.desk.talk) how w e calls → EndsBy (sp u.desk.talk) how u e calls
-      by EndedMarked h = (λ plan is. h.0 plan (orders_on (sp u.desk.talk) plan u w on is), answers_on (sp u.desk.talk) u w e.state.past calls on h.1, h.2, h.3)
-      by PeerMarked h = (λ plan is. h.0 plan (orders_on (sp u.desk.talk) plan u w on is), on_either (answers_on (sp u.desk.talk) u w e.state.past calls on) (gone_on (sp u.desk.talk) u w e calls on) h.1, h.2, h.3)
+      by : (how : Ended) → EndsBy (sp u.desk.talk) (besides u.desk.talk) how w e calls → EndsBy (sp u.desk.talk) (besides u.desk.talk) how u e calls
+      by EndedMarked h = (λ plan is. h.0 plan (orders_on (sp u.desk.talk) plan u w on is), answers_on (sp u.desk.talk) u w e.state.past calls on h.1, h.2, h.3, h.4)
+      by PeerMarked h = (
+        λ plan is. h.0 plan (orders_on (sp u.desk.talk) plan u w on is),
+        on_either
+            (on_either (answers_on (sp u.desk.talk) u w e.state.past calls on) (gone_on (sp u.desk.talk) u w e calls on))
+            (only_on (besides u.desk.talk) (place_on (sp u.desk.talk) u w e.state.past calls on)) h.1,
+        h.2,
+        h.3,
+        h.4,
+      )
       by (Room packets words left) h =
-          subst (λ b. ServerBreaks (sp u.desk.talk) b u.serve e.state.past calls) on.held (subst (λ n. ServerBreaks (sp u.desk.talk) w.desk.held n e.state.past calls) on.serve h)
+          (subst (λ b. ServerBreaks (sp u.desk.talk) b u.serve e.state.past calls) on.held (subst (λ n. ServerBreaks (sp u.desk.talk) w.desk.held n e.state.past calls) on.serve h.0), h.1)
 
   -- and so is what it lacked
-  pub lacks_on : {A : Type 0} (sp : T → Speech (List ℕ) A Q R) (how : Ended) (u w : Serving T S Q R) (past : List (Event (List ℕ))) → ServesOn same u w
-      → ServeLacksFor (is_asked (sp w.desk.talk)) (w.starts + w.come) w.serve w.stops how past → ServeLacksFor (is_asked (sp u.desk.talk)) (u.starts + u.come) u.serve u.stops how past
-  lacks_on sp how u w past on h =
+  pub lacks_on : {A : Type 0} (sp : T → Speech (List ℕ) A Q R) (besides : T → Bool) (how : Ended) (u w : Serving T S Q R) (past : List (Event (List ℕ))) → ServesOn same u w
+      → ServeLacksFor (sp w.desk.talk) (besides w.desk.talk) (w.starts + w.come) w.serve w.stops how past → ServeLacksFor (sp u.desk.talk) (besides u.desk.talk) (u.starts + u.come) u.serve u.stops how past
+  lacks_on sp besides how u w past on h =
       let room : w.starts + w.come ≡ u.starts + u.come = omega (arith, on.starts, on.come) in
-      subst (λ n. ServeLacksFor (is_asked (sp u.desk.talk)) n u.serve u.stops how past) room
-      (subst (λ b. ServeLacksFor (is_asked (sp u.desk.talk)) (w.starts + w.come) u.serve b how past) on.stops
-      (subst (λ n. ServeLacksFor (is_asked (sp u.desk.talk)) (w.starts + w.come) n w.stops how past) on.serve
-      (subst (λ t. ServeLacksFor (is_asked (sp t)) (w.starts + w.come) w.serve w.stops how past) on.talk h)))
+      subst (λ n. ServeLacksFor (sp u.desk.talk) (besides u.desk.talk) n u.serve u.stops how past) room
+      (subst (λ b. ServeLacksFor (sp u.desk.talk) (besides u.desk.talk) (w.starts + w.come) u.serve b how past) on.stops
+      (subst (λ n. ServeLacksFor (sp u.desk.talk) (besides u.desk.talk) (w.starts + w.come) n w.stops how past) on.serve
+      (subst (λ t. ServeLacksFor (sp t) (besides t) (w.starts + w.come) w.serve w.stops how past) on.talk h)))

@@ -1,5 +1,5 @@
 -- The serving worker, as contracts see it.
-use Rattle.std.specs.Prelude.{ℕ, ◌≡◌, ◌≤◌, ◌+◌, ◌-◌, Bool, true, false, not, ◌&&◌, ◌==◌, ◌⊎◌, List, [], ◌∷◌, ◌++◌, length, filter, take, drop, slice_get, Option, Some, None, is_some}
+use Rattle.std.specs.Prelude.{ℕ, ◌≡◌, ◌≤◌, ◌+◌, ◌-◌, Bool, true, false, not, ◌&&◌, ◌==◌, ◌⊎◌, List, [], ◌∷◌, ◌++◌, length, filter, map, take, drop, slice_get, Option, Some, None, IsSome, All, is_some, if◌then◌else◌}
 use Rattle.std.specs.Option.{option_map_or}
 use Rattle.chan_run.specs.declared.event.Event.{Event}
 use Rattle.chan_run.specs.Runs.{IsFront, sent_of, got_of, has_marked, has_seen}
@@ -8,13 +8,16 @@ use Rattle.io_edge.specs.declared.side.Side.{Side}
 use Rattle.ring_core.specs.Seen.{Seen}
 use Rattle.ring_seat.specs.Settling.{IsSameEnd}
 use Rattle.ring_seat.specs.declared.table_seat.TableSeat.{TableSeat}
+use Rattle.txn_table.specs.Open.{request_of}
 use Rattle.work_model.specs.Speech.{Speech}
+use Rattle.work_model.specs.Acks.{is_in, OwnFrom, AllOwnOpen}
+use Rattle.work_model.specs.Amounts.{room_of}
 use Rattle.work_model.specs.Server.{Serves}
 use Rattle.work_model.specs.Channel.{Plan, count_of, held_of, ServerEnds, ServerBreaks}
-use Rattle.work_model.specs.Workers.{left_after, ServerKept}
+use Rattle.work_model.specs.Workers.{left_after, ServerKept, OwnKept}
 use Rattle.channel_port.specs.Line.{SleepsFor, LacksTake}
 use Rattle.channel_port.specs.Owed.{is_nil, need_of, LacksSend, MetFull}
-use Rattle.channel_port.specs.Rooms.{SentAtMost, ServeLacksFor, ServesInRoom}
+use Rattle.channel_port.specs.Rooms.{ServedWithin, ServeLacksFor, KeepsRoom, OnlyWith, is_asked}
 use Rattle.channel_port.specs.declared.ended.Ended.{Ended}
 use Rattle.channel_port.specs.declared.ended.Ended.TheVariants.{Marked, PeerMarked, Room}
 use Rattle.channel_port.specs.declared.ended.Turn.{Turn}
@@ -22,13 +25,14 @@ use Rattle.channel_port.specs.declared.ended.Turn.TheVariants.{Moved, Idle, Ende
 use Rattle.server.specs.declared.put.Given.{Given}
 use Rattle.server.specs.declared.put.Given.TheVariants.{Sent as GivenSent, Full as GivenFull, Lacks as GivenLacks}
 
--- the talk, the seat with the calls that it had made before, and those of this worker and their serials, what is owed, whether the last answer is held,
--- how many requests are still to be served, and the side and the relid that the gate is told
+-- the talk, the seat with the calls that it had made before, and those of this worker and their serials, the messages of its own that are open or owed, what is
+-- owed, whether the last answer is held, how many requests are still to be served, and the side and the relid that the gate is told
 pub record Desk (T S Q R : Type 0) : Type 0 where
   pub talk : T
   pub seat : S
   pub before : List (Call Q R)
   pub calls : List (Call Q R)
+  pub table : List (Option ℕ)
   pub owed : List (List ℕ)
   pub left : Option ℕ
   pub held : Bool
@@ -61,9 +65,17 @@ last_calls calls n = drop (length calls - n) calls
 abbrev pub calls_behind : {Q R : Type 0} → List (Call Q R) → List (Call Q R) → List (Call Q R)
 calls_behind before calls = drop (length before) calls
 
--- a packet asks the device for something
-abbrev pub is_asked : {A Q R : Type 0} → Speech (List ℕ) A Q R → List ℕ → Bool
-is_asked s p = is_some (s.read p)
+-- an id stands in the table
+abbrev pub own_in : List (Option ℕ) → ℕ → Bool
+own_in rs id = is_some (request_of rs id)
+
+-- each place of the table is taken
+abbrev pub IsFull : List (Option ℕ) → Type 0
+IsFull rs = All IsSome rs
+
+-- the table is empty
+abbrev pub HasNone : List (Option ℕ) → Type 0
+HasNone rs = (id : ℕ) → request_of rs id ≡ None
 
 -- the seat, or a list with room, has the calls that are left
 abbrev pub HasCalls : Option ℕ → ℕ → Type 0
@@ -84,23 +96,38 @@ has_served (Some m) = m == 0
 abbrev pub has_done : {T S Q R : Type 0} → Serving T S Q R → Bool
 has_done w = (w.stops && (w.missing == 0)) && has_served w.desk.left
 
--- asleep before the other end's mark was seen, with the need of the packet that waits as its want; where none waits all that was got is served, and there is
--- more to do than to stop
-pub record Rests {T S Q R : Type 0} (w : Serving T S Q R) : Type 0 where
+-- all that was got is served; or it waits for an id of its own, since under each a message is open, which only an acknowledgement closes
+abbrev pub HasServed : {T S A Q R : Type 0} → Speech (List ℕ) A Q R → Bool → Serving T S Q R → Type 0
+HasServed s besides w = (w.served ≡ length w.end.state.got) ⊎ OnlyWith besides (AllOwnOpen s 64 w.end.state.past)
+
+-- all that was got is served, and there is more to do than to stop; or it waits for an id of its own
+abbrev pub HasToWait : {T S A Q R : Type 0} → Speech (List ℕ) A Q R → Bool → Serving T S Q R → Type 0
+HasToWait s besides w = ((w.served ≡ length w.end.state.got) × (has_done w ≡ false)) ⊎ OnlyWith besides (AllOwnOpen s 64 w.end.state.past)
+
+-- asleep before the other end's mark was seen, with the need of the packet that waits as its want; where none waits there is nothing that it could serve
+pub record Rests {T S A Q R : Type 0} (s : Speech (List ℕ) A Q R) (besides : Bool) (w : Serving T S Q R) : Type 0 where
   pub want : w.want ≡ need_of w.desk.owed
   pub armed : SleepsFor w.want w.end
-  pub served : is_nil w.desk.owed ≡ true → w.served ≡ length w.end.state.got
-  pub more : is_nil w.desk.owed ≡ true → has_done w ≡ false
+  pub waits : is_nil w.desk.owed ≡ true → HasToWait s besides w
   pub unseen : w.seen ≡ false
 
-pub record IsServing {T S A Q R : Type 0} (s : Speech (List ℕ) A Q R) (w : Serving T S Q R) : Type 0 where
+pub record IsServing {T S A Q R : Type 0} (s : Speech (List ℕ) A Q R) (besides : Bool) (w : Serving T S Q R) : Type 0 where
   pub kept : ServerKept s w.desk.held w.serve w.end.state.past w.desk.calls w.desk.owed w.desk.left (drop w.served w.end.state.got)
+  pub own : w.end.state.machine.marked ≡ false → OwnKept s w.end.state.past w.desk.owed (own_in w.desk.table)
+  pub from : OwnFrom s 64 w.end.state.past
+  pub places : length w.desk.table ≡ 64
   pub within : w.served ≤ length w.end.state.got
   pub few : length w.desk.owed ≤ 2
   pub missing_is : w.missing ≡ w.starts - length (filter s.waits (filter s.is_request (got_of w.end.state.past)))
   pub saw : has_seen w.end.state.past ≡ w.seen
-  pub rests : w.end.state.machine.asleep ≡ true → Rests w
+  pub rests : w.end.state.machine.asleep ≡ true → Rests s besides w
   pub each : w.stops ≡ false → length (filter (is_asked s) (take w.served w.end.state.got)) ≡ length w.desk.calls
+
+-- an acknowledgement closes its id, unless the message is only owed; after any other packet the table is as before
+pub record Closes {A Q R : Type 0} (s : Speech (List ℕ) A Q R) (owed : List (List ℕ)) (p : List ℕ) (table table' : List (Option ℕ)) : Type 0 where
+  pub acked : s.is_ack p ≡ true → is_in (s.id_of p) (map s.id_of (filter s.is_message owed)) ≡ false → (j : ℕ) → own_in table' j ≡ (if j == s.id_of p then false else own_in table j)
+  pub early : s.is_ack p ≡ true → is_in (s.id_of p) (map s.id_of (filter s.is_message owed)) ≡ true → table' ≡ table
+  pub other : s.is_ack p ≡ false → table' ≡ table
 
 -- the packet that is served next asks the device, no call is left for it, and the worker doesn't stop behind its last call
 abbrev pub lacks_call : {T S A Q R : Type 0} → Speech (List ℕ) A Q R → Serving T S Q R → Bool
@@ -138,13 +165,26 @@ pub record LetsGo {T S A Q R : Type 0} (s : Speech (List ℕ) A Q R) (w : Servin
   pub few : length missing ≤ 2
   pub full : MetFull missing e
 
--- what a worker gives that ended so, with its end: it marked that, and had seen the other end's mark or not. Where it had not, all is answered; where it had,
--- all is, or the first packet that is missing found no room, which the other end makes no more
-abbrev pub EndsBy : {T S A Q R : Type 0} → Speech (List ℕ) A Q R → Ended → Serving T S Q R → Seen TableSeat → List (Call Q R) → Type 0
-EndsBy s Marked w e calls = EndsAll s w e.state.past calls × AnswersAll s w e.state.past calls × (has_marked e.state.past ≡ true) × (has_seen e.state.past ≡ false)
-EndsBy s PeerMarked w e calls =
-    EndsAll s w e.state.past calls × (AnswersAll s w e.state.past calls ⊎ LetsGo s w e calls) × (has_marked e.state.past ≡ true) × (has_seen e.state.past ≡ true)
-EndsBy s (Room packets words left) w e calls = BreaksOff s w e.state.past calls
+-- the first packets that came were served, and all that goes back for them was sent; the others aren't served, since a message is open under each id
+pub record LacksPlace {T S A Q R : Type 0} (s : Speech (List ℕ) A Q R) (w : Serving T S Q R) (past : List (Event (List ℕ))) (calls : List (Call Q R)) : Type 0 where
+  pub served : List (List ℕ)
+  pub first : IsFront served (got_of past)
+  pub serves : Serves s w.desk.held served w.serve calls (sent_of past)
+  pub full : AllOwnOpen s 64 past
+
+-- how it left off that ended after the other end's mark: all is answered, or the first packet that is missing found no room, which the other end makes no more;
+-- or a place of the table is missing, which it makes no more either
+abbrev pub LeftOff : {T S A Q R : Type 0} → Speech (List ℕ) A Q R → Bool → Serving T S Q R → Seen TableSeat → List (Call Q R) → Type 0
+LeftOff s besides w e calls = (AnswersAll s w e.state.past calls ⊎ LetsGo s w e calls) ⊎ OnlyWith besides (LacksPlace s w e.state.past calls)
+
+-- what a worker gives that ended so, with its end: it marked that, and had seen the other end's mark or not. Where it had not, all is answered. Each message went
+-- under an id from 1 to 64 under which none was open
+abbrev pub EndsBy : {T S A Q R : Type 0} → Speech (List ℕ) A Q R → Bool → Ended → Serving T S Q R → Seen TableSeat → List (Call Q R) → Type 0
+EndsBy s besides Marked w e calls =
+    EndsAll s w e.state.past calls × AnswersAll s w e.state.past calls × OwnFrom s 64 e.state.past × (has_marked e.state.past ≡ true) × (has_seen e.state.past ≡ false)
+EndsBy s besides PeerMarked w e calls =
+    EndsAll s w e.state.past calls × LeftOff s besides w e calls × OwnFrom s 64 e.state.past × (has_marked e.state.past ≡ true) × (has_seen e.state.past ≡ true)
+EndsBy s besides (Room packets words left) w e calls = BreaksOff s w e.state.past calls × OwnFrom s 64 e.state.past
 
 -- how a worker has ended that marked its end, by whether it had seen the other end's mark
 abbrev pub marked_by : Bool → Ended
@@ -163,29 +203,32 @@ abbrev pub Lacks : {T S A Q R : Type 0} → Speech (List ℕ) A Q R → ℕ → 
 Lacks s packets words w = (LacksSend packets words w.desk.owed w.end ⊎ LacksTake packets words w.end) ⊎ LacksCall s packets words w
 
 -- where it ends after the other end's mark it owes nothing, with all that came served; or it owes at most two packets, of which the first found no room,
--- which the other end makes no more
-abbrev pub LeavesOff : {T S A Q R : Type 0} → Speech (List ℕ) A Q R → Serving T S Q R → Type 0
-LeavesOff s w = ((w.desk.owed ≡ []) × (w.served ≡ length w.end.state.got) × CallsEach s w w.end.state.past w.desk.calls) ⊎ (MetFull w.desk.owed w.end × (length w.desk.owed ≤ 2))
+-- which the other end makes no more; or it owes nothing, and a message is open under each id
+abbrev pub LeavesOff : {T S A Q R : Type 0} → Speech (List ℕ) A Q R → Bool → Serving T S Q R → Type 0
+LeavesOff s besides w =
+    (((w.desk.owed ≡ []) × (w.served ≡ length w.end.state.got) × CallsEach s w w.end.state.past w.desk.calls) ⊎ (MetFull w.desk.owed w.end × (length w.desk.owed ≤ 2)))
+    ⊎ OnlyWith besides ((w.desk.owed ≡ []) × AllOwnOpen s 64 w.end.state.past)
 
--- How much it sent, and what it let go; and where it lacks room or a call, what the seat has left, and that more came than room or calls were made for
-abbrev pub LacksRoom : {T S A Q R : Type 0} → (S → ℕ) → Speech (List ℕ) A Q R → Ended → Serving T S Q R → Type 0
-LacksRoom left_at s Marked w = SentAtMost (length (got_of w.end.state.past)) w.end.state.past
-LacksRoom left_at s PeerMarked w = SentAtMost (length (got_of w.end.state.past)) w.end.state.past × LeavesOff s w
-LacksRoom left_at s (Room packets words left) w =
-    Lacks s packets words w × (left ≡ left_at w.desk.seat) × ServesInRoom (w.starts + w.come) w.served (length w.desk.owed) w.end
-    × ServeLacksFor (is_asked s) (w.starts + w.come) w.serve w.stops (Room packets words left) w.end.state.past × SentAtMost (length (got_of w.end.state.past)) w.end.state.past
+-- Its table is empty; how much it sent, and what it let go; and where it lacks room or a call, what the seat has left, and that more came than room or calls were
+-- made for
+abbrev pub LacksRoom : {T S A Q R : Type 0} → (S → ℕ) → Speech (List ℕ) A Q R → Bool → Ended → Serving T S Q R → Type 0
+LacksRoom left_at s besides Marked w = HasNone w.desk.table × ServedWithin s besides w.end.state.past
+LacksRoom left_at s besides PeerMarked w = HasNone w.desk.table × ServedWithin s besides w.end.state.past × LeavesOff s besides w
+LacksRoom left_at s besides (Room packets words left) w =
+    Lacks s packets words w × (left ≡ left_at w.desk.seat) × KeepsRoom (room_of besides (w.starts + w.come)) w.end
+    × ServeLacksFor s besides (w.starts + w.come) w.serve w.stops (Room packets words left) w.end.state.past × ServedWithin s besides w.end.state.past
 
--- of a turn that ends: what was sent is no more than what came, and room or a call lacks only where more came than there was made for
-abbrev pub ServeEnds : {T S A Q R : Type 0} → Speech (List ℕ) A Q R → Turn → Serving T S Q R → Type 0
-ServeEnds s Moved w = Unit {0}
-ServeEnds s Idle w = Unit {0}
-ServeEnds s (TurnEnded how) w = SentAtMost (length (got_of w.end.state.past)) w.end.state.past × ServeLacksFor (is_asked s) (w.starts + w.come) w.serve w.stops how w.end.state.past
+-- of a turn that ends: what was sent is no more than what came asks for, and room or a call lacks only where more came than there was made for
+abbrev pub ServeEnds : {T S A Q R : Type 0} → Speech (List ℕ) A Q R → Bool → Turn → Serving T S Q R → Type 0
+ServeEnds s besides Moved w = Unit {0}
+ServeEnds s besides Idle w = Unit {0}
+ServeEnds s besides (TurnEnded how) w = ServedWithin s besides w.end.state.past × ServeLacksFor s besides (w.starts + w.come) w.serve w.stops how w.end.state.past
 
 -- how a turn ends
-abbrev pub Turns : {T S A Q R : Type 0} → (S → ℕ) → Speech (List ℕ) A Q R → Turn → Serving T S Q R → Type 0
-Turns left_at s Moved w = w.end.state.machine.marked ≡ false
-Turns left_at s Idle w = (w.end.state.machine.marked ≡ false) × (w.end.state.machine.asleep ≡ true) × Rests w
-Turns left_at s (TurnEnded how) w = EndsBy s how w w.end w.desk.calls × LacksRoom left_at s how w
+abbrev pub Turns : {T S A Q R : Type 0} → (S → ℕ) → Speech (List ℕ) A Q R → Bool → Turn → Serving T S Q R → Type 0
+Turns left_at s besides Moved w = w.end.state.machine.marked ≡ false
+Turns left_at s besides Idle w = (w.end.state.machine.marked ≡ false) × (w.end.state.machine.asleep ≡ true) × Rests s besides w
+Turns left_at s besides (TurnEnded how) w = EndsBy s besides how w w.end w.desk.calls × LacksRoom left_at s besides how w
 
 -- a packet that is owed was sent, or nothing changed
 abbrev pub GaveOne : {T S Q R : Type 0} → Given → Serving T S Q R → Serving T S Q R → Type 0

@@ -1,21 +1,30 @@
 //! Where the serving end serves one packet after another.
-ghost use Rattle.std.specs.Prelude.{◌≡◌, ◌<◌, ◌≤◌, ◌+◌, ◌-◌, if◌then◌else◌, [], ◌∷◌, ◌++◌, drop, length, Some, None, true, false, IfOk, map, ◌&&◌, ◌==◌, ℕ, suc};
+ghost use Rattle.std.specs.Prelude.{◌≡◌, ◌<◌, ◌≤◌, ◌+◌, ◌-◌, if◌then◌else◌, [], ◌∷◌, ◌++◌, drop, length, Some, None, true, false, IfOk, map, filter, count_by, is_some, replicate, ◌&&◌, ◌==◌, ℕ, suc};
 ghost use Rattle.ring_machine.specs.States.{IsPacket};
 ghost use Rattle.channel_port.specs.Owed.{is_nil, need_of, IsNeed};
-ghost use Rattle.server.specs.Serving.{ServesPacket, has_served, is_asked};
+ghost use Rattle.channel_port.specs.Rooms.{is_asked};
+ghost use Rattle.server.specs.Serving.{Closes, HasNone, IsFull, ServesPacket, has_served, own_in};
+ghost use Rattle.work_model.specs.Workers.{Owes};
 
 use crate::owed::Owed;
+use crate::own::{close_own, open_own};
 use chan_talk::{Seat, Talk};
 use io_edge::{Gate, Side};
 use std::alloc::{AllocError, Global};
 use std::marker::Model;
 use std::sync::Wait;
+use txn_table::TxnTable;
 
-/// The talk, the place at the device, and what is owed for the packet that was served last.
+// How many messages of its own an end has open at most.
+const OWN: u32 = 64;
+
+/// The talk, the place at the device, the messages of its own that are open or owed, and what is owed for the packet that was served last.
 #[derive(Drop)]
 pub(crate) struct Desk<T: Talk, S: Seat<T>> {
     talk: T,
     seat: S,
+    table: TxnTable<u32>,
+    rescinded: Vec<u32>,
     owed: Owed,
     left: Option<u32>,
     held: bool,
@@ -32,9 +41,9 @@ impl<T: Talk, S: Seat<T>> Model for Desk<T, S> {
 
     ghost Value = { Desk T S T.Request T.Reply };
 
-    ghost view = { λ d. record { talk = d.talk; seat = d.seat; before = first_calls (S.calls d.seat) (length d.serials.items); calls = last_calls (S.calls d.seat) (length d.serials.items); owed = d.owed; left = d.left; held = d.held; serials = d.serials.items; side = d.side; relid = d.relid } };
+    ghost view = { λ d. record { talk = d.talk; seat = d.seat; before = first_calls (S.calls d.seat) (length d.serials.items); calls = last_calls (S.calls d.seat) (length d.serials.items); table = d.table; owed = d.owed; left = d.left; held = d.held; serials = d.serials.items; side = d.side; relid = d.relid } };
 
-    ghost invariant = { λ d. record { calls : HasCalls d.left (S.left d.seat); room : HasCalls d.left (vec_capacity d.serials - vec_len d.serials); serves : S.serves d.seat d.talk; made : length d.serials.items ≤ length (S.calls d.seat); serials : d.serials.items ≡ map (λ c. c.serial) (last_calls (S.calls d.seat) (length d.serials.items)) } };
+    ghost invariant = { λ d. record { calls : HasCalls d.left (S.left d.seat); room : HasCalls d.left (vec_capacity d.serials - vec_len d.serials); serves : S.serves d.seat d.talk; made : length d.serials.items ≤ length (S.calls d.seat); serials : d.serials.items ≡ map (λ c. c.serial) (last_calls (S.calls d.seat) (length d.serials.items)); places : length d.table ≡ 64; rescinds : (vec_len d.rescinded ≡ 0) × (64 ≤ vec_capacity d.rescinded) } };
 }
 
 impl<T: Talk, S: Seat<T>> Desk<T, S> {
@@ -50,13 +59,17 @@ impl<T: Talk, S: Seat<T>> Desk<T, S> {
     ) -> Result<Desk<T, S>, AllocError>
         requires serves { S.serves seat talk }
         requires calls { serve ≤ S.left seat }
-        ensures { IfOk result (λ d. d ≡ record { talk = talk; seat = seat; before = S.calls seat; calls = []; owed = []; left = Some serve; held = held; serials = []; side = side; relid = relid }) }
+        ensures { IfOk result (λ d. d ≡ record { talk = talk; seat = seat; before = S.calls seat; calls = []; table = replicate 64 None; owed = []; left = Some serve; held = held; serials = []; side = side; relid = relid }) }
     {
         let serials = Vec::with_capacity(alloc, serve as usize)?;
         let owed = Owed::make(alloc)?;
+        let table = TxnTable::make(alloc, OWN)?;
+        let rescinded = Vec::with_capacity(alloc, OWN as usize)?;
         Ok(Desk {
             talk,
             seat,
+            table,
+            rescinded,
             owed,
             left: Some(serve),
             held,
@@ -103,6 +116,41 @@ impl<T: Talk, S: Seat<T>> Desk<T, S> {
         self.talk.read(packet).is_some()
     }
 
+    // Whether each place of its own table is taken: then a message that goes back waits for an acknowledgement.
+    pub(crate) fn is_full(&self) -> bool
+        ensures full { result ≡ true → IsFull self.now.table }
+        ensures room { result ≡ false → count_by is_some self.now.table < length self.now.table }
+    {
+        self.table.count() == OWN
+    }
+
+    // Closes the message that a packet acknowledges, if it is one that does. One that is only owed isn't closed.
+    pub(crate) fn close(&mut self, packet: &[u64])
+        requires { IsPacket packet.now }
+        ensures closes { Closes (T.speech self.old.talk) self.old.owed packet.now self.old.table self.new.table }
+        ensures size { length self.new.table ≡ length self.old.table }
+        ensures same { self.new ≡ record self.old { table = self.new.table } }
+    {
+        if !self.talk.is_ack(packet) {
+            return;
+        }
+        let id = self.talk.id(packet);
+        if self.owed.has_message(&self.talk, id) {
+            return;
+        }
+        close_own(&mut self.table, id);
+    }
+
+    // Settles all messages of its own that are open, and those that are owed.
+    #[tactic(auto, using(crate::proofs::OwnLaws::none_requested))]
+    pub(crate) fn rescind_all(&mut self)
+        ensures none { HasNone self.new.table }
+        ensures same { self.new ≡ record self.old { table = replicate 64 None } }
+    {
+        self.table.rescind_all(&mut self.rescinded);
+        self.rescinded.clear();
+    }
+
     // The packet that is sent next.
     pub(crate) fn first(&self) -> &[u64]
         requires { is_nil self.now.owed ≡ false }
@@ -137,11 +185,14 @@ impl<T: Talk, S: Seat<T>> Desk<T, S> {
         self.seat.left()
     }
 
-    // Serves a packet, the `place`-th from 1 on that came.
-    pub(crate) fn serve<R: Wait, G: Gate>(&mut self, rt: &R, gate: &G, packet: &[u64], place: u64)
+    // Serves a packet. A message that goes back takes a free place of its own table.
+    pub(crate) fn serve<R: Wait, G: Gate>(&mut self, rt: &R, gate: &G, packet: &[u64])
         requires owed { self.old.owed ≡ [] }
         requires packet { IsPacket packet.now }
+        requires room { count_by is_some self.old.table < length self.old.table }
         ensures serves { ServesPacket (T.speech self.new.talk) self.new.held packet.now self.old.left self.old.calls self.new.calls self.new.owed self.new.left }
+        ensures owes { Owes (T.speech self.new.talk) self.new.owed (own_in self.old.table) (own_in self.new.table) }
+        ensures size { length self.new.table ≡ length self.old.table }
         ensures few { length self.new.owed ≤ 2 }
         ensures same { (self.new.talk ≡ self.old.talk) × (self.new.held ≡ self.old.held) × S.same self.old.seat self.new.seat }
         ensures channel { (self.new.side ≡ self.old.side) × (self.new.relid ≡ self.old.relid) }
@@ -151,9 +202,29 @@ impl<T: Talk, S: Seat<T>> Desk<T, S> {
             return;
         };
         match self.talk.read(packet) {
-            None => self.owed.owe_fixed(&self.talk, packet),
-            Some(request) => self.serve_request(rt, gate, count, packet, request, place),
+            None => self.serve_fixed(count, packet),
+            Some(request) => self.serve_request(rt, gate, count, packet, request),
         }
+    }
+
+    // Serves a packet that asks nothing of the device.
+    fn serve_fixed(&mut self, count: u32, packet: &[u64])
+        requires owed { self.old.owed ≡ [] }
+        requires packet { IsPacket packet.now }
+        requires count { self.old.left ≡ Some count }
+        requires reads { (T.speech self.old.talk).read packet.now ≡ None }
+        requires room { count_by is_some self.old.table < length self.old.table }
+        ensures serves { ServesPacket (T.speech self.new.talk) self.new.held packet.now (Some count) self.old.calls self.new.calls self.new.owed self.new.left }
+        ensures owes { Owes (T.speech self.new.talk) self.new.owed (own_in self.old.table) (own_in self.new.table) }
+        ensures size { length self.new.table ≡ length self.old.table }
+        ensures few { length self.new.owed ≤ 2 }
+        ensures same { (self.new.talk ≡ self.old.talk) × (self.new.held ≡ self.old.held) × (self.new.seat ≡ self.old.seat) }
+        ensures channel { (self.new.side ≡ self.old.side) × (self.new.relid ≡ self.old.relid) }
+        ensures before { self.new.before ≡ self.old.before }
+    {
+        let besides = self.talk.has_fixed_message(packet);
+        let own = open_own(&mut self.table, besides);
+        self.owed.owe_fixed(&self.talk, packet, own);
     }
 
     // Serves a request of the device: past the last one nothing is served, and the last one has no answer where it is held.
@@ -164,13 +235,15 @@ impl<T: Talk, S: Seat<T>> Desk<T, S> {
         count: u32,
         packet: &[u64],
         request: T::Request,
-        place: u64,
     )
         requires owed { self.old.owed ≡ [] }
         requires packet { IsPacket packet.now }
         requires count { self.old.left ≡ Some count }
         requires reads { (T.speech self.old.talk).read packet.now ≡ Some request }
+        requires room { count_by is_some self.old.table < length self.old.table }
         ensures serves { ServesPacket (T.speech self.new.talk) self.new.held packet.now (Some count) self.old.calls self.new.calls self.new.owed self.new.left }
+        ensures owes { Owes (T.speech self.new.talk) self.new.owed (own_in self.old.table) (own_in self.new.table) }
+        ensures size { length self.new.table ≡ length self.old.table }
         ensures few { length self.new.owed ≤ 2 }
         ensures same { (self.new.talk ≡ self.old.talk) × (self.new.held ≡ self.old.held) × S.same self.old.seat self.new.seat }
         ensures channel { (self.new.side ≡ self.old.side) × (self.new.relid ≡ self.old.relid) }
@@ -187,7 +260,9 @@ impl<T: Talk, S: Seat<T>> Desk<T, S> {
         if is_held_back(self.held, count) {
             self.left = None;
         } else {
-            self.owed.owe_reply(&self.talk, packet, &reply, place);
+            let besides = self.talk.has_message(packet, &reply);
+            let own = open_own(&mut self.table, besides);
+            self.owed.owe_reply(&self.talk, packet, &reply, own);
             self.left = Some(count - 1);
         }
     }
@@ -201,6 +276,8 @@ impl<T: Talk, S: Seat<T>> Desk<T, S> {
         let Desk {
             talk,
             seat,
+            table,
+            rescinded,
             owed,
             left: _,
             held: _,
@@ -210,6 +287,8 @@ impl<T: Talk, S: Seat<T>> Desk<T, S> {
             number: _,
         } = self;
         drop(talk);
+        drop(table);
+        drop(rescinded);
         drop(owed);
         (seat, serials)
     }

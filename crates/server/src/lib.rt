@@ -3,6 +3,7 @@
 
 mod desk;
 mod owed;
+mod own;
 mod put;
 mod server;
 

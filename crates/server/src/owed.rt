@@ -1,7 +1,10 @@
 //! What the serving end owes for one packet.
-ghost use Rattle.std.specs.Prelude.{◌≡◌, ◌≤◌, [], ◌∷◌, MatchOption, drop, length, IfOk, true, false};
+ghost use Rattle.std.specs.Prelude.{◌≡◌, ◌≤◌, [], ◌∷◌, MatchOption, drop, filter, length, map, IfOk, true, false};
 ghost use Rattle.ring_machine.specs.States.{IsPacket};
+ghost use Rattle.chan_talk.specs.Listed.{listed_packet};
 ghost use Rattle.channel_port.specs.Owed.{is_nil, FitsReply};
+ghost use Rattle.work_model.specs.Acks.{is_in};
+ghost use Rattle.work_model.specs.Speech.{packets_in, packets_of};
 
 use chan_talk::Talk;
 use channel_port::Sheet;
@@ -64,13 +67,21 @@ impl Owed {
         }
     }
 
+    // Whether a message is owed that goes under this id.
+    #[tactic(auto, using(crate::proofs::OwnLaws::both_in))]
+    pub(crate) fn has_message<T: Talk>(&self, talk: &T, id: u64) -> bool
+        ensures { result ≡ is_in id (map (T.speech talk.now).id_of (filter (T.speech talk.now).is_message self.now)) }
+    {
+        is_message_under(talk, &self.message, id) || is_message_under(talk, &self.answer, id)
+    }
+
     // What goes back for a packet that asks nothing of the device.
-    pub(crate) fn owe_fixed<T: Talk>(&mut self, talk: &T, packet: &[u64])
+    pub(crate) fn owe_fixed<T: Talk>(&mut self, talk: &T, packet: &[u64], own: u64)
         requires packet { IsPacket packet.now }
-        ensures value { self.new ≡ (T.speech talk.now).fixed packet.now }
+        ensures value { self.new ≡ packets_in own ((T.speech talk.now).fixed packet.now) }
         ensures few { length self.new ≤ 2 }
     {
-        self.message.clear();
+        self.message.write_fixed_message(talk, packet, own);
         self.answer.write_fixed(talk, packet);
     }
 
@@ -80,14 +91,25 @@ impl Owed {
         talk: &T,
         packet: &[u64],
         reply: &T::Reply,
-        back: u64,
+        own: u64,
     )
         requires packet { IsPacket packet.now }
         requires fits { FitsReply (T.speech talk.now) packet.now reply.now }
-        ensures value { self.new ≡ (T.speech talk.now).gives packet.now reply.now back }
+        ensures value { self.new ≡ packets_of own ((T.speech talk.now).gives packet.now reply.now) }
         ensures few { length self.new ≤ 2 }
     {
-        self.message.write_message(talk, packet, reply, back);
+        self.message.write_message(talk, packet, reply, own);
         self.answer.write_answer(talk, packet, reply);
     }
+}
+
+// Whether a packet, if there is one, is a message under this id.
+#[tactic(auto, using(crate::proofs::OwnLaws::none_under, crate::proofs::OwnLaws::one_under))]
+fn is_message_under<T: Talk>(talk: &T, sheet: &Sheet, id: u64) -> bool
+    ensures { result ≡ is_in id (map (T.speech talk.now).id_of (filter (T.speech talk.now).is_message (listed_packet sheet.now))) }
+{
+    if sheet.is_empty() {
+        return false;
+    }
+    talk.is_message(sheet.packet()) && talk.id(sheet.packet()) == id
 }

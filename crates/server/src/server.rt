@@ -1,5 +1,5 @@
 //! The worker of the end that serves.
-ghost use Rattle.std.specs.Prelude.{◌≡◌, ◌<◌, ◌≤◌, ◌+◌, ◌*◌, [], ◌∷◌, ◌++◌, length, take, drop, map, Some, None, true, false, IfOk, ℕ};
+ghost use Rattle.std.specs.Prelude.{◌≡◌, ◌<◌, ◌≤◌, ◌+◌, ◌*◌, ◌⊎◌, [], ◌∷◌, ◌++◌, length, take, drop, map, count_by, is_some, Some, None, true, false, IfOk, ℕ};
 ghost use Rattle.chan_run.specs.Runs.{got_of, is_drained};
 ghost use Rattle.ring_seat.specs.Seats.{new_end};
 ghost use Rattle.ring_seat.specs.Settling.{IsSameEnd};
@@ -7,14 +7,16 @@ ghost use Rattle.channel_port.specs.Causes.{Arms, Polls};
 ghost use Rattle.server.specs.Causes.{GivesOne, GivesOrTakes, ServeCause, TakesOrArms};
 ghost use Rattle.channel_port.specs.Line.{IsReady, HasTakeRoom, LacksTake, TookOne};
 ghost use Rattle.channel_port.specs.Owed.{is_nil, LacksSend, MetFull};
-ghost use Rattle.channel_port.specs.Rooms.{SentAtMost, ServeLacksFor, ServesInRoom};
-ghost use Rattle.server.specs.Serving.{EndsBy, Lacks, LacksRoom, Turns, GaveOne, ServeEnds, ServesOn, BreaksOff, calls_behind, has_done, has_served, is_asked, lacks_call, marked_by};
+ghost use Rattle.channel_port.specs.Rooms.{KeepsRoom, OnlyWith, ServeLacksFor, ServedWithin};
+ghost use Rattle.server.specs.Serving.{Closes, EndsBy, HasServed, HasToWait, Lacks, LacksRoom, Turns, GaveOne, ServeEnds, ServesOn, BreaksOff, calls_behind, has_done, lacks_call, marked_by};
+ghost use Rattle.work_model.specs.Acks.{AllOwnOpen};
+ghost use Rattle.work_model.specs.Amounts.{room_of};
 ghost use Rattle.channel_port.specs.declared.ended.Ended.TheVariants.{PeerMarked as PeerMarkedEnd, Room as RoomEnd};
 
 use crate::desk::Desk;
 use crate::put::Given;
 use chan_talk::{Seat, Talk};
-use channel_port::{Ended, Looked, Port, Turn};
+use channel_port::{Ended, Looked, Port, Turn, room_of};
 use io_edge::{Gate, Side};
 use ring_core::{End, Room};
 use ring_seat::TableSeat;
@@ -39,14 +41,15 @@ pub struct Server<T: Talk, S: Seat<T>> {
 
 impl<T: Talk, S: Seat<T>> Model for Server<T, S> {
     ghost use Rattle.std.specs.Prelude.{◌≡◌, ◌+◌, length};
-    ghost use Rattle.channel_port.specs.Rooms.{ServesInRoom};
+    ghost use Rattle.channel_port.specs.Rooms.{KeepsRoom};
+    ghost use Rattle.work_model.specs.Amounts.{room_of};
     ghost use Rattle.server.specs.Serving.{Serving, IsServing};
 
     ghost Value = { Serving T S T.Request T.Reply };
 
     ghost view = { λ w. record { desk = w.desk; end = w.port; serve = w.serve; stops = w.stops; starts = w.starts; come = w.come; missing = w.missing; served = w.served; seen = w.seen; want = w.want } };
 
-    ghost invariant = { λ w. record { live : IsServing (T.speech w.desk.talk) (record { desk = w.desk; end = w.port; serve = w.serve; stops = w.stops; starts = w.starts; come = w.come; missing = w.missing; served = w.served; seen = w.seen; want = w.want }); room : ServesInRoom (w.starts + w.come) w.served (length w.desk.owed) w.port; side : w.desk.side ≡ w.port.state.machine.side } };
+    ghost invariant = { λ w. record { live : IsServing (T.speech w.desk.talk) (T.besides w.desk.talk) (record { desk = w.desk; end = w.port; serve = w.serve; stops = w.stops; starts = w.starts; come = w.come; missing = w.missing; served = w.served; seen = w.seen; want = w.want }); room : KeepsRoom (room_of (T.besides w.desk.talk) (w.starts + w.come)) w.port; side : w.desk.side ≡ w.port.state.machine.side } };
 }
 
 /// What a serving worker gives once it has ended.
@@ -71,8 +74,7 @@ impl<T: Talk, S: Seat<T>> Server<T, S> {
         ensures on { ServesOn S.same self.old self.new }
     {
         let packet = self.desk.first();
-        let room = self.port.spare_sent();
-        if room.packets == 0 || room.words < packet.len() as u64 {
+        if let Some(room) = self.port.lacks_send(packet) {
             return Given::Lacks {
                 packets: room.packets,
                 words: room.words,
@@ -92,24 +94,25 @@ impl<T: Talk, S: Seat<T>> Server<T, S> {
         requires owed { self.old.desk.owed ≡ [] }
         requires some { self.old.served < length self.old.end.state.got }
         requires call { lacks_call (T.speech self.old.desk.talk) self.old ≡ false }
+        requires room { count_by is_some self.old.desk.table < length self.old.desk.table }
         ensures end { self.new.end ≡ self.old.end }
         ensures served { self.new.served ≡ self.old.served + 1 }
         ensures on { ServesOn S.same self.old self.new }
     {
         let came = self.port.got_len();
-        let place = self.served as u64 + 1;
         prove!(self.served < came);
-        self.desk.serve(rt, gate, self.port.got(self.served), place);
+        self.desk.serve(rt, gate, self.port.got(self.served));
         self.served += 1;
     }
 
-    // Takes a packet, if one waits.
+    // Takes a packet, if one waits. What acknowledges a message makes its place free.
     fn take_one(&mut self) -> bool
         requires ready { IsReady self.old.end }
         requires room { HasTakeRoom self.old.end }
         ensures took { TookOne result self.old.end.state self.new.end.state }
         ensures drained { result ≡ false → self.old.seen ≡ true → is_drained self.new.end.state.past ≡ true }
-        ensures kept { (self.new.desk ≡ self.old.desk) × (self.new.served ≡ self.old.served) × (self.new.seen ≡ self.old.seen) }
+        ensures kept { (self.new.desk.owed ≡ self.old.desk.owed) × (self.new.served ≡ self.old.served) × (self.new.seen ≡ self.old.seen) }
+        ensures none { result ≡ false → self.new.desk ≡ self.old.desk }
         ensures missing { result ≡ false → self.new.missing ≡ self.old.missing }
         ensures ready { IsReady self.new.end }
         ensures on { ServesOn S.same self.old self.new }
@@ -118,35 +121,36 @@ impl<T: Talk, S: Seat<T>> Server<T, S> {
             return false;
         }
         self.missing = self.desk.missing_after(self.missing, self.port.last());
+        self.desk.close(self.port.last());
         true
     }
 
     // Ends here, since the plan says so.
     fn stop(&mut self) -> Ended
         requires ready { IsReady self.old.end }
-        requires stops { self.old.stops ≡ true }
+        requires done { has_done self.old ≡ true }
         requires owed { self.old.desk.owed ≡ [] }
         requires served { self.old.served ≡ length self.old.end.state.got }
-        requires all { has_served self.old.desk.left ≡ true }
-        requires started { self.old.missing ≡ 0 }
-        ensures ends { EndsBy (T.speech self.new.desk.talk) result self.new self.new.end self.new.desk.calls }
-        ensures room { LacksRoom S.left (T.speech self.new.desk.talk) result self.new }
+        ensures ends { EndsBy (T.speech self.new.desk.talk) (T.besides self.new.desk.talk) result self.new self.new.end self.new.desk.calls }
+        ensures room { LacksRoom S.left (T.speech self.new.desk.talk) (T.besides self.new.desk.talk) result self.new }
         ensures on { ServesOn S.same self.old self.new }
     {
+        self.desk.rescind_all();
         self.port.mark();
         marked_by(self.seen)
     }
 
-    // Ends after the other end.
+    // Ends after the other end, with nothing owed: all that came is served, or a message is open under each id, which the other end acknowledges no more.
     fn follow(&mut self)
         requires ready { IsReady self.old.end }
         requires owed { self.old.desk.owed ≡ [] }
-        requires served { self.old.served ≡ length self.old.end.state.got }
+        requires served { HasServed (T.speech self.old.desk.talk) (T.besides self.old.desk.talk) self.old }
         requires drained { is_drained self.old.end.state.past ≡ true }
-        ensures ends { EndsBy (T.speech self.new.desk.talk) PeerMarkedEnd self.new self.new.end self.new.desk.calls }
-        ensures room { LacksRoom S.left (T.speech self.new.desk.talk) PeerMarkedEnd self.new }
+        ensures ends { EndsBy (T.speech self.new.desk.talk) (T.besides self.new.desk.talk) PeerMarkedEnd self.new self.new.end self.new.desk.calls }
+        ensures room { LacksRoom S.left (T.speech self.new.desk.talk) (T.besides self.new.desk.talk) PeerMarkedEnd self.new }
         ensures on { ServesOn S.same self.old self.new }
     {
+        self.desk.rescind_all();
         self.port.mark();
     }
 
@@ -155,20 +159,20 @@ impl<T: Talk, S: Seat<T>> Server<T, S> {
         requires ready { IsReady self.old.end }
         requires full { MetFull self.old.desk.owed self.old.end }
         requires drained { is_drained self.old.end.state.past ≡ true }
-        ensures ends { EndsBy (T.speech self.new.desk.talk) PeerMarkedEnd self.new self.new.end self.new.desk.calls }
-        ensures room { LacksRoom S.left (T.speech self.new.desk.talk) PeerMarkedEnd self.new }
+        ensures ends { EndsBy (T.speech self.new.desk.talk) (T.besides self.new.desk.talk) PeerMarkedEnd self.new self.new.end self.new.desk.calls }
+        ensures room { LacksRoom S.left (T.speech self.new.desk.talk) (T.besides self.new.desk.talk) PeerMarkedEnd self.new }
         ensures on { ServesOn S.same self.old self.new }
     {
+        self.desk.rescind_all();
         self.port.mark();
     }
 
     // Arms for the room that the packet needs that is owed, and sleeps where nothing is to be done.
     fn rest(&mut self) -> Turn
         requires ready { IsReady self.old.end }
-        requires served { is_nil self.old.desk.owed ≡ true → self.old.served ≡ length self.old.end.state.got }
-        requires more { is_nil self.old.desk.owed ≡ true → has_done self.old ≡ false }
+        requires waits { is_nil self.old.desk.owed ≡ true → HasToWait (T.speech self.old.desk.talk) (T.besides self.old.desk.talk) self.old }
         requires unseen { self.old.seen ≡ false }
-        ensures turns { Turns S.left (T.speech self.new.desk.talk) result self.new }
+        ensures turns { Turns S.left (T.speech self.new.desk.talk) (T.besides self.new.desk.talk) result self.new }
         ensures cause { Arms result self.old.end.state.past self.new.end }
         ensures on { ServesOn S.same self.old self.new }
     {
@@ -190,9 +194,9 @@ impl<T: Talk, S: Seat<T>> Server<T, S> {
         requires lacks { Lacks (T.speech self.now.desk.talk) packets words self.now }
         ensures room { result ≡ RoomEnd packets words (S.left self.now.desk.seat) }
         ensures breaks { BreaksOff (T.speech self.now.desk.talk) self.now self.now.end.state.past self.now.desk.calls }
-        ensures reserved { ServesInRoom (self.now.starts + self.now.come) self.now.served (length self.now.desk.owed) self.now.end }
-        ensures over { ServeLacksFor (is_asked (T.speech self.now.desk.talk)) (self.now.starts + self.now.come) self.now.serve self.now.stops (RoomEnd packets words (S.left self.now.desk.seat)) self.now.end.state.past }
-        ensures sent { SentAtMost (length (got_of self.now.end.state.past)) self.now.end.state.past }
+        ensures reserved { KeepsRoom (room_of (T.besides self.now.desk.talk) (self.now.starts + self.now.come)) self.now.end }
+        ensures over { ServeLacksFor (T.speech self.now.desk.talk) (T.besides self.now.desk.talk) (self.now.starts + self.now.come) self.now.serve self.now.stops (RoomEnd packets words (S.left self.now.desk.seat)) self.now.end.state.past }
+        ensures sent { ServedWithin (T.speech self.now.desk.talk) (T.besides self.now.desk.talk) self.now.end.state.past }
     {
         Ended::Room {
             packets,
@@ -212,6 +216,13 @@ impl<T: Talk, S: Seat<T>> Server<T, S> {
             && self.desk.is_asked(self.port.got(self.served))
     }
 
+    // Whether the worker has done what its plan says, and stops then.
+    fn has_done(&self) -> bool
+        ensures { result ≡ has_done self.now }
+    {
+        self.stops && self.missing == 0 && self.desk.has_served()
+    }
+
     fn has_unserved(&self) -> bool
         ensures more { result ≡ true → self.now.served < length self.now.end.state.got }
         ensures none { result ≡ false → self.now.served ≡ length self.now.end.state.got }
@@ -220,12 +231,12 @@ impl<T: Talk, S: Seat<T>> Server<T, S> {
     }
 
     // Takes a packet. Where none waits once the other end's mark was seen, and nothing is owed, this end follows; else it rests.
+    #[tactic(auto, using(crate::proofs::ServeSteps::wait_served, crate::proofs::ServeSteps::waits_on))]
     fn take_or_rest(&mut self) -> Turn
         requires ready { IsReady self.old.end }
-        requires served { is_nil self.old.desk.owed ≡ true → self.old.served ≡ length self.old.end.state.got }
-        requires more { is_nil self.old.desk.owed ≡ true → has_done self.old ≡ false }
+        requires waits { is_nil self.old.desk.owed ≡ true → HasToWait (T.speech self.old.desk.talk) (T.besides self.old.desk.talk) self.old }
         requires unseen { is_nil self.old.desk.owed ≡ false → self.old.seen ≡ false }
-        ensures turns { Turns S.left (T.speech self.new.desk.talk) result self.new }
+        ensures turns { Turns S.left (T.speech self.new.desk.talk) (T.besides self.new.desk.talk) result self.new }
         ensures cause { TakesOrArms result self.old.end.state.past self.new.end }
         ensures on { ServesOn S.same self.old self.new }
     {
@@ -248,7 +259,7 @@ impl<T: Talk, S: Seat<T>> Server<T, S> {
         requires ready { IsReady self.old.end }
         requires owed { is_nil self.old.desk.owed ≡ false }
         requires seen { self.old.seen ≡ true }
-        ensures turns { Turns S.left (T.speech self.new.desk.talk) result self.new }
+        ensures turns { Turns S.left (T.speech self.new.desk.talk) (T.besides self.new.desk.talk) result self.new }
         ensures cause { GivesOrTakes result self.old.end.state.past self.new.end }
         ensures on { ServesOn S.same self.old self.new }
     {
@@ -272,7 +283,7 @@ impl<T: Talk, S: Seat<T>> Server<T, S> {
     fn give_or_take(&mut self) -> Turn
         requires ready { IsReady self.old.end }
         requires owed { is_nil self.old.desk.owed ≡ false }
-        ensures turns { Turns S.left (T.speech self.new.desk.talk) result self.new }
+        ensures turns { Turns S.left (T.speech self.new.desk.talk) (T.besides self.new.desk.talk) result self.new }
         ensures cause { GivesOrTakes result self.old.end.state.past self.new.end }
         ensures on { ServesOn S.same self.old self.new }
     {
@@ -286,30 +297,44 @@ impl<T: Talk, S: Seat<T>> Server<T, S> {
         }
     }
 
-    // Stops where the plan says so, with nothing owed and all served.
+    // Stops where the plan says so, with nothing owed and all served. Where its own table is full it takes first, since an acknowledgement makes a place free.
+    #[tactic(auto, using(crate::proofs::ServeSteps::waits_full))]
     fn stop_or_take(&mut self) -> Turn
         requires ready { IsReady self.old.end }
         requires owed { self.old.desk.owed ≡ [] }
-        requires served { self.old.served ≡ length self.old.end.state.got }
-        ensures turns { Turns S.left (T.speech self.new.desk.talk) result self.new }
+        requires served { HasServed (T.speech self.old.desk.talk) (T.besides self.old.desk.talk) self.old }
+        ensures turns { Turns S.left (T.speech self.new.desk.talk) (T.besides self.new.desk.talk) result self.new }
         ensures cause { TakesOrArms result self.old.end.state.past self.new.end }
         ensures on { ServesOn S.same self.old self.new }
     {
-        if self.stops && self.missing == 0 && self.desk.has_served() {
+        if self.has_unserved() {
+            return self.take_or_rest();
+        }
+        if self.has_done() {
             return Turn::Ended(self.stop());
         }
         self.take_or_rest()
     }
 
-    // Serves what came, until something is owed for it or no call is left.
+    // Whether a message that goes back would find no free place of its own table.
+    fn lacks_place(&self) -> bool
+        requires ready { IsReady self.now.end }
+        requires owed { self.now.desk.owed ≡ [] }
+        ensures full { result ≡ true → OnlyWith (T.besides self.now.desk.talk) (AllOwnOpen (T.speech self.now.desk.talk) 64 self.now.end.state.past) }
+        ensures room { result ≡ false → count_by is_some self.now.desk.table < length self.now.desk.table }
+    {
+        self.desk.is_full()
+    }
+
+    // Serves what came, until something is owed for it, no call is left, or no place of its own table.
     fn serve_on<R: Wait, G: Gate>(&mut self, rt: &R, gate: &G)
         requires ready { IsReady self.old.end }
         requires owed { self.old.desk.owed ≡ [] }
         ensures end { self.new.end ≡ self.old.end }
-        ensures served { is_nil self.new.desk.owed ≡ true → lacks_call (T.speech self.new.desk.talk) self.new ≡ false → self.new.served ≡ length self.new.end.state.got }
+        ensures served { is_nil self.new.desk.owed ≡ true → lacks_call (T.speech self.new.desk.talk) self.new ≡ false → HasServed (T.speech self.new.desk.talk) (T.besides self.new.desk.talk) self.new }
         ensures on { ServesOn S.same self.old self.new }
     {
-        while self.has_unserved() && !self.lacks_call() {
+        while self.has_unserved() && !self.lacks_call() && !self.lacks_place() {
             self.serve_next(rt, gate);
             if !self.desk.is_clear() {
                 return;
@@ -320,7 +345,7 @@ impl<T: Talk, S: Seat<T>> Server<T, S> {
     // A turn of an end that is awake: what is owed is sent first, and where nothing is what came is served.
     fn work<R: Wait, G: Gate>(&mut self, rt: &R, gate: &G) -> Turn
         requires ready { IsReady self.old.end }
-        ensures turns { Turns S.left (T.speech self.new.desk.talk) result self.new }
+        ensures turns { Turns S.left (T.speech self.new.desk.talk) (T.besides self.new.desk.talk) result self.new }
         ensures cause { GivesOrTakes result self.old.end.state.past self.new.end }
         ensures on { ServesOn S.same self.old self.new }
     {
@@ -342,7 +367,7 @@ impl<T: Talk, S: Seat<T>> Server<T, S> {
     fn doze(&mut self) -> Turn
         requires asleep { self.old.end.state.machine.asleep ≡ true }
         requires unmarked { self.old.end.state.machine.marked ≡ false }
-        ensures turns { Turns S.left (T.speech self.new.desk.talk) result self.new }
+        ensures turns { Turns S.left (T.speech self.new.desk.talk) (T.besides self.new.desk.talk) result self.new }
         ensures cause { Polls result self.old.end self.new.end }
         ensures on { ServesOn S.same self.old self.new }
     {
@@ -354,7 +379,7 @@ impl<T: Talk, S: Seat<T>> Server<T, S> {
 
     /// A worker over a new end and a seat that has as many calls left as it serves. `starts` is how many requests of the start-up have answers, `serve` how many requests of the
     /// device it serves, the answer to the last one being kept where `held`; `stops` says whether it ends then. It makes room for `starts` and `come`
-    /// packets that come. It takes all its memory here.
+    /// requests, and for as many messages and what acknowledges them, where there are messages. It takes all its memory here.
     pub fn make(
         alloc: Global,
         talk: T,
@@ -379,12 +404,12 @@ impl<T: Talk, S: Seat<T>> Server<T, S> {
         ensures end { IfOk result (λ w. (w.end.state ≡ end.state) × (w.end.seat ≡ end.seat)) }
     {
         let mut port = Port::over(end);
-        let packets = starts as u64 + come as u64;
+        let packets = room_of(talk.besides(), starts as u64 + come as u64);
         let cells = port.cells() as u64;
         port.reserve(
             Room {
-                packets: 2 * packets,
-                words: 768 * packets,
+                packets,
+                words: 384 * packets,
             },
             Room {
                 packets: packets + 1,
@@ -409,9 +434,9 @@ impl<T: Talk, S: Seat<T>> Server<T, S> {
     /// A turn: an end that is asleep polls its signal. Otherwise the worker sends what it owes, serves what came, takes a packet, ends, or rests.
     pub fn turn<R: Wait, G: Gate>(&mut self, rt: &R, gate: &G) -> Turn
         requires unmarked { self.old.end.state.machine.marked ≡ false }
-        ensures turns { Turns S.left (T.speech self.new.desk.talk) result self.new }
+        ensures turns { Turns S.left (T.speech self.new.desk.talk) (T.besides self.new.desk.talk) result self.new }
         ensures cause { ServeCause result self.old.end self.new.end }
-        ensures room { ServeEnds (T.speech self.new.desk.talk) result self.new }
+        ensures room { ServeEnds (T.speech self.new.desk.talk) (T.besides self.new.desk.talk) result self.new }
         ensures on { ServesOn S.same self.old self.new }
     {
         if self.port.is_asleep() {
@@ -432,8 +457,8 @@ impl<T: Talk, S: Seat<T>> Server<T, S> {
 
     /// Gives what it did, once it has ended.
     pub fn done(self, ended: Ended) -> ServerDone<T, S>
-        requires { EndsBy (T.speech self.desk.talk) ended self self.end self.desk.calls }
-        ensures ends { (result.ended ≡ ended) × EndsBy (T.speech self.desk.talk) result.ended self result.end self.desk.calls }
+        requires { EndsBy (T.speech self.desk.talk) (T.besides self.desk.talk) ended self self.end self.desk.calls }
+        ensures ends { (result.ended ≡ ended) × EndsBy (T.speech self.desk.talk) (T.besides self.desk.talk) result.ended self result.end self.desk.calls }
         ensures calls { S.calls result.seat ≡ self.desk.before ++ self.desk.calls }
         ensures serials { result.serials.items ≡ map (λ c. c.serial) self.desk.calls }
         ensures same { (result.end ≡ self.end) × (result.seat ≡ self.desk.seat) }
@@ -463,13 +488,13 @@ impl<T: Talk, S: Seat<T>> Server<T, S> {
     /// Takes turns, and sleeps after a turn that found nothing to do, until the worker has ended.
     pub fn run<R: Wait, G: Gate>(mut self, rt: &R, gate: &G) -> ServerDone<T, S>
         requires unmarked { self.end.state.machine.marked ≡ false }
-        ensures ends { EndsBy (T.speech self.desk.talk) result.ended self result.end (calls_behind self.desk.before (S.calls result.seat)) }
+        ensures ends { EndsBy (T.speech self.desk.talk) (T.besides self.desk.talk) result.ended self result.end (calls_behind self.desk.before (S.calls result.seat)) }
         ensures before { take (length self.desk.before) (S.calls result.seat) ≡ self.desk.before }
         ensures serials { result.serials.items ≡ map (λ c. c.serial) (calls_behind self.desk.before (S.calls result.seat)) }
         ensures end { IsSameEnd self.end result.end }
         ensures seat { S.same self.desk.seat result.seat }
-        ensures sent { SentAtMost (length (got_of result.end.state.past)) result.end.state.past }
-        ensures room { ServeLacksFor (is_asked (T.speech self.desk.talk)) (self.starts + self.come) self.serve self.stops result.ended result.end.state.past }
+        ensures sent { ServedWithin (T.speech self.desk.talk) (T.besides self.desk.talk) result.end.state.past }
+        ensures room { ServeLacksFor (T.speech self.desk.talk) (T.besides self.desk.talk) (self.starts + self.come) self.serve self.stops result.ended result.end.state.past }
     {
         for _ in rt.forever() {
             match self.turn(rt, gate) {

@@ -1,25 +1,25 @@
--- A register: a request stores a value, and the reply is the one that it held before. A packet has a head, an id and a value.
-use Rattle.std.specs.Prelude.{ℕ, true, List, [], ◌∷◌, slice_index_or, Option, Some, None}
+-- A register: a request stores a value, and the reply is the one that it held before. A packet has a head, an id and a value. No messages go back besides the
+-- answers.
+use Rattle.std.specs.Prelude.{ℕ, true, false, List, [], ◌∷◌, slice_index_or, Option, Some, None}
 use Rattle.work_model.specs.Speech.{Speech}
 
 abbrev pub register_packet : ℕ → ℕ → List ℕ
 register_packet id value = 12885032966 ∷ id ∷ value ∷ []
-
-abbrev pub value_in : List (List ℕ) → Option ℕ
-value_in [] = None
-value_in (p ∷ ps) = Some (slice_index_or p 2 0)
 
 abbrev pub register_speech : Speech (List ℕ) ℕ ℕ ℕ
 register_speech = record {
   id_of = λ p. slice_index_or p 1 0;
   is_request = λ p. true;
   waits = λ p. true;
+  is_ack = λ p. false;
   is_answer = λ p. true;
+  is_message = λ p. false;
+  ack = λ p. p;
   encode = register_packet;
   has_answer = λ a. true;
   read = λ p. Some (slice_index_or p 2 0);
-  fixed = λ p. [];
+  fixed = λ p. None;
   fits = λ q r. true;
-  gives = λ p r back. register_packet (slice_index_or p 1 0) r ∷ [];
-  result = λ a part. value_in part;
+  gives = λ p r. record { message = None; answer = register_packet (slice_index_or p 1 0) r };
+  result = λ a before p. Some (slice_index_or p 2 0);
 }

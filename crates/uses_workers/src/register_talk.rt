@@ -35,9 +35,9 @@ fn word(packet: &[u64], i: usize) -> u64
 }
 
 impl Talk for RegisterTalk {
-    ghost use Rattle.std.specs.Prelude.{[], refl, slice_index_or};
-    ghost use Rattle.uses_workers.specs.Registers.{register_speech, register_packet};
-    ghost use Rattle.uses_workers.specs.RegisterLaws.{register_keeps};
+    ghost use Rattle.std.specs.Prelude.{false};
+    ghost use Rattle.uses_workers.specs.Registers.{register_speech};
+    ghost use Rattle.uses_workers.specs.RegisterLaws.{register_keeps, register_silent};
 
     type Ask = u64;
 
@@ -49,7 +49,9 @@ impl Talk for RegisterTalk {
 
     ghost keeps = { λ s. register_keeps };
 
-    ghost answers = { λ s p. refl };
+    ghost besides = { λ s. false };
+
+    ghost may = { λ s. register_silent };
 
     ghost asks = { λ s. s.values.items };
 
@@ -57,18 +59,16 @@ impl Talk for RegisterTalk {
 
     ghost within = { λ s. s.within };
 
-    ghost message = { λ s p r back. [] };
-
-    ghost answer = { λ s p r. register_packet (slice_index_or p 1 0) r };
-
-    ghost gives = { λ s p r back. refl };
-
     fn count(&self) -> u32 {
         self.values.len() as u32
     }
 
     fn starts(&self) -> u32 {
         self.starts
+    }
+
+    fn besides(&self) -> bool {
+        false
     }
 
     fn has_answer(&self, _k: u32) -> bool {
@@ -87,15 +87,43 @@ impl Talk for RegisterTalk {
         true
     }
 
+    fn is_ack(&self, _packet: &[u64]) -> bool {
+        false
+    }
+
+    fn is_answer(&self, _packet: &[u64]) -> bool {
+        true
+    }
+
+    fn is_message(&self, _packet: &[u64]) -> bool {
+        false
+    }
+
+    fn write_ack(&self, _packet: &[u64], _out: &mut [u64]) -> usize {
+        0
+    }
+
     fn read(&self, packet: &[u64]) -> Option<u64> {
         Some(word(packet, 2))
+    }
+
+    fn has_fixed_message(&self, _packet: &[u64]) -> bool {
+        false
+    }
+
+    fn write_fixed_message(&self, _packet: &[u64], _own: u64, _out: &mut [u64]) -> usize {
+        0
     }
 
     fn write_fixed(&self, _packet: &[u64], _out: &mut [u64]) -> usize {
         0
     }
 
-    fn write_message(&self, _packet: &[u64], _reply: &u64, _back: u64, _out: &mut [u64]) -> usize {
+    fn has_message(&self, _packet: &[u64], _reply: &u64) -> bool {
+        false
+    }
+
+    fn write_message(&self, _packet: &[u64], _reply: &u64, _own: u64, _out: &mut [u64]) -> usize {
         0
     }
 
@@ -103,7 +131,7 @@ impl Talk for RegisterTalk {
         write(out, word(packet, 1), *reply)
     }
 
-    fn result(&self, _k: u32, packet: &[u64]) -> Option<u64> {
+    fn result(&self, _k: u32, _before: &[u64], packet: &[u64]) -> Option<u64> {
         Some(word(packet, 2))
     }
 }

@@ -8,11 +8,12 @@ use Rattle.chan_run.specs.declared.event.Event.{Event}
 use Rattle.chan_run.specs.Runs.{Turn, IsFront, sent_of, got_of, is_drained, guest_of, host_of, IsRun}
 use Rattle.chan_run.specs.Laws.{Follows}
 use Rattle.hist_lock.specs.Seat.{Call}
-use Rattle.work_model.specs.Speech.{Speech, Keeps}
-use Rattle.work_model.specs.Asker.{listed, Encoded, requests_of, answers_of, open_of}
+use Rattle.work_model.specs.Speech.{Speech, listed, Keeps}
+use Rattle.work_model.specs.Asker.{Encoded, requests_of, answers_of, open_of}
 use Rattle.work_model.specs.Server.{Serves, answered}
+use Rattle.work_model.specs.Acks.{acks_for}
 use Rattle.work_model.specs.Settled.{pairs, said_all, IsSettled}
-use Rattle.work_model.specs.Channel.{Plan, count_of, held_of, IsPlan, asks_of, AskerEnds, ServerStops, ServerEnds, IsChannelRun}
+use Rattle.work_model.specs.Channel.{Plan, count_of, held_of, IsPlan, asks_of, AskerSettles, AskerEnds, ServerStops, ServerEnds, IsChannelRun}
 use Rattle.chan_run.proofs.Fronts.{front_filter, front_trans}
 use Rattle.chan_run.proofs.Pasts.{drained_seen}
 use Rattle.work_model.proofs.Runs.{guest_front, host_front, guest_drained, host_drained, follow_none}
@@ -51,15 +52,15 @@ module _ {P A Q R : Type 0} (s : Speech P A Q R) where
       )
 
   -- requests past the answers say nothing
-  said_part : (os more : List (ℕ × A)) (before zs : List P) → length (filter s.is_answer zs) ≤ length os → said_all s (os ++ more) before zs ≡ said_all s os before zs
+  said_part : (os more : List (ℕ × A)) (before : Option P) (zs : List P) → length (filter s.is_answer zs) ≤ length os → said_all s (os ++ more) before zs ≡ said_all s os before zs
   said_part os more before [] le = said_end (os ++ more) before ∙ sym (said_end os before)
     where
-      said_end : (os : List (ℕ × A)) (before : List P) → said_all s os before [] ≡ []
+      said_end : (os : List (ℕ × A)) (before : Option P) → said_all s os before [] ≡ []
       said_end [] before = refl
       said_end (o ∷ os) before = refl
   said_part [] more before (z ∷ zs) le = said_none more before (z ∷ zs) (no_length (filter s.is_answer (z ∷ zs)) le)
     where
-      said_none : (os : List (ℕ × A)) (before zs : List P) → filter s.is_answer zs ≡ [] → said_all s os before zs ≡ []
+      said_none : (os : List (ℕ × A)) (before : Option P) (zs : List P) → filter s.is_answer zs ≡ [] → said_all s os before zs ≡ []
       said_none [] before [] e = refl
       said_none (o ∷ os) before [] e = refl
       said_none [] before (z ∷ zs) e = refl
@@ -67,17 +68,17 @@ module _ {P A Q R : Type 0} (s : Speech P A Q R) where
           by_test (s.is_answer z)
           (λ f. let bad : z ∷ filter s.is_answer zs ≡ [] = ap (λ b. cond b (z ∷ filter s.is_answer zs) (filter s.is_answer zs)) (sym f) ∙ e in absurd (cc))
           (λ f. let rest : filter s.is_answer zs ≡ [] = ap (λ b. cond b (z ∷ filter s.is_answer zs) (filter s.is_answer zs)) (sym f) ∙ e in
-          ap (λ b. cond b (listed (s.result o.1 (before ++ z ∷ [])) ++ said_all s os [] zs) (said_all s (o ∷ os) (before ++ z ∷ []) zs)) f ∙ said_none (o ∷ os) (before ++ z ∷ []) zs rest)
+          ap (λ b. cond b (listed (s.result o.1 before z) ++ said_all s os None zs) (said_all s (o ∷ os) (Some z) zs)) f ∙ said_none (o ∷ os) (Some z) zs rest)
   said_part (o ∷ os) more before (z ∷ zs) le =
       by_test (s.is_answer z)
       (λ f. let le' : length (filter s.is_answer zs) ≤ length os = omega (arith, le, ap (λ b. length (cond b (z ∷ filter s.is_answer zs) (filter s.is_answer zs))) f) in
-      ap (λ b. cond b (listed (s.result o.1 (before ++ z ∷ [])) ++ said_all s (os ++ more) [] zs) (said_all s (o ∷ os ++ more) (before ++ z ∷ []) zs)) f
-      ∙ (ap (λ (l : List R). listed (s.result o.1 (before ++ z ∷ [])) ++ l) (said_part os more [] zs le')
-      ∙ ap (λ b. cond b (listed (s.result o.1 (before ++ z ∷ [])) ++ said_all s os [] zs) (said_all s (o ∷ os) (before ++ z ∷ []) zs)) (sym f)))
+      ap (λ b. cond b (listed (s.result o.1 before z) ++ said_all s (os ++ more) None zs) (said_all s (o ∷ os ++ more) (Some z) zs)) f
+      ∙ (ap (λ (l : List R). listed (s.result o.1 before z) ++ l) (said_part os more None zs le')
+      ∙ ap (λ b. cond b (listed (s.result o.1 before z) ++ said_all s os None zs) (said_all s (o ∷ os) (Some z) zs)) (sym f)))
       (λ f. let le' : length (filter s.is_answer zs) ≤ length (o ∷ os) = omega (arith, le, ap (λ b. length (cond b (z ∷ filter s.is_answer zs) (filter s.is_answer zs))) f) in
-      ap (λ b. cond b (listed (s.result o.1 (before ++ z ∷ [])) ++ said_all s (os ++ more) [] zs) (said_all s (o ∷ os ++ more) (before ++ z ∷ []) zs)) f
-      ∙ (said_part (o ∷ os) more (before ++ z ∷ []) zs le'
-      ∙ ap (λ b. cond b (listed (s.result o.1 (before ++ z ∷ [])) ++ said_all s os [] zs) (said_all s (o ∷ os) (before ++ z ∷ []) zs)) (sym f)))
+      ap (λ b. cond b (listed (s.result o.1 before z) ++ said_all s (os ++ more) None zs) (said_all s (o ∷ os ++ more) (Some z) zs)) f
+      ∙ (said_part (o ∷ os) more (Some z) zs le'
+      ∙ ap (λ b. cond b (listed (s.result o.1 before z) ++ said_all s os None zs) (said_all s (o ∷ os) (Some z) zs)) (sym f)))
 
 module _ {P A Q R : Type 0} (s : Speech P A Q R) (keeps : Keeps s) (plan : Plan A) (past : List (Turn P)) (told : List R) (calls : List (Call Q R)) where
   abbrev t : List (Event P)
@@ -123,22 +124,24 @@ module _ {P A Q R : Type 0} (s : Speech P A Q R) (keeps : Keeps s) (plan : Plan 
       let le2 : length (filter s.is_answer (sent_of u)) ≤ length (pairs s (filter s.is_request (got_of u)) asks) =
       omega (arith, inside, length-map (filter s.is_answer (sent_of u)) s.id_of, length-map (waited s (got_of u)) s.id_of, same_length (λ o. o.0) s.id_of _ _ (pairs_ids s (filter s.is_request (got_of u)) asks enc)) in
       let pieces : ss.done ++ still ≡ pairs s (filter s.is_request (got_of u)) asks ++ part.0 = sym ss.split ∙ (ap (λ l. pairs s l asks) cut' ∙ part.1) in
-      a.replies ∙ (ss.said ∙ (ap (said_all s ss.done []) all
-      ∙ (sym (said_part s ss.done still [] (sent_of u) le1)
-      ∙ (ap (λ l. said_all s l [] (sent_of u)) pieces
-      ∙ (said_part s (pairs s (filter s.is_request (got_of u)) asks) part.0 [] (sent_of u) le2
+      a.replies ∙ (ss.said ∙ (ap (said_all s ss.done None) all
+      ∙ (sym (said_part s ss.done still None (sent_of u) le1)
+      ∙ (ap (λ l. said_all s l None (sent_of u)) pieces
+      ∙ (said_part s (pairs s (filter s.is_request (got_of u)) asks) part.0 None (sent_of u) le2
       ∙ says s keeps held asks (got_of u) n calls (sent_of u) enc w)))))
 
   -- all that is left to show
   finish_run : IsRun past → AskerEnds s plan t told → Whole → IsSettled s asks t → got_of t ≡ sent_of u → (plan.stop ≡ None → got_of u ≡ sent_of t)
-      → (plan.stop ≡ None → length (requests_of s t) ≡ length asks) → length calls ≡ n → length (filter s.has_answer plan.start) ≤ length (waited s (got_of u)) → The
-  finish_run run a w ss all whole_got whole count started =
+      → (plan.stop ≡ None → length (requests_of s t) ≡ length asks) → (plan.stop ≡ None → filter s.is_ack (sent_of t) ≡ acks_for s (got_of t)) → length calls ≡ n → length (filter s.has_answer plan.start) ≤ length (waited s (got_of u)) → The
+  finish_run run a w ss all whole_got whole acked count started =
       record {
         front = host_front past run;
         whole_got = whole_got;
         answers_got = all;
         requests = a.encoded;
         whole = whole;
+        acks = subst (λ l. IsFront (filter s.is_ack (sent_of t)) (acks_for s l)) all a.acks;
+        all_acked = λ e. acked e ∙ ap (acks_for s) all;
         served = w;
         started = started;
         asked = front_trans _ _ _ (calls_front s keeps held (got_of u) n calls (sent_of u) w) (front_map_of s.read (got_of u) (sent_of t) (host_front past run));
@@ -187,10 +190,10 @@ module _ {P A Q R : Type 0} (s : Speech P A Q R) (keeps : Keeps s) (plan : Plan 
 
   -- the asking end settled all
   all_settled : IsPlan s plan → IsRun past → AskerEnds s plan t told → Whole → IsSettled s asks t
-      → length (requests_of s t) ≡ length asks → open_of s asks t ≡ [] → (plan.stop ≡ None → got_of u ≡ sent_of t) → The
-  all_settled is run a w ss all_asked none whole_got =
+      → AskerSettles s plan t → (plan.stop ≡ None → got_of u ≡ sent_of t) → The
+  all_settled is run a w ss x whole_got =
       let back = guest_front past run in
-      let ids = all_answered a ss none in
+      let ids = all_answered a ss x.none in
       let more : filter s.is_answer (sent_of u) ≡ answers_of s t ++ filter s.is_answer back.0 = ap (filter s.is_answer) back.1 ∙ filter-append s.is_answer (got_of t) back.0 in
       let served = front_le _ _ (in_order s keeps held (got_of u) n calls (sent_of u) w) in
       let served' : length (filter s.is_answer (sent_of u)) ≤ length (waited s (got_of u)) = omega (arith, served, length-map (filter s.is_answer (sent_of u)) s.id_of, length-map (waited s (got_of u)) s.id_of) in
@@ -206,19 +209,19 @@ module _ {P A Q R : Type 0} (s : Speech P A Q R) (keeps : Keeps s) (plan : Plan 
       reads_waited s keeps (got_of u) ∙ (ap (filter_map s.read) same ∙ (sym (reads_waited s keeps (sent_of t)) ∙ reads_requests s keeps (sent_of t))) in
       let called : length calls ≡ m =
       all_called s keeps held (got_of u) n calls (sent_of u) w (omega (arith, ids, sum, there'))
-      ∙ (ap length reads ∙ plan_reads s keeps plan.start plan.script (requests_of s t) is.fixed is.asks a.encoded all_asked) in
+      ∙ (ap length reads ∙ plan_reads s keeps plan.start plan.script (requests_of s t) is.fixed is.asks a.encoded x.all) in
       let count : length calls ≡ n = omega (arith, called, calls_most s keeps held (got_of u) n calls (sent_of u) w, count_most plan.stop m) in
-      let waits = encoded_waits s keeps asks (requests_of s t) a.encoded all_asked in
+      let waits = encoded_waits s keeps asks (requests_of s t) a.encoded x.all in
       let split = ap length (filter-append s.has_answer plan.start plan.script) ∙ length-append (filter s.has_answer plan.start) (filter s.has_answer plan.script) in
-      finish_run run a w ss all whole_got (λ e. all_asked) count (omega (arith, ap length same, waits, split))
+      finish_run run a w ss all whole_got (λ e. x.all) (λ e. x.acked) count (omega (arith, ap length same, waits, split))
 
   by_ends : IsPlan s plan → IsRun past → AskerEnds s plan t told → (b : ServerEnds s plan u calls) → IsSettled s asks t
-      → ((length (requests_of s t) ≡ length asks) × (open_of s asks t ≡ [])) ⊎ ((is_drained t ≡ true) × Follows t)
+      → AskerSettles s plan t ⊎ ((is_drained t ≡ true) × Follows t)
       → (ServerStops s plan u calls × (b.served ≡ got_of u) × (b.missing ≡ [])) ⊎ ((is_drained u ≡ true) × Follows u) → The
-  by_ends is run a b ss (inl x) (inl y) = all_settled is run a (whole_stopped b y.1 y.2) ss x.0 x.1 (λ e. absurd (stop_none y.0.after y.0.stop e))
-  by_ends is run a b ss (inl x) (inr y) = all_settled is run a (whole_settled run a b ss x.1) ss x.0 x.1 (λ e. host_drained past run y.0)
+  by_ends is run a b ss (inl x) (inl y) = all_settled is run a (whole_stopped b y.1 y.2) ss x (λ e. absurd (stop_none y.0.after y.0.stop e))
+  by_ends is run a b ss (inl x) (inr y) = all_settled is run a (whole_settled run a b ss x.none) ss x (λ e. host_drained past run y.0)
   by_ends is run a b ss (inr x) (inl y) =
-      finish_run run a (whole_stopped b y.1 y.2) ss (guest_drained past run x.0) (λ e. absurd (stop_none y.0.after y.0.stop e)) (λ e. absurd (stop_none y.0.after y.0.stop e)) y.0.count y.0.started
+      finish_run run a (whole_stopped b y.1 y.2) ss (guest_drained past run x.0) (λ e. absurd (stop_none y.0.after y.0.stop e)) (λ e. absurd (stop_none y.0.after y.0.stop e)) (λ e. absurd (stop_none y.0.after y.0.stop e)) y.0.count y.0.started
   by_ends is run a b ss (inr x) (inr y) =
       let bad : true ≡ false = sym (drained_seen t x.0) ∙ follow_none past run x.1 y.1 in absurd (cc)
 

@@ -1,5 +1,6 @@
 pub mod Runs
 pub mod Opens
+pub mod Acking
 pub mod Once
 pub mod Served
 pub mod Parts
@@ -8,6 +9,7 @@ pub mod Joined
 pub mod Outcomes
 pub mod Serving
 pub mod Asking
+pub mod Amounts
 pub mod Ends
 pub mod Example
 pub mod Lifting

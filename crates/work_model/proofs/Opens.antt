@@ -1,13 +1,13 @@
 -- Which requests are open in a run.
-use Rattle.std.proofs.Common.{◌≡◌, ℕ, List, [], ◌∷◌, ◌++◌, length, map, drop, Bool, true, false, cond, filter, refl, sym, ap, ◌∙◌, subst, append_assoc, arith, Some}
+use Rattle.std.proofs.Common.{◌≡◌, ℕ, List, [], ◌∷◌, ◌++◌, length, map, drop, Bool, true, false, cond, filter, refl, sym, ap, ◌∙◌, subst, append_assoc, arith, Option, Some, None}
 use Rattle.std.proofs.lemmas.List.{append-nil, append_cancel_left, map-append}
 use Rattle.std.proofs.lemmas.List.Elements.{filter-append}
 use Rattle.std.proofs.lemmas.Bool.Decides.{nat_tests}
 use Rattle.chan_run.specs.declared.event.Event.{Event}
 use Rattle.chan_run.specs.declared.event.Event.TheVariants.{Sent, Got, Empty, Marked, Saw}
 use Rattle.chan_run.specs.Runs.{Turn, Guest, Host, IsFront, sent_of, got_of, guest_of, host_of, IsRun}
-use Rattle.work_model.specs.Speech.{Speech}
-use Rattle.work_model.specs.Asker.{listed, requests_of, answers_of, Encoded, opened, without, under, open_of, since, said, replies_of}
+use Rattle.work_model.specs.Speech.{Speech, listed}
+use Rattle.work_model.specs.Asker.{requests_of, answers_of, Encoded, opened, without, under, open_of, since, said, replies_of}
 use Rattle.work_model.specs.Server.{InOrder}
 use Rattle.work_model.specs.Settled.{pairs, said_all, IsSettled}
 use Rattle.chan_run.proofs.Fronts.{front_map, front_filter, front_trans}
@@ -64,48 +64,47 @@ module _ {P A Q R : Type 0} (s : Speech P A Q R) where
   head_under o os id e = grind (arith, nat_tests, e)
 
   -- one more packet that isn't an answer, and one more answer
-  pub said_same : (os : List (ℕ × A)) (before zs : List P) (z : P) → s.is_answer z ≡ false → said_all s os before (zs ++ z ∷ []) ≡ said_all s os before zs
+  pub said_same : (os : List (ℕ × A)) (before : Option P) (zs : List P) (z : P) → s.is_answer z ≡ false → said_all s os before (zs ++ z ∷ []) ≡ said_all s os before zs
   said_same [] before [] z e = refl
   said_same [] before (y ∷ zs) z e = refl
-  said_same (r ∷ os) before [] z e = ap (λ b. cond b (listed (s.result r.1 (before ++ z ∷ [])) ++ said_all s os [] []) (said_all s (r ∷ os) (before ++ z ∷ []) [])) e
+  said_same (r ∷ os) before [] z e = ap (λ b. cond b (listed (s.result r.1 before z) ++ said_all s os None []) (said_all s (r ∷ os) (Some z) [])) e
   said_same (r ∷ os) before (y ∷ zs) z e =
       by_test (s.is_answer y)
-      (λ f. ap (λ b. cond b (listed (s.result r.1 (before ++ y ∷ [])) ++ said_all s os [] (zs ++ z ∷ [])) (said_all s (r ∷ os) (before ++ y ∷ []) (zs ++ z ∷ []))) f
-      ∙ (ap (λ (l : List R). listed (s.result r.1 (before ++ y ∷ [])) ++ l) (said_same os [] zs z e)
-      ∙ ap (λ b. cond b (listed (s.result r.1 (before ++ y ∷ [])) ++ said_all s os [] zs) (said_all s (r ∷ os) (before ++ y ∷ []) zs)) (sym f)))
-      (λ f. ap (λ b. cond b (listed (s.result r.1 (before ++ y ∷ [])) ++ said_all s os [] (zs ++ z ∷ [])) (said_all s (r ∷ os) (before ++ y ∷ []) (zs ++ z ∷ []))) f
-      ∙ (said_same (r ∷ os) (before ++ y ∷ []) zs z e
-      ∙ ap (λ b. cond b (listed (s.result r.1 (before ++ y ∷ [])) ++ said_all s os [] zs) (said_all s (r ∷ os) (before ++ y ∷ []) zs)) (sym f)))
+      (λ f. ap (λ b. cond b (listed (s.result r.1 before y) ++ said_all s os None (zs ++ z ∷ [])) (said_all s (r ∷ os) (Some y) (zs ++ z ∷ []))) f
+      ∙ (ap (λ (l : List R). listed (s.result r.1 before y) ++ l) (said_same os None zs z e)
+      ∙ ap (λ b. cond b (listed (s.result r.1 before y) ++ said_all s os None zs) (said_all s (r ∷ os) (Some y) zs)) (sym f)))
+      (λ f. ap (λ b. cond b (listed (s.result r.1 before y) ++ said_all s os None (zs ++ z ∷ [])) (said_all s (r ∷ os) (Some y) (zs ++ z ∷ []))) f
+      ∙ (said_same (r ∷ os) (Some y) zs z e
+      ∙ ap (λ b. cond b (listed (s.result r.1 before y) ++ said_all s os None zs) (said_all s (r ∷ os) (Some y) zs)) (sym f)))
 
-  said_more : (os : List (ℕ × A)) (before zs : List P) (o : ℕ × A) (z : P) → s.is_answer z ≡ true → map (λ o. o.0) os ≡ map s.id_of (filter s.is_answer zs)
-      → said_all s (os ++ o ∷ []) before (zs ++ z ∷ []) ≡ said_all s os before zs ++ listed (s.result o.1 (since s before zs ++ z ∷ []))
-  said_more [] before [] o z e ids = ap (λ b. cond b (listed (s.result o.1 (before ++ z ∷ [])) ++ []) (said_all s (o ∷ []) (before ++ z ∷ []) [])) e ∙ append-nil (listed (s.result o.1 (before ++ z ∷ [])))
+  said_more : (os : List (ℕ × A)) (before : Option P) (zs : List P) (o : ℕ × A) (z : P) → s.is_answer z ≡ true → map (λ o. o.0) os ≡ map s.id_of (filter s.is_answer zs)
+      → said_all s (os ++ o ∷ []) before (zs ++ z ∷ []) ≡ said_all s os before zs ++ listed (s.result o.1 (since s before zs) z)
+  said_more [] before [] o z e ids = ap (λ b. cond b (listed (s.result o.1 before z) ++ []) (said_all s (o ∷ []) (Some z) [])) e ∙ append-nil (listed (s.result o.1 before z))
   said_more (r ∷ os) before [] o z e ids = absurd (cc)
   said_more [] before (y ∷ zs) o z e ids =
       by_test (s.is_answer y)
       (λ f. let bad : [] ≡ s.id_of y ∷ map s.id_of (filter s.is_answer zs) = ids ∙ ap (λ b. map s.id_of (cond b (y ∷ filter s.is_answer zs) (filter s.is_answer zs))) f in absurd (cc))
       (λ f. let ids' : [] ≡ map s.id_of (filter s.is_answer zs) = ids ∙ ap (λ b. map s.id_of (cond b (y ∷ filter s.is_answer zs) (filter s.is_answer zs))) f in
-      ap (λ b. cond b (listed (s.result o.1 (before ++ y ∷ [])) ++ said_all s [] [] (zs ++ z ∷ [])) (said_all s (o ∷ []) (before ++ y ∷ []) (zs ++ z ∷ []))) f
-      ∙ (said_more [] (before ++ y ∷ []) zs o z e ids'
-      ∙ (none_said (before ++ y ∷ []) zs (since s (before ++ y ∷ []) zs) o z
-      ∙ ap (λ b. listed (s.result o.1 (cond b (since s [] zs) (since s (before ++ y ∷ []) zs) ++ z ∷ []))) (sym f))))
+      ap (λ b. cond b (listed (s.result o.1 before y) ++ said_all s [] None (zs ++ z ∷ [])) (said_all s (o ∷ []) (Some y) (zs ++ z ∷ []))) f
+      ∙ (said_more [] (Some y) zs o z e ids'
+      ∙ (none_said (Some y) zs (since s (Some y) zs) o z
+      ∙ ap (λ b. listed (s.result o.1 (since s (cond b None (Some y)) zs) z)) (sym f))))
     where
-      none_said : (before zs part : List P) (o : ℕ × A) (z : P) → said_all s [] before zs ++ listed (s.result o.1 (part ++ z ∷ [])) ≡ listed (s.result o.1 (part ++ z ∷ []))
-      none_said before [] part o z = refl
-      none_said before (y ∷ zs) part o z = refl
+      none_said : (before : Option P) (zs : List P) (last : Option P) (o : ℕ × A) (z : P) → said_all s [] before zs ++ listed (s.result o.1 last z) ≡ listed (s.result o.1 last z)
+      none_said before [] last o z = refl
+      none_said before (y ∷ zs) last o z = refl
   said_more (r ∷ os) before (y ∷ zs) o z e ids =
       by_test (s.is_answer y)
       (λ f. let ids' : r.0 ∷ map (λ o. o.0) os ≡ s.id_of y ∷ map s.id_of (filter s.is_answer zs) = ids ∙ ap (λ b. map s.id_of (cond b (y ∷ filter s.is_answer zs) (filter s.is_answer zs))) f in
       let rest : map (λ o. o.0) os ≡ map s.id_of (filter s.is_answer zs) = cc in
-      let new : List P = since s [] zs ++ z ∷ [] in
-      ap (λ b. cond b (listed (s.result r.1 (before ++ y ∷ [])) ++ said_all s (os ++ o ∷ []) [] (zs ++ z ∷ [])) (said_all s (r ∷ os ++ o ∷ []) (before ++ y ∷ []) (zs ++ z ∷ []))) f
-      ∙ (ap (λ (l : List R). listed (s.result r.1 (before ++ y ∷ [])) ++ l) (said_more os [] zs o z e rest)
-      ∙ (sym (append_assoc (listed (s.result r.1 (before ++ y ∷ []))) (said_all s os [] zs) (listed (s.result o.1 new)))
-      ∙ ap (λ b. cond b (listed (s.result r.1 (before ++ y ∷ [])) ++ said_all s os [] zs) (said_all s (r ∷ os) (before ++ y ∷ []) zs) ++ listed (s.result o.1 (cond b (since s [] zs) (since s (before ++ y ∷ []) zs) ++ z ∷ []))) (sym f))))
+      ap (λ b. cond b (listed (s.result r.1 before y) ++ said_all s (os ++ o ∷ []) None (zs ++ z ∷ [])) (said_all s (r ∷ os ++ o ∷ []) (Some y) (zs ++ z ∷ []))) f
+      ∙ (ap (λ (l : List R). listed (s.result r.1 before y) ++ l) (said_more os None zs o z e rest)
+      ∙ (sym (append_assoc (listed (s.result r.1 before y)) (said_all s os None zs) (listed (s.result o.1 (since s None zs) z)))
+      ∙ ap (λ b. cond b (listed (s.result r.1 before y) ++ said_all s os None zs) (said_all s (r ∷ os) (Some y) zs) ++ listed (s.result o.1 (since s (cond b None (Some y)) zs) z)) (sym f))))
       (λ f. let ids' : r.0 ∷ map (λ o. o.0) os ≡ map s.id_of (filter s.is_answer zs) = ids ∙ ap (λ b. map s.id_of (cond b (y ∷ filter s.is_answer zs) (filter s.is_answer zs))) f in
-      ap (λ b. cond b (listed (s.result r.1 (before ++ y ∷ [])) ++ said_all s (os ++ o ∷ []) [] (zs ++ z ∷ [])) (said_all s (r ∷ os ++ o ∷ []) (before ++ y ∷ []) (zs ++ z ∷ []))) f
-      ∙ (said_more (r ∷ os) (before ++ y ∷ []) zs o z e ids'
-      ∙ ap (λ b. cond b (listed (s.result r.1 (before ++ y ∷ [])) ++ said_all s os [] zs) (said_all s (r ∷ os) (before ++ y ∷ []) zs) ++ listed (s.result o.1 (cond b (since s [] zs) (since s (before ++ y ∷ []) zs) ++ z ∷ []))) (sym f)))
+      ap (λ b. cond b (listed (s.result r.1 before y) ++ said_all s (os ++ o ∷ []) None (zs ++ z ∷ [])) (said_all s (r ∷ os ++ o ∷ []) (Some y) (zs ++ z ∷ []))) f
+      ∙ (said_more (r ∷ os) (Some y) zs o z e ids'
+      ∙ ap (λ b. cond b (listed (s.result r.1 before y) ++ said_all s os None zs) (said_all s (r ∷ os) (Some y) zs) ++ listed (s.result o.1 (since s (cond b None (Some y)) zs) z)) (sym f)))
 
   in_order_now : (past : List (Event P)) → InOrder s past → IsFront (map s.id_of (filter s.is_answer (sent_of past))) (map s.id_of (filter s.waits (filter s.is_request (got_of past))))
   in_order_now [] h = ([], refl)
@@ -138,20 +137,20 @@ module _ {P A Q R : Type 0} (s : Speech P A Q R) where
       → IsSettled s asks past → IsSettled s asks (Got p ∷ past)
   gets asks p past rest e first h =
       let o = head_open (open_of s asks past) (s.id_of p) rest first in
-      let part : List P = since s [] (got_of past) ++ p ∷ [] in
+      let before : Option P = since s None (got_of past) in
       let more : answers_of s (Got p ∷ past) ≡ answers_of s past ++ p ∷ [] = filter_yes s.is_answer (got_of past) p e in
       let opens : open_of s asks (Got p ∷ past) ≡ o.1 =
       ap (λ b. cond b (without s (s.id_of p) (open_of s asks past)) (open_of s asks past)) e ∙ (ap (without s (s.id_of p)) o.2 ∙ head_closed o.0 o.1 (s.id_of p) o.3) in
-      let says : replies_of s asks (Got p ∷ past) ≡ replies_of s asks past ++ listed (s.result o.0.1 part) =
-      ap (λ b. cond b (replies_of s asks past ++ said s (under s (s.id_of p) (open_of s asks past)) part) (replies_of s asks past)) e
-      ∙ ap (λ u. replies_of s asks past ++ said s u part) (ap (under s (s.id_of p)) o.2 ∙ head_under o.0 o.1 (s.id_of p) o.3) in
+      let says : replies_of s asks (Got p ∷ past) ≡ replies_of s asks past ++ listed (s.result o.0.1 before p) =
+      ap (λ b. cond b (replies_of s asks past ++ said s (under s (s.id_of p) (open_of s asks past)) before p) (replies_of s asks past)) e
+      ∙ ap (λ u. replies_of s asks past ++ said s u before p) (ap (under s (s.id_of p)) o.2 ∙ head_under o.0 o.1 (s.id_of p) o.3) in
       record {
         done = h.done ++ o.0 ∷ [];
         split = h.split ∙ (ap (λ l. h.done ++ l) o.2 ∙ (sym (append_assoc h.done (o.0 ∷ []) o.1) ∙ ap (λ l. (h.done ++ o.0 ∷ []) ++ l) (sym opens)));
         ids =
             map-append (λ o. o.0) h.done (o.0 ∷ []) ∙ (ap (λ l. l ++ o.0.0 ∷ []) h.ids
             ∙ (ap (λ id. map s.id_of (answers_of s past) ++ id ∷ []) o.3 ∙ (sym (map-append s.id_of (answers_of s past) (p ∷ [])) ∙ ap (map s.id_of) (sym more))));
-        said = says ∙ (ap (λ l. l ++ listed (s.result o.0.1 part)) h.said ∙ sym (said_more h.done [] (got_of past) o.0 p e h.ids));
+        said = says ∙ (ap (λ l. l ++ listed (s.result o.0.1 before p)) h.said ∙ sym (said_more h.done None (got_of past) o.0 p e h.ids));
       }
 
   gets_other : (asks : List A) (p : P) (past : List (Event P)) → s.is_answer p ≡ false → IsSettled s asks past → IsSettled s asks (Got p ∷ past)
@@ -159,12 +158,12 @@ module _ {P A Q R : Type 0} (s : Speech P A Q R) where
       let same : answers_of s (Got p ∷ past) ≡ answers_of s past = filter_no s.is_answer (got_of past) p e in
       let opens : open_of s asks (Got p ∷ past) ≡ open_of s asks past = ap (λ b. cond b (without s (s.id_of p) (open_of s asks past)) (open_of s asks past)) e in
       let says : replies_of s asks (Got p ∷ past) ≡ replies_of s asks past =
-      ap (λ b. cond b (replies_of s asks past ++ said s (under s (s.id_of p) (open_of s asks past)) (since s [] (got_of past) ++ p ∷ [])) (replies_of s asks past)) e in
+      ap (λ b. cond b (replies_of s asks past ++ said s (under s (s.id_of p) (open_of s asks past)) (since s None (got_of past)) p) (replies_of s asks past)) e in
       record {
         done = h.done;
         split = h.split ∙ ap (λ l. h.done ++ l) (sym opens);
         ids = h.ids ∙ ap (map s.id_of) (sym same);
-        said = says ∙ (h.said ∙ sym (said_same h.done [] (got_of past) p e));
+        said = says ∙ (h.said ∙ sym (said_same h.done None (got_of past) p e));
       }
 
   -- the next answer is that to the first open request

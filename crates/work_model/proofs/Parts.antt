@@ -1,10 +1,9 @@
 -- What was sent is in parts, one for each packet that was got.
 use Rattle.std.proofs.Common.{◌≡◌, ℕ, zero, suc, List, [], ◌∷◌, ◌++◌, map, Bool, true, false, filter, refl, sym, ap, ◌∙◌, subst, Option, Some, None}
 use Rattle.std.specs.Prelude.{◌==◌, ◌&&◌}
-use Rattle.std.proofs.lemmas.List.Elements.{filter-append}
 use Rattle.chan_run.specs.Runs.{IsFront}
 use Rattle.hist_lock.specs.Seat.{Call}
-use Rattle.work_model.specs.Speech.{Speech, Answers, Keeps}
+use Rattle.work_model.specs.Speech.{Speech, Back, listed, under_own, packets_of, packets_in, IsBesides, IsBack, Keeps}
 use Rattle.work_model.specs.Server.{ServesOne, ServesAsk, Serves}
 use Rattle.work_model.proofs.Opens.{by_test}
 use Rattle.work_model.proofs.Served.{filter_first, filter_past, passes}
@@ -64,28 +63,32 @@ module _ {P A Q R : Type 0} (s : Speech P A Q R) (keeps : Keeps s) where
       (λ f. ap (filter s.waits) (filter_first s.is_request p got f) ∙ filter_past s.waits p (filter s.is_request got) e)
       (λ f. ap (filter s.waits) (filter_past s.is_request p got f))
 
-  pub part_answers : (id : ℕ) (part rest : List P) (h : Answers s id part) → filter s.is_answer (part ++ rest) ≡ h.answer ∷ filter s.is_answer rest
-  part_answers id part rest h =
-      ap (λ l. filter s.is_answer (l ++ rest)) h.is
-      ∙ (filter-append s.is_answer (h.before ++ h.answer ∷ []) rest
-      ∙ ap (λ l. l ++ filter s.is_answer rest) (filter-append s.is_answer h.before (h.answer ∷ []) ∙ (ap (λ l. l ++ filter s.is_answer (h.answer ∷ [])) h.none ∙ filter_first s.is_answer h.answer [] h.one)))
+  message_answers : (own : ℕ) (m : Option (ℕ → P)) (z : P) (rest : List P) → IsBesides s m → s.is_answer z ≡ true → filter s.is_answer ((listed (under_own own m) ++ z ∷ []) ++ rest) ≡ z ∷ filter s.is_answer rest
+  message_answers own None z rest besides one = filter_first s.is_answer z rest one
+  message_answers own (Some m) z rest besides one = filter_past s.is_answer (m own) (z ∷ rest) (besides own).other ∙ filter_first s.is_answer z rest one
+
+  -- one answer goes back, after its message
+  pub back_answers : (id own : ℕ) (b : Back P) (rest : List P) → IsBack s id b → filter s.is_answer (packets_of own b ++ rest) ≡ b.answer ∷ filter s.is_answer rest
+  back_answers id own b rest h = message_answers own b.message b.answer rest h.besides h.one
 
   asked_waits : (p : P) (q : Q) → s.read p ≡ Some q → s.waits p ≡ true
   asked_waits p q e = by_test (s.waits p) (λ f. f) (λ f. let bad : None ≡ Some q = sym (keeps.unread p f) ∙ e in absurd (cc))
 
   -- what holds of each way in which a packet is served holds of all
   module _ (F : List P → List P → Type 0) (nil : F [] []) (stop : (p : P) (got : List P) → s.waits p ≡ true → F (p ∷ got) [])
-      (more : (p : P) (got part rest : List P) → s.waits p ≡ true → Answers s (s.id_of p) part → F got rest → F (p ∷ got) (part ++ rest))
+      (more : (p : P) (got : List P) (own : ℕ) (b : Back P) (rest : List P) → s.waits p ≡ true → IsBack s (s.id_of p) b → F got rest → F (p ∷ got) (packets_of own b ++ rest))
       (none : (p : P) (got sent : List P) → s.waits p ≡ false → F got sent → F (p ∷ got) sent) where
     ask_parts : (last : Bool) (p : P) (got : List P) (n : ℕ) (c : Call Q R) (calls : List (Call Q R)) (sent : List P) (next : ℕ → List (Call Q R) → List P → Type 0)
         → s.waits p ≡ true → ((m : ℕ) (later : List (Call Q R)) (rest : List P) → next m later rest → F got rest) → ServesAsk s last p n c calls sent next → F (p ∷ got) sent
     ask_parts true p got n c calls sent next e ih h = subst (F (p ∷ got)) (sym h.1) (stop p got e)
     ask_parts false p got n c calls sent next e ih h =
-        subst (F (p ∷ got)) (sym h.2) (more p got (s.gives p c.reply h.0) h.1 e (keeps.given p c.reply h.0 e) (ih n calls h.1 h.3))
+        subst (F (p ∷ got)) (sym h.2) (more p got h.0 (s.gives p c.reply) h.1 e (keeps.given p c.reply e) (ih n calls h.1 h.3))
 
     one_parts : (held : Bool) (p : P) (got : List P) (o : Option Q) (n : ℕ) (calls : List (Call Q R)) (sent : List P) (next : ℕ → List (Call Q R) → List P → Type 0)
         → s.waits p ≡ true → s.read p ≡ o → ((m : ℕ) (later : List (Call Q R)) (rest : List P) → next m later rest → F got rest) → ServesOne s held p o n calls sent next → F (p ∷ got) sent
-    one_parts held p got None n calls sent next e r ih h = subst (F (p ∷ got)) (sym h.1) (more p got (s.fixed p) h.0 e (keeps.fixes p e r) (ih n calls h.0 h.2))
+    one_parts held p got None n calls sent next e r ih h =
+        let back = keeps.fixes p e r in
+        subst (F (p ∷ got)) (sym (h.2 ∙ ap (λ o. packets_in h.0 o ++ h.1) back.1)) (more p got h.0 back.0 h.1 e back.2 (ih n calls h.1 h.3))
     one_parts held p got (Some q) zero calls sent next e r ih h = subst (F (p ∷ got)) (sym h.1) (stop p got e)
     one_parts held p got (Some q) (suc n) [] sent next e r ih h = absurd h
     one_parts held p got (Some q) (suc n) (c ∷ calls) sent next e r ih h = ask_parts (held && n == 0) p got n c calls sent next e ih h.1
@@ -103,11 +106,11 @@ module _ {P A Q R : Type 0} (s : Speech P A Q R) (keeps : Keeps s) where
   in_order =
       by_parts (λ got sent. IsFront (map s.id_of (filter s.is_answer sent)) (map s.id_of (waited s got))) ([], refl)
       (λ p got e. (map s.id_of (waited s (p ∷ got)), refl))
-      (λ p got part rest e h ih. (
+      (λ p got own b rest e h ih. (
         ih.0,
         ap (map s.id_of) (waited_one p got e)
             ∙ (ap (λ (l : List ℕ). s.id_of p ∷ l) ih.1
-            ∙ (ap (λ id. id ∷ (map s.id_of (filter s.is_answer rest) ++ ih.0)) (sym h.same) ∙ ap (λ l. map s.id_of l ++ ih.0) (sym (part_answers (s.id_of p) part rest h)))),
+            ∙ (ap (λ id. id ∷ (map s.id_of (filter s.is_answer rest) ++ ih.0)) (sym h.same) ∙ ap (λ l. map s.id_of l ++ ih.0) (sym (back_answers (s.id_of p) own b rest h)))),
       ))
       (λ p got sent e ih. (ih.0, ap (map s.id_of) (waited_none p got e) ∙ ih.1))
 
@@ -115,5 +118,5 @@ module _ {P A Q R : Type 0} (s : Speech P A Q R) (keeps : Keeps s) where
   pub ends : (held : Bool) (got : List P) (n : ℕ) (calls : List (Call Q R)) (sent : List P) → Serves s held got n calls sent → Ends s.is_answer sent
   ends =
       by_parts (λ got sent. Ends s.is_answer sent) tt (λ p got e. tt)
-      (λ p got part rest e h ih. ends_append s.is_answer part rest (subst (Ends s.is_answer) (sym h.is) (ends_last s.is_answer h.before h.answer h.one)) ih)
+      (λ p got own b rest e h ih. ends_append s.is_answer (packets_of own b) rest (ends_last s.is_answer (listed (under_own own b.message)) b.answer h.one) ih)
       (λ p got sent e ih. ih)

@@ -8,7 +8,7 @@ use Rattle.chan_run.specs.declared.event.Event.TheVariants.{Sent, Got}
 use Rattle.chan_run.specs.Runs.{IsFront, sent_of, got_of, is_drained}
 use Rattle.chan_run.specs.Laws.{Follows}
 use Rattle.hist_lock.specs.Seat.{Call}
-use Rattle.work_model.specs.Speech.{Speech, Keeps}
+use Rattle.work_model.specs.Speech.{Speech, packets_of, packets_in, Keeps}
 use Rattle.work_model.specs.Server.{ServesOne, ServesAsk, Serves, left_one, left_of}
 use Rattle.work_model.specs.Channel.{Plan, count_of, held_of, ServerStops, ServerEnds, ServerBreaks}
 use Rattle.work_model.specs.Workers.{left_after, ServerKept}
@@ -29,12 +29,12 @@ module _ {P A Q R : Type 0} (s : Speech P A Q R) where
       → ServesAsk s b p n c calls sent more → ServesAsk s b p n c (calls ++ cs) (sent ++ ps) more'
   extend_ask true p n c calls cs sent ps more more' go m e f h = absurd (some_none m (sym e))
   extend_ask false p n c calls cs sent ps more more' go m e f h =
-      (h.0, h.1 ++ ps, ap (λ l. l ++ ps) h.2 ∙ append_assoc (s.gives p c.reply h.0) h.1 ps, f n calls h.1 e h.3)
+      (h.0, h.1 ++ ps, ap (λ l. l ++ ps) h.2 ∙ append_assoc (packets_of h.0 (s.gives p c.reply)) h.1 ps, f n calls h.1 e h.3)
 
   extend_one : (held : Bool) (p : P) (o : Option Q) (n : ℕ) (calls cs : List (Call Q R)) (sent ps : List P) (more more' : More) (go : ℕ → Option ℕ) (m : ℕ)
       → left_one s held o n go ≡ Some m → ((k : ℕ) (later : List (Call Q R)) (rest : List P) → go k ≡ Some m → more k later rest → more' k (later ++ cs) (rest ++ ps))
       → ServesOne s held p o n calls sent more → ServesOne s held p o n (calls ++ cs) (sent ++ ps) more'
-  extend_one held p None n calls cs sent ps more more' go m e f h = (h.0 ++ ps, ap (λ l. l ++ ps) h.1 ∙ append_assoc (s.fixed p) h.0 ps, f n calls h.0 e h.2)
+  extend_one held p None n calls cs sent ps more more' go m e f h = (h.0, h.1 ++ ps, ap (λ l. l ++ ps) h.2 ∙ append_assoc (packets_in h.0 (s.fixed p)) h.1 ps, f n calls h.1 e h.3)
   extend_one held p (Some q) zero calls cs sent ps more more' go m e f h = absurd (some_none m (sym e))
   extend_one held p (Some q) (suc n) [] cs sent ps more more' go m e f h = absurd h
   extend_one held p (Some q) (suc n) (c ∷ calls) cs sent ps more more' go m e f h = (h.0, extend_ask (held && n == 0) p n c calls cs sent ps more more' go m e f h.1)
@@ -59,7 +59,7 @@ module _ {P A Q R : Type 0} (s : Speech P A Q R) where
   over_one : (held : Bool) (p : P) (o : Option Q) (n : ℕ) (calls : List (Call Q R)) (sent : List P) (more more' : More) (go : ℕ → Option ℕ)
       → left_one s held o n go ≡ None → ((k : ℕ) (later : List (Call Q R)) (rest : List P) → go k ≡ None → more k later rest → more' k later rest)
       → ServesOne s held p o n calls sent more → ServesOne s held p o n calls sent more'
-  over_one held p None n calls sent more more' go e f h = (h.0, h.1, f n calls h.0 e h.2)
+  over_one held p None n calls sent more more' go e f h = (h.0, h.1, h.2, f n calls h.1 e h.3)
   over_one held p (Some q) zero calls sent more more' go e f h = h
   over_one held p (Some q) (suc n) [] sent more more' go e f h = absurd h
   over_one held p (Some q) (suc n) (c ∷ calls) sent more more' go e f h = (h.0, over_ask (held && n == 0) p n c calls sent more more' go e f h.1)
@@ -91,7 +91,7 @@ module _ {P A Q R : Type 0} (s : Speech P A Q R) (keeps : Keeps s) (held : Bool)
       (λ f. let bad : p ∷ waited s more ≡ [] = sym (waited_one s keeps p more f) ∙ e in absurd (cc))
       (λ f.
       subst (λ o. ServesOne s held p o m [] [] (λ k later rest. Serves s held more k later rest)) (sym (keeps.unread p f))
-      ([], sym (ap (λ l. l ++ []) (keeps.silent p f)), idle_none more m (sym (waited_none s keeps p more f) ∙ e)))
+      (0, [], sym (ap (λ o. packets_in 0 o ++ []) (keeps.silent p f)), idle_none more m (sym (waited_none s keeps p more f) ∙ e)))
 
   -- so they may come behind all that was served
   pub serves_idle : (got more : List P) (n : ℕ) (calls : List (Call Q R)) (sent : List P) → waited s more ≡ [] → Serves s held got n calls sent → Serves s held (got ++ more) n calls sent

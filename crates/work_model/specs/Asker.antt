@@ -3,12 +3,7 @@ use Rattle.std.specs.Prelude.{ℕ, ◌≡◌, cond, ◌==◌, List, [], ◌∷�
 use Rattle.chan_run.specs.declared.event.Event.{Event}
 use Rattle.chan_run.specs.declared.event.Event.TheVariants.{Sent, Got, Empty, Marked, Saw}
 use Rattle.chan_run.specs.Runs.{sent_of, got_of}
-use Rattle.work_model.specs.Speech.{Speech}
-
--- the element, if there is one
-abbrev pub listed : {X : Type 0} → Option X → List X
-listed None = []
-listed (Some x) = x ∷ []
+use Rattle.work_model.specs.Speech.{Speech, listed}
 
 module _ {P A Q R : Type 0} (s : Speech P A Q R) where
   -- the requests that were sent, and the answers that were got
@@ -55,21 +50,21 @@ module _ {P A Q R : Type 0} (s : Speech P A Q R) where
   closed_of asks (Marked ∷ past) = closed_of asks past
   closed_of asks (Saw ∷ past) = closed_of asks past
 
-  -- what came since the last answer, after what came before
-  abbrev pub since : List P → List P → List P
+  -- what came last, where it is no answer, after what came before
+  abbrev pub since : Option P → List P → Option P
   since before [] = before
-  since before (p ∷ ps) = cond (s.is_answer p) (since [] ps) (since (before ++ p ∷ []) ps)
+  since before (p ∷ ps) = since (cond (s.is_answer p) None (Some p)) ps
 
-  -- what came back says to the request that it closes
-  abbrev pub said : Option (ℕ × A) → List P → List R
-  said None part = []
-  said (Some o) part = listed (s.result o.1 part)
+  -- an answer, and what came just before it, say to the request that it closes
+  abbrev pub said : Option (ℕ × A) → Option P → P → List R
+  said None before p = []
+  said (Some o) before p = listed (s.result o.1 before p)
 
   -- the replies that were got
   abbrev pub replies_of : List A → List (Event P) → List R
   replies_of asks [] = []
   replies_of asks (Sent p ∷ past) = replies_of asks past
-  replies_of asks (Got p ∷ past) = cond (s.is_answer p) (replies_of asks past ++ said (under (s.id_of p) (open_of asks past)) (since [] (got_of past) ++ p ∷ [])) (replies_of asks past)
+  replies_of asks (Got p ∷ past) = cond (s.is_answer p) (replies_of asks past ++ said (under (s.id_of p) (open_of asks past)) (since None (got_of past)) p) (replies_of asks past)
   replies_of asks (Empty ∷ past) = replies_of asks past
   replies_of asks (Marked ∷ past) = replies_of asks past
   replies_of asks (Saw ∷ past) = replies_of asks past

@@ -1,5 +1,6 @@
 -- The run of one channel in one phase.
 use Rattle.std.specs.Prelude.{ℕ, ◌≡◌, ◌≤◌, min, Bool, true, false, ◌&&◌, nat_le, List, [], ◌∷◌, ◌++◌, map, length, filter, Option, Some, None, ◌⊎◌, filter_map}
+use Rattle.std.specs.List.{cons_option}
 use Rattle.chan_run.specs.declared.event.Event.{Event}
 use Rattle.chan_run.specs.Runs.{IsFront, sent_of, got_of, is_drained}
 use Rattle.chan_run.specs.Laws.{Follows}
@@ -7,6 +8,7 @@ use Rattle.hist_lock.specs.Seat.{Call}
 use Rattle.work_model.specs.Speech.{Speech}
 use Rattle.work_model.specs.Asker.{requests_of, Encoded, open_of, replies_of}
 use Rattle.work_model.specs.Server.{Serves, InOrder, answered}
+use Rattle.work_model.specs.Acks.{acks_for}
 
 -- the requests of the start-up and of the script; the serving end may stop after some, and may keep the answer to the last one
 pub record Plan (A : Type 0) : Type 0 where
@@ -40,11 +42,18 @@ module _ {P A Q R : Type 0} (s : Speech P A Q R) where
   abbrev pub asks_of : Plan A → List A
   asks_of plan = plan.start ++ plan.script
 
+  -- all is asked and settled, and each message is acknowledged
+  pub record AskerSettles (plan : Plan A) (past : List (Event P)) : Type 0 where
+    pub all : length (requests_of s past) ≡ length (asks_of plan)
+    pub none : open_of s (asks_of plan) past ≡ []
+    pub acked : filter s.is_ack (sent_of past) ≡ acks_for s (got_of past)
+
   -- what the asking end gives, once it has marked itself: all is asked and settled, or the other end stopped before
   pub record AskerEnds (plan : Plan A) (past : List (Event P)) (told : List R) : Type 0 where
     pub encoded : Encoded s (asks_of plan) (requests_of s past)
     pub replies : told ≡ replies_of s (asks_of plan) past
-    pub end : ((length (requests_of s past) ≡ length (asks_of plan)) × (open_of s (asks_of plan) past ≡ [])) ⊎ ((is_drained past ≡ true) × Follows past)
+    pub acks : IsFront (filter s.is_ack (sent_of past)) (acks_for s (got_of past))
+    pub end : AskerSettles plan past ⊎ ((is_drained past ≡ true) × Follows past)
 
   -- what the serving end gives, once it has marked itself: it stopped where the plan says, or the other end has ended
   pub record ServerStops (plan : Plan A) (past : List (Event P)) (calls : List (Call Q R)) : Type 0 where
@@ -67,6 +76,7 @@ module _ {P A Q R : Type 0} (s : Speech P A Q R) where
   pub record AskerBreaks (asks : List A) (past : List (Event P)) (told : List R) : Type 0 where
     pub encoded : Encoded s asks (requests_of s past)
     pub replies : told ≡ replies_of s asks past
+    pub acks : IsFront (filter s.is_ack (sent_of past)) (acks_for s (got_of past))
 
   -- what the serving end gives where it found no room in its lists, or had no call left: it served the first packets that it got, and some of the last answers are missing
   pub record ServerBreaks (held : Bool) (n : ℕ) (past : List (Event P)) (calls : List (Call Q R)) : Type 0 where
@@ -84,10 +94,19 @@ module _ {P A Q R : Type 0} (s : Speech P A Q R) where
     -- the requests are the start-up's and then the script's, in order; all of them where there is no stop
     pub requests : Encoded s (asks_of plan) (filter s.is_request sent)
     pub whole : plan.stop ≡ None → length (filter s.is_request sent) ≡ length (asks_of plan)
-    -- the start-up and the calls are answered, in order
+    -- the messages are acknowledged in order, each at most once; each of them where there is no stop
+    pub acks : IsFront (filter s.is_ack sent) (acks_for s server_sent)
+    pub all_acked : plan.stop ≡ None → filter s.is_ack sent ≡ acks_for s server_sent
+    -- the start-up and the calls are answered, in order, each after the message that it has besides
     pub served : Serves s (held_of plan.stop (length plan.script)) server_got (count_of plan.stop (length plan.script)) calls server_sent
     pub started : length (filter s.has_answer plan.start) ≤ length (filter s.waits (filter s.is_request server_got))
     -- the calls are those of the first requests of the script, as many as the plan says
     pub asked : IsFront (map (λ c. c.request) calls) (filter_map s.read sent)
     pub count : length calls ≡ count_of plan.stop (length plan.script)
     pub replies : told ≡ map (λ c. c.reply) (answered s (held_of plan.stop (length plan.script)) (count_of plan.stop (length plan.script)) calls)
+
+-- what these asks ask of the device under these ids, in order
+abbrev pub asked_under : {A Q : Type 0} → (ℕ → A → Option Q) → List ℕ → List A → List Q
+asked_under wants [] asks = []
+asked_under wants (id ∷ ids) [] = []
+asked_under wants (id ∷ ids) (a ∷ asks) = cons_option (wants id a) (asked_under wants ids asks)

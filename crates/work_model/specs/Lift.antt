@@ -43,12 +43,15 @@ module _ {P A Q R A' Q' R' : Type 0} (s : Speech P A Q R) (among : Among A Q R A
     id_of = s.id_of;
     is_request = s.is_request;
     waits = s.waits;
+    is_ack = s.is_ack;
     is_answer = s.is_answer;
+    is_message = s.is_message;
+    ack = s.ack;
     encode = λ id a. s.encode id (among.ask a);
     has_answer = λ a. s.has_answer (among.ask a);
     read = λ p. mapped among.request (s.read p);
     fixed = s.fixed;
     fits = λ q r. both_hold s.fits (among.own_request q) (among.own_reply r);
-    gives = λ p r back. s.gives p (or_else among.other (among.own_reply r)) back;
-    result = λ a part. mapped among.reply (s.result (among.ask a) part);
+    gives = λ p r. s.gives p (or_else among.other (among.own_reply r));
+    result = λ a before p. mapped among.reply (s.result (among.ask a) before p);
   }

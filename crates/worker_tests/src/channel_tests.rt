@@ -15,11 +15,11 @@ use std::process::Abort;
 use std::sync::Wait;
 use std::thread::{Threads, join};
 
-// The asks 1 to n.
+// The asks from 0, so many. For the first one no message comes back.
 fn asks(rt: &(impl Abort + AllocGlobal), n: u32) -> Echo {
     let mut asks = Vec::new(rt.alloc());
     for i in 0..n {
-        asks.push(u64::from(i) + 1).expect(rt, "memory");
+        asks.push(u64::from(i)).expect(rt, "memory");
     }
     check(rt, asks.len() <= 1000);
     Echo { asks, starts: 0 }

@@ -1,13 +1,14 @@
-//! A talk and a seat for the tests: the device's reply is the value that it was asked.
-ghost use Rattle.std.specs.Prelude.{◌≡◌, ◌≤◌, ◌<◌, ◌+◌, ◌^◌, [], length, take, slice_index_or, IfOk};
-ghost use Rattle.chan_talk.specs.Echo.{echo_packet};
+//! A talk and a seat for the tests: the device's reply is the value that it was asked. It goes back in a message before the answer, and 0 without one.
+ghost use Rattle.std.specs.Prelude.{◌≡◌, ◌≤◌, ◌<◌, ◌+◌, ◌^◌, ◌∷◌, [], length, take, slice_index_or, IfOk};
 
 use chan_talk::{Seat, Talk};
 use std::alloc::{AllocError, Global};
 use std::sync::Wait;
 
-// The first word of a packet of three words: in-band data with a payload of one.
-const HEAD: u64 = 12_885_032_966;
+// The first words of packets of three words, with a payload of one: in-band data, and a completion.
+const INBAND: u64 = 12_885_032_966;
+
+const COMPLETION: u64 = 12_885_032_971;
 
 /// What one end has to ask.
 #[derive(Drop)]
@@ -19,13 +20,13 @@ pub(crate) struct Echo {
 }
 
 // Writes three words.
-fn write(out: &mut [u64], id: u64, value: u64) -> usize
+fn write(out: &mut [u64], head: u64, id: u64, value: u64) -> usize
     requires { length out.old ≡ 384 }
-    ensures value { take result out.new ≡ echo_packet id value }
+    ensures value { take result out.new ≡ head ∷ id ∷ value ∷ [] }
     ensures most { result ≡ 3 }
     ensures size { length out.new ≡ 384 }
 {
-    out[..3].copy_from_slice(&[HEAD, id, value]);
+    out[..3].copy_from_slice(&[head, id, value]);
     3
 }
 
@@ -37,8 +38,8 @@ fn word(packet: &[u64], i: usize) -> u64
 }
 
 impl Talk for Echo {
-    ghost use Rattle.std.specs.Prelude.{[], refl, slice_index_or};
-    ghost use Rattle.chan_talk.specs.Echo.{echo_speech, echo_packet};
+    ghost use Rattle.std.specs.Prelude.{true};
+    ghost use Rattle.chan_talk.specs.Echo.{echo_speech};
     ghost use Rattle.chan_talk.proofs.EchoLaws.{echo_keeps};
 
     type Ask = u64;
@@ -51,19 +52,15 @@ impl Talk for Echo {
 
     ghost keeps = { λ s. echo_keeps };
 
-    ghost answers = { λ s p. refl };
+    ghost besides = { λ s. true };
+
+    ghost may = { λ s. tt };
 
     ghost asks = { λ s. s.asks.items };
 
     ghost starts = { λ s. s.starts };
 
     ghost within = { λ s. s.within };
-
-    ghost message = { λ s p r back. [] };
-
-    ghost answer = { λ s p r. echo_packet (slice_index_or p 1 0) r };
-
-    ghost gives = { λ s p r back. refl };
 
     fn count(&self) -> u32 {
         self.asks.len() as u32
@@ -73,40 +70,82 @@ impl Talk for Echo {
         self.starts
     }
 
+    fn besides(&self) -> bool {
+        true
+    }
+
     fn has_answer(&self, _k: u32) -> bool {
         true
     }
 
     fn encode(&self, k: u32, id: u64, out: &mut [u64]) -> usize {
-        write(out, id, self.asks[k as usize])
+        write(out, INBAND, id, self.asks[k as usize])
     }
 
     fn id(&self, packet: &[u64]) -> u64 {
         word(packet, 1)
     }
 
-    fn is_waiting(&self, _packet: &[u64]) -> bool {
-        true
+    fn is_waiting(&self, packet: &[u64]) -> bool {
+        word(packet, 0) == INBAND
+    }
+
+    fn is_ack(&self, packet: &[u64]) -> bool {
+        word(packet, 0) == COMPLETION
+    }
+
+    fn is_answer(&self, packet: &[u64]) -> bool {
+        word(packet, 0) == COMPLETION
+    }
+
+    fn is_message(&self, packet: &[u64]) -> bool {
+        word(packet, 0) == INBAND
+    }
+
+    fn write_ack(&self, packet: &[u64], out: &mut [u64]) -> usize {
+        write(out, COMPLETION, word(packet, 1), 1)
     }
 
     fn read(&self, packet: &[u64]) -> Option<u64> {
-        Some(word(packet, 2))
+        if word(packet, 0) == INBAND {
+            Some(word(packet, 2))
+        } else {
+            None
+        }
+    }
+
+    fn has_fixed_message(&self, _packet: &[u64]) -> bool {
+        false
+    }
+
+    fn write_fixed_message(&self, _packet: &[u64], _own: u64, _out: &mut [u64]) -> usize {
+        0
     }
 
     fn write_fixed(&self, _packet: &[u64], _out: &mut [u64]) -> usize {
         0
     }
 
-    fn write_message(&self, _packet: &[u64], _reply: &u64, _back: u64, _out: &mut [u64]) -> usize {
-        0
+    fn has_message(&self, _packet: &[u64], reply: &u64) -> bool {
+        *reply != 0
     }
 
-    fn write_answer(&self, packet: &[u64], reply: &u64, out: &mut [u64]) -> usize {
-        write(out, word(packet, 1), *reply)
+    fn write_message(&self, _packet: &[u64], reply: &u64, own: u64, out: &mut [u64]) -> usize {
+        if *reply == 0 {
+            return 0;
+        }
+        write(out, INBAND, own, *reply)
     }
 
-    fn result(&self, _k: u32, packet: &[u64]) -> Option<u64> {
-        Some(word(packet, 2))
+    fn write_answer(&self, packet: &[u64], _reply: &u64, out: &mut [u64]) -> usize {
+        write(out, COMPLETION, word(packet, 1), 1)
+    }
+
+    fn result(&self, _k: u32, before: &[u64], _packet: &[u64]) -> Option<u64> {
+        if before.is_empty() {
+            return Some(0);
+        }
+        Some(word(before, 2))
     }
 }
 

@@ -16,7 +16,9 @@ fn hosts_ask_services_and_guests_ask_devices(rt: HostRuntime) {
 fn laws_are_called() {
     laws::settles_in_order::<u64, u64, u64, u64>();
     laws::settles_once::<u64, u64, u64, u64>();
+    laws::few_open::<u64, u64, u64, u64>();
     laws::joins::<u64, u64, u64, u64>();
     laws::makes_outcomes::<u64, u64, u64, u64>();
+    laws::never_over::<u64, u64, u64, u64>();
     laws::has_roles::<u64>();
 }

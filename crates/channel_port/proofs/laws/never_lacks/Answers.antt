@@ -2,4 +2,4 @@ use Rattle.channel_port.proofs.RoomLaws as laws
 use Rattle.channel_port.proofs.laws.never_lacks.Goals as goal
 
 pub returns : goal.returns
-returns c = laws.never_lacks
+returns g c = laws.never_lacks

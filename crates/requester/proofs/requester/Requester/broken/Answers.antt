@@ -1,21 +1,22 @@
 use Rattle.std.proofs.Common.{ap, ◌∙◌, length, subst}
+use Rattle.work_model.specs.Amounts.{room_of}
 use Rattle.work_model.specs.Channel.{AskerBreaks}
-use Rattle.requester.proofs.AskSteps.{breaks}
-use Rattle.channel_port.specs.Rooms.{HasReserved, SentAtMost}
-use Rattle.channel_port.proofs.RoomLaws.{lacks_over, sent_so_far}
-use Rattle.requester.specs.Asking.{IsPaced}
+use Rattle.requester.proofs.AskSteps.{asked_so_far, breaks, lacks_by}
+use Rattle.channel_port.specs.Rooms.{AskedWithin, KeepsRoom}
+use Rattle.requester.specs.Asking.{IsAsking, IsPaced}
 use Rattle.requester.proofs.requester.Requester.broken.Goals as goal
 
 pub returns-clause-breaks : goal.returns-clause-breaks
 returns-clause-breaks g c =
     let v = c.self.view_is in
     let l = c.self.invariant (ap (λ w. w.end.state.machine.marked) v ∙ c.requires.unmarked) in
-    subst (λ w. AskerBreaks (g.T.Talk.speech w.talk) (g.T.Talk.asks w.talk) w.end.state.past w.told) v (breaks (g.T.Talk.speech c.self.inside.talk) (g.T.Talk.keeps c.self.inside.talk) (g.T.Talk.answers c.self.inside.talk) (g.T.Talk.asks c.self.inside.talk) (record {
+    subst (λ w. AskerBreaks (g.T.Talk.speech w.talk) (g.T.Talk.asks w.talk) w.end.state.past w.told) v (breaks (g.T.Talk.speech c.self.inside.talk) (g.T.Talk.keeps c.self.inside.talk) (g.T.Talk.asks c.self.inside.talk) (record {
       talk = c.self.inside.talk;
       end = c.self.inside.port;
       table = c.self.inside.table;
       next = c.self.inside.next;
       waiting = c.self.inside.waiting;
+      acked = c.self.inside.acked;
       told = c.self.inside.replies.items;
       starts = c.self.inside.starts;
       seen = c.self.inside.seen;
@@ -27,19 +28,24 @@ pub returns-clause-reserved : goal.returns-clause-reserved
 returns-clause-reserved g c =
     let v = c.self.view_is in
     let l = c.self.invariant (ap (λ w. w.end.state.machine.marked) v ∙ c.requires.unmarked) in
-    subst (λ w. HasReserved (length (g.T.Talk.asks w.talk)) w.end) v l.room.got
+    subst (λ w. KeepsRoom (room_of (g.T.Talk.besides w.talk) (length (g.T.Talk.asks w.talk))) w.end) v l.room
 
 pub returns-clause-over : goal.returns-clause-over
 returns-clause-over g c =
     let v = c.self.view_is in
+    let w = c.args.self.now in
     let l = c.self.invariant (ap (λ w. w.end.state.machine.marked) v ∙ c.requires.unmarked) in
-    lacks_over (length (g.T.Talk.asks c.args.self.now.talk)) c.args.packets c.args.words c.args.self.now.end (subst (λ w. HasReserved (length (g.T.Talk.asks w.talk)) w.end) v l.room.got) c.requires.list c.requires.lacks
+    let s = g.T.Talk.speech w.talk in
+    let asks = g.T.Talk.asks w.talk in
+    lacks_by s (g.T.Talk.keeps w.talk) asks w (g.T.Talk.besides w.talk) c.args.packets c.args.words c.requires.list (subst (λ w. IsAsking (g.T.Talk.speech w.talk) (g.T.Talk.asks w.talk) w) v l.live)
+    (subst (λ w. KeepsRoom (room_of (g.T.Talk.besides w.talk) (length (g.T.Talk.asks w.talk))) w.end) v l.room) c.requires.lacks
 
 pub returns-clause-sent : goal.returns-clause-sent
 returns-clause-sent g c =
     let v = c.self.view_is in
     let l = c.self.invariant (ap (λ w. w.end.state.machine.marked) v ∙ c.requires.unmarked) in
-    subst (λ w. SentAtMost (length (g.T.Talk.asks w.talk)) w.end.state.past) v (sent_so_far (length (g.T.Talk.asks c.self.inside.talk)) c.self.inside.next c.self.inside.port l.live.within l.room)
+    subst (λ w. AskedWithin (g.T.Talk.speech w.talk) (length (g.T.Talk.asks w.talk)) w.end.state.past) v
+    (asked_so_far (g.T.Talk.speech c.self.inside.talk) (g.T.Talk.keeps c.self.inside.talk) (g.T.Talk.asks c.self.inside.talk) _ l.live l.room.sent.short)
 
 pub returns-clause-paced : goal.returns-clause-paced
 returns-clause-paced g c =

@@ -1,7 +1,7 @@
-use Rattle.std.proofs.Common.{ap, ◌∙◌, length, sym}
+use Rattle.std.proofs.Common.{ap, ◌∙◌, sym}
 use Rattle.chan_run.specs.Runs.{sent_of}
 use Rattle.requester.proofs.AskSteps.{still_kept, holds_on}
-use Rattle.channel_port.proofs.RoomLaws.{ask_quiet, got_same}
+use Rattle.channel_port.proofs.RoomLaws.{room_quiet, got_same}
 use Rattle.requester.proofs.requester.Requester.doze.Goals as goal
 
 pub invariant_of-self-2 : goal.invariant_of-self-2
@@ -10,37 +10,39 @@ invariant_of-self-2 g c =
     let l = c.self.invariant (ap (λ w. w.end.state.machine.marked) v ∙ c.requires.unmarked) in
     let r = l.live.rests (ap (λ w. w.end.state.machine.asleep) v ∙ c.requires.asleep) in
     λ _. record {
-      live = still_kept (g.T.Talk.speech c.self.inside.talk) (g.T.Talk.keeps c.self.inside.talk) (g.T.Talk.answers c.self.inside.talk) (g.T.Talk.asks c.self.inside.talk) (record {
+      live = still_kept (g.T.Talk.speech c.self.inside.talk) (g.T.Talk.keeps c.self.inside.talk) (g.T.Talk.asks c.self.inside.talk) (record {
         talk = c.self.inside.talk;
         end = c.self.inside.port;
         table = c.self.inside.table;
         next = c.self.inside.next;
         waiting = c.self.inside.waiting;
+        acked = c.self.inside.acked;
         told = c.self.inside.replies.items;
         starts = c.self.inside.starts;
         seen = c.self.inside.seen;
         hold = c.self.inside.hold;
         relid = c.self.inside.relid;
-      }) _ c.self.inside.hold c.if-poll.ensures.past (λ _. (
-        holds_on (g.T.Talk.speech c.self.inside.talk) (g.T.Talk.keeps c.self.inside.talk) (g.T.Talk.answers c.self.inside.talk) (g.T.Talk.asks c.self.inside.talk) (record {
+      }) _ c.self.inside.hold c.if-poll.ensures.past c.poll.ensures.lists.0 (λ _. (
+        holds_on (g.T.Talk.speech c.self.inside.talk) (g.T.Talk.keeps c.self.inside.talk) (g.T.Talk.asks c.self.inside.talk) (record {
           talk = c.self.inside.talk;
           end = c.self.inside.port;
           table = c.self.inside.table;
           next = c.self.inside.next;
           waiting = c.self.inside.waiting;
+          acked = c.self.inside.acked;
           told = c.self.inside.replies.items;
           starts = c.self.inside.starts;
           seen = c.self.inside.seen;
           hold = c.self.inside.hold;
           relid = c.self.inside.relid;
-        }) _ c.self.inside.hold c.self.inside.hold r.0,
+        }) _ c.self.inside.hold c.self.inside.hold c.poll.ensures.lists.0 r.0,
         record { asleep = c.if-poll.ensures.asleep; want_is = c.poll.ensures.want c.if-poll.ensures.asleep ∙ r.1.want_is },
         r.2,
       )) l.live;
       replies = l.replies;
       spare = l.spare;
       size = l.size;
-      room = ask_quiet (length (g.T.Talk.asks c.self.inside.talk)) c.self.inside.next _ _ (got_same _ _ c.poll.ensures.lists.0 c.poll.ensures.lists.1) c.poll.ensures.stays.cells c.poll.ensures.lists.2 (ap sent_of c.if-poll.ensures.past) l.room;
+      room = room_quiet _ _ _ (got_same _ _ c.poll.ensures.lists.0 c.poll.ensures.lists.1) c.poll.ensures.stays.cells c.poll.ensures.lists.2 (ap sent_of c.if-poll.ensures.past) l.room;
       side = l.side ∙ sym c.poll.ensures.stays.same.side;
     }
 
@@ -51,18 +53,19 @@ returns-clause-turns g c =
     let r = l.live.rests (ap (λ w. w.end.state.machine.asleep) v ∙ c.requires.asleep) in (
       c.if-poll.ensures.unmarked,
       c.if-poll.ensures.asleep,
-      holds_on (g.T.Talk.speech c.self.inside.talk) (g.T.Talk.keeps c.self.inside.talk) (g.T.Talk.answers c.self.inside.talk) (g.T.Talk.asks c.self.inside.talk) (record {
+      holds_on (g.T.Talk.speech c.self.inside.talk) (g.T.Talk.keeps c.self.inside.talk) (g.T.Talk.asks c.self.inside.talk) (record {
         talk = c.self.inside.talk;
         end = c.self.inside.port;
         table = c.self.inside.table;
         next = c.self.inside.next;
         waiting = c.self.inside.waiting;
+        acked = c.self.inside.acked;
         told = c.self.inside.replies.items;
         starts = c.self.inside.starts;
         seen = c.self.inside.seen;
         hold = c.self.inside.hold;
         relid = c.self.inside.relid;
-      }) _ c.self.inside.hold c.self.inside.hold r.0,
+      }) _ c.self.inside.hold c.self.inside.hold c.poll.ensures.lists.0 r.0,
       record { asleep = c.if-poll.ensures.asleep; want_is = c.poll.ensures.want c.if-poll.ensures.asleep ∙ r.1.want_is },
       r.2,
     )

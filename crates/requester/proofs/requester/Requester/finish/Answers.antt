@@ -1,8 +1,8 @@
 use Rattle.std.proofs.Common.{ap, sym, ◌∙◌, length, subst}
 use Rattle.chan_run.specs.Runs.{has_marked, has_seen}
 use Rattle.requester.specs.Asking.{HasSettled}
-use Rattle.requester.proofs.AskSteps.{marks_settled}
-use Rattle.channel_port.proofs.RoomLaws.{sent_marked}
+use Rattle.requester.proofs.AskSteps.{asked_so_far, marks_settled}
+use Rattle.channel_port.proofs.RoomLaws.{asked_marked}
 use Rattle.requester.specs.Asking.{IsPaced}
 use Rattle.requester.proofs.requester.Requester.finish.Goals as goal
 
@@ -10,12 +10,13 @@ pub returns-clause-ends : goal.returns-clause-ends
 returns-clause-ends g c =
     let v = c.self.view_is in
     let l = c.self.invariant (ap (λ w. w.end.state.machine.marked) v ∙ c.requires.ready.unmarked) in (
-      marks_settled (g.T.Talk.speech c.self.inside.talk) (g.T.Talk.keeps c.self.inside.talk) (g.T.Talk.answers c.self.inside.talk) (g.T.Talk.asks c.self.inside.talk) (record {
+      marks_settled (g.T.Talk.speech c.self.inside.talk) (g.T.Talk.keeps c.self.inside.talk) (g.T.Talk.asks c.self.inside.talk) (record {
         talk = c.self.inside.talk;
         end = c.self.inside.port;
         table = c.self.inside.table;
         next = c.self.inside.next;
         waiting = c.self.inside.waiting;
+        acked = c.self.inside.acked;
         told = c.self.inside.replies.items;
         starts = c.self.inside.starts;
         seen = c.self.inside.seen;
@@ -30,7 +31,8 @@ pub returns-clause-sent : goal.returns-clause-sent
 returns-clause-sent g c =
     let v = c.self.view_is in
     let l = c.self.invariant (ap (λ w. w.end.state.machine.marked) v ∙ c.requires.ready.unmarked) in
-    sent_marked (length (g.T.Talk.asks c.self.inside.talk)) c.self.inside.next _ _ c.mark.ensures.past l.live.within l.room
+    let sent = asked_so_far (g.T.Talk.speech c.self.inside.talk) (g.T.Talk.keeps c.self.inside.talk) (g.T.Talk.asks c.self.inside.talk) _ l.live l.room.sent.short in
+    asked_marked (g.T.Talk.speech c.self.inside.talk) (length (g.T.Talk.asks c.self.inside.talk)) c.self.inside.port _ c.mark.ensures.past sent
 
 pub returns-clause-paced : goal.returns-clause-paced
 returns-clause-paced g c =

@@ -1,9 +1,9 @@
-use Rattle.std.proofs.Common.{ap, sym, ◌∙◌, length, subst}
+use Rattle.std.proofs.Common.{ap, sym, ◌∙◌, subst}
 use Rattle.chan_run.specs.Runs.{sent_of}
 use Rattle.ring_machine.specs.Endings.{want_of}
 use Rattle.requester.specs.Asking.{Holds}
 use Rattle.requester.proofs.AskSteps.{still_kept, holds_on}
-use Rattle.channel_port.proofs.RoomLaws.{ask_quiet, got_same}
+use Rattle.channel_port.proofs.RoomLaws.{room_quiet, got_same}
 use Rattle.requester.proofs.requester.Requester.rest.Goals as goal
 
 pub invariant_of-self : goal.invariant_of-self
@@ -11,37 +11,39 @@ invariant_of-self g c =
     let v = c.self.view_is in
     let l = c.self.invariant (ap (λ w. w.end.state.machine.marked) v ∙ c.requires.ready.unmarked) in
     λ _. record {
-      live = still_kept (g.T.Talk.speech c.self.inside.talk) (g.T.Talk.keeps c.self.inside.talk) (g.T.Talk.answers c.self.inside.talk) (g.T.Talk.asks c.self.inside.talk) (record {
+      live = still_kept (g.T.Talk.speech c.self.inside.talk) (g.T.Talk.keeps c.self.inside.talk) (g.T.Talk.asks c.self.inside.talk) (record {
         talk = c.self.inside.talk;
         end = c.self.inside.port;
         table = c.self.inside.table;
         next = c.self.inside.next;
         waiting = c.self.inside.waiting;
+        acked = c.self.inside.acked;
         told = c.self.inside.replies.items;
         starts = c.self.inside.starts;
         seen = c.self.inside.seen;
         hold = c.self.inside.hold;
         relid = c.self.inside.relid;
-      }) _ c.args.hold c.in-Nothing.ensures.past (λ _. (
-        holds_on (g.T.Talk.speech c.self.inside.talk) (g.T.Talk.keeps c.self.inside.talk) (g.T.Talk.answers c.self.inside.talk) (g.T.Talk.asks c.self.inside.talk) (record {
+      }) _ c.args.hold c.in-Nothing.ensures.past c.arm.ensures.lists.0 (λ _. (
+        holds_on (g.T.Talk.speech c.self.inside.talk) (g.T.Talk.keeps c.self.inside.talk) (g.T.Talk.asks c.self.inside.talk) (record {
           talk = c.self.inside.talk;
           end = c.self.inside.port;
           table = c.self.inside.table;
           next = c.self.inside.next;
           waiting = c.self.inside.waiting;
+          acked = c.self.inside.acked;
           told = c.self.inside.replies.items;
           starts = c.self.inside.starts;
           seen = c.self.inside.seen;
           hold = c.self.inside.hold;
           relid = c.self.inside.relid;
-        }) c.arm.new.self c.args.hold c.args.hold (subst (λ w. Holds (g.T.Talk.speech w.talk) (g.T.Talk.asks w.talk) c.args.hold w) (sym v) c.requires.holds),
+        }) c.arm.new.self c.args.hold c.args.hold c.arm.ensures.lists.0 (subst (λ w. Holds (g.T.Talk.speech w.talk) (g.T.Talk.asks w.talk) c.args.hold w) (sym v) c.requires.holds),
         record { asleep = c.in-Nothing.ensures.asleep; want_is = c.arm.ensures.want c.in-Nothing.ensures.asleep ∙ ap want_of c.want_for.ensures },
         ap (λ w. w.seen) v ∙ c.requires.unseen,
       )) l.live;
       replies = l.replies;
       spare = l.spare;
       size = l.size;
-      room = ask_quiet (length (g.T.Talk.asks c.self.inside.talk)) c.self.inside.next _ _ (got_same _ _ c.arm.ensures.lists.0 c.arm.ensures.lists.1) c.arm.ensures.stays.cells c.arm.ensures.lists.2 (ap sent_of c.in-Nothing.ensures.past) l.room;
+      room = room_quiet _ _ _ (got_same _ _ c.arm.ensures.lists.0 c.arm.ensures.lists.1) c.arm.ensures.stays.cells c.arm.ensures.lists.2 (ap sent_of c.in-Nothing.ensures.past) l.room;
       side = l.side ∙ sym c.arm.ensures.stays.same.side;
     }
 
@@ -50,18 +52,19 @@ returns-in-Nothing-clause-turns g c =
     let v = c.self.view_is in (
       c.arm.ensures.unmarked,
       c.in-Nothing.ensures.asleep,
-      holds_on (g.T.Talk.speech c.self.inside.talk) (g.T.Talk.keeps c.self.inside.talk) (g.T.Talk.answers c.self.inside.talk) (g.T.Talk.asks c.self.inside.talk) (record {
+      holds_on (g.T.Talk.speech c.self.inside.talk) (g.T.Talk.keeps c.self.inside.talk) (g.T.Talk.asks c.self.inside.talk) (record {
         talk = c.self.inside.talk;
         end = c.self.inside.port;
         table = c.self.inside.table;
         next = c.self.inside.next;
         waiting = c.self.inside.waiting;
+        acked = c.self.inside.acked;
         told = c.self.inside.replies.items;
         starts = c.self.inside.starts;
         seen = c.self.inside.seen;
         hold = c.self.inside.hold;
         relid = c.self.inside.relid;
-      }) c.arm.new.self c.args.hold c.args.hold (subst (λ w. Holds (g.T.Talk.speech w.talk) (g.T.Talk.asks w.talk) c.args.hold w) (sym v) c.requires.holds),
+      }) c.arm.new.self c.args.hold c.args.hold c.arm.ensures.lists.0 (subst (λ w. Holds (g.T.Talk.speech w.talk) (g.T.Talk.asks w.talk) c.args.hold w) (sym v) c.requires.holds),
       record { asleep = c.in-Nothing.ensures.asleep; want_is = c.arm.ensures.want c.in-Nothing.ensures.asleep ∙ ap want_of c.want_for.ensures },
       ap (λ w. w.seen) v ∙ c.requires.unseen,
     )

@@ -1,14 +1,14 @@
-use Rattle.std.proofs.Common.{◌+◌, length, ap, ◌∙◌, sym}
+use Rattle.std.proofs.Common.{ap, ◌∙◌, sym}
 use Rattle.chan_run.specs.Runs.{sent_of}
 use Rattle.server.proofs.ServeSteps.{still_kept, rests_at}
-use Rattle.channel_port.proofs.RoomLaws.{serve_quiet, got_same}
+use Rattle.channel_port.proofs.RoomLaws.{room_quiet, got_same}
 use Rattle.server.proofs.server.Server.doze.Goals as goal
 
 pub invariant_of-self-2 : goal.invariant_of-self-2
 invariant_of-self-2 g c =
     let r = c.self.invariant.live.rests (ap (λ w. w.end.state.machine.asleep) c.self.view_is ∙ c.requires.asleep) in
     record {
-      live = still_kept (g.T.Talk.speech c.self.inside.desk.talk) (g.T.Talk.keeps c.self.inside.desk.talk) _ _ c.self.inside.want c.if-poll.ensures.past c.if-poll.ensures.lists.0 (λ _. rests_at (g.T.Talk.speech c.self.inside.desk.talk) (g.T.Talk.keeps c.self.inside.desk.talk) (record {
+      live = still_kept (g.T.Talk.speech c.self.inside.desk.talk) (g.T.Talk.keeps c.self.inside.desk.talk) (g.T.Talk.besides c.self.inside.desk.talk) _ _ c.self.inside.want c.if-poll.ensures.past c.if-poll.ensures.lists.0 (λ _. rests_at (g.T.Talk.speech c.self.inside.desk.talk) (g.T.Talk.keeps c.self.inside.desk.talk) (g.T.Talk.besides c.self.inside.desk.talk) (record {
         desk = c.self.inside.desk;
         end = c.self.inside.port;
         serve = c.self.inside.serve;
@@ -19,8 +19,8 @@ invariant_of-self-2 g c =
         served = c.self.inside.served;
         seen = c.self.inside.seen;
         want = c.self.inside.want;
-      }) _ c.self.inside.want r.want (record { asleep = c.if-poll.ensures.asleep; want_is = c.poll.ensures.want c.if-poll.ensures.asleep ∙ r.armed.want_is }) c.if-poll.ensures.lists.0 r.served r.more r.unseen) c.self.invariant.live;
-      room = serve_quiet (c.self.inside.starts + c.self.inside.come) c.self.inside.served (length c.self.inside.desk.owed) _ _ (got_same _ _ c.poll.ensures.lists.0 c.poll.ensures.lists.1) c.poll.ensures.stays.cells c.poll.ensures.lists.2 (ap sent_of c.if-poll.ensures.past) c.self.invariant.room;
+      }) _ c.self.inside.want r.want (record { asleep = c.if-poll.ensures.asleep; want_is = c.poll.ensures.want c.if-poll.ensures.asleep ∙ r.armed.want_is }) c.if-poll.ensures.lists.0 r.waits c.if-poll.ensures.past r.unseen) (ap (λ w. w.end.state.machine.marked) c.self.view_is ∙ c.requires.unmarked) c.self.invariant.live;
+      room = room_quiet _ _ _ (got_same _ _ c.poll.ensures.lists.0 c.poll.ensures.lists.1) c.poll.ensures.stays.cells c.poll.ensures.lists.2 (ap sent_of c.if-poll.ensures.past) c.self.invariant.room;
       side = c.self.invariant.side ∙ sym c.poll.ensures.stays.same.side;
     }
 
@@ -29,7 +29,7 @@ returns-clause-turns g c =
     let r = c.self.invariant.live.rests (ap (λ w. w.end.state.machine.asleep) c.self.view_is ∙ c.requires.asleep) in (
       c.if-poll.ensures.unmarked,
       c.if-poll.ensures.asleep,
-      rests_at (g.T.Talk.speech c.self.inside.desk.talk) (g.T.Talk.keeps c.self.inside.desk.talk) (record {
+      rests_at (g.T.Talk.speech c.self.inside.desk.talk) (g.T.Talk.keeps c.self.inside.desk.talk) (g.T.Talk.besides c.self.inside.desk.talk) (record {
         desk = c.self.inside.desk;
         end = c.self.inside.port;
         serve = c.self.inside.serve;
@@ -40,5 +40,5 @@ returns-clause-turns g c =
         served = c.self.inside.served;
         seen = c.self.inside.seen;
         want = c.self.inside.want;
-      }) _ c.self.inside.want r.want (record { asleep = c.if-poll.ensures.asleep; want_is = c.poll.ensures.want c.if-poll.ensures.asleep ∙ r.armed.want_is }) c.if-poll.ensures.lists.0 r.served r.more r.unseen,
+      }) _ c.self.inside.want r.want (record { asleep = c.if-poll.ensures.asleep; want_is = c.poll.ensures.want c.if-poll.ensures.asleep ∙ r.armed.want_is }) c.if-poll.ensures.lists.0 r.waits c.if-poll.ensures.past r.unseen,
     )

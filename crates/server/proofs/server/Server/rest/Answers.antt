@@ -1,17 +1,16 @@
-use Rattle.std.proofs.Common.{refl, ap, sym, ◌∙◌, length, ◌+◌, true}
-use Rattle.chan_run.specs.declared.event.Event.TheVariants.{Saw}
+use Rattle.std.proofs.Common.{◌≡◌, ap, sym, ◌∙◌, subst, true}
 use Rattle.chan_run.specs.Runs.{sent_of}
 use Rattle.channel_port.specs.Owed.{is_nil}
-use Rattle.server.specs.Serving.{has_done}
-use Rattle.server.proofs.ServeSteps.{quiet_kept, still_kept, rests_at}
-use Rattle.channel_port.proofs.RoomLaws.{serve_quiet, got_same}
+use Rattle.server.specs.Serving.{HasToWait}
+use Rattle.server.proofs.ServeSteps.{saw_kept, still_kept, rests_at}
+use Rattle.channel_port.proofs.RoomLaws.{room_quiet, got_same}
 use Rattle.server.proofs.server.Server.rest.Goals as goal
 
 pub invariant_of-self : goal.invariant_of-self
 invariant_of-self g c =
     let v = c.self.view_is in
     record {
-      live = still_kept (g.T.Talk.speech c.self.inside.desk.talk) (g.T.Talk.keeps c.self.inside.desk.talk) _ _ c.need-want.result c.in-Nothing.ensures.past c.arm.ensures.lists.0 (λ _. rests_at (g.T.Talk.speech c.self.inside.desk.talk) (g.T.Talk.keeps c.self.inside.desk.talk) (record {
+      live = still_kept (g.T.Talk.speech c.self.inside.desk.talk) (g.T.Talk.keeps c.self.inside.desk.talk) (g.T.Talk.besides c.self.inside.desk.talk) _ _ c.need-want.result c.in-Nothing.ensures.past c.arm.ensures.lists.0 (λ _. rests_at (g.T.Talk.speech c.self.inside.desk.talk) (g.T.Talk.keeps c.self.inside.desk.talk) (g.T.Talk.besides c.self.inside.desk.talk) (record {
         desk = c.self.inside.desk;
         end = c.self.inside.port;
         serve = c.self.inside.serve;
@@ -22,17 +21,16 @@ invariant_of-self g c =
         served = c.self.inside.served;
         seen = c.self.inside.seen;
         want = c.self.inside.want;
-      }) _ c.need-want.result c.need-want.ensures.value (record { asleep = c.in-Nothing.ensures.asleep; want_is = c.arm.ensures.want c.in-Nothing.ensures.asleep }) c.arm.ensures.lists.0
-          (λ e. ap (λ w. w.served) v ∙ (c.requires.served (sym (ap (λ w. is_nil w.desk.owed) v) ∙ e) ∙ ap (λ w. length w.end.state.got) (sym v))) (λ e. ap has_done v ∙ c.requires.more (sym (ap (λ w. is_nil w.desk.owed) v) ∙ e)) (ap (λ w. w.seen) v ∙ c.requires.unseen)) c.self.invariant.live;
-      room = serve_quiet (c.self.inside.starts + c.self.inside.come) c.self.inside.served (length c.self.inside.desk.owed) _ _ (got_same _ _ c.arm.ensures.lists.0 c.arm.ensures.lists.1) c.arm.ensures.stays.cells c.arm.ensures.lists.2 (ap sent_of c.in-Nothing.ensures.past) c.self.invariant.room;
+      }) _ c.need-want.result c.need-want.ensures.value (record { asleep = c.in-Nothing.ensures.asleep; want_is = c.arm.ensures.want c.in-Nothing.ensures.asleep }) c.arm.ensures.lists.0 (subst (λ w. is_nil w.desk.owed ≡ true → HasToWait (g.T.Talk.speech w.desk.talk) (g.T.Talk.besides w.desk.talk) w) (sym v) c.requires.waits) c.in-Nothing.ensures.past (ap (λ w. w.seen) v ∙ c.requires.unseen)) (ap (λ w. w.end.state.machine.marked) c.self.view_is ∙ c.requires.ready.unmarked) c.self.invariant.live;
+      room = room_quiet _ _ _ (got_same _ _ c.arm.ensures.lists.0 c.arm.ensures.lists.1) c.arm.ensures.stays.cells c.arm.ensures.lists.2 (ap sent_of c.in-Nothing.ensures.past) c.self.invariant.room;
       side = c.self.invariant.side ∙ sym c.arm.ensures.stays.same.side;
     }
 
 pub invariant_of-self-in-Mark : goal.invariant_of-self-in-Mark
 invariant_of-self-in-Mark g c =
     record {
-      live = quiet_kept (g.T.Talk.speech c.self.inside.desk.talk) (g.T.Talk.keeps c.self.inside.desk.talk) _ _ true c.need-want.result Saw c.in-Mark.ensures.past refl refl c.arm.ensures.lists.0 c.in-Mark.ensures.asleep refl c.self.invariant.live;
-      room = serve_quiet (c.self.inside.starts + c.self.inside.come) c.self.inside.served (length c.self.inside.desk.owed) _ _ (got_same _ _ c.arm.ensures.lists.0 c.arm.ensures.lists.1) c.arm.ensures.stays.cells c.arm.ensures.lists.2 (ap sent_of c.in-Mark.ensures.past) c.self.invariant.room;
+      live = saw_kept (g.T.Talk.speech c.self.inside.desk.talk) (g.T.Talk.keeps c.self.inside.desk.talk) (g.T.Talk.besides c.self.inside.desk.talk) _ _ c.need-want.result c.in-Mark.ensures.past c.arm.ensures.lists.0 c.in-Mark.ensures.asleep (ap (λ w. w.end.state.machine.marked) c.self.view_is ∙ c.requires.ready.unmarked) c.self.invariant.live;
+      room = room_quiet _ _ _ (got_same _ _ c.arm.ensures.lists.0 c.arm.ensures.lists.1) c.arm.ensures.stays.cells c.arm.ensures.lists.2 (ap sent_of c.in-Mark.ensures.past) c.self.invariant.room;
       side = c.self.invariant.side ∙ sym c.arm.ensures.stays.same.side;
     }
 
@@ -41,7 +39,7 @@ returns-in-Nothing-clause-turns g c =
     let v = c.self.view_is in (
       c.arm.ensures.unmarked,
       c.in-Nothing.ensures.asleep,
-      rests_at (g.T.Talk.speech c.self.inside.desk.talk) (g.T.Talk.keeps c.self.inside.desk.talk) (record {
+      rests_at (g.T.Talk.speech c.self.inside.desk.talk) (g.T.Talk.keeps c.self.inside.desk.talk) (g.T.Talk.besides c.self.inside.desk.talk) (record {
         desk = c.self.inside.desk;
         end = c.self.inside.port;
         serve = c.self.inside.serve;
@@ -52,6 +50,5 @@ returns-in-Nothing-clause-turns g c =
         served = c.self.inside.served;
         seen = c.self.inside.seen;
         want = c.self.inside.want;
-      }) _ c.need-want.result c.need-want.ensures.value (record { asleep = c.in-Nothing.ensures.asleep; want_is = c.arm.ensures.want c.in-Nothing.ensures.asleep }) c.arm.ensures.lists.0
-          (λ e. ap (λ w. w.served) v ∙ (c.requires.served (sym (ap (λ w. is_nil w.desk.owed) v) ∙ e) ∙ ap (λ w. length w.end.state.got) (sym v))) (λ e. ap has_done v ∙ c.requires.more (sym (ap (λ w. is_nil w.desk.owed) v) ∙ e)) (ap (λ w. w.seen) v ∙ c.requires.unseen),
+      }) _ c.need-want.result c.need-want.ensures.value (record { asleep = c.in-Nothing.ensures.asleep; want_is = c.arm.ensures.want c.in-Nothing.ensures.asleep }) c.arm.ensures.lists.0 (subst (λ w. is_nil w.desk.owed ≡ true → HasToWait (g.T.Talk.speech w.desk.talk) (g.T.Talk.besides w.desk.talk) w) (sym v) c.requires.waits) c.in-Nothing.ensures.past (ap (λ w. w.seen) v ∙ c.requires.unseen),
     )

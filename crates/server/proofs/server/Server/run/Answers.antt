@@ -32,8 +32,8 @@ returns-in-Ended-clause-ends g c =
     let u = c.args.self in
     let w = c.turn.new.self in
     let on = on_trans g.S.Seat.same g.S.Seat.same_trans _ _ _ c.loop.invariant.on c.turn.ensures.on in
-    subst (λ l. EndsBy (g.T.Talk.speech u.desk.talk) c.done.result.ended u c.done.result.end l) (sym (behind_is u.desk.before w.desk.before w.desk.calls _ c.done.ensures.calls on.before))
-    (ends_on g.S.Seat.same g.T.Talk.speech c.done.result.ended u w c.done.result.end w.desk.calls on c.done.ensures.ends.1)
+    subst (λ l. EndsBy (g.T.Talk.speech u.desk.talk) (g.T.Talk.besides u.desk.talk) c.done.result.ended u c.done.result.end l) (sym (behind_is u.desk.before w.desk.before w.desk.calls _ c.done.ensures.calls on.before))
+    (ends_on g.S.Seat.same g.T.Talk.speech g.T.Talk.besides c.done.result.ended u w c.done.result.end w.desk.calls on c.done.ensures.ends.1)
 
 pub returns-in-Ended-clause-before : goal.returns-in-Ended-clause-before
 returns-in-Ended-clause-before g c =

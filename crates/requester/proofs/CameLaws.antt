@@ -1,0 +1,41 @@
+-- What came just before the last packet.
+use Rattle.std.proofs.Common.{◌≡◌, ℕ, zero, suc, ◌+◌, ◌<◌, List, [], ◌∷◌, ◌++◌, length, cond, true, false, refl, sym, ap, ◌∙◌, arith, Some, None, length-append}
+use Rattle.std.specs.Prelude.{slice_get}
+use Rattle.chan_talk.specs.Listed.{packet_in}
+use Rattle.ring_machine.specs.States.{IsPacket}
+use Rattle.work_model.specs.Speech.{Speech}
+use Rattle.work_model.specs.Asker.{since}
+use Rattle.work_model.proofs.Asking.{since_more}
+
+-- the last but one stands last of those before the last
+before_last : (before : List (List ℕ)) (p q : List ℕ) (i : ℕ) → i + 2 ≡ length (before ++ p ∷ []) → slice_get (before ++ p ∷ []) i ≡ Some q → (first : List (List ℕ)) × (before ≡ first ++ q ∷ [])
+before_last [] p q i e at = absurd (omega (arith, e))
+before_last (x ∷ []) p q zero e at = let same : Some x ≡ Some q = at in let is : x ≡ q = cc in ([], ap (λ y. y ∷ []) is)
+before_last (x ∷ []) p q (suc i) e at = absurd (omega (arith, e))
+before_last (x ∷ y ∷ before) p q zero e at = absurd (omega (arith, e, length-append before (p ∷ [])))
+before_last (x ∷ y ∷ before) p q (suc i) e at =
+    let rest = before_last (y ∷ before) p q i (omega (arith, e)) at in (x ∷ rest.0, ap (λ l. x ∷ l) rest.1)
+
+pub packet_is : (q : List ℕ) → IsPacket q → packet_in q ≡ Some q
+packet_is [] h = absurd (omega (arith, h.two))
+packet_is (w ∷ ws) h = refl
+
+module _ {A Q R : Type 0} (s : Speech (List ℕ) A Q R) where
+  -- one packet came
+  pub none_before : (before : List (List ℕ)) (p : List ℕ) → length (before ++ p ∷ []) < 2 → since s None before ≡ None
+  none_before [] p e = refl
+  none_before (x ∷ before) p e = absurd (omega (arith, e, length-append before (p ∷ [])))
+
+  answer_before : (before : List (List ℕ)) (p q : List ℕ) (i : ℕ) → i + 2 ≡ length (before ++ p ∷ []) → slice_get (before ++ p ∷ []) i ≡ Some q → since s None before ≡ cond (s.is_answer q) None (Some q)
+  answer_before before p q i e at =
+      let first = before_last before p q i e at in
+      ap (since s None) first.1 ∙ since_more s None first.0 q
+
+  -- the one before the last is an answer, or it isn't
+  pub answered_before : (got before : List (List ℕ)) (p q : List ℕ) (i : ℕ) → got ≡ before ++ p ∷ [] → i + 2 ≡ length got → slice_get got i ≡ Some q → s.is_answer q ≡ true → None ≡ since s None before
+  answered_before got before p q i is e at answers =
+      sym (answer_before before p q i (e ∙ ap length is) (ap (λ l. slice_get l i) (sym is) ∙ at) ∙ ap (λ b. cond b None (Some q)) answers)
+
+  pub other_before : (got before : List (List ℕ)) (p q : List ℕ) (i : ℕ) → got ≡ before ++ p ∷ [] → i + 2 ≡ length got → slice_get got i ≡ Some q → IsPacket q → s.is_answer q ≡ false → packet_in q ≡ since s None before
+  other_before got before p q i is e at packet none =
+      packet_is q packet ∙ sym (answer_before before p q i (e ∙ ap length is) (ap (λ l. slice_get l i) (sym is) ∙ at) ∙ ap (λ b. cond b None (Some q)) none)

@@ -1,0 +1,21 @@
+use Rattle.std.proofs.Common.{ap, ◌∙◌}
+use Rattle.requester.proofs.NextLaws.{found_next}
+use Rattle.requester.proofs.AskSteps.{skipped_kept}
+use Rattle.requester.proofs.requester.Requester.find_message.Goals as goal
+
+pub invariant_of-self : goal.invariant_of-self
+invariant_of-self g c =
+    let v = c.self.view_is in
+    let l = c.self.invariant (ap (λ w. w.end.state.machine.marked) v ∙ c.requires.ready.unmarked) in
+    λ _. record {
+      live = skipped_kept (g.T.Talk.speech c.self.inside.talk) (g.T.Talk.keeps c.self.inside.talk) (g.T.Talk.asks c.self.inside.talk) _ c.next_message-self-inside.result c.next_message-self-inside.ensures (ap (λ w. w.end.state.machine.asleep) v ∙ c.requires.ready.awake) l.live;
+      replies = l.replies;
+      spare = l.spare;
+      size = l.size;
+      room = l.room;
+      side = l.side;
+    }
+
+pub returns-clause-message : goal.returns-clause-message
+returns-clause-message g c less =
+    found_next (g.T.Talk.speech c.self.inside.talk) c.self.inside.port.state.got c.self.inside.acked c.next_message-self-inside.result c.got_len.result c.got_len.ensures less c.next_message-self-inside.ensures
