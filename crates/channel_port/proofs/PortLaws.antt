@@ -34,6 +34,7 @@ slept_line old new s before after h = record {
   committed = s.start ∙ (h.committed ∙ sym s.read);
   mark = after ∙ (sym before ∙ (h.mark ∙ ap has_marked (sym s.past)));
   size = subst (λ n. (512 ≤ n) × (n ≤ 8192)) (sym s.cells) h.size;
+  bare = ap (λ k. k.count) s.kept.pages ∙ h.bare;
 }
 
 -- what stands last
@@ -213,6 +214,7 @@ new_line e fresh size = record {
   committed = ap (λ s. s.machine.start) fresh ∙ sym (ap (λ s. s.machine.read) fresh);
   mark = ap (λ s. s.machine.marked) fresh ∙ sym (ap (λ s. has_marked s.past) fresh);
   size = size;
+  bare = ap (λ s. s.pages.count) fresh;
 }
   where
     none : {X : Type 0} (p : List ℕ) → None ≡ Some p → X

@@ -20,7 +20,8 @@ use Rattle.ring_seat.specs.declared.table_seat.TableSeat.{TableSeat}
 use Rattle.channel_port.specs.declared.port.Looked.{Looked}
 use Rattle.channel_port.specs.declared.port.Looked.TheVariants.{Nothing, Work, Mark}
 
--- between two calls of a worker: the list of what was got is that of the end's past, and the cells of each packet in it were given back
+-- between two calls of a worker: the list of what was got is that of the end's past, the cells of each packet in it were given back, and the channel has no
+-- data pages
 pub record IsLine (e : Seen TableSeat) : Type 0 where
   pub idle : e.state.machine.stage ≡ Idle
   pub got : got_of e.state.past ≡ e.state.got
@@ -28,6 +29,7 @@ pub record IsLine (e : Seen TableSeat) : Type 0 where
   pub committed : e.state.machine.start ≡ e.state.machine.read
   pub mark : e.state.machine.marked ≡ has_marked e.state.past
   pub size : (512 ≤ e.state.machine.cells) × (e.state.machine.cells ≤ 8192)
+  pub bare : e.state.pages.count ≡ 0
 
 -- it can begin a call
 pub record IsReady (e : Seen TableSeat) : Type 0 where

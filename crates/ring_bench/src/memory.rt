@@ -8,9 +8,9 @@ use std::io;
 use std::rt::Runtime;
 use std::time::Instant;
 
-// Exchanges the memories of two ends whose rings have one size.
+// Exchanges the memories of two ends whose rings have one size, and whose channels have as many data pages.
 fn swap(g: &mut End<SoloMem>, h: &mut End<SoloMem>) {
-    if g.cells() == h.cells() {
+    if g.cells() == h.cells() && g.pages() == h.pages() {
         g.swap_memory(h);
     }
 }
@@ -36,7 +36,7 @@ fn turns(g: &mut End<SoloMem>, h: &mut End<SoloMem>, p: &[u64], count: u64) -> u
 // An end over a memory of one page.
 fn end(alloc: Global, side: Side) -> Result<End<SoloMem>, AllocError> {
     let solo = SoloMem::make(alloc, 4096, 0)?;
-    End::make(alloc, side, 4096, solo)
+    End::make(alloc, side, 4096, solo, 0)
 }
 
 // The nanoseconds a packet of one round of these ends, with room for the packets made first.

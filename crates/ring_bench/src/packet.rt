@@ -22,7 +22,12 @@ pub(crate) fn send<S: Seatlike>(e: &mut End<S>, p: &[u64]) -> bool
 {
     let room = e.spare_sent();
     let len = p.len() as u64;
-    if !e.is_ready() || len + 1 >= e.cells() as u64 || room.packets == 0 || room.words < len {
+    if e.pages() != 0
+        || !e.is_ready()
+        || len + 1 >= e.cells() as u64
+        || room.packets == 0
+        || room.words < len
+    {
         return false;
     }
     e.send(p).is_ok()
@@ -34,7 +39,7 @@ pub(crate) fn take<S: Seatlike>(e: &mut End<S>) -> bool {
         return false;
     }
     let took = e.take().is_ok();
-    if e.is_ready() {
+    if e.is_ready() && !e.is_due() {
         e.commit();
     }
     took

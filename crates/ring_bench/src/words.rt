@@ -72,7 +72,7 @@ fn room_of(words: usize) -> Option<u32>
 fn rest<R: Wait>(rt: &R, e: &mut End<TableSeat>, want: Option<u32>)
     requires { (n : ℕ) → 512 ≤ n → IsWant n want }
 {
-    if !e.is_ready() || e.cells() < 512 {
+    if !e.is_ready() || e.is_due() || e.cells() < 512 {
         return;
     }
     e.commit();

@@ -12,14 +12,18 @@ use Rattle.ring_machine.specs.declared.machine.Machine.{Machine}
 use Rattle.ring_machine.specs.declared.state.EndState.{EndState}
 use Rattle.ring_machine.specs.declared.place.Op.{Op}
 use Rattle.page_kept.specs.declared.kept.Kept.{Kept}
-use Rattle.page_kept.specs.Kept.{no_pages}
+use Rattle.page_table.specs.Table.{Table}
+use Rattle.ring_machine.specs.declared.page_core.PageCore.{PageCore}
+use Rattle.ring_core.specs.Seen.{Listed}
+use Rattle.ring_core.specs.Pages.{ArePages}
 use Rattle.page_kept.specs.declared.due.Due.TheVariants.{Clear}
 use Rattle.page_kept.specs.declared.page_call.PageCall.TheVariants.{Off}
 use Rattle.ring_machine.specs.Places.{ahead, len8_of, offset8_of}
 use Rattle.ring_machine.specs.Steps.{IsSound, fed, next_of, is_busy_at, is_copying_at, is_sent, is_took, is_broken, call_at, call_by, made_at, send_begun, take_begun, commit_begun, arm_begun, poll_begun, mark_begun, peer_mark_begun}
 use Rattle.ring_machine.specs.Loops.{is_storing_at, is_writing_at, is_masking_at, is_first_at, is_loading_at, is_asking_at, is_seeking_at, is_giving_at, is_feature_at, is_pending_at, is_polling_at, is_opening_at, Starts}
-use Rattle.ring_machine.specs.States.{IsPacket, Gets, kept_at, copied_at, copied_after, sent_after, sent_while, got_after, past_after, past_while, past_by, sent_by, got_by, past_by_ending, past_of, pages_after, pages_by, pages_by_ending, stored, after, afters, entered, resting_with, shown, IsAwake, MayLend, Begins, Continues}
-use Rattle.ring_machine.specs.Endings.{Leaves, LeavesBy, is_committed, is_dozed, is_marked}
+use Rattle.ring_machine.specs.States.{IsPacket, Gets, kept_at, copied_at, copied_after, sent_after, sent_while, got_after, past_after, past_while, past_by, sent_by, got_by, past_by_ending, past_of, pages_after, pages_by, stored, after, afters, entered, resting_with, shown, IsAwake, MayLend, Begins, Continues}
+use Rattle.ring_machine.specs.Endings.{Leaves, LeavesBy, is_committed, is_dozed, is_marked, send_answer, is_honest_send, take_refusal}
+use Rattle.ring_core.specs.Taking.{is_honest_take}
 use Rattle.ring_core.specs.declared.told.Told.{Told}
 use Rattle.ring_core.specs.Told.{Memory, pair, step, step_by, run, memory_after, answer_of, raises_at, wakes_at, raises_of, wakes_of, told_at, told_next, told_by, AreSteps, Ran, Left}
 use Rattle.ring_machine.proofs.Sound.{at_cond, fed_made, no_true}
@@ -358,18 +362,9 @@ module _ (base : EndState) (told told' : Option Told) (memory memory' : Option M
         runs = it.runs;
       })
 
--- a channel without pages keeps none
-none_by : (how : Ending) (m : Machine) (p buf : List ℕ) → pages_by_ending how m no_pages p buf ≡ no_pages
-none_by SentQuiet m p buf = refl
-none_by SentRaised m p buf = refl
-none_by Took m p buf = refl
-none_by _ m p buf = refl
-
-pub going_bare : (base : EndState) (told told' : Option Told) (memory memory' : Option Memory) (m : Machine) (p buf : List ℕ) → Going base told told' memory memory' m p buf → IsSound m → is_busy_at m.stage ≡ false → base.pages ≡ no_pages
-    → Left base told told' memory memory' m (sent_by m base.sent p) (got_by m base.got buf) (past_by m base.past p buf) no_pages
-going_bare base told told' memory memory' m p buf it s n bare =
-    subst (λ (k : Kept). Left base told told' memory memory' m (sent_by m base.sent p) (got_by m base.got buf) (past_by m base.past p buf) k)
-    (ap (λ (k : Kept). pages_by m k p buf) bare ∙ none_by m.ended m p buf) (going_ran base told told' memory memory' m p buf it s n)
+-- the pages are as they should be, where none of their parts is changed
+pub pages_stay : (k k' : PageCore) (s s' g g' : Listed) (t t' : Table) → ArePages k s g t → k' ≡ k → s' ≡ s → g' ≡ g → t' ≡ t → ArePages k' s' g' t'
+pages_stay k k' s s' g g' t t' fit a b c d = subst (λ (z : PageCore × Listed × Listed × Table). ArePages z.0 z.1 z.2 z.3) (λ i. (sym a i, sym b i, sym c i, sym d i)) fit
 
 pub going_honest : (base : EndState) (told told' : Option Told) (memory memory' : Option Memory) (m : Machine) (p buf : List ℕ) → Going base told told' memory memory' m p buf → is_busy_at m.stage ≡ false
     → (u : Told) → told' ≡ Some u → m.stage ≢ Stopped
@@ -575,3 +570,39 @@ lent n got got' past past' w g e =
       subst (λ (x : List ℕ). length x ≡ n) same g.size,
       subst (λ (x : List ℕ). got' ≡ got ++ x ∷ []) same g.list,
     )
+
+-- a send that breaks nothing is answered as an honest peer has it
+pub honest_send : (how : Ending) (m : Machine) → call_by how ≡ 1 → is_broken how ≡ false → is_honest_send (send_answer how m) ≡ true
+honest_send SentQuiet m call whole = refl
+honest_send SentRaised m call whole = refl
+honest_send Full m call whole = refl
+honest_send BadPeer m call whole = absurd (cc)
+honest_send _ m call whole = absurd (omega (arith, call))
+
+-- a call leaves to the machine before it what it leaves to the machine that has begun it
+pub rebased : (n : ℕ) (m b new : Machine) → b.write ≡ m.write → b.read ≡ m.read → b.start ≡ m.start → LeavesBy n b new → LeavesBy n m new
+rebased n m b new write read start h = record {
+  awake = h.awake;
+  unmarked = h.unmarked;
+  marked = h.marked;
+  idle = h.idle;
+  write = λ x. h.write x ∙ write;
+  read = λ x. h.read x ∙ read;
+  start = λ x. h.start x ∙ start;
+  committed = h.committed;
+  untaken = h.untaken;
+  whole = h.whole;
+}
+
+-- a take that breaks nothing is answered as an honest peer has it
+pub honest_take : (how : Ending) (m : Machine) → call_by how ≡ 2 → is_broken how ≡ false → is_honest_take (cond (is_took how) None (Some (take_refusal how m))) ≡ true
+honest_take Took m call whole = refl
+honest_take Empty m call whole = refl
+honest_take BadIndex m call whole = absurd (cc)
+honest_take BadLength m call whole = absurd (cc)
+honest_take BadOffset m call whole = absurd (cc)
+honest_take _ m call whole = absurd (omega (arith, call))
+
+-- what a take leaves to the machine that has begun it, it leaves to the one before it
+pub take_leaves : (m new : Machine) → Leaves (take_begun m) new → Leaves m new
+take_leaves m new h = record { cells = h.cells; side = h.side; write = h.write; read = h.read; start = h.start; asleep = h.asleep; marked = h.marked; stage = h.stage }

@@ -1,5 +1,5 @@
 -- What a contract sees of an end.
-use Rattle.std.specs.Prelude.{◌≡◌, ◌≤◌, ◌+◌, ℕ, false, List}
+use Rattle.std.specs.Prelude.{◌≡◌, ◌≤◌, ◌+◌, ℕ, Bool, true, false, min, List}
 use Rattle.ring_machine.specs.declared.machine.Ending.{Ending}
 use Rattle.ring_machine.specs.Steps.{is_sent}
 use Rattle.ring_machine.specs.declared.state.EndState.{EndState}
@@ -12,10 +12,26 @@ pub record Seen (S : Type 0) : Type 0 where
   pub spare_sent : Room
   pub spare_got : Room
 
--- a list of packets, and the room that is reserved for more
-pub record Listed : Type 0 where
+-- rows of words, and the room that is reserved for more
+pub record Rowed : Type 0 where
   pub list : List (List ℕ)
   pub room : Room
+
+-- a list of packets, the page words of each, whether they are kept, the room for more packets, and the room of the page words
+pub record Listed : Type 0 where
+  pub list : List (List ℕ)
+  pub lent : List (List ℕ)
+  pub paged : Bool
+  pub room : Room
+  pub lent_room : Room
+
+-- the room for packets: the lesser of both, where page words are kept
+abbrev pub room_in : Bool → Room → Room → Room
+room_in false rows lent = rows
+room_in true rows lent = record { packets = min rows.packets lent.packets; words = min rows.words lent.words }
+
+abbrev pub listed_in : Bool → Rowed → Rowed → Listed
+listed_in paged rows lent = record { list = rows.list; lent = lent.list; paged = paged; room = room_in paged rows.room lent.room; lent_room = lent.room }
 
 -- a send of n words that ended so takes at most one packet and these words of spare room, and none where it sent nothing
 pub record SentRoom (how : Ending) (n : ℕ) (old new : Room) : Type 0 where
@@ -29,3 +45,12 @@ pub record Kept {S : Type 0} (old new : Seen S) : Type 0 where
   pub got : new.state.got ≡ old.state.got
   pub spare_sent : new.spare_sent ≡ old.spare_sent
   pub spare_got : new.spare_got ≡ old.spare_got
+  pub pages : new.state.pages ≡ old.state.pages
+
+-- a page call changes neither the machine, nor the lists of packets, nor the past
+pub record KeptByPages {S : Type 0} (old new : Seen S) : Type 0 where
+  pub machine : new.state.machine ≡ old.state.machine
+  pub sent : new.state.sent ≡ old.state.sent
+  pub got : new.state.got ≡ old.state.got
+  pub past : new.state.past ≡ old.state.past
+  pub spare_sent : new.spare_sent ≡ old.spare_sent

@@ -1,7 +1,9 @@
 -- What a seat tells: of its end, and of its memory, whose words, steps made and changes still due count. And a call of an end there.
-use Rattle.std.specs.Prelude.{◌≡◌, ◌≢◌, ◌≤◌, ℕ, zero, suc, ◌+◌, ◌%◌, ◌^◌, cond, leb, List, [], ◌∷◌, length, replicate, slice_index, slice_set, ◌*◌, ◌++◌, Option, Some, None, ◌==◌, true}
+use Rattle.std.specs.Prelude.{◌≡◌, ◌≢◌, ◌≤◌, Bool, true, false, ℕ, zero, suc, ◌+◌, ◌%◌, ◌^◌, cond, leb, List, [], ◌∷◌, length, replicate, slice_index, slice_set, ◌*◌, ◌++◌, Option, Some, None, ◌==◌}
 use Rattle.chan_run.specs.declared.event.Event.{Event}
 use Rattle.page_kept.specs.declared.kept.Kept.{Kept}
+use Rattle.page_kept.specs.declared.page_call.PageCall.{PageCall}
+use Rattle.ring_machine.specs.PageCalls.{ContinuesPage, after_page, paged}
 use Rattle.ring_core.specs.declared.told.Told.{Told}
 use Rattle.ring_core.specs.declared.told_mem.Change.{Change}
 use Rattle.ring_machine.specs.declared.place.Op.{Op}
@@ -15,7 +17,7 @@ use Rattle.ring_machine.specs.declared.place.Ring.TheVariants.{ToHost, ToGuest}
 use Rattle.ring_machine.specs.declared.place.Place.TheVariants.{Mask, Feature}
 use Rattle.ring_machine.specs.Places.{index_of, signal_of, mark_of, words_of, IsPlaceOf}
 use Rattle.ring_machine.specs.Steps.{next_of, made_at, is_busy_at}
-use Rattle.ring_machine.specs.States.{after, afters, entered, resting_with}
+use Rattle.ring_machine.specs.States.{after, afters, entered, resting_with, Continues}
 
 pub record Memory : Type 0 where
   pub words : List ℕ
@@ -100,6 +102,20 @@ told_at u m p = record { state = entered u.state m p; steps = u.steps; raised = 
 -- and after one step that answered v
 abbrev pub told_next : Told → ℕ → Told
 told_next u v = record { state = after u.state v; steps = u.steps + 1; raised = u.raised + raises_at u.state.machine.stage; woke = u.woke + wakes_at u.state.machine.stage v }
+
+-- after one step of a page call c that goes on, or begins, there
+abbrev pub told_page : Told → PageCall → ℕ → Told
+told_page u c v = record { state = after_page (paged u.state c) v; steps = u.steps + 1; raised = u.raised; woke = u.woke }
+
+-- A step of an end whose machine is m and whose page call is c: of the call of the rings where one is under way, and else of the page call. What it asks of the
+-- end's state, and what is told after it
+abbrev pub GoesOn : Bool → EndState → Machine → PageCall → List ℕ → Type 0
+GoesOn true s m c p = Continues s m p
+GoesOn false s m c p = ContinuesPage s c
+
+abbrev pub told_step : Bool → Told → Machine → PageCall → List ℕ → ℕ → Told
+told_step true u m c p v = told_next (told_at u m p) v
+told_step false u m c p v = told_page u c v
 
 -- the raises and the wakes among the steps that gave these answers, the last one first, from the state s
 abbrev pub raises_of : EndState → List ℕ → ℕ

@@ -3,11 +3,11 @@ ghost use Rattle.std.specs.Prelude.{◌≡◌, ◌≢◌, ℕ, ◌<◌, true, fa
 ghost use Rattle.ring_machine.specs.Loops.{SendKeeps, TakeKeeps, CommitKeeps};
 ghost use Rattle.ring_machine.specs.States.{stored, Continues};
 ghost use Rattle.ring_machine.specs.Steps.{is_busy_at, is_copying_at, next_of, fed};
-ghost use Rattle.ring_core.specs.Told.{Memory, memory_after, answer_of, told_at, told_next};
+ghost use Rattle.ring_core.specs.Told.{Memory, memory_after, answer_of, told_at, told_next, told_page};
 ghost use Rattle.ring_core.specs.declared.told.Told.{Told};
 ghost use Rattle.ring_machine.specs.declared.machine.Stage.TheVariants.{Stopped};
 ghost use Rattle.ring_machine.specs.declared.place.Op.{Op};
-ghost use Rattle.ring_machine.specs.PageCalls.{is_paging};
+ghost use Rattle.ring_machine.specs.PageCalls.{is_paging, page_op, pages_fed, ContinuesPage};
 
 use crate::parts::Parts;
 use crate::seat::Seatlike;
@@ -51,6 +51,26 @@ pub fn step<S: Seatlike>(
     let v = seat.perform(core, packet);
     let copies = core.is_copying();
     store_where(copies, buf, core.machine.done as usize, v);
+    core.feed(v);
+    v
+}
+
+/// Makes the one step of the page call that the machine is in, by the seat, feeds the machine what it gave, and answers that.
+pub fn page_step<S: Seatlike>(seat: &mut S, core: &mut EndCore) -> u64
+    requires rests { is_busy_at core.old.machine.stage ≡ false }
+    requires call { is_paging core.old.pages.call ≡ true }
+    requires fits { S.cells seat.old ≡ core.old.machine.cells }
+    requires pages { S.pages seat.old ≡ core.old.pages.count }
+    requires goes_on { (u : Told) → S.told seat.old ≡ Some u → ContinuesPage u.state core.old.pages.call }
+    ensures machine { core.new.machine ≡ core.old.machine }
+    ensures fed { core.new.pages ≡ pages_fed core.old.pages }
+    ensures runs { (m : Memory) (op : Op) → S.memory seat.old ≡ Some m → page_op core.old.pages.call ≡ Some op → (S.memory seat.new ≡ Some (memory_after core.old.machine.cells op m)) × (result ≡ answer_of core.old.machine.cells op m) }
+    ensures same { S.same seat.old seat.new }
+    ensures cells { S.cells seat.new ≡ S.cells seat.old }
+    ensures silent { S.told seat.old ≡ None → S.told seat.new ≡ None }
+    ensures tells { (u : Told) → S.told seat.old ≡ Some u → S.told seat.new ≡ Some (told_page u core.old.pages.call result) }
+{
+    let v = seat.perform(core, &[]);
     core.feed(v);
     v
 }
@@ -141,9 +161,8 @@ pub(crate) trait Driver<S: Seatlike> {
     ghost use Rattle.std.specs.Prelude.{◌≡◌, ◌≢◌, true, false, take, Some};
     ghost use Rattle.ring_machine.specs.Endings.{Leaves};
     ghost use Rattle.ring_machine.specs.Loops.{Starts};
-    ghost use Rattle.ring_machine.specs.States.{IsPacket, entered, shown, sent_by, got_by, past_by, Continues};
-    ghost use Rattle.page_kept.specs.Kept.{no_pages};
-    ghost use Rattle.ring_machine.specs.PageCalls.{core_pages};
+    ghost use Rattle.ring_machine.specs.States.{IsPacket, entered, shown, sent_by, got_by, past_by, pages_by, Continues};
+    ghost use Rattle.ring_core.specs.Pages.{kept_of};
     ghost use Rattle.ring_machine.specs.Steps.{is_busy_at, is_took, call_at, call_by};
     ghost use Rattle.ring_core.specs.Told.{Left};
     ghost use Rattle.ring_machine.specs.declared.machine.Stage.TheVariants.{Stopped};
@@ -152,14 +171,14 @@ pub(crate) trait Driver<S: Seatlike> {
     fn drive(parts: &mut Parts<S>, packet: &[u64])
         requires starts { Starts parts.old.core.machine }
         requires fits { S.cells parts.old.seat ≡ parts.old.core.machine.cells }
-        requires goes_on { (u : Told) → S.told parts.old.seat ≡ Some u → Continues u.state parts.old.core.machine packet.now × (entered u.state parts.old.core.machine packet.now ≡ shown parts.old.core.machine packet.now parts.old.buf.items parts.old.sent.list parts.old.got.list parts.old.past.events no_pages) }
+        requires goes_on { (u : Told) → S.told parts.old.seat ≡ Some u → Continues u.state parts.old.core.machine packet.now × (entered u.state parts.old.core.machine packet.now ≡ shown parts.old.core.machine packet.now parts.old.buf.items parts.old.sent.list parts.old.got.list parts.old.past.events (kept_of parts.old.core.pages parts.old.sent parts.old.got parts.old.table)) }
         ensures call { call_by parts.new.core.machine.ended ≡ call_at parts.old.core.machine.stage }
         ensures leaves { Leaves parts.old.core.machine parts.new.core.machine }
         ensures took { is_took parts.new.core.machine.ended ≡ true → IsPacket (take parts.new.core.machine.len parts.new.buf.items) }
-        ensures left { Left (shown parts.old.core.machine packet.now parts.old.buf.items parts.old.sent.list parts.old.got.list parts.old.past.events no_pages) (S.told parts.old.seat) (S.told parts.new.seat) (S.memory parts.old.seat) (S.memory parts.new.seat) parts.new.core.machine (sent_by parts.new.core.machine parts.old.sent.list packet.now) (got_by parts.new.core.machine parts.old.got.list parts.new.buf.items) (past_by parts.new.core.machine parts.old.past.events packet.now parts.new.buf.items) no_pages }
+        ensures left { Left (shown parts.old.core.machine packet.now parts.old.buf.items parts.old.sent.list parts.old.got.list parts.old.past.events (kept_of parts.old.core.pages parts.old.sent parts.old.got parts.old.table)) (S.told parts.old.seat) (S.told parts.new.seat) (S.memory parts.old.seat) (S.memory parts.new.seat) parts.new.core.machine (sent_by parts.new.core.machine parts.old.sent.list packet.now) (got_by parts.new.core.machine parts.old.got.list parts.new.buf.items) (past_by parts.new.core.machine parts.old.past.events packet.now parts.new.buf.items) (pages_by parts.new.core.machine (kept_of parts.old.core.pages parts.old.sent parts.old.got parts.old.table) packet.now parts.new.buf.items) }
         ensures pages { parts.new.core.pages ≡ parts.old.core.pages }
         ensures idle { is_busy_at parts.new.core.machine.stage ≡ false }
-        ensures lists { (parts.new.sent ≡ parts.old.sent) × (parts.new.got ≡ parts.old.got) × (parts.new.past ≡ parts.old.past) }
+        ensures lists { (parts.new.sent ≡ parts.old.sent) × (parts.new.got ≡ parts.old.got) × (parts.new.table ≡ parts.old.table) × (parts.new.past ≡ parts.old.past) }
         ensures same { S.same parts.old.seat parts.new.seat }
         ensures cells { S.cells parts.new.seat ≡ parts.new.core.machine.cells }
         ensures honest { (u : Told) → S.told parts.new.seat ≡ Some u → parts.new.core.machine.stage ≢ Stopped };

@@ -1,10 +1,21 @@
 //! One end of a channel: it makes the steps of its calls by its seat, and keeps the lists of what it sent and got.
-ghost use Rattle.std.specs.Prelude.{◌≡◌, ◌≢◌, ℕ, ◌+◌, ◌*◌, ◌/◌, ◌<◌, ◌≤◌, ◌++◌, ◌∷◌, true, false, not, [], length, Option, Some, None, Result, Ok, Err, IfOk, OnOk, IsTrue, ◌↔◌, take, ◌-◌};
+ghost use Rattle.std.specs.Prelude.{◌≡◌, ◌≢◌, ℕ, ◌+◌, ◌*◌, ◌/◌, ◌<◌, ◌≤◌, ◌++◌, ◌∷◌, cond, true, false, not, [], length, Option, Some, None, Result, Ok, Err, IfOk, OnOk, IsTrue, ◌↔◌, take, ◌-◌};
 ghost use Rattle.ring_machine.specs.Endings.{Leaves, LeavesBy, why_of, send_answer, commit_answer, is_asleep, peer_mark_answer, is_honest_send, want_of, IsWant};
 ghost use Rattle.ring_machine.specs.Places.{IsRingSize};
-ghost use Rattle.ring_core.specs.Seen.{SentRoom, Kept};
-ghost use Rattle.ring_machine.specs.States.{IsPacket, Gets, entered, resting, past_of, sent_by};
-ghost use Rattle.ring_machine.specs.Steps.{machine_new, is_sent, call_by, send_begun, commit_begun, arm_begun, poll_begun, mark_begun, peer_mark_begun};
+ghost use Rattle.page_kept.specs.Kept.{pages_sent, pages_took};
+ghost use Rattle.page_kept.specs.Keepers.{MayStore};
+ghost use Rattle.page_kept.specs.Layouts.{layout};
+ghost use Rattle.page_kept.specs.Stepped.{page_stored};
+ghost use Rattle.page_kept.specs.declared.due.Due.TheVariants.{Clear};
+ghost use Rattle.page_kept.specs.declared.page_call.PageCall.TheVariants.{StoreWord};
+ghost use Rattle.page_table.specs.Table.{owned_in};
+ghost use Rattle.ring_core.specs.PageRuns.{RanPages};
+ghost use Rattle.ring_core.specs.Pages.{IsClear, along, first_kept, last_words};
+ghost use Rattle.ring_core.specs.Seen.{SentRoom, Kept, KeptByPages};
+ghost use Rattle.ring_core.specs.Loading.{Loads};
+ghost use Rattle.ring_machine.specs.PageCalls.{newest};
+ghost use Rattle.ring_machine.specs.States.{IsPacket, Gets, MayLend, entered, resting_with, past_of, sent_by};
+ghost use Rattle.ring_machine.specs.Steps.{machine_new, is_sent, is_took, call_by, send_begun, commit_begun, arm_begun, poll_begun, mark_begun, peer_mark_begun};
 ghost use Rattle.ring_core.specs.Taking.{Takes};
 ghost use Rattle.ring_machine.specs.Endings.{refused};
 ghost use Rattle.ring_core.specs.Told.{Ran};
@@ -19,6 +30,8 @@ use crate::room::Room;
 use crate::seat::Seatlike;
 use crate::solo_mem::SoloMem;
 use chan_run::Past;
+use page_kept::Due;
+use page_table::PageTable;
 use ring_machine::{Armed, EndCore, SendRefusal, Side, Signalled, Stage, TakeRefusal};
 use std::alloc::{AllocError, Global};
 use std::marker::Model;
@@ -33,37 +46,48 @@ pub struct End<S: Seatlike> {
 impl<S: Seatlike> Model for End<S> {
     ghost use Rattle.std.specs.Prelude.{◌≡◌, ◌≢◌, false, Some};
     ghost use Rattle.ring_core.specs.Seen.{Seen};
-    ghost use Rattle.ring_machine.specs.States.{resting};
+    ghost use Rattle.ring_core.specs.Pages.{kept_of};
+    ghost use Rattle.ring_machine.specs.States.{resting_with};
     ghost use Rattle.ring_machine.specs.Steps.{is_busy_at};
     ghost use Rattle.ring_machine.specs.declared.machine.Stage.TheVariants.{Stopped};
     ghost use Rattle.ring_core.specs.declared.told.Told.{Told};
 
     ghost Value = { Seen S };
 
-    ghost view = { λ e. record { state = resting e.parts.core.machine e.parts.sent.list e.parts.got.list e.parts.past.events; seat = e.parts.seat; spare_sent = e.parts.sent.room; spare_got = e.parts.got.room } };
+    ghost view = { λ e. record { state = resting_with e.parts.core.machine e.parts.sent.list e.parts.got.list e.parts.past.events (kept_of e.parts.core.pages e.parts.sent e.parts.got e.parts.table); seat = e.parts.seat; spare_sent = e.parts.sent.room; spare_got = e.parts.got.room } };
 
-    ghost invariant = { λ e. record { rests : is_busy_at e.parts.core.machine.stage ≡ false; cells : S.cells e.parts.seat ≡ e.parts.core.machine.cells; told : (u : Told) → S.told e.parts.seat ≡ Some u → u.state ≡ resting e.parts.core.machine e.parts.sent.list e.parts.got.list e.parts.past.events; honest : (u : Told) → S.told e.parts.seat ≡ Some u → e.parts.core.machine.stage ≢ Stopped } };
+    ghost invariant = { λ e. record { rests : is_busy_at e.parts.core.machine.stage ≡ false; cells : S.cells e.parts.seat ≡ e.parts.core.machine.cells; told : (u : Told) → S.told e.parts.seat ≡ Some u → u.state ≡ resting_with e.parts.core.machine e.parts.sent.list e.parts.got.list e.parts.past.events (kept_of e.parts.core.pages e.parts.sent e.parts.got e.parts.table); pages : S.pages e.parts.seat ≡ e.parts.core.pages.count; honest : (u : Told) → S.told e.parts.seat ≡ Some u → e.parts.core.machine.stage ≢ Stopped } };
 }
 
 impl<S: Seatlike> End<S> {
-    /// A new end of a channel whose rings have `d` bytes of data. It takes memory for one packet of `d / 8` words.
-    pub fn make(alloc: Global, side: Side, d: u32, seat: S) -> Result<End<S>, AllocError>
+    /// A new end of a channel whose rings have `d` bytes of data, and which has so many data pages, at most 128. It takes memory for one packet of `d / 8`
+    /// words, and for a copy of the page words.
+    pub fn make(
+        alloc: Global,
+        side: Side,
+        d: u32,
+        seat: S,
+        pages: u32,
+    ) -> Result<End<S>, AllocError>
     where
         S: Drop,
         requires size { IsRingSize d }
-        requires seat { S.cells seat ≡ d / 8 }
-        requires told { (u : Told) → S.told seat ≡ Some u → u.state ≡ resting (machine_new side (d / 8)) [] [] [] }
-        ensures { IfOk result (λ e. (e.state ≡ resting (machine_new side (d / 8)) [] [] []) × (e.seat ≡ seat)) }
+        requires pages { pages ≤ 128 }
+        requires seat { (S.cells seat ≡ d / 8) × (S.pages seat ≡ pages) }
+        requires told { (u : Told) → S.told seat ≡ Some u → u.state ≡ resting_with (machine_new side (d / 8)) [] [] [] (first_kept side pages) }
+        ensures { IfOk result (λ e. (e.state ≡ resting_with (machine_new side (d / 8)) [] [] [] (first_kept side pages)) × (e.seat ≡ seat)) }
     {
-        let core = EndCore::make(side, d, 0);
+        let core = EndCore::make(side, d, pages);
         let buf = Vec::from_elem(alloc, 0, core.machine.cells as usize)?;
+        let table = PageTable::make(alloc, side, pages)?;
         Ok(End {
             parts: Parts {
                 core,
                 buf,
-                sent: Packets::new(alloc),
-                got: Packets::new(alloc),
+                sent: Packets::new(alloc, pages != 0),
+                got: Packets::new(alloc, pages != 0),
                 past: Past::new(),
+                table,
                 seat,
             },
         })
@@ -106,6 +130,28 @@ impl<S: Seatlike> End<S> {
         ensures { result ≡ self.now.state.machine.cells }
     {
         self.parts.core.machine.cells
+    }
+
+    /// How many data pages the channel has.
+    pub fn pages(&self) -> u32
+        ensures { result ≡ self.now.state.pages.count }
+    {
+        self.parts.core.pages.count
+    }
+
+    /// Whether this end has a page of the channel, or holds it. Of a page that the channel hasn't, neither.
+    pub fn owns(&self, page: u32) -> bool
+        ensures { result ≡ owned_in self.now.state.pages.owners page }
+    {
+        self.parts.table.owns(page)
+    }
+
+    /// Whether page words that came with the packet that was taken last are still to be loaded.
+    pub fn is_due(&self) -> bool
+        ensures clear { result ≡ false → self.now.state.pages.due ≡ Clear }
+        ensures due { result ≡ true → self.now.state.pages.due ≢ Clear }
+    {
+        matches!(self.parts.core.pages.due, Due::Loads { .. })
     }
 
     /// Whether a call can begin: the end is neither stopped, asleep nor marked.
@@ -166,11 +212,13 @@ impl<S: Seatlike> End<S> {
             mut sent,
             mut got,
             past: _,
+            table,
             seat,
         } = parts;
         sent.trim();
         got.trim();
         drop(buf);
+        drop(table);
         (seat, sent, got)
     }
 
@@ -183,7 +231,8 @@ impl<S: Seatlike> End<S> {
         requires unmarked { self.old.state.machine.marked ≡ false }
         requires packet { IsPacket p.now }
         requires fits { length p.now + 1 < self.old.state.machine.cells }
-        requires room { (0 < self.old.spare_sent.packets) × (length p.now ≤ self.old.spare_sent.words) }
+        requires lends { MayLend self.old.state p.now }
+        requires room { (0 < self.old.spare_sent.packets) × (length p.now + along self.old.state.pages p.now ≤ self.old.spare_sent.words) }
         ensures ran { self.old.state.machine.stage ≡ Idle → Ran (entered self.old.state (send_begun self.old.state.machine (length p.now)) p.now) self.new.state (S.told self.old.seat) (S.told self.new.seat) (S.memory self.old.seat) (S.memory self.new.seat) }
         ensures answer { self.old.state.machine.stage ≡ Idle → (result ≡ send_answer self.new.state.machine.ended self.new.state.machine) × (call_by self.new.state.machine.ended ≡ 1) }
         ensures leaves { self.old.state.machine.stage ≡ Idle → Leaves self.old.state.machine self.new.state.machine }
@@ -195,7 +244,9 @@ impl<S: Seatlike> End<S> {
         ensures honest { (u : Told) → S.told self.old.seat ≡ Some u → (self.old.state.machine.stage ≡ Idle) × (self.new.state.machine.stage ≡ Idle) × (is_honest_send result ≡ true) }
         ensures same { (S.same self.old.seat self.new.seat) × (self.new.state.machine.cells ≡ self.old.state.machine.cells) × (self.new.state.machine.side ≡ self.old.state.machine.side) }
         ensures kept { (self.new.state.got ≡ self.old.state.got) × (self.new.spare_got ≡ self.old.spare_got) }
-        ensures room { SentRoom self.new.state.machine.ended (length p.now) self.old.spare_sent self.new.spare_sent }
+        ensures count { self.new.state.pages.count ≡ self.old.state.pages.count }
+        ensures pages { self.old.state.machine.stage ≡ Idle → self.new.state.pages ≡ cond (is_sent self.new.state.machine.ended) (pages_sent (layout self.old.state.pages.count) self.old.state.pages p.now) self.old.state.pages }
+        ensures room { SentRoom self.new.state.machine.ended (length p.now + along self.old.state.pages p.now) self.old.spare_sent self.new.spare_sent }
     {
         if self.parts.core.is_stopped() {
             return Err(SendRefusal::Stopped {
@@ -213,6 +264,7 @@ impl<S: Seatlike> End<S> {
         requires idle { self.old.state.machine.stage ≡ Idle }
         requires awake { self.old.state.machine.asleep ≡ false }
         requires unmarked { self.old.state.machine.marked ≡ false }
+        requires clear { IsClear self.old.state.pages }
         ensures ran { Ran (entered self.old.state (commit_begun self.old.state.machine) []) self.new.state (S.told self.old.seat) (S.told self.new.seat) (S.memory self.old.seat) (S.memory self.new.seat) }
         ensures answer { (result ≡ commit_answer self.new.state.machine.ended) × (call_by self.new.state.machine.ended ≡ 3) }
         ensures leaves { Leaves self.old.state.machine self.new.state.machine }
@@ -234,6 +286,7 @@ impl<S: Seatlike> End<S> {
         requires unmarked { self.old.state.machine.marked ≡ false }
         requires committed { self.old.state.machine.start ≡ self.old.state.machine.read }
         requires want { IsWant self.old.state.machine.cells want }
+        requires clear { IsClear self.old.state.pages }
         ensures ran { Ran (entered self.old.state (arm_begun self.old.state.machine (want_of want)) []) self.new.state (S.told self.old.seat) (S.told self.new.seat) (S.memory self.old.seat) (S.memory self.new.seat) }
         ensures answer { (is_asleep result ≡ self.new.state.machine.asleep) × (call_by self.new.state.machine.ended ≡ 4) }
         ensures leaves { Leaves self.old.state.machine self.new.state.machine }
@@ -269,6 +322,7 @@ impl<S: Seatlike> End<S> {
         requires idle { self.old.state.machine.stage ≡ Idle }
         requires awake { self.old.state.machine.asleep ≡ false }
         requires unmarked { self.old.state.machine.marked ≡ false }
+        requires clear { IsClear self.old.state.pages }
         ensures ran { Ran (entered self.old.state (mark_begun self.old.state.machine) []) self.new.state (S.told self.old.seat) (S.told self.new.seat) (S.memory self.old.seat) (S.memory self.new.seat) }
         ensures call { call_by self.new.state.machine.ended ≡ 6 }
         ensures leaves { Leaves self.old.state.machine self.new.state.machine }
@@ -304,7 +358,10 @@ impl<S: Seatlike> End<S> {
         requires awake { self.old.state.machine.asleep ≡ false }
         requires unmarked { self.old.state.machine.marked ≡ false }
         requires room { (0 < self.old.spare_got.packets) × (self.old.state.machine.cells ≤ self.old.spare_got.words) }
+        requires clear { IsClear self.old.state.pages }
         ensures takes { Takes S S.told S.memory S.same self.old self.new (refused result) }
+        ensures count { self.new.state.pages.count ≡ self.old.state.pages.count }
+        ensures pages { self.old.state.machine.stage ≡ Idle → self.new.state.pages ≡ cond (is_took self.new.state.machine.ended) (pages_took (layout self.old.state.pages.count) self.old.state.pages (newest self.new.state.got)) self.old.state.pages }
         ensures took { refused result ≡ None → Gets self.new.state.machine.len self.old.state.got self.new.state.got self.old.state.past self.new.state.past }
     {
         if self.parts.core.is_stopped() {
@@ -315,6 +372,38 @@ impl<S: Seatlike> End<S> {
         self.parts.core.begin_take();
         self.parts.make_call::<TakeLoops>(&[]);
         self.parts.core.take_answered()
+    }
+
+    /// Stores a word of a page that this end has, or one of the lent words of a page that it holds: 1 step.
+    pub fn page_store(&mut self, page: u32, word: u32, v: u64)
+        requires idle { self.old.state.machine.stage ≡ Idle }
+        requires unmarked { self.old.state.machine.marked ≡ false }
+        requires may { MayStore (layout self.old.state.pages.count) self.old.state.machine.side self.old.state.pages page word }
+        ensures ran { RanPages self.old.state self.new.state (StoreWord page word v) (S.told self.old.seat) (S.told self.new.seat) (S.memory self.old.seat) (S.memory self.new.seat) }
+        ensures pages { self.new.state.pages ≡ page_stored self.old.state.pages page word v }
+        ensures kept { KeptByPages self.old self.new × (self.new.spare_got ≡ self.old.spare_got) }
+        ensures same { S.same self.old.seat self.new.seat }
+    {
+        self.parts.store_word(page, word, v);
+    }
+
+    /// Loads the page words that came with the packet that was taken last, and keeps them with it: as `lent_load`, but that it lends no words.
+    pub fn load_in(&mut self)
+        requires idle { self.old.state.machine.stage ≡ Idle }
+        requires room { 512 ≤ self.old.spare_got.words }
+        ensures loads { Loads S S.told S.memory S.same self.old self.new }
+    {
+        if let Due::Loads { page, words, .. } = self.parts.core.pages.due {
+            self.parts.load_words(page, words);
+        }
+    }
+
+    // The page words of the item that was got last.
+    pub(crate) fn last_lent(&self) -> &[u64]
+        requires { 0 < length self.now.state.pages.got }
+        ensures { result.now ≡ last_words self.now.state.pages.got }
+    {
+        self.parts.got.last_lent()
     }
 
     // The words of the packet that was got last.
@@ -329,7 +418,8 @@ impl<S: Seatlike> End<S> {
 impl End<SoloMem> {
     /// Exchanges the memories of two ends of one channel. So they can run by turns over one memory.
     pub fn swap_memory(&mut self, other: &mut End<SoloMem>)
-        requires { self.old.state.machine.cells ≡ other.old.state.machine.cells }
+        requires cells { self.old.state.machine.cells ≡ other.old.state.machine.cells }
+        requires pages { self.old.state.pages.count ≡ other.old.state.pages.count }
         ensures this { self.new ≡ record self.old { seat = other.old.seat } }
         ensures that { other.new ≡ record other.old { seat = self.old.seat } }
     {

@@ -1,5 +1,6 @@
 //! Whether an end may make a call, by what it can read of itself: so a program that keeps no count of its own can make each call safely.
 ghost use Rattle.std.specs.Prelude.{◌≡◌, ◌<◌, ◌≤◌, ◌+◌, IsTrue, false, length};
+ghost use Rattle.page_kept.specs.declared.due.Due.TheVariants.{Clear};
 ghost use Rattle.ring_machine.specs.States.{IsPacket};
 
 use crate::end::End;
@@ -25,28 +26,32 @@ pub fn may_begin<S: Seatlike>(e: &End<S>) -> bool
     !e.is_asleep() && !e.is_marked()
 }
 
-/// Whether an end may send these words: they are a packet that fits into its ring, and its list has room for it.
+/// Whether an end of a channel without data pages may send these words: they are a packet that fits into its ring, and its list has room for it. In a channel
+/// with data pages a send asks more, and the answer is no.
 pub fn may_send<S: Seatlike>(e: &End<S>, p: &[u64]) -> bool
     ensures awake { IsTrue result → (e.now.state.machine.asleep ≡ false) × (e.now.state.machine.marked ≡ false) }
+    ensures bare { IsTrue result → e.now.state.pages.count ≡ 0 }
     ensures packet { IsTrue result → IsPacket p.now × (length p.now + 1 < e.now.state.machine.cells) }
     ensures room { IsTrue result → (0 < e.now.spare_sent.packets) × (length p.now ≤ e.now.spare_sent.words) }
-    ensures whole { e.now.state.machine.asleep ≡ false → e.now.state.machine.marked ≡ false → IsPacket p.now → length p.now + 1 < e.now.state.machine.cells → 0 < e.now.spare_sent.packets → length p.now ≤ e.now.spare_sent.words → IsTrue result }
+    ensures whole { e.now.state.pages.count ≡ 0 → e.now.state.machine.asleep ≡ false → e.now.state.machine.marked ≡ false → IsPacket p.now → length p.now + 1 < e.now.state.machine.cells → 0 < e.now.spare_sent.packets → length p.now ≤ e.now.spare_sent.words → IsTrue result }
 {
     let room = e.spare_sent();
     let len = p.len() as u64;
     may_begin(e)
+        && e.pages() == 0
         && is_packet(p)
         && len + 1 < e.cells() as u64
         && 0 < room.packets
         && len <= room.words
 }
 
-/// Whether an end may take: its list has room for the longest packet that its ring can hold.
+/// Whether an end may take: its list has room for the longest packet that its ring can hold, and no page words are still to be loaded.
 pub fn may_take<S: Seatlike>(e: &End<S>) -> bool
     ensures awake { IsTrue result → (e.now.state.machine.asleep ≡ false) × (e.now.state.machine.marked ≡ false) }
     ensures room { IsTrue result → (0 < e.now.spare_got.packets) × (e.now.state.machine.cells ≤ e.now.spare_got.words) }
-    ensures whole { e.now.state.machine.asleep ≡ false → e.now.state.machine.marked ≡ false → 0 < e.now.spare_got.packets → e.now.state.machine.cells ≤ e.now.spare_got.words → IsTrue result }
+    ensures clear { IsTrue result → e.now.state.pages.due ≡ Clear }
+    ensures whole { e.now.state.pages.due ≡ Clear → e.now.state.machine.asleep ≡ false → e.now.state.machine.marked ≡ false → 0 < e.now.spare_got.packets → e.now.state.machine.cells ≤ e.now.spare_got.words → IsTrue result }
 {
     let room = e.spare_got();
-    may_begin(e) && 0 < room.packets && e.cells() as u64 <= room.words
+    may_begin(e) && !e.is_due() && 0 < room.packets && e.cells() as u64 <= room.words
 }

@@ -8,6 +8,7 @@ mod laws;
 mod packets;
 mod parts;
 mod room;
+mod rows;
 mod seat;
 mod solo_mem;
 mod taken;

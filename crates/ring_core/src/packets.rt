@@ -1,113 +1,78 @@
-//! A list of packets in two vectors: the words of all of them, and where each one ends.
-ghost use Rattle.std.specs.Prelude.{◌≡◌, ℕ, ◌+◌, ◌≤◌, ◌<◌, ◌-◌, ◌++◌, [], ◌∷◌, length, slice_get, slice_index_or, IfOk, OnOk, MatchOption, Some, vec_len, vec_capacity};
-ghost use Rattle.ring_core.specs.Cut.{cut, Rises, start};
+//! A list of packets, each with the page words that went along.
+ghost use Rattle.std.specs.Prelude.{◌≡◌, ℕ, ◌+◌, ◌≤◌, ◌<◌, ◌++◌, ◌-◌, [], ◌∷◌, length, slice_get, slice_index_or, true, false, cond, OnOk, MatchOption, Some};
+ghost use Rattle.ring_core.specs.Seen.{Listed, room_in};
 
 use crate::room::Room;
+use crate::rows::Rows;
 use std::alloc::{AllocError, Global};
 use std::marker::Model;
 
-// Adds a packet's words at the end, into room that is reserved.
-#[inline(always)]
-fn append(words: &mut Vec<u64>, packet: &[u64])
-    requires { vec_len words.old + length packet.now ≤ vec_capacity words.old }
-    ensures items { words.new.items ≡ words.old.items ++ packet.now }
-    ensures room { vec_capacity words.old ≤ vec_capacity words.new }
-{
-    let Ok(()) = words.extend_from_slice(packet) else {
-        unreachable!()
-    };
-}
-
-// Where packet i begins: at the end of the one before it.
-fn first(ends: &[usize], i: usize) -> usize
-    requires { i ≤ length ends.now }
-    ensures { result ≡ start 0 ends.now i }
-{
-    if i == 0 { 0 } else { ends[i - 1] }
-}
-
-// Where packet i begins and ends.
-fn range_at(ends: &[usize], i: usize, last: usize) -> (usize, usize)
-    requires rises { Rises 0 ends.now last }
-    requires there { i < length ends.now }
-    ensures from { result.0 ≡ start 0 ends.now i }
-    ensures to { result.1 ≡ slice_index_or ends.now i 0 }
-    ensures fits { (result.0 ≤ result.1) × (result.1 ≤ last) }
-{
-    (first(ends, i), ends[i])
-}
-
-// The words of packet i.
-fn part<'a>(words: &'a [u64], ends: &[usize], i: usize) -> &'a [u64]
-    requires rises { Rises 0 ends.now (length words.now) }
-    requires there { i < length ends.now }
-    ensures { slice_get (cut 0 ends.now words.now) i ≡ Some result.now }
-{
-    let (from, to) = range_at(ends, i, words.len());
-    &words[from..to]
-}
-
-/// A list of packets, and the room that is reserved for more.
+/// A list of packets, and the room that is reserved for more. In a channel with data pages each packet has the page words that went along, none or some.
 #[derive(Drop)]
 pub struct Packets {
-    words: Vec<u64>,
-    ends: Vec<usize>,
+    rows: Rows,
+    lent: Rows,
+    paged: bool,
 }
 
 impl Model for Packets {
-    ghost use Rattle.ring_core.specs.Seen.{Listed};
+    ghost use Rattle.std.specs.Prelude.{◌≡◌, false, []};
+    ghost use Rattle.ring_core.specs.Seen.{Listed, listed_in};
 
     ghost Value = { Listed };
 
-    ghost use Rattle.ring_core.specs.Cut.{held_in, IsCut};
+    ghost view = { λ p. listed_in p.paged p.rows p.lent };
 
-    ghost view = { λ p. held_in p.words p.ends };
-
-    ghost invariant = { λ p. IsCut p.words p.ends };
+    ghost invariant = { λ p. p.paged ≡ false → p.lent.list ≡ [] };
 }
 
 impl Packets {
-    /// No packets, and no room.
-    pub fn new(alloc: Global) -> Packets
-        ensures { result.list ≡ [] }
+    /// No packets, and no room. `paged` says whether their page words are kept too.
+    pub fn new(alloc: Global, paged: bool) -> Packets
+        ensures list { (result.list ≡ []) × (result.lent ≡ []) }
+        ensures paged { result.paged ≡ paged }
     {
         Packets {
-            words: Vec::new(alloc),
-            ends: Vec::new(alloc),
+            rows: Rows::new(alloc),
+            lent: Rows::new(alloc),
+            paged,
         }
     }
 
-    /// Makes room for so many more packets, of so many words in all. Room never shrinks.
+    /// Makes room for so many more packets, of so many words in all, page words among them. Room never shrinks.
     pub fn reserve(&mut self, room: Room) -> Result<(), AllocError>
-        ensures list { self.new.list ≡ self.old.list }
+        ensures list { (self.new.list ≡ self.old.list) × (self.new.lent ≡ self.old.lent) × (self.new.paged ≡ self.old.paged) }
         ensures room { OnOk result ((room.packets ≤ self.new.room.packets) × (room.words ≤ self.new.room.words)) }
         ensures kept { (self.old.room.packets ≤ self.new.room.packets) × (self.old.room.words ≤ self.new.room.words) }
+        ensures places { self.old.lent_room.packets ≤ self.new.lent_room.packets }
     {
-        self.words.reserve(room.words as usize)?;
-        self.ends.reserve(room.packets as usize)
+        self.rows.reserve(room)?;
+        if self.paged {
+            self.lent.reserve(room)?;
+        }
+        Ok(())
     }
 
     /// Gives the room that is left back to the allocator, where it gives room for a copy.
     pub fn trim(&mut self)
-        ensures { self.new.list ≡ self.old.list }
+        ensures { (self.new.list ≡ self.old.list) × (self.new.lent ≡ self.old.lent) × (self.new.paged ≡ self.old.paged) }
     {
-        // A copy frees the whole of the old list, so that the next channel's finds its place there. A list that shrinks in place leaves a hole that is a
-        // little too small for the next one.
-        if let Ok(words) = self.words.to_vec(*self.words.allocator()) {
-            self.words = words;
-        }
-        if let Ok(ends) = self.ends.to_vec(*self.ends.allocator()) {
-            self.ends = ends;
-        }
+        self.rows.trim();
+        self.lent.trim();
     }
 
-    /// The room that is left.
+    /// The room that is left: page words count, and each packet has a place for them.
     pub fn room(&self) -> Room
         ensures { result ≡ self.now.room }
     {
+        let rows = self.rows.room();
+        if !self.paged {
+            return rows;
+        }
+        let lent = self.lent.room();
         Room {
-            packets: (self.ends.capacity() - self.ends.len()) as u64,
-            words: (self.words.capacity() - self.words.len()) as u64,
+            packets: rows.packets.min(lent.packets),
+            words: rows.words.min(lent.words),
         }
     }
 
@@ -115,41 +80,93 @@ impl Packets {
     pub fn len(&self) -> usize
         ensures { result ≡ length self.now.list }
     {
-        self.ends.len()
+        self.rows.len()
     }
 
-    /// Adds a packet at the end, into room that is reserved.
+    /// Adds a packet without page words at the end, into room that is reserved.
     pub fn push(&mut self, packet: &[u64])
         requires packets { 0 < self.old.room.packets }
         requires words { length packet.now ≤ self.old.room.words }
         ensures list { self.new.list ≡ self.old.list ++ packet.now ∷ [] }
+        ensures lent { self.new.lent ≡ cond self.old.paged (self.old.lent ++ [] ∷ []) self.old.lent }
         ensures room { (self.old.room.packets ≤ self.new.room.packets + 1) × (self.old.room.words ≤ self.new.room.words + length packet.now) }
     {
-        append(&mut self.words, packet);
-        self.ends.push_reserved(self.words.len());
+        self.rows.push(packet);
+        if self.paged {
+            self.lent.push(&[]);
+        }
+    }
+
+    // Adds a packet with the page words that go along.
+    pub(crate) fn push_with(&mut self, packet: &[u64], words: &[u64])
+        requires paged { self.old.paged ≡ true }
+        requires packets { 0 < self.old.room.packets }
+        requires words { length packet.now + length words.now ≤ self.old.room.words }
+        ensures list { self.new.list ≡ self.old.list ++ packet.now ∷ [] }
+        ensures lent { self.new.lent ≡ self.old.lent ++ words.now ∷ [] }
+        ensures paged { self.new.paged ≡ self.old.paged }
+        ensures room { (self.old.room.packets ≤ self.new.room.packets + 1) × (self.old.room.words ≤ self.new.room.words + (length packet.now + length words.now)) }
+    {
+        self.rows.push(packet);
+        self.lent.push(words);
     }
 
     /// The packet at this place, or none exactly past the end.
     pub fn get(&self, i: usize) -> Option<&[u64]>
         ensures { MatchOption result (length self.now.list ≤ i) (λ p. slice_get self.now.list i ≡ Some p.now) }
     {
-        if i >= self.ends.len() {
+        self.rows.get(i)
+    }
+
+    /// The page words that went along with the packet at this place, or none exactly past the end. Where they aren't loaded yet there are none.
+    pub fn lent(&self, i: usize) -> Option<&[u64]>
+        ensures { MatchOption result (length self.now.list ≤ i) (λ w. w.now ≡ slice_index_or self.now.lent i []) }
+    {
+        if i >= self.rows.len() {
             return None;
         }
-        Some(part(self.words.as_slice(), self.ends.as_slice(), i))
+        match self.lent.get(i) {
+            Some(words) => Some(words),
+            None => Some(&[]),
+        }
+    }
+
+    // Adds a packet whose page words come later.
+    #[inline(always)]
+    pub(crate) fn push_packet(&mut self, packet: &[u64])
+        requires packets { 0 < self.old.room.packets }
+        requires words { length packet.now ≤ self.old.room.words }
+        ensures list { self.new.list ≡ self.old.list ++ packet.now ∷ [] }
+        ensures lent { (self.new.lent ≡ self.old.lent) × (self.new.paged ≡ self.old.paged) }
+        ensures place { self.old.paged ≡ true → 0 < self.new.lent_room.packets }
+        ensures room { (self.old.room.packets ≤ self.new.room.packets + 1) × (self.old.room.words ≤ self.new.room.words + length packet.now) }
+    {
+        self.rows.push(packet);
+    }
+
+    // Adds the page words of the first packet that has none yet.
+    pub(crate) fn push_lent(&mut self, words: &[u64])
+        requires paged { self.old.paged ≡ true }
+        requires packets { 0 < self.old.lent_room.packets }
+        requires words { length words.now ≤ self.old.room.words }
+        ensures list { (self.new.list ≡ self.old.list) × (self.new.paged ≡ self.old.paged) }
+        ensures lent { self.new.lent ≡ self.old.lent ++ words.now ∷ [] }
+        ensures room { (self.old.room.packets ≤ self.new.room.packets + 1) × (self.old.room.words ≤ self.new.room.words + length words.now) }
+    {
+        self.lent.push(words);
     }
 
     // The packet that came last.
     pub(crate) fn last(&self) -> &[u64]
         ensures { 0 < length self.now.list → slice_get self.now.list (length self.now.list - 1) ≡ Some result.now }
     {
-        let n = self.len();
-        if n == 0 {
-            return &[];
-        }
-        match self.get(n - 1) {
-            Some(words) => words,
-            None => &[],
-        }
+        self.rows.last()
+    }
+
+    // The page words that came last.
+    pub(crate) fn last_lent(&self) -> &[u64]
+        ensures { 0 < length self.now.lent → slice_get self.now.lent (length self.now.lent - 1) ≡ Some result.now }
+    {
+        self.lent.last()
     }
 }

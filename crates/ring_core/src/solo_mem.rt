@@ -66,19 +66,24 @@ impl SoloMem {
 }
 
 impl Seatlike for SoloMem {
-    ghost use Rattle.std.specs.Prelude.{Some, None};
+    ghost use Rattle.std.specs.Prelude.{◌≡◌, Some, None, refl};
+    ghost use Rattle.std.proofs.Common.{◌∙◌};
 
     ghost cells = { λ s. s.cells };
+
+    ghost pages = { λ s. s.pages };
 
     ghost memory = { λ s. Some s.memory };
 
     ghost told = { λ _. None };
 
-    ghost same = { λ _ _. Unit {0} };
+    ghost same = { λ s t. t.pages ≡ s.pages };
 
-    ghost same_refl = { λ _. tt };
+    ghost same_refl = { λ _. refl };
 
-    ghost same_trans = { λ _ _ _ _ _. tt };
+    ghost same_trans = { λ _ _ _ p q. q ∙ p };
+
+    ghost same_pages = { λ _ _ p. p };
 
     #[inline(always)]
     fn perform(&mut self, core: &EndCore, packet: &[u64]) -> u64 {

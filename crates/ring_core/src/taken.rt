@@ -1,7 +1,10 @@
 //! A take that lends the words of the packet.
 ghost use Rattle.std.specs.Prelude.{◌≡◌, ◌<◌, ◌≤◌, ◌∷◌, [], ◌++◌, IfOk, false, ⊤, length};
 ghost use Rattle.ring_machine.specs.States.{IsPacket};
+ghost use Rattle.ring_core.specs.Pages.{IsClear};
+ghost use Rattle.ring_core.specs.Loading.{Loads, LendsKept};
 ghost use Rattle.ring_core.specs.Taking.{Takes};
+ghost use Rattle.ring_machine.specs.declared.machine.Stage.TheVariants.{Idle};
 ghost use Rattle.ring_machine.specs.Endings.{refused};
 
 use crate::end::End;
@@ -37,6 +40,7 @@ impl<S: Seatlike> End<S> {
         requires awake { self.old.state.machine.asleep ≡ false }
         requires unmarked { self.old.state.machine.marked ≡ false }
         requires room { (0 < self.old.spare_got.packets) × (self.old.state.machine.cells ≤ self.old.spare_got.words) }
+        requires clear { IsClear self.old.state.pages }
         ensures* after { sem 𝓛 (follows_so (the_row S.row S.Seatlike) (the_row S.row S.Seatlike) self.entry.ghost_name none (λ _ _. ⊤)
             (λ n. Takes S S.told S.memory S.same self.old n (refused result)
             × IfOk result (λ t. IsPacket t.words.now × (length t.words.now ≡ n.state.machine.len) × (n.state.got ≡ self.old.state.got ++ t.words.now ∷ [])))) }
@@ -47,5 +51,21 @@ impl<S: Seatlike> End<S> {
             }),
             Err(refusal) => Err(refusal),
         }
+    }
+
+    /// Loads the page words that came with the packet that was taken last, keeps them with it, and lends them: one step a word, at most 512. Where none are
+    /// due there is no step, and no word.
+    pub fn lent_load(&mut self) -> &[u64]
+        requires idle { self.old.state.machine.stage ≡ Idle }
+        requires room { 512 ≤ self.old.spare_got.words }
+        ensures* after { sem 𝓛 (follows_so (the_row S.row S.Seatlike) (the_row S.row S.Seatlike) self.entry.ghost_name none (λ _ _. ⊤)
+            (λ n. Loads S S.told S.memory S.same self.old n × LendsKept self.old n result.now)) }
+    {
+        let due = self.is_due();
+        self.load_in();
+        if due {
+            return self.last_lent();
+        }
+        &[]
     }
 }

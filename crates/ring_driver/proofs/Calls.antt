@@ -13,12 +13,15 @@ use Rattle.ring_machine.specs.declared.last.Why.{Why}
 use Rattle.ring_machine.specs.declared.state.EndState.{EndState}
 use Rattle.ring_machine.specs.Endings.{send_answer, take_refusal, why_by, why_of}
 use Rattle.ring_machine.specs.Places.{low, free, is_index, cell_of}
-use Rattle.ring_machine.specs.States.{afters, past_by_ending, resting, stored}
+use Rattle.page_kept.specs.declared.kept.Kept.{Kept}
+use Rattle.page_kept.specs.Kept.{no_pages}
+use Rattle.ring_machine.specs.States.{afters, got_by, pages_by, pages_by_ending, past_by, past_by_ending, resting, sent_by, stored}
 use Rattle.ring_machine.specs.Steps.{IsSound, arm_begun, call_at, call_by, fed_at, is_sent, is_took, is_broken, is_busy_at, is_copying_at}
 use Rattle.ring_machine.proofs.Sound.{at_cond}
 use Rattle.std.specs.Prelude.{Result}
 use Rattle.ring_core.specs.declared.told.Told.{Told}
-use Rattle.ring_core.specs.Told.{Memory, Ran}
+use Rattle.ring_core.specs.Told.{Left, Memory, Ran}
+use Rattle.ring_core.proofs.Driving.{Going, going_ran}
 use Rattle.ring_machine.specs.declared.last.Signalled.{Signalled}
 use Rattle.ring_machine.specs.declared.last.SendRefusal.{SendRefusal}
 use Rattle.ring_driver.specs.Driven.{sent_by_answer, found_by_send, left_by_send, LacksRoom, got_by_answer, found_by_take, left_by_take}
@@ -329,3 +332,16 @@ send_lacks b m sent got past told told' memory memory' n r ran at len idle answe
     let start : SendsAt n b.machine.stage b.machine = subst (λ (st : Stage). SendsAt n st b.machine) (sym at) len in
     let ended : SendsAt n m.stage m = subst (λ (e : EndState). SendsAt n e.machine.stage e.machine) (sym ran.state) (steps_send b n start ran.values) in
     subst (LacksRoom n) (sym answer) (sends_lacking m.ended m n (finds_at n m m.stage idle ended))
+
+-- a channel without pages keeps none
+none_by : (how : Ending) (m : Machine) (p buf : List ℕ) → pages_by_ending how m no_pages p buf ≡ no_pages
+none_by SentQuiet m p buf = refl
+none_by SentRaised m p buf = refl
+none_by Took m p buf = refl
+none_by _ m p buf = refl
+
+pub going_bare : (base : EndState) (told told' : Option Told) (memory memory' : Option Memory) (m : Machine) (p buf : List ℕ) → Going base told told' memory memory' m p buf → IsSound m → is_busy_at m.stage ≡ false → base.pages ≡ no_pages
+    → Left base told told' memory memory' m (sent_by m base.sent p) (got_by m base.got buf) (past_by m base.past p buf) no_pages
+going_bare base told told' memory memory' m p buf it s n bare =
+    subst (λ (k : Kept). Left base told told' memory memory' m (sent_by m base.sent p) (got_by m base.got buf) (past_by m base.past p buf) k)
+    (ap (λ (k : Kept). pages_by m k p buf) bare ∙ none_by m.ended m p buf) (going_ran base told told' memory memory' m p buf it s n)

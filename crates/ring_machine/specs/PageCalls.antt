@@ -1,11 +1,13 @@
 -- Page calls: a store of one page word, and a load of the words that a packet lends. The calls of the rings aren't among them.
-use Rattle.std.specs.Prelude.{◌≡◌, ℕ, ◌≤◌, Bool, true, false, ◌||◌, ◌&&◌, ltb, leb, List, Option, Some, None}
+use Rattle.std.specs.Prelude.{◌≡◌, ◌⊎◌, ℕ, ◌-◌, ◌≤◌, Bool, true, false, ◌||◌, ◌&&◌, ltb, leb, List, Option, Some, None, slice_index_or, length, []}
 use Rattle.page_kept.specs.declared.due.Due.{Due}
 use Rattle.page_kept.specs.declared.due.Due.TheVariants.{Clear, Loads}
 use Rattle.page_kept.specs.declared.kept.Kept.{Kept}
 use Rattle.page_kept.specs.declared.page_call.PageCall.{PageCall}
 use Rattle.page_kept.specs.declared.page_call.PageCall.TheVariants.{Off, StoreWord, LoadWords}
-use Rattle.page_kept.specs.Stepped.{call_fed}
+use Rattle.page_kept.specs.Layouts.{layout}
+use Rattle.page_kept.specs.Keepers.{MayStore}
+use Rattle.page_kept.specs.Stepped.{call_fed, with_call, page_fed}
 use Rattle.ring_machine.specs.declared.machine.Stage.{Stage}
 use Rattle.ring_machine.specs.declared.machine.Stage.TheVariants.{Idle}
 use Rattle.ring_machine.specs.declared.machine.Machine.{Machine}
@@ -81,6 +83,28 @@ owes k q n = record { count = k.count; call = k.call; due = Loads q n 0 }
 abbrev pub pages_fed : PageCore → PageCore
 pages_fed k = record { count = k.count; call = call_fed k.call; due = k.due }
 
+-- the packet that was got last
+abbrev pub newest : List (List ℕ) → List ℕ
+newest ps = slice_index_or ps (length ps - 1) []
+
 -- the end's state with other pages
 abbrev pub with_pages : EndState → Kept → EndState
 with_pages s k = record { machine = s.machine; packet = s.packet; copied = s.copied; sent = s.sent; got = s.got; past = s.past; pages = k }
+
+-- the same state, with this page call under way
+abbrev pub paged : EndState → PageCall → EndState
+paged s c = with_pages s (with_call c s.pages)
+
+-- the state after a step of its page call that answered v
+abbrev pub after_page : EndState → ℕ → EndState
+after_page s v = with_pages s (page_fed s.pages.call s.pages (newest s.got) v)
+
+-- a page call that begins: a store of a word that may be stored, by an end that isn't marked, or a load of all that is due
+abbrev pub BeginsPage : EndState → PageCall → Type 0
+BeginsPage s Off = ⊥
+BeginsPage s (StoreWord q w v) = (s.machine.stage ≡ Idle) × (s.pages.call ≡ Off) × (s.machine.marked ≡ false) × MayStore (layout s.pages.count) s.machine.side s.pages q w
+BeginsPage s (LoadWords q n j) = (s.machine.stage ≡ Idle) × (s.pages.call ≡ Off) × (s.pages.due ≡ Loads q n j)
+
+-- a page call goes on from the state s, or begins there
+abbrev pub ContinuesPage : EndState → PageCall → Type 0
+ContinuesPage s c = (c ≡ s.pages.call) ⊎ BeginsPage s c

@@ -8,7 +8,7 @@ ghost use Rattle.ring_machine.specs.Endings.{last_of, why_of, mode_of, indices_o
 ghost use Rattle.ring_machine.specs.declared.machine.Stage.TheVariants.{Idle, Stopped};
 ghost use Rattle.ring_machine.specs.Endings.{refused};
 ghost use Rattle.page_kept.specs.declared.page_call.PageCall.TheVariants.{Off};
-ghost use Rattle.ring_machine.specs.PageCalls.{PagesFit, IsQuiet, is_paging, is_under_way, page_op, core_pages, page_store_begun, owes, lent_load_begun, pages_fed};
+ghost use Rattle.ring_machine.specs.PageCalls.{PagesFit, IsQuiet, is_paging, is_under_way, next_in, core_pages, page_store_begun, owes, lent_load_begun, pages_fed};
 
 use crate::fed::feed_machine;
 use crate::last::{Armed, Bad, Indices, Last, Mode, SendRefusal, Signalled, TakeRefusal, Why};
@@ -247,7 +247,7 @@ impl EndCore {
     #[inline(always)]
     pub fn next(&self, packet: &[u64]) -> Option<Op>
         ensures rings { is_busy_at self.now.machine.stage ≡ true → result ≡ next_of self.now.machine packet.now }
-        ensures pages { is_busy_at self.now.machine.stage ≡ false → result ≡ page_op self.now.pages.call }
+        ensures whole { result ≡ next_in self.now.machine self.now.pages.call packet.now }
     {
         match next_machine(&self.machine, packet) {
             Some(op) => Some(op),

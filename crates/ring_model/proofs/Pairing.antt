@@ -354,6 +354,7 @@ kept_on s x old new is k =
     subst (λ (o : Seen Held). Kept (end_of s x) o) (sym (lent_is (handed s x) x new)) (record {
       sent = k.sent ∙ ap (λ (y : EndState). y.sent) same;
       got = k.got ∙ ap (λ (y : EndState). y.got) same;
+      pages = k.pages ∙ ap (λ (y : EndState). y.pages) same;
       spare_sent = k.spare_sent ∙ (ap (λ (o : Seen Held). o.spare_sent) is ∙ spare.0);
       spare_got = k.spare_got ∙ (ap (λ (o : Seen Held). o.spare_got) is ∙ spare.1);
     })

@@ -39,8 +39,8 @@ impl ChannelMem {
     {
         let (guest, host) = seats(alloc, 512 * ring_pages)?;
         let d = 4096 * ring_pages;
-        let guest = End::make(alloc, Side::Guest, d, guest)?;
-        let host = End::make(alloc, Side::Host, d, host)?;
+        let guest = End::make(alloc, Side::Guest, d, guest, 0)?;
+        let host = End::make(alloc, Side::Host, d, host, 0)?;
         Ok((guest, host))
     }
 }

@@ -104,6 +104,8 @@ impl Seatlike for TableSeat {
 
     ghost cells = { λ s. (state_in s.seat.me.0).machine.cells };
 
+    ghost pages = { λ _. 0 };
+
     ghost memory = { λ _. None };
 
     ghost told = { λ s. Some (told_in s.seat.me.0) };
@@ -113,6 +115,8 @@ impl Seatlike for TableSeat {
     ghost same_refl = { λ s. refl };
 
     ghost same_trans = { λ s t u p q. q ∙ p };
+
+    ghost same_pages = { λ s t p. refl };
 
     #[inline(always)]
     fn perform(&mut self, core: &EndCore, packet: &[u64]) -> u64 {

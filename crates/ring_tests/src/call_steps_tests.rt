@@ -17,6 +17,7 @@ fn guest(rt: &(impl Abort + AllocGlobal), step: u64, place: Place, value: u64) -
     requires { IsPlaceOf 512 0 place }
     ensures size { result.state.machine.cells ≡ 512 }
     ensures committed { result.state.machine.start ≡ result.state.machine.read }
+    ensures bare { result.state.pages.count ≡ 0 }
 {
     let mut changes = Vec::new(rt.alloc());
     changes
@@ -24,7 +25,7 @@ fn guest(rt: &(impl Abort + AllocGlobal), step: u64, place: Place, value: u64) -
         .expect(rt, "memory");
     let mut told = ToldMem::make(rt.alloc(), 4096, changes, 0).expect(rt, "memory");
     told.put(Place::Read(Ring::ToHost), 4000);
-    End::make(rt.alloc(), Side::Guest, 4096, told).expect(rt, "memory")
+    End::make(rt.alloc(), Side::Guest, 4096, told, 0).expect(rt, "memory")
 }
 
 // Whether the end made so many steps, and the words by which its peer knows whether to signal it are these: pending, mask and signal.
@@ -48,6 +49,7 @@ fn arms(
 )
     requires want { IsWant e.old.state.machine.cells want }
     requires committed { e.old.state.machine.start ≡ e.old.state.machine.read }
+    requires bare { e.old.state.pages.count ≡ 0 }
     ensures { e.new.state.machine.stage ≡ Idle }
 {
     check(rt, e.is_ready());
@@ -127,7 +129,7 @@ fn an_end_sees_a_mark_and_marks_itself(rt: HostRuntime) {
     let mut e = guest(&rt, 2, Place::Mark(Side::Host), 1);
     looks(&rt, &mut e, false, 1);
     looks(&rt, &mut e, true, 2);
-    check(&rt, e.is_ready());
+    check(&rt, e.is_ready() && !e.is_due());
     e.mark();
     check(&rt, e.is_marked() && is_at(&e, 4, 0, 1, 0));
     let seat = e.seat();

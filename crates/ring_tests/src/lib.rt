@@ -12,6 +12,8 @@ mod ends;
 #[cfg(test)]
 mod packet;
 #[cfg(test)]
+mod page_tests;
+#[cfg(test)]
 mod ring_core_tests;
 #[cfg(test)]
 mod ring_machine_tests;

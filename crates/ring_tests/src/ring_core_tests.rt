@@ -13,7 +13,7 @@ fn end(rt: &(impl Abort + AllocGlobal), side: Side) -> End<SoloMem>
     ensures { result.state ≡ resting (machine_new side 512) [] [] [] }
 {
     let solo = SoloMem::make(rt.alloc(), 4096, 0).expect(rt, "memory");
-    End::make(rt.alloc(), side, 4096, solo).expect(rt, "memory")
+    End::make(rt.alloc(), side, 4096, solo, 0).expect(rt, "memory")
 }
 
 // An end that arms its signal, and how the arm ended: its outgoing ring has room, so it doesn't sleep.
@@ -26,13 +26,17 @@ fn an_end_with_room_stays_awake(rt: HostRuntime) {
 
 // The other end marks itself in the memory of this one.
 fn marks_in(rt: &impl Abort, e: &mut End<SoloMem>, mut other: End<SoloMem>)
-    requires { e.old.state.machine.cells ≡ other.state.machine.cells }
+    requires cells { e.old.state.machine.cells ≡ other.state.machine.cells }
+    requires pages { e.old.state.pages.count ≡ other.state.pages.count }
     ensures { e.new.state ≡ e.old.state }
 {
     e.swap_memory(&mut other);
-    check(rt, other.is_ready());
+    check(rt, other.is_ready() && !other.is_due());
     other.mark();
-    check(rt, e.cells() == other.cells() && other.is_marked());
+    check(
+        rt,
+        e.cells() == other.cells() && e.pages() == other.pages() && other.is_marked(),
+    );
     e.swap_memory(&mut other);
 }
 

@@ -1,5 +1,6 @@
 //! Both ends over one memory, by turns.
 ghost use Rattle.std.specs.Prelude.{◌≡◌, ℕ, ◌+◌, ◌<◌, ◌≤◌, List, Result, false, length};
+ghost use Rattle.page_kept.specs.declared.due.Due.TheVariants.{Clear};
 ghost use Rattle.ring_machine.specs.declared.machine.Stage.TheVariants.{Idle};
 ghost use Rattle.ring_machine.specs.States.{IsPacket};
 ghost use Rattle.ring_machine.specs.declared.last.TakeRefusal.{TakeRefusal as Refusal};
@@ -22,6 +23,7 @@ const ROOM: Room = Room {
 // A send, which says what the laws of a pair take of it.
 fn send(e: &mut End<SoloMem>, p: &[u64]) -> Result<Signalled, SendRefusal>
     requires awake { (e.old.state.machine.asleep ≡ false) × (e.old.state.machine.marked ≡ false) }
+    requires bare { e.old.state.pages.count ≡ 0 }
     requires packet { IsPacket p.now × (length p.now + 1 < e.old.state.machine.cells) }
     requires room { (0 < e.old.spare_sent.packets) × (length p.now ≤ e.old.spare_sent.words) }
     ensures { SendSays e.old e.new p.now result }
@@ -31,7 +33,8 @@ fn send(e: &mut End<SoloMem>, p: &[u64]) -> Result<Signalled, SendRefusal>
 
 // A commit, which says what the laws of a pair take of it.
 fn commit(e: &mut End<SoloMem>) -> Signalled
-    requires { (e.old.state.machine.stage ≡ Idle) × (e.old.state.machine.asleep ≡ false) × (e.old.state.machine.marked ≡ false) }
+    requires ready { (e.old.state.machine.stage ≡ Idle) × (e.old.state.machine.asleep ≡ false) × (e.old.state.machine.marked ≡ false) }
+    requires clear { e.old.state.pages.due ≡ Clear }
     ensures { CommitSays e.old e.new result }
 {
     e.commit()
@@ -41,6 +44,7 @@ fn commit(e: &mut End<SoloMem>) -> Signalled
 fn take(e: &mut End<SoloMem>, want: &[u64]) -> Result<bool, TakeRefusal>
     requires awake { (e.old.state.machine.asleep ≡ false) × (e.old.state.machine.marked ≡ false) }
     requires room { (0 < e.old.spare_got.packets) × (e.old.state.machine.cells ≤ e.old.spare_got.words) }
+    requires clear { e.old.state.pages.due ≡ Clear }
     ensures { (r : Result (List ℕ) Refusal) × (refused r ≡ refused result) × TakeSays e.old e.new r }
 {
     match e.take() {
@@ -67,12 +71,12 @@ fn takes(e: &mut End<SoloMem>, p: &[u64], want: Result<bool, TakeRefusal>) -> bo
 
 // Whether a commit may be made, and raises nothing.
 fn commits(e: &mut End<SoloMem>) -> bool {
-    e.is_ready() && commit(e) == Signalled::Quiet
+    e.is_ready() && !e.is_due() && commit(e) == Signalled::Quiet
 }
 
 // Whether the channel's memory can go from one end to the other, and does.
 fn hands(from: &mut End<SoloMem>, to: &mut End<SoloMem>) -> bool {
-    if from.cells() != to.cells() {
+    if from.cells() != to.cells() || from.pages() != to.pages() {
         return false;
     }
     from.swap_memory(to);

@@ -71,7 +71,7 @@ fn finds_none(e: &mut End<TableSeat>) -> bool
 fn rest<R: Wait>(rt: &R, e: &mut End<TableSeat>, wants: bool)
     ensures { IsSameEnd e.old e.new }
 {
-    if !e.is_ready() || e.cells() < 4 {
+    if !e.is_ready() || e.is_due() || e.cells() < 4 {
         return;
     }
     e.commit();
@@ -177,7 +177,7 @@ fn mark_late(mut e: GuestEnd) -> GuestEnd
     for _ in 0..1_000_000 {
         yield_now();
     }
-    if e.is_ready() {
+    if e.is_ready() && !e.is_due() {
         e.mark();
     }
     e

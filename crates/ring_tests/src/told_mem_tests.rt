@@ -67,13 +67,13 @@ fn refuses_take<S: Seatlike>(e: &mut End<S>, want: TakeRefusal) -> bool {
 
 // Whether a commit may be made, and answers so.
 fn commits<S: Seatlike>(e: &mut End<S>, want: Signalled) -> bool {
-    e.is_ready() && e.commit() == want
+    e.is_ready() && !e.is_due() && e.commit() == want
 }
 
 // A told memory of one page that a peer changes once.
 fn changed_once(rt: &(impl Abort + AllocGlobal), step: u64, place: Place, value: u64) -> ToldMem
     requires { IsPlaceOf 512 0 place }
-    ensures { result.cells ≡ 512 }
+    ensures { (result.cells ≡ 512) × (result.pages ≡ 0) }
 {
     let mut changes = Vec::new(rt.alloc());
     changes
@@ -84,16 +84,16 @@ fn changed_once(rt: &(impl Abort + AllocGlobal), step: u64, place: Place, value:
 
 // A told memory of one page that no peer changes.
 fn unchanged(rt: &(impl Abort + AllocGlobal)) -> ToldMem
-    ensures { result.cells ≡ 512 }
+    ensures { (result.cells ≡ 512) × (result.pages ≡ 0) }
 {
     ToldMem::make(rt.alloc(), 4096, Vec::new(rt.alloc()), 0).expect(rt, "memory")
 }
 
 // The guest's end over a told memory, with room for 8 packets of 1,024 words.
 fn guest(rt: &(impl Abort + AllocGlobal), told: ToldMem) -> End<ToldMem>
-    requires { told.cells ≡ 512 }
+    requires { (told.cells ≡ 512) × (told.pages ≡ 0) }
 {
-    let mut e = End::make(rt.alloc(), Side::Guest, 4096, told).expect(rt, "memory");
+    let mut e = End::make(rt.alloc(), Side::Guest, 4096, told, 0).expect(rt, "memory");
     let room = Room {
         packets: 8,
         words: 1024,
@@ -225,7 +225,7 @@ fn a_wrong_read_index_stops_a_sender(rt: HostRuntime) {
 
 // A memory with a packet of 3 words, whose peer shortens it once its first word is loaded.
 fn shortened(rt: &(impl Abort + AllocGlobal)) -> ToldMem
-    ensures { result.cells ≡ 512 }
+    ensures { (result.cells ≡ 512) × (result.pages ≡ 0) }
 {
     let mut told = changed_once(rt, 3, Place::Cell(Ring::ToGuest, 0), 0x0000_0002_0002_0006);
     told.put(Place::Write(Ring::ToGuest), 32);
@@ -244,7 +244,7 @@ fn a_length_is_loaded_once(rt: HostRuntime) {
 
 // Exchanges the memories of two ends whose rings have one size.
 fn swap(rt: &impl Abort, e: &mut End<SoloMem>, other: &mut End<SoloMem>) {
-    check(rt, e.cells() == other.cells());
+    check(rt, e.cells() == other.cells() && e.pages() == other.pages());
     e.swap_memory(other);
 }
 

@@ -1,4 +1,4 @@
-//! One end of a channel, over whatever seat: a packet goes, or one comes and its room is given back.
+//! One end of a channel without data pages, over whatever seat: a packet goes, or one comes and its room is given back.
 ghost use Rattle.std.specs.Prelude.{◌≡◌, ◌++◌, ◌∷◌, [], ℕ, List, OnOk, OnErr, IfSome, IfNone};
 ghost use Rattle.ring_machine.specs.States.{IsPacket};
 
@@ -23,7 +23,7 @@ pub fn take_one<S: Seatlike>(end: &mut End<S>) -> Option<Result<Signalled, TakeR
     ensures refused { IfSome result (λ r. OnErr r (end.new.state.got ≡ end.old.state.got)) }
     ensures not { IfNone result (end.new ≡ end.old) }
 {
-    if !end.is_ready() || !may_take(end) {
+    if end.pages() != 0 || !end.is_ready() || !may_take(end) {
         return None;
     }
     match end.take_in() {

@@ -2,7 +2,8 @@
 ghost use Rattle.std.specs.Prelude.{◌≡◌, ◌/◌, ◌≤◌, Some, true};
 ghost use Rattle.ring_machine.specs.Inside.{IsOpOf};
 ghost use Rattle.ring_machine.specs.Places.{words_of};
-ghost use Rattle.ring_machine.specs.Steps.{is_busy_at, next_of};
+ghost use Rattle.ring_machine.specs.PageCalls.{is_paging, is_under_way};
+ghost use Rattle.ring_machine.specs.Steps.{next_of};
 ghost use Rattle.ring_machine.specs.declared.place.Op.{Op as OneOp};
 ghost use Rattle.uses.specs.Shared.{MadeStep};
 
@@ -55,9 +56,11 @@ impl<W: Words> SharedSeat<W> {
 }
 
 impl<W: Words> Seatlike for SharedSeat<W> {
-    ghost use Rattle.std.specs.Prelude.{None};
+    ghost use Rattle.std.specs.Prelude.{None, refl};
 
     ghost cells = { λ s. s.cells };
+
+    ghost pages = { λ _. 0 };
 
     ghost memory = { λ _. None };
 
@@ -69,9 +72,12 @@ impl<W: Words> Seatlike for SharedSeat<W> {
 
     ghost same_trans = { λ _ _ _ _ _. tt };
 
+    ghost same_pages = { λ _ _ _. refl };
+
     fn perform(&mut self, core: &EndCore, packet: &[u64]) -> u64
-        requires busy { is_busy_at core.now.machine.stage ≡ true }
+        requires busy { is_under_way core.now.machine.stage core.now.pages.call ≡ true }
         requires fits { core.now.machine.cells ≡ self.old.cells }
+        requires pages { is_paging core.now.pages.call ≡ true → core.now.pages.count ≡ 0 }
         ensures made { (op : OneOp) → next_of core.now.machine packet.now ≡ Some op → MadeStep W.loads W.stores W.swaps self.old.cells op result self.old.words self.new.words }
         ensures cells { self.new.cells ≡ self.old.cells }
     {

@@ -83,10 +83,10 @@ fn a_disk_is_ready(rt: HostRuntime) {
 fn a_packet_goes_through_shared_words(rt: HostRuntime) {
     let alloc = rt.alloc();
     let (shared, other) = AtomicWords::make(alloc, 4096).expect(&rt, "memory");
-    let mut guest = End::make(alloc, Side::Guest, 4096, SharedSeat::over(shared, 4096)).expect(
+    let mut guest = End::make(alloc, Side::Guest, 4096, SharedSeat::over(shared, 4096), 0).expect(
         &rt, "memory",
     );
-    let mut host = End::make(alloc, Side::Host, 4096, SharedSeat::over(other, 4096)).expect(
+    let mut host = End::make(alloc, Side::Host, 4096, SharedSeat::over(other, 4096), 0).expect(
         &rt, "memory",
     );
     let room = Room {

@@ -341,8 +341,7 @@ module _ {P A Q R : Type 0} (s : Speech P A Q R) where
       let os : List ℕ = own_open s past in
       by_test (s.is_message p)
       (λ e. let own = h.0 e in
-      let grown : own_open s (Sent p ∷ past) ≡ os ++ s.id_of p ∷ [] = ap (λ b. cond b (os ++ s.id_of p ∷ []) os) e in
-      (
+      let grown : own_open s (Sent p ∷ past) ≡ os ++ s.id_of p ∷ [] = ap (λ b. cond b (os ++ s.id_of p ∷ []) os) e in (
         subst AreApart (sym grown) (apart_more os (s.id_of p) rest.0 own.2),
         λ j there. within_more j os (s.id_of p) (own.0, own.1) rest.1 (sym (in_more os (s.id_of p) j) ∙ (ap (is_in j) (sym grown) ∙ there)),
       ))
@@ -359,8 +358,7 @@ module _ {P A Q R : Type 0} (s : Speech P A Q R) where
       let rest = own_apart most past h in
       let os : List ℕ = own_open s past in
       by_test (s.is_ack p)
-      (λ e. let less : own_open s (Got p ∷ past) ≡ removed (s.id_of p) os = ap (λ b. cond b (removed (s.id_of p) os) os) e in
-      (
+      (λ e. let less : own_open s (Got p ∷ past) ≡ removed (s.id_of p) os = ap (λ b. cond b (removed (s.id_of p) os) os) e in (
         subst AreApart (sym less) (apart_removed os (s.id_of p) rest.0),
         λ j there. rest.1 j (kept_if (j == s.id_of p) (is_in j os) (sym (in_removed os (s.id_of p) j rest.0) ∙ (ap (is_in j) (sym less) ∙ there))),
       ))
@@ -382,10 +380,10 @@ module _ {P A Q R : Type 0} (s : Speech P A Q R) where
   pub own_from : (most : ℕ) (past : List (Event P)) (p : P) (owed : List P) (table : ℕ → Bool) → ((id : ℕ) → table id ≡ true → (1 ≤ id) × (id ≤ most)) → OwnKept s past (p ∷ owed) table → OwnFrom s most past → OwnFrom s most (Sent p ∷ past)
   own_from most past p owed table places h from = (
     λ e.
-    let first : ids_of s (p ∷ owed) ≡ s.id_of p ∷ ids_of s owed = ap (map s.id_of) (filter_first s.is_message p owed e) in
-    let here : (s.id_of p == s.id_of p) ≡ true = grind (arith, nat_tests) in
-    let there : is_in (s.id_of p) (ids_of s (p ∷ owed)) ≡ true = ap (is_in (s.id_of p)) first ∙ or_true (s.id_of p == s.id_of p) (is_in (s.id_of p) (ids_of s owed)) here in
-    let stands = places (s.id_of p) (h.opens (s.id_of p) ∙ in_behind (own_open s past) (ids_of s (p ∷ owed)) (s.id_of p) there) in
-    (stands.0, stands.1, apart_front (own_open s past) (ids_of s (p ∷ owed)) (s.id_of p) h.apart there),
+        let first : ids_of s (p ∷ owed) ≡ s.id_of p ∷ ids_of s owed = ap (map s.id_of) (filter_first s.is_message p owed e) in
+        let here : (s.id_of p == s.id_of p) ≡ true = grind (arith, nat_tests) in
+        let there : is_in (s.id_of p) (ids_of s (p ∷ owed)) ≡ true = ap (is_in (s.id_of p)) first ∙ or_true (s.id_of p == s.id_of p) (is_in (s.id_of p) (ids_of s owed)) here in
+        let stands = places (s.id_of p) (h.opens (s.id_of p) ∙ in_behind (own_open s past) (ids_of s (p ∷ owed)) (s.id_of p) there) in
+        (stands.0, stands.1, apart_front (own_open s past) (ids_of s (p ∷ owed)) (s.id_of p) h.apart there),
     from,
   )

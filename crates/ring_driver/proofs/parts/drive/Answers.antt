@@ -1,9 +1,9 @@
 use Rattle.std.proofs.Common.{◌∙◌, refl, sym, ap}
 use Rattle.ring_machine.specs.declared.machine.Machine.{Machine}
-use Rattle.ring_core.proofs.Driving.{going_first, going_on, going_asks, going_calls, going_leaves, going_took, going_bare, going_honest, asking_busy, storing_busy, seeking_busy, first_busy, loading_busy}
+use Rattle.ring_core.proofs.Driving.{going_first, going_on, going_asks, going_calls, going_leaves, going_took, going_honest, asking_busy, storing_busy, seeking_busy, first_busy, loading_busy}
 use Rattle.ring_machine.proofs.Sound.{fed_nearer}
 use Rattle.ring_machine.proofs.Tables.{fed_cells}
-use Rattle.ring_driver.proofs.Calls.{kept_on}
+use Rattle.ring_driver.proofs.Calls.{going_bare, kept_on}
 use Rattle.ring_driver.proofs.parts.drive.Goals as goal
 
 pub loop-parts-init : goal.loop-parts-init

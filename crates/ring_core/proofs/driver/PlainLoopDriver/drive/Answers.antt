@@ -1,6 +1,6 @@
 use Rattle.std.proofs.Common.{◌∙◌, refl, sym, ap}
 use Rattle.ring_machine.specs.declared.machine.Machine.{Machine}
-use Rattle.ring_core.proofs.Driving.{going_first, going_on, going_asks, going_calls, going_leaves, going_took, going_bare, going_honest}
+use Rattle.ring_core.proofs.Driving.{going_first, going_on, going_asks, going_calls, going_leaves, going_took, going_ran, pages_stay, going_honest}
 use Rattle.ring_machine.proofs.Sound.{fed_nearer}
 use Rattle.ring_machine.proofs.Tables.{fed_cells}
 use Rattle.ring_core.proofs.driver.PlainLoopDriver.drive.Goals as goal
@@ -14,6 +14,7 @@ loop-parts-init g c =
       same = g.met.S.Seatlike.same_refl _;
       sent = refl;
       got = refl;
+      table = refl;
       past = refl;
       pages = refl;
     }
@@ -25,6 +26,7 @@ loop-parts-preserved g c = record {
   same = g.met.S.Seatlike.same_trans _ _ _ c.loop-parts.invariant.same c.step_apart.ensures.same;
   sent = c.loop-parts.invariant.sent;
   got = c.loop-parts.invariant.got;
+  table = c.loop-parts.invariant.table;
   past = c.loop-parts.invariant.past;
   pages = c.step_apart.ensures.pages ∙ c.loop-parts.invariant.pages;
 }
@@ -44,7 +46,7 @@ step_apart-requires-clause-fits g c = c.loop-parts.invariant.cells
 pub invariant_of-parts : goal.invariant_of-parts
 invariant_of-parts g c = record {
   wide = c.step_apart.ensures.len ∙ (c.loop-parts.invariant.going.wide ∙ (sym (fed_cells c.loop-parts.parts.core.machine c.step_apart.result c.loop-parts.parts.core.machine.stage) ∙ sym (ap (λ (k : Machine). k.cells) c.step_apart.ensures.fed)));
-  bare = c.step_apart.ensures.pages ∙ (c.loop-parts.invariant.pages ∙ c.args.parts.now.bare);
+  fit = pages_stay _ _ _ _ _ _ _ _ c.args.parts.now.fit (c.step_apart.ensures.pages ∙ c.loop-parts.invariant.pages) c.loop-parts.invariant.sent c.loop-parts.invariant.got c.loop-parts.invariant.table;
 }
 
 pub returns-clause-call : goal.returns-clause-call
@@ -57,7 +59,7 @@ pub returns-clause-took : goal.returns-clause-took
 returns-clause-took g c = going_took _ _ _ _ _ _ _ _ c.loop-parts.invariant.going c.loop-parts.parts.core.sound (sym c.is_busy.ensures ∙ c.loop-parts-test.false)
 
 pub returns-clause-left : goal.returns-clause-left
-returns-clause-left g c = going_bare _ _ _ _ _ _ _ _ c.loop-parts.invariant.going c.loop-parts.parts.core.sound (sym c.is_busy.ensures ∙ c.loop-parts-test.false) refl
+returns-clause-left g c = going_ran _ _ _ _ _ _ _ _ c.loop-parts.invariant.going c.loop-parts.parts.core.sound (sym c.is_busy.ensures ∙ c.loop-parts-test.false)
 
 pub returns-clause-honest : goal.returns-clause-honest
 returns-clause-honest g c = going_honest _ _ _ _ _ _ _ _ c.loop-parts.invariant.going (sym c.is_busy.ensures ∙ c.loop-parts-test.false)

@@ -1,11 +1,10 @@
 use Rattle.std.proofs.Common.{◌∙◌, refl, sym, ap}
 use Rattle.ring_machine.specs.declared.machine.Machine.{Machine}
-use Rattle.ring_core.proofs.Driving.{going_first, going_on, going_asks, going_calls, going_leaves, going_took, going_bare, going_honest, seeking_busy, first_busy, loading_busy}
+use Rattle.ring_core.proofs.Driving.{going_first, going_on, going_asks, going_calls, going_leaves, going_took, going_ran, pages_stay, going_honest, seeking_busy, first_busy, loading_busy}
 use Rattle.ring_machine.proofs.Kept.{take_kept, take_kept_on, seeking_keeps, first_keeps, loading_keeps}
 use Rattle.ring_machine.proofs.Sound.{fed_nearer}
 use Rattle.ring_machine.proofs.Tables.{fed_cells}
 use Rattle.ring_machine.specs.declared.end_core.EndCore.{EndCore}
-use Rattle.ring_machine.specs.declared.page_core.PageCore.{PageCore}
 use Rattle.ring_machine.specs.PageCalls.{is_paging}
 use Rattle.ring_core.proofs.driver.TakeLoopsDriver.drive.Goals as goal
 
@@ -20,6 +19,7 @@ loop-parts-init g c =
       same = g.met.S.Seatlike.same_refl _;
       sent = refl;
       got = refl;
+      table = refl;
       past = refl;
     }
 
@@ -32,6 +32,7 @@ loop-parts-preserved g c = record {
   same = g.met.S.Seatlike.same_trans _ _ _ c.loop-parts.invariant.same c.step.ensures.same;
   sent = c.loop-parts.invariant.sent;
   got = c.loop-parts.invariant.got;
+  table = c.loop-parts.invariant.table;
   past = c.loop-parts.invariant.past;
 }
 
@@ -53,6 +54,7 @@ loop-parts-2-preserved g c = record {
   same = g.met.S.Seatlike.same_trans _ _ _ c.loop-parts-2.invariant.same c.step-in-loop-parts-2.ensures.same;
   sent = c.loop-parts-2.invariant.sent;
   got = c.loop-parts-2.invariant.got;
+  table = c.loop-parts-2.invariant.table;
   past = c.loop-parts-2.invariant.past;
 }
 
@@ -74,6 +76,7 @@ loop-parts-3-preserved g c = record {
   same = g.met.S.Seatlike.same_trans _ _ _ c.loop-parts-3.invariant.same c.step-in-loop-parts-3.ensures.same;
   sent = c.loop-parts-3.invariant.sent;
   got = c.loop-parts-3.invariant.got;
+  table = c.loop-parts-3.invariant.table;
   past = c.loop-parts-3.invariant.past;
 }
 
@@ -87,13 +90,13 @@ pub step-requires-in-loop-parts-3-clause-busy : goal.step-requires-in-loop-parts
 step-requires-in-loop-parts-3-clause-busy g c = loading_busy _ (sym c.is_loading.ensures ∙ c.loop-parts-3-test.true)
 
 pub take_back-requires-clause-call : goal.take_back-requires-clause-call
-take_back-requires-clause-call g c = ap (λ (k : EndCore). is_paging k.pages.call) c.loop-parts-3.invariant.core ∙ ap (λ (k : PageCore). is_paging k.call) c.args.parts.now.bare
+take_back-requires-clause-call g c = ap (λ (k : EndCore). is_paging k.pages.call) c.loop-parts-3.invariant.core ∙ ap is_paging c.args.parts.now.fit.off
 
 pub take_back-requires-clause-keeps : goal.take_back-requires-clause-keeps
 take_back-requires-clause-keeps g c = c.loop-parts-3.invariant.keeps
 
 pub invariant_of-parts-2 : goal.invariant_of-parts-2
-invariant_of-parts-2 g c = record { wide = c.loop-parts-3.invariant.going.wide ∙ sym (ap (λ (k : Machine). k.cells) c.take_back.ensures.machine); bare = c.take_back.ensures.pages ∙ (ap (λ (k : EndCore). k.pages) c.loop-parts-3.invariant.core ∙ c.args.parts.now.bare) }
+invariant_of-parts-2 g c = record { wide = c.loop-parts-3.invariant.going.wide ∙ sym (ap (λ (k : Machine). k.cells) c.take_back.ensures.machine); fit = pages_stay _ _ _ _ _ _ _ _ c.args.parts.now.fit (c.take_back.ensures.pages ∙ ap (λ (k : EndCore). k.pages) c.loop-parts-3.invariant.core) c.loop-parts-3.invariant.sent c.loop-parts-3.invariant.got c.loop-parts-3.invariant.table }
 
 pub loop-parts-4-init : goal.loop-parts-4-init
 loop-parts-4-init g c = record {
@@ -102,6 +105,7 @@ loop-parts-4-init g c = record {
   same = c.loop-parts-3.invariant.same;
   sent = c.loop-parts-3.invariant.sent;
   got = c.loop-parts-3.invariant.got;
+  table = c.loop-parts-3.invariant.table;
   past = c.loop-parts-3.invariant.past;
   pages = c.take_back.ensures.pages ∙ ap (λ (k : EndCore). k.pages) c.loop-parts-3.invariant.core;
 }
@@ -113,6 +117,7 @@ loop-parts-4-preserved g c = record {
   same = g.met.S.Seatlike.same_trans _ _ _ c.loop-parts-4.invariant.same c.step_apart.ensures.same;
   sent = c.loop-parts-4.invariant.sent;
   got = c.loop-parts-4.invariant.got;
+  table = c.loop-parts-4.invariant.table;
   past = c.loop-parts-4.invariant.past;
   pages = c.step_apart.ensures.pages ∙ c.loop-parts-4.invariant.pages;
 }
@@ -132,7 +137,7 @@ step_apart-requires-clause-fits g c = c.loop-parts-4.invariant.cells
 pub invariant_of-parts-in-loop-parts-4 : goal.invariant_of-parts-in-loop-parts-4
 invariant_of-parts-in-loop-parts-4 g c = record {
   wide = c.step_apart.ensures.len ∙ (c.loop-parts-4.invariant.going.wide ∙ (sym (fed_cells c.loop-parts-4.parts.core.machine c.step_apart.result c.loop-parts-4.parts.core.machine.stage) ∙ sym (ap (λ (k : Machine). k.cells) c.step_apart.ensures.fed)));
-  bare = c.step_apart.ensures.pages ∙ (c.loop-parts-4.invariant.pages ∙ c.args.parts.now.bare);
+  fit = pages_stay _ _ _ _ _ _ _ _ c.args.parts.now.fit (c.step_apart.ensures.pages ∙ c.loop-parts-4.invariant.pages) c.loop-parts-4.invariant.sent c.loop-parts-4.invariant.got c.loop-parts-4.invariant.table;
 }
 
 pub returns-clause-call : goal.returns-clause-call
@@ -145,7 +150,7 @@ pub returns-clause-took : goal.returns-clause-took
 returns-clause-took g c = going_took _ _ _ _ _ _ _ _ c.loop-parts-4.invariant.going c.loop-parts-4.parts.core.sound (sym c.is_busy.ensures ∙ c.loop-parts-4-test.false)
 
 pub returns-clause-left : goal.returns-clause-left
-returns-clause-left g c = going_bare _ _ _ _ _ _ _ _ c.loop-parts-4.invariant.going c.loop-parts-4.parts.core.sound (sym c.is_busy.ensures ∙ c.loop-parts-4-test.false) refl
+returns-clause-left g c = going_ran _ _ _ _ _ _ _ _ c.loop-parts-4.invariant.going c.loop-parts-4.parts.core.sound (sym c.is_busy.ensures ∙ c.loop-parts-4-test.false)
 
 pub returns-clause-honest : goal.returns-clause-honest
 returns-clause-honest g c = going_honest _ _ _ _ _ _ _ _ c.loop-parts-4.invariant.going (sym c.is_busy.ensures ∙ c.loop-parts-4-test.false)

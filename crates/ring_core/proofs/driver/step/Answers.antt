@@ -1,0 +1,20 @@
+use Rattle.std.proofs.Common.{◌≡◌, true, false, Some, sym, ap, ◌∙◌}
+use Rattle.ring_core.specs.declared.told.Told.{Told}
+use Rattle.ring_machine.proofs.Fitting.{busy_off}
+use Rattle.ring_core.proofs.Performed.{ring_way, ring_goes, ring_tells, ring_next}
+use Rattle.ring_core.proofs.driver.step.Goals as goal
+
+pub perform-v-requires-clause-busy : goal.perform-v-requires-clause-busy
+perform-v-requires-clause-busy g c = ring_way _ _ c.requires.busy
+
+pub perform-v-requires-clause-pages : goal.perform-v-requires-clause-pages
+perform-v-requires-clause-pages g c = λ h. absurd (let z : true ≡ false = sym h ∙ busy_off c.args.core.now.pages c.args.core.now.machine.stage c.args.core.now.fit c.requires.busy in cc)
+
+pub perform-v-requires-clause-goes_on : goal.perform-v-requires-clause-goes_on
+perform-v-requires-clause-goes_on g c = λ u e. ring_goes _ _ _ _ _ c.requires.busy (c.requires.goes_on u e)
+
+pub returns-clause-runs : goal.returns-clause-runs
+returns-clause-runs g c = λ m op e n. c.perform-v.ensures.runs m op e (ring_next _ _ _ _ n)
+
+pub returns-clause-tells : goal.returns-clause-tells
+returns-clause-tells g c = λ u e. let t = c.perform-v.ensures.tells u e in (t.0 ∙ ap (λ (x : Told). Some x) (ring_tells _ u _ _ _ _ c.requires.busy), t.1)
