@@ -11,7 +11,7 @@ use Rattle.bus_speech.specs.declared.want.Want.TheVariants.{Script}
 use Rattle.work_model.specs.Channel.{count_of}
 use Rattle.bus_model.specs.Orders.{Order}
 use Rattle.bus_model.specs.Channel.{Carries}
-use Rattle.bus_model.specs.Laws.{Arrived, Arrives, ServesEach}
+use Rattle.bus_model.specs.Laws.{Arrived, Arrives, ServesEach, CompletesEach}
 
 whole_front : {A : Type 0} (xs ys : List A) → xs ≡ ys → IsFront xs ys
 whole_front xs ys is = ([], sym is ∙ sym (append-nil xs))
@@ -38,3 +38,6 @@ arrives_lem order lists served run = from (side_that_asks order.kind) order list
 
 pub serves_each_lem : ServesEach
 serves_each_lem order lists served run = run.carried.count ∙ ap (count_of order.stop) (length-map order.asks Script)
+
+pub completes_each_lem : CompletesEach
+completes_each_lem order lists served run = record { in_order = run.carried.acks; each = run.carried.all_acked }

@@ -1,16 +1,15 @@
 -- For each order, and each list of served requests that is right for it, there is a run of its channel.
-use Rattle.std.proofs.Common.{◌≡◌, ℕ, zero, suc, ◌+◌, ◌≤◌, Bool, true, false, List, [], ◌∷◌, map, take, length, length-append, refl, sym, ap, ◌∙◌, subst, arith, Option, Some, None}
-use Rattle.std.specs.List.{AllByRecursion}
+use Rattle.std.proofs.Common.{◌≡◌, ℕ, zero, suc, ◌+◌, ◌≤◌, Bool, true, List, [], ◌∷◌, map, take, length, length-append, refl, sym, ap, ◌∙◌, subst, arith, Option, Some, None}
+use Rattle.std.specs.List.{AllByRecursion, range_with_len}
 use Rattle.std.proofs.lemmas.List.{length-map}
 use Rattle.contact.specs.declared.kind.Kind.{Kind}
-use Rattle.contact.specs.declared.kind.Kind.TheVariants.{Beat, Down, Disk, Net}
 use Rattle.io_edge.specs.declared.side.Side.{Side}
 use Rattle.io_edge.specs.declared.side.Side.TheVariants.{Guest, Host}
 use Rattle.ring_model.specs.Lists.{Lists}
 use Rattle.script_lines.specs.declared.line.Ask.{Ask}
 use Rattle.bus_speech.specs.declared.want.Want.TheVariants.{Script}
 use Rattle.bus_speech.specs.Wants.{IsAskable}
-use Rattle.bus_speech.specs.Speeches.{speech_of, fits_on}
+use Rattle.bus_speech.specs.Speeches.{speech_of, fits_on, asked_as}
 use Rattle.bus_speech.proofs.TalkLaws.{few_starts}
 use Rattle.bus_speech.proofs.SpeechLaws.{keeps, start_is_fixed, script_asks, asked_is}
 use Rattle.work_model.specs.Channel.{count_of}
@@ -19,15 +18,16 @@ use Rattle.bus_model.specs.Served.{Served}
 use Rattle.bus_model.specs.Orders.{Order, startup_of, plan_of}
 use Rattle.script_phases.specs.Openings.{Phase, Opening}
 use Rattle.bus_model.specs.Orders.{order_of}
-use Rattle.bus_model.specs.Channel.{Carries, served_count}
+use Rattle.bus_model.specs.Channel.{Carries, asked_under, served_count}
 use Rattle.bus_model.specs.Run.{Carried, IsCarried}
 use Rattle.bus_model.specs.Laws.{Suits, OrdersRun}
 use Rattle.bus_model.proofs.Made.{Fit, Made, made}
+use Rattle.bus_model.proofs.FromLists.{serves_first_lem}
 
-fit : (kind : Kind) (n id : ℕ) (asks : List Ask) (served : List Served) → AllByRecursion (IsAskable kind) asks → map (λ c. c.request) served ≡ take n asks
+fit : (kind : Kind) (n id : ℕ) (asks : List Ask) (served : List Served) → AllByRecursion (IsAskable kind) asks → map (λ c. c.request) served ≡ take n (asked_under (range_with_len id (length asks)) asks)
     → AllByRecursion (λ (c : Served). fits_on kind c.request c.reply ≡ true) served → Fit (speech_of kind) (keeps kind) n id (map Script asks) served
 fit kind zero id asks [] can serves fits = refl
-fit kind zero id asks (c ∷ served) can serves fits = absurd (none asks serves)
+fit kind zero id asks (c ∷ served) can serves fits = absurd (none (asked_under (range_with_len id (length asks)) asks) serves)
   where
     none : (asks : List Ask) → map (λ (c : Served). c.request) (c ∷ served) ≡ take 0 asks → ⊥
     none [] e = absurd (cc)
@@ -36,8 +36,8 @@ fit kind (suc n) id [] [] can serves fits = refl
 fit kind (suc n) id [] (c ∷ served) can serves fits = absurd (cc)
 fit kind (suc n) id (a ∷ asks) [] can serves fits = absurd (cc)
 fit kind (suc n) id (a ∷ asks) (c ∷ served) can serves fits =
-    let head : c.request ≡ a = cc in
-    let tail : map (λ (c : Served). c.request) served ≡ take n asks = cc in
+    let head : c.request ≡ asked_as id a = cc in
+    let tail : map (λ (c : Served). c.request) served ≡ take n (asked_under (range_with_len (id + 1) (length asks)) asks) = cc in
     (asked_is kind id a can.0 ∙ ap Some (sym head), fits.0, fit kind n (id + 1) asks served can.1 tail fits.1)
 
 count_few : (stop : Option (ℕ × Bool)) (m : ℕ) → count_of stop m ≤ m
@@ -45,8 +45,8 @@ count_few None m = omega arith
 count_few (Some k) m = omega arith
 
 abbrev pub lists_of : Side → List (List ℕ) → List (List ℕ) → Lists
-lists_of Guest sent back = record { guest_sent = sent; guest_got = back; host_sent = back; host_got = sent }
-lists_of Host sent back = record { guest_sent = back; guest_got = sent; host_sent = sent; host_got = back }
+lists_of Guest sent back = record { guest_sent = sent; guest_got = back; host_sent = back; host_got = sent; guest_sent_items = []; guest_got_items = []; host_sent_items = []; host_got_items = [] }
+lists_of Host sent back = record { guest_sent = back; guest_got = sent; host_sent = sent; host_got = back; guest_sent_items = []; guest_got_items = []; host_sent_items = []; host_got_items = [] }
 
 plan_made : (order : Order) (served : List Served) → Suits order served → Made (speech_of order.kind) (keeps order.kind) (plan_of order) served
 plan_made order served suits =
@@ -97,7 +97,9 @@ pub channel_made : OrdersRun
 channel_made order served suits =
     let m = plan_made order served suits in
     let side = side_that_asks order.kind in
-    (lists_of side m.sent m.back, record { carried = carries side order served m; serves = suits.serves })
+    let carried = carries side order served m in
+    let lists = lists_of side m.sent m.back in
+    (lists, record { carried = carried; serves = serves_first_lem side order lists served suits.can carried })
 
 -- so a channel that a phase opens
 abbrev pub carry : (p : Phase) (o : Opening) (served : List Served) → Suits (order_of p o) served → Carried

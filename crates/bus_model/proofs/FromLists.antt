@@ -1,27 +1,29 @@
 -- What was served follows from what was carried, and the outcomes follow from the lists of both ends.
-use Rattle.std.proofs.Common.{◌≡◌, ℕ, zero, suc, ◌-◌, min, Bool, true, false, List, [], ◌∷◌, ◌++◌, map, take, drop, replicate, filter, length, refl, sym, ap, ◌∙◌, subst, arith, append_assoc, Option, Some, None}
+use Rattle.std.proofs.Common.{◌≡◌, ℕ, zero, suc, ◌-◌, min, Bool, true, false, List, [], ◌∷◌, ◌++◌, map, take, drop, replicate, filter, length, refl, sym, ap, ◌∙◌, arith, Option, Some, None}
 use Rattle.std.specs.Prelude.{nat_le, filter_map, if◌then◌else◌}
-use Rattle.std.specs.List.{AllByRecursion}
+use Rattle.std.specs.List.{AllByRecursion, cons_option}
 use Rattle.std.proofs.lemmas.List.{length-map, map-append}
-use Rattle.chan_run.specs.Runs.{IsFront}
+use Rattle.scsi_disk.proofs.RoomLaws.{by_test}
 use Rattle.contact.specs.declared.kind.Kind.{Kind}
+use Rattle.contact.specs.declared.kind.Kind.TheVariants.{Beat, Down, Disk, Net}
 use Rattle.io_edge.specs.declared.side.Side.TheVariants.{Guest, Host}
 use Rattle.script_lines.specs.declared.line.Ask.{Ask}
+use Rattle.script_lines.specs.declared.line.Ask.TheVariants.{Ic as AskIc, Disk as AskDisk, Net as AskNet}
 use Rattle.bus_script.specs.declared.outcome.LineResult.TheVariants.{Unserved as IsUnserved}
 use Rattle.bus_script.specs.declared.outcome.Reply.{Reply}
 use Rattle.bus_speech.specs.declared.want.Want.{Want}
 use Rattle.bus_speech.specs.declared.want.Want.TheVariants.{Script}
 use Rattle.bus_speech.specs.Wants.{IsAskable}
-use Rattle.bus_speech.specs.Speeches.{speech_of, read_on}
-use Rattle.bus_speech.proofs.SpeechLaws.{start_is_fixed, all_ask, asked_is}
+use Rattle.bus_speech.specs.Speeches.{speech_of, read_on, asked_as}
+use Rattle.bus_speech.proofs.SpeechLaws.{keeps, start_is_fixed, asked_is}
 use Rattle.work_model.specs.Asker.{Encoded}
 use Rattle.work_model.specs.Channel.{AllFixed, count_of, IsChannelRun as IsTalkRun}
 use Rattle.work_model.specs.Outcome.{Outcome, Unserved, done_of, served_of, outcomes_of as work_outcomes}
 use Rattle.work_model.proofs.Outcomes.{lines}
 use Rattle.bus_model.specs.Served.{Served, done_of as line_done}
 use Rattle.bus_model.specs.Orders.{Order, plan_of, startup_of}
-use Rattle.bus_model.specs.Channel.{served_count, replies_to, rescinded_of, outcomes_by}
-use Rattle.bus_model.specs.Laws.{ServesFirst, ListsTell, line_of}
+use Rattle.bus_model.specs.Channel.{script_ids, asked_under, served_count, replies_to, rescinded_of, outcomes_by}
+use Rattle.bus_model.specs.Laws.{ServesFirst, AsksAsScripted, ListsTell, line_of}
 use Rattle.bus_model.proofs.Arriving.{serves_each_lem}
 
 -- served is what was asked first
@@ -32,26 +34,44 @@ map_first f x xs y e = grind (arith, e)
 map_past : {A B : Type 0} (f : A → Option B) (x : A) (xs : List A) → f x ≡ None → filter_map f (x ∷ xs) ≡ filter_map f xs
 map_past f x xs e = grind (arith, e)
 
-all_requests : (kind : Kind) (ps : List (List ℕ)) → filter (speech_of kind).is_request ps ≡ ps
-all_requests kind [] = refl
-all_requests kind (p ∷ ps) = rw (all_ask kind p) (ap (λ l. p ∷ l) (all_requests kind ps))
+same_front : {A B : Type 0} (f : A → Option B) (x : A) (xs ys : List A) → filter_map f xs ≡ filter_map f ys → filter_map f (x ∷ xs) ≡ filter_map f (x ∷ ys)
+same_front f x xs ys e = ap (cons_option (f x)) e
 
-script_front : (kind : Kind) (asks : List Ask) (ps : List (List ℕ)) → AllByRecursion (IsAskable kind) asks → Encoded (speech_of kind) (map Script asks) ps → IsFront (filter_map (read_on kind) ps) asks
-script_front kind asks [] can encoded = (asks, refl)
-script_front kind [] (p ∷ ps) can encoded = absurd encoded
-script_front kind (a ∷ asks) (p ∷ ps) can encoded =
-    let rest = script_front kind asks ps can.1 encoded.1 in
-    let is : read_on kind p ≡ Some a = ap (read_on kind) encoded.0 ∙ asked_is kind _ a can.0 in
-    (rest.0, ap (λ l. a ∷ l) rest.1 ∙ ap (λ l. l ++ rest.0) (sym (map_first (read_on kind) p ps a is)))
+kept : {X : Type 0} (f : X → Bool) (x : X) (xs : List X) → f x ≡ true → filter f (x ∷ xs) ≡ x ∷ filter f xs
+kept f x xs e = grind (arith, e)
 
-plan_front : (kind : Kind) (start : List Want) (asks : List Ask) (ps : List (List ℕ)) → AllFixed (speech_of kind) start → AllByRecursion (IsAskable kind) asks → Encoded (speech_of kind) (start ++ map Script asks) ps
-    → IsFront (filter_map (read_on kind) ps) asks
-plan_front kind [] asks ps fixed can encoded = script_front kind asks ps can encoded
-plan_front kind (a ∷ start) asks [] fixed can encoded = (asks, refl)
-plan_front kind (a ∷ start) asks (p ∷ ps) fixed can encoded =
-    let rest = plan_front kind start asks ps fixed.1 can encoded.1 in
+dropped : {X : Type 0} (f : X → Bool) (x : X) (xs : List X) → f x ≡ false → filter f (x ∷ xs) ≡ filter f xs
+dropped f x xs e = grind (arith, e)
+
+-- what asks nothing isn't read, so the requests alone are
+read_requests : (kind : Kind) (ps : List (List ℕ)) → filter_map (read_on kind) ps ≡ filter_map (read_on kind) (filter (speech_of kind).is_request ps)
+read_requests kind [] = refl
+read_requests kind (p ∷ ps) =
+    by_test ((speech_of kind).is_request p)
+    (λ yes. same_front (read_on kind) p ps (filter (speech_of kind).is_request ps) (read_requests kind ps) ∙ ap (filter_map (read_on kind)) (sym (kept (speech_of kind).is_request p ps yes)))
+    (λ no.
+    let none : read_on kind p ≡ None = (keeps kind).unread p ((keeps kind).asks p no) in
+    map_past (read_on kind) p ps none ∙ (read_requests kind ps ∙ ap (filter_map (read_on kind)) (sym (dropped (speech_of kind).is_request p ps no))))
+
+script_read : (kind : Kind) (asks : List Ask) (ps : List (List ℕ)) → AllByRecursion (IsAskable kind) asks → Encoded (speech_of kind) (map Script asks) ps → filter_map (read_on kind) ps ≡ asked_under (map (speech_of kind).id_of ps) asks
+script_read kind asks [] can encoded = refl
+script_read kind [] (p ∷ ps) can encoded = absurd encoded
+script_read kind (a ∷ asks) (p ∷ ps) can encoded =
+    let id = (speech_of kind).id_of p in
+    let is : read_on kind p ≡ Some (asked_as id a) = ap (read_on kind) encoded.0 ∙ asked_is kind id a can.0 in
+    map_first (read_on kind) p ps (asked_as id a) is ∙ ap (λ l. asked_as id a ∷ l) (script_read kind asks ps can.1 encoded.1)
+
+drop_none : {X : Type 0} (xs : List X) → drop 0 xs ≡ xs
+drop_none [] = refl
+drop_none (x ∷ xs) = refl
+
+plan_read : (kind : Kind) (start : List Want) (asks : List Ask) (ps : List (List ℕ)) → AllFixed (speech_of kind) start → AllByRecursion (IsAskable kind) asks → Encoded (speech_of kind) (start ++ map Script asks) ps
+    → filter_map (read_on kind) ps ≡ asked_under (map (speech_of kind).id_of (drop (length start) ps)) asks
+plan_read kind [] asks ps fixed can encoded = script_read kind asks ps can encoded ∙ ap (λ l. asked_under (map (speech_of kind).id_of l) asks) (sym (drop_none ps))
+plan_read kind (a ∷ start) asks [] fixed can encoded = refl
+plan_read kind (a ∷ start) asks (p ∷ ps) fixed can encoded =
     let is : read_on kind p ≡ None = ap (read_on kind) encoded.0 ∙ fixed.0 _ in
-    (rest.0, rest.1 ∙ ap (λ l. l ++ rest.0) (sym (map_past (read_on kind) p ps is)))
+    map_past (read_on kind) p ps is ∙ plan_read kind start asks ps fixed.1 can encoded.1
 
 take_front : {X : Type 0} (xs rest : List X) (n : ℕ) → length xs ≡ n → take n (xs ++ rest) ≡ xs
 take_front [] rest zero e = take_zero rest
@@ -64,18 +84,41 @@ take_front (x ∷ xs) rest zero e = absurd (cc)
 take_front (x ∷ xs) rest (suc n) e = ap (λ l. x ∷ l) (take_front xs rest n (omega (arith, e)))
 
 first_asked : (order : Order) (sent got server_sent server_got : List (List ℕ)) (served : List Served) (told : List Reply) → AllByRecursion (IsAskable order.kind) order.asks
-    → IsTalkRun (speech_of order.kind) (plan_of order) sent got server_sent server_got served told → map (λ s. s.request) served ≡ take (served_count order) order.asks
+    → IsTalkRun (speech_of order.kind) (plan_of order) sent got server_sent server_got served told → map (λ s. s.request) served ≡ take (served_count order) (asked_under (script_ids order sent) order.asks)
 first_asked order sent got server_sent server_got served told can run =
-    let asked = subst (Encoded (speech_of order.kind) (startup_of order ++ map Script order.asks)) (all_requests order.kind sent) run.requests in
-    let front = plan_front order.kind (startup_of order) order.asks sent (start_is_fixed order.kind order.sub order.subs) can asked in
-    let whole : order.asks ≡ map (λ (s : Served). s.request) served ++ (run.asked.0 ++ front.0) =
-    front.1 ∙ (ap (λ l. l ++ front.0) run.asked.1 ∙ append_assoc (map (λ (s : Served). s.request) served) run.asked.0 front.0) in
+    let requests = filter (speech_of order.kind).is_request sent in
+    let read : filter_map (read_on order.kind) sent ≡ asked_under (script_ids order sent) order.asks =
+    read_requests order.kind sent ∙ plan_read order.kind (startup_of order) order.asks requests (start_is_fixed order.kind order.sub order.subs) can run.requests in
+    let whole : asked_under (script_ids order sent) order.asks ≡ map (λ (s : Served). s.request) served ++ run.asked.0 = sym read ∙ run.asked.1 in
     let count : length (map (λ (s : Served). s.request) served) ≡ served_count order = length-map served (λ s. s.request) ∙ (run.count ∙ ap (count_of order.stop) (length-map order.asks Script)) in
-    sym (ap (take (served_count order)) whole ∙ take_front (map (λ (s : Served). s.request) served) (run.asked.0 ++ front.0) (served_count order) count)
+    sym (ap (take (served_count order)) whole ∙ take_front (map (λ (s : Served). s.request) served) run.asked.0 (served_count order) count)
 
 pub serves_first_lem : ServesFirst
 serves_first_lem Guest order lists served can run = first_asked order _ _ _ _ served _ can run
 serves_first_lem Host order lists served can run = first_asked order _ _ _ _ served _ can run
+
+-- requests of other kinds than a network's are the same under each id
+
+same_ask : (kind : Kind) (id : ℕ) (ask : Ask) → (kind ≡ Net → ⊥) → IsAskable kind ask → asked_as id ask ≡ ask
+same_ask kind id (AskIc ask) other can = refl
+same_ask kind id (AskDisk request) other can = refl
+same_ask Beat id (AskNet message) other can = absurd can
+same_ask Down id (AskNet message) other can = absurd can
+same_ask Disk id (AskNet message) other can = absurd can
+same_ask Net id (AskNet message) other can = absurd (other refl)
+
+none_under : (asks : List Ask) → [] ≡ take 0 asks
+none_under [] = refl
+none_under (a ∷ asks) = refl
+
+same_under : (kind : Kind) (ids : List ℕ) (asks : List Ask) → (kind ≡ Net → ⊥) → AllByRecursion (IsAskable kind) asks → asked_under ids asks ≡ take (length ids) asks
+same_under kind [] asks other can = none_under asks
+same_under kind (id ∷ ids) [] other can = refl
+same_under kind (id ∷ ids) (a ∷ asks) other can =
+    ap (λ x. x ∷ asked_under ids asks) (same_ask kind id a other can.0) ∙ ap (λ l. a ∷ l) (same_under kind ids asks other can.1)
+
+pub as_scripted : AsksAsScripted
+as_scripted order ids other can = same_under order.kind ids order.asks other can
 
 -- the two lists make the outcomes
 

@@ -6,10 +6,9 @@ use Rattle.std.proofs.lemmas.List.{nil_from_length}
 use Rattle.std.proofs.lemmas.Bool.Decides.{nat_tests}
 use Rattle.scsi_disk.proofs.RoomLaws.{by_test}
 use Rattle.script_lines.specs.declared.line.Ask.{Ask}
-use Rattle.bus_script.specs.declared.outcome.Reply.{Reply}
 use Rattle.bus_model.specs.Served.{Served}
 use Rattle.bus_model.specs.Logs.{Recorded, served_from, EachSeat, total, Grows}
-use Rattle.bus_model.proofs.Lists.{each_append, each_left, each_right, each_if, each_unless}
+use Rattle.bus_model.proofs.Lists.{each_append, each_unless}
 
 length_if : (c : Bool) (x : Served) (xs : List Served) → length (cond c (x ∷ xs) xs) ≡ cond c 1 0 + length xs
 length_if true x xs = omega arith
@@ -125,20 +124,3 @@ seat_entries seat n more (s ∷ served) zero calls each at =
 seat_entries seat n more (s ∷ served) (suc i) calls each at =
     let here : seat + suc i ≡ seat + 1 + i = omega arith in
     ap (λ k. served_from k n more) here ∙ seat_entries (seat + 1) n more served i calls each.1 at
-
-module _ (Q : Reply → Type 0) where
-  from_seat : (seat n : ℕ) (more : List Recorded) → AllByRecursion (λ e. Q e.reply) more → AllByRecursion (λ s. Q s.reply) (served_from seat n more)
-  from_seat seat n [] all = tt
-  from_seat seat n (e ∷ es) all =
-      each_if (λ (s : Served). Q s.reply) (nat_eq e.seat seat) (record { serial = n; request = e.ask; reply = e.reply }) (served_from seat (n + 1) es) all.0 (from_seat seat (n + 1) es all.1)
-
-  from_seats : (seat n : ℕ) (more : List Recorded) (served : List (List Served)) → EachSeat seat n more served → AllByRecursion (λ e. Q e.reply) more → AllByRecursion (AllByRecursion (λ s. Q s.reply)) served
-  from_seats seat n more [] each all = tt
-  from_seats seat n more (s ∷ served) each all = (subst (AllByRecursion (λ s. Q s.reply)) each.0 (from_seat seat n more all), from_seats (seat + 1) n more served each.1 all)
-
-  -- where the replies of a history have Q, so have those before it, and those that its seats gave
-  pub replies_with : (before after : List Recorded) (served : List (List Served)) → Grows before after served → AllByRecursion (λ e. Q e.reply) after
-      → AllByRecursion (λ e. Q e.reply) before × AllByRecursion (AllByRecursion (λ s. Q s.reply)) served
-  replies_with before after served grows all =
-      let whole = subst (AllByRecursion (λ e. Q e.reply)) grows.after_is all in
-      (each_left (λ (e : Recorded). Q e.reply) before grows.more whole, from_seats 0 (length before) grows.more served grows.seats (each_right (λ (e : Recorded). Q e.reply) before grows.more whole))

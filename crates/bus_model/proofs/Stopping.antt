@@ -10,11 +10,12 @@ use Rattle.ring_model.specs.Lists.{Lists}
 use Rattle.script_lines.specs.declared.line.Ask.{Ask}
 use Rattle.script_phases.specs.Openings.{Phase}
 use Rattle.work_model.specs.Channel.{count_of, held_of}
+use Rattle.work_model.specs.Roles.{side_that_asks}
 use Rattle.bus_script.specs.declared.outcome.LineResult.{LineResult}
 use Rattle.bus_script.specs.declared.outcome.LineResult.TheVariants.{Unserved}
 use Rattle.bus_model.specs.Served.{Served, done_of}
 use Rattle.bus_model.specs.Orders.{Order, order_of}
-use Rattle.bus_model.specs.Channel.{IsChannelRun, served_count, rescinded_of, outcomes_by, outcomes_of}
+use Rattle.bus_model.specs.Channel.{IsChannelRun, asked_by, served_count, rescinded_of, outcomes_by, outcomes_of}
 use Rattle.bus_model.specs.Logs.{Recorded, Grows, served_from, total}
 use Rattle.bus_model.specs.Run.{Carried, IsCarried, seats_of, EachGrows}
 use Rattle.bus_model.specs.Laws.{Rescinds, UnservedNowhere, was_served}
@@ -114,10 +115,11 @@ last_held k m served some few count =
 pub rescinds_lem : Rescinds
 rescinds_lem order lists served run =
     let m = length order.asks in
+    let asks = asked_by (side_that_asks order.kind) order lists in
     let count = serves_each_lem order lists served run in
     record {
       one_each = one_outcome_each order lists served run;
-      served_first = (drop (served_count order) order.asks, rest_of order.asks (served_count order) ∙ ap (λ l. l ++ drop (served_count order) order.asks) (sym run.serves));
+      served_first = (drop (served_count order) asks, rest_of asks (served_count order) ∙ ap (λ l. l ++ drop (served_count order) asks) (sym run.serves));
       done = done_by order.stop m served;
       held = held_by order.stop m served;
       done_first = both_parts order.stop m served;

@@ -1,8 +1,13 @@
 -- The worked examples have runs.
-use Rattle.std.proofs.Common.{ℕ, List, [], ◌∷◌, Bool, true, false, refl, arith}
+use Rattle.std.proofs.Common.{◌≡◌, ℕ, List, [], ◌∷◌, Bool, true, false, refl, ap, arith}
+use Rattle.contact.specs.declared.kind.Kind.TheVariants.{Disk as DiskKind}
 use Rattle.script_lines.specs.declared.line.Line.{Line}
 use Rattle.script_lines.specs.declared.line.What.TheVariants.{Offer as IsOffer, Ask as IsAsk, Shut as IsShut}
+use Rattle.script_lines.specs.declared.line.Ask.{Ask}
+use Rattle.script_lines.specs.declared.line.Ask.TheVariants.{Ic as AskIc, Disk as AskDisk, Net as AskNet}
 use Rattle.script_lines.specs.declared.line.DeviceSpec.TheVariants.{Disk}
+use Rattle.bus_speech.specs.Wants.{IsAskable}
+use Rattle.bus_speech.specs.Speeches.{asked_as}
 use Rattle.script_phases.specs.Openings.{Phase, Opening}
 use Rattle.bus_script.specs.declared.outcome.LineResult.TheVariants.{Done, Closed}
 use Rattle.bus_model.specs.Orders.{order_of}
@@ -14,10 +19,20 @@ use Rattle.bus_model.proofs.ChannelMade.{channel_made, carry, carried}
 abbrev opening : ℕ → ℕ → ℕ → Opening
 opening relid subs sub = record { relid = relid; device = 0; spec = Disk 64 subs; sub = sub }
 
+-- a disk is asked the same under each id
+
+same_disk : (id : ℕ) (ask : Ask) → IsAskable DiskKind ask → ask ≡ asked_as id ask
+same_disk id (AskIc q) can = absurd can
+same_disk id (AskDisk q) can = refl
+same_disk id (AskNet q) can = absurd can
+
+one_disk : (id : ℕ) (ask : Ask) → IsAskable DiskKind ask → ask ∷ [] ≡ asked_as id ask ∷ []
+one_disk id ask can = ap (λ a. a ∷ []) (same_disk id ask can)
+
 -- an order with a stop
 
 suits : (held : Bool) (a b c d : Exchange) → Suits (rescinding held a b c d) (call 0 a ∷ call 1 b ∷ [])
-suits held a b c d = record { can = (a.can, (b.can, (c.can, (d.can, tt)))); few = omega arith; serves = refl; fits = (a.fits, (b.fits, tt)) }
+suits held a b c d = record { can = (a.can, (b.can, (c.can, (d.can, tt)))); few = omega arith; serves = (λ i. same_disk 5 a.ask a.can i ∷ (same_disk 6 b.ask b.can i ∷ [])); fits = (a.fits, (b.fits, tt)) }
 
 pub rescinded_lem : Rescinded
 rescinded_lem a b c d = let made = channel_made (rescinding false a b c d) _ (suits false a b c d) in record { lists = made.0; run = made.1; outcomes = refl }
@@ -35,7 +50,7 @@ module _ (a : Exchange) where
   closed_phase = record { number = 0; earlier = []; part = lines_to_close; opened = opening 1 0 0 ∷ [] }
 
   once : Suits (order_of closed_phase (opening 1 0 0)) (call 0 a ∷ [])
-  once = record { can = (a.can, tt); few = omega arith; serves = refl; fits = (a.fits, tt) }
+  once = record { can = (a.can, tt); few = omega arith; serves = one_disk 5 a.ask a.can; fits = (a.fits, tt) }
 
 pub closes_lem : Closes
 closes_lem a b =
@@ -67,16 +82,16 @@ module _ (a b c : Exchange) where
   behind = record { number = 1; earlier = lines_before; part = line 4 (IsAsk 0 b.ask) ∷ line 5 (IsAsk 0 c.ask) ∷ []; opened = opening 1 1 0 ∷ opening 3 1 1 ∷ [] }
 
   one : Suits (order_of before (opening 1 1 0)) (call 0 a ∷ [])
-  one = record { can = (a.can, tt); few = omega arith; serves = refl; fits = (a.fits, tt) }
+  one = record { can = (a.can, tt); few = omega arith; serves = one_disk 6 a.ask a.can; fits = (a.fits, tt) }
 
   none : Suits (order_of before (opening 2 1 1)) []
   none = record { can = tt; few = omega arith; serves = refl; fits = tt }
 
   main : (n : ℕ) → Suits (order_of behind (opening 1 1 0)) (call n b ∷ [])
-  main n = record { can = (b.can, tt); few = omega arith; serves = refl; fits = (b.fits, tt) }
+  main n = record { can = (b.can, tt); few = omega arith; serves = one_disk 6 b.ask b.can; fits = (b.fits, tt) }
 
   sub : (n : ℕ) → Suits (order_of behind (opening 3 1 1)) (call n c ∷ [])
-  sub n = record { can = (c.can, tt); few = omega arith; serves = refl; fits = (c.fits, tt) }
+  sub n = record { can = (c.can, tt); few = omega arith; serves = one_disk 1 c.ask c.can; fits = (c.fits, tt) }
 
 pub shares_lem : Shares
 shares_lem a b c =

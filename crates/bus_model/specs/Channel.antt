@@ -1,6 +1,7 @@
 -- The run of one channel in one phase.
-use Rattle.std.specs.Prelude.{ℕ, ◌≡◌, ◌-◌, min, nat_le, Bool, true, false, List, ◌++◌, map, take, drop, replicate, length, Option, Some, None, if◌then◌else◌}
-use Rattle.bus_speech.specs.Speeches.{speech_of}
+use Rattle.std.specs.Prelude.{ℕ, ◌≡◌, ◌-◌, min, nat_le, Bool, true, false, List, [], ◌∷◌, ◌++◌, map, filter, take, drop, replicate, length, Option, Some, None, if◌then◌else◌}
+use Rattle.bus_speech.specs.Speeches.{speech_of, asked_as}
+use Rattle.script_lines.specs.declared.line.Ask.{Ask}
 use Rattle.bus_script.specs.declared.outcome.LineResult.{LineResult}
 use Rattle.bus_script.specs.declared.outcome.LineResult.TheVariants.{RescindedServed, Unserved}
 use Rattle.io_edge.specs.declared.side.Side.{Side}
@@ -10,7 +11,7 @@ use Rattle.work_model.specs.Channel.{count_of, held_of, IsChannelRun as IsTalkRu
 use Rattle.work_model.specs.Roles.{side_that_asks}
 use Rattle.work_model.specs.Server.{answered}
 use Rattle.bus_model.specs.Served.{Served, done_of}
-use Rattle.bus_model.specs.Orders.{Order, plan_of}
+use Rattle.bus_model.specs.Orders.{Order, plan_of, startup_of}
 
 -- what the end of this side sent and got
 abbrev pub sent_by : Side → Lists → List (List ℕ)
@@ -43,10 +44,24 @@ abbrev pub Carries : Side → Order → Lists → List Served → Type 0
 Carries asks_at order lists served =
     IsTalkRun (speech_of order.kind) (plan_of order) (sent_by asks_at lists) (got_by asks_at lists) (sent_by (other asks_at) lists) (got_by (other asks_at) lists) served (map (λ c. c.reply) (replies_to order served))
 
--- and what was served are the first of its requests, in order: all of them where it doesn't stop
+-- the ids of the packets that ask the script's requests, in order
+abbrev pub script_ids : Order → List (List ℕ) → List ℕ
+script_ids order sent = map (speech_of order.kind).id_of (drop (length (startup_of order)) (filter (speech_of order.kind).is_request sent))
+
+-- what a device is asked by requests under these ids: a message for an adapter that has a request id has that of its packet, and any other request is as it stands in the script
+abbrev pub asked_under : List ℕ → List Ask → List Ask
+asked_under [] asks = []
+asked_under (id ∷ ids) [] = []
+asked_under (id ∷ ids) (a ∷ asks) = asked_as id a ∷ asked_under ids asks
+
+-- what the end of this side asks of the device, in order
+abbrev pub asked_by : Side → Order → Lists → List Ask
+asked_by side order lists = asked_under (script_ids order (sent_by side lists)) order.asks
+
+-- and what was served are the first of these requests, in order: all of them where it doesn't stop
 pub record IsChannelRun (order : Order) (lists : Lists) (served : List Served) : Type 0 where
   pub carried : Carries (side_that_asks order.kind) order lists served
-  pub serves : map (λ s. s.request) served ≡ take (served_count order) order.asks
+  pub serves : map (λ s. s.request) served ≡ take (served_count order) (asked_by (side_that_asks order.kind) order lists)
 
 abbrev pub rescinded_of : Served → LineResult
 rescinded_of s = RescindedServed s.serial

@@ -1,9 +1,8 @@
 -- Laws of runs.
-use Rattle.std.specs.Prelude.{ℕ, ◌≡◌, ◌≤◌, ◌<◌, ◌+◌, ◌-◌, ◌*◌, min, Bool, true, false, List, [], ◌∷◌, ◌++◌, length, map, take, replicate, count_by, slice_get, slice_index_or, Some, None, Ok}
-use Rattle.std.specs.List.{AllByRecursion, flat_map}
+use Rattle.std.specs.Prelude.{ℕ, ◌≡◌, ◌≤◌, ◌<◌, ◌+◌, ◌-◌, min, Bool, true, false, List, [], ◌∷◌, ◌++◌, length, map, filter, take, replicate, count_by, slice_get, slice_index_or, Some, None}
+use Rattle.std.specs.List.{AllByRecursion, flat_map, range_with_len}
 use Rattle.chan_run.specs.Runs.{IsFront}
-use Rattle.script_lines.specs.Grammar.{script_of}
-use Rattle.script_lines.specs.WellFormed.{IsScript}
+use Rattle.contact.specs.declared.kind.Kind.TheVariants.{Net}
 use Rattle.script_lines.specs.declared.line.Line.{Line}
 use Rattle.script_lines.specs.declared.line.Ask.{Ask}
 use Rattle.script_phases.specs.Says.{Asks, is_rescinded, is_shut}
@@ -11,17 +10,18 @@ use Rattle.script_phases.specs.Openings.{Phase, phases, by_relid}
 use Rattle.bus_script.specs.declared.outcome.LineResult.{LineResult}
 use Rattle.bus_script.specs.declared.outcome.LineResult.TheVariants.{Version, Done, RescindedServed, Unserved, Gone, Closed}
 use Rattle.bus_script.specs.declared.outcome.Reply.{Reply}
-use Rattle.bus_script.specs.Report.{prints, runs_back}
+use Rattle.bus_script.specs.Report.{prints}
 use Rattle.bus_speech.specs.Wants.{IsAskable}
-use Rattle.bus_speech.specs.Speeches.{fits_on}
+use Rattle.bus_speech.specs.Speeches.{speech_of, fits_on}
 use Rattle.io_edge.specs.declared.side.Side.{Side}
 use Rattle.io_edge.specs.declared.side.Side.TheVariants.{Guest}
 use Rattle.ring_model.specs.Lists.{Lists}
 use Rattle.work_model.specs.Outcome.{Outcome, Done as IsDone, RescindedServed as IsRescinded, Unserved as IsUnserved, lines_of}
+use Rattle.work_model.specs.Acks.{acks_for}
 use Rattle.work_model.specs.Roles.{side_that_asks}
 use Rattle.bus_model.specs.Served.{Served, done_of}
-use Rattle.bus_model.specs.Orders.{Order, order_of}
-use Rattle.bus_model.specs.Channel.{IsChannelRun, Carries, served_count, is_held, replies_to, rescinded_of, outcomes_of}
+use Rattle.bus_model.specs.Orders.{Order, order_of, startup_of}
+use Rattle.bus_model.specs.Channel.{IsChannelRun, Carries, asked_under, asked_by, sent_by, other, served_count, is_held, replies_to, rescinded_of, outcomes_of}
 use Rattle.bus_model.specs.Logs.{Recorded, served_from}
 use Rattle.bus_model.specs.Run.{Carried, IsBusRun, PhaseRuns, Known, seats_of, source_said, told_by}
 use Rattle.bus_model.specs.declared.channel_run.ChannelRun.{ChannelRun}
@@ -43,7 +43,19 @@ ServesEach = (order : Order) (lists : Lists) (served : List Served) → IsChanne
 
 -- what was served follows from what was carried: the first requests, where all can be asked
 abbrev pub ServesFirst : Type 0
-ServesFirst = (side : Side) (order : Order) (lists : Lists) (served : List Served) → AllByRecursion (IsAskable order.kind) order.asks → Carries side order lists served → map (λ s. s.request) served ≡ take (served_count order) order.asks
+ServesFirst = (side : Side) (order : Order) (lists : Lists) (served : List Served) → AllByRecursion (IsAskable order.kind) order.asks → Carries side order lists served → map (λ s. s.request) served ≡ take (served_count order) (asked_by side order lists)
+
+-- where the device is no network's, it is asked what stands in the script, whatever the ids are
+abbrev pub AsksAsScripted : Type 0
+AsksAsScripted = (order : Order) (ids : List ℕ) → (order.kind ≡ Net → ⊥) → AllByRecursion (IsAskable order.kind) order.asks → asked_under ids order.asks ≡ take (length ids) order.asks
+
+-- The messages that came back besides the answers: the end that asks completed them in the order in which they were sent, each once where the service doesn't stop, and at most once where it does
+pub record Completed (order : Order) (lists : Lists) : Type 0 where
+  pub in_order : IsFront (filter (speech_of order.kind).is_ack (sent_by (side_that_asks order.kind) lists)) (acks_for (speech_of order.kind) (sent_by (other (side_that_asks order.kind)) lists))
+  pub each : order.stop ≡ None → filter (speech_of order.kind).is_ack (sent_by (side_that_asks order.kind) lists) ≡ acks_for (speech_of order.kind) (sent_by (other (side_that_asks order.kind)) lists)
+
+abbrev pub CompletesEach : Type 0
+CompletesEach = (order : Order) (lists : Lists) (served : List Served) → IsChannelRun order lists served → Completed order lists
 
 -- each line that prints has one outcome
 abbrev pub OneEach : Type 0
@@ -66,9 +78,9 @@ TableOfOutcomes = (order : Order) (lists : Lists) (served : List Served) → IsC
 
 -- What a rescind leaves of a channel's requests. Each has exactly one outcome. Those that were served are the first ones, and of these the first are done, and have
 -- their replies; one more was served without an answer exactly where the last answer is held and as many requests came. The others are unserved
-pub record Rescinded (order : Order) (served : List Served) : Type 0 where
+pub record Rescinded (order : Order) (lists : Lists) (served : List Served) : Type 0 where
   pub one_each : length (outcomes_of order served) ≡ length order.asks
-  pub served_first : IsFront (map (λ s. s.request) served) order.asks
+  pub served_first : IsFront (map (λ s. s.request) served) (asked_by (side_that_asks order.kind) order lists)
   pub done : List Served
   pub held : List Served
   pub done_first : served ≡ done ++ held
@@ -77,7 +89,7 @@ pub record Rescinded (order : Order) (served : List Served) : Type 0 where
   pub one_held : (k : ℕ) → order.stop ≡ Some (k, true) → 1 ≤ k → k ≤ length order.asks → length held ≡ 1
 
 abbrev pub Rescinds : Type 0
-Rescinds = (order : Order) (lists : Lists) (served : List Served) → IsChannelRun order lists served → Rescinded order served
+Rescinds = (order : Order) (lists : Lists) (served : List Served) → IsChannelRun order lists served → Rescinded order lists served
 
 -- the request was served, whether its answer came back or not
 abbrev pub was_served : LineResult → Bool
@@ -96,7 +108,7 @@ pub record ServedAlone (p : Phase) (channels : List Carried) (device : ℕ) (bef
   pub after_is : after ≡ before ++ more
   pub entries : (seat : ℕ) (c : Carried) → slice_get (seats_of device channels) seat ≡ Some c → served_from seat (length before) more ≡ c.served
   pub first : (seat : ℕ) (c : Carried) → slice_get (seats_of device channels) seat ≡ Some c
-      → map (λ s. s.request) (served_from seat (length before) more) ≡ take (served_count (order_of p c.opening)) (order_of p c.opening).asks
+      → map (λ s. s.request) (served_from seat (length before) more) ≡ take (served_count (order_of p c.opening)) (asked_by (side_that_asks (order_of p c.opening).kind) (order_of p c.opening) c.run.settled)
   pub besides : (seat : ℕ) → length (seats_of device channels) ≤ seat → served_from seat (length before) more ≡ []
   pub count : length more ≡ count_by was_served (flat_map (λ l. l) (told_by p channels device))
 
@@ -134,21 +146,11 @@ opened_at p = map (λ o. (p.number, o.relid, o.device)) (by_relid p.opened)
 abbrev pub CarriesOpened : Type 0
 CarriesOpened = (lines : List Line) (settled : List ChannelRun) (histories : List DeviceHistory) (results : List LineResult) → IsBusRun lines settled histories results → map carried_at settled ≡ flat_map opened_at (phases lines)
 
--- Few runs come back: each write of a script fills whole blocks with one byte, and a new disk is all zero, so each block of a disk is a run of one byte; no other reply is longer than 36 bytes
-abbrev pub FewRunsBack : Type 0
-FewRunsBack = (bytes : List ℕ) (lines : List Line) (settled : List ChannelRun) (histories : List DeviceHistory) (results : List LineResult) → script_of bytes ≡ Ok lines → IsBusRun lines settled histories results
-    → runs_back results ≤ 36 * length results
-
--- so the report of a run has room in 64 megabytes
-abbrev pub ReportFits : Type 0
-ReportFits = (bytes : List ℕ) (lines : List Line) (settled : List ChannelRun) (histories : List DeviceHistory) (results : List LineResult) → script_of bytes ≡ Ok lines → IsScript lines → IsBusRun lines settled histories results
-    → 12000000 + 24 * runs_back results ≤ 67108864
-
--- what was served is right for an order: its requests can be asked, the served ones are the first of them, and each reply is one that the device may give
+-- what was served is right for an order: its requests can be asked, the served ones are the first of them, under ids that count on from those of the start-up, and each reply is one that the device may give
 pub record Suits (order : Order) (served : List Served) : Type 0 where
   pub can : AllByRecursion (IsAskable order.kind) order.asks
   pub few : length order.asks ≤ 4096
-  pub serves : map (λ c. c.request) served ≡ take (served_count order) order.asks
+  pub serves : map (λ c. c.request) served ≡ take (served_count order) (asked_under (range_with_len (1 + length (startup_of order)) (length order.asks)) order.asks)
   pub fits : AllByRecursion (λ (c : Served). fits_on order.kind c.request c.reply ≡ true) served
 
 -- then some channel carried it: no field of a channel's run excludes another one, wherever its service stops

@@ -1,12 +1,12 @@
 -- Histories of all kinds of devices, as lists of one type.
-use Rattle.std.specs.Prelude.{ℕ, ◌≡◌, ◌+◌, ◌==◌, List, [], ◌∷◌, ◌++◌, length, map, if◌then◌else◌}
+use Rattle.std.specs.Prelude.{ℕ, ◌≡◌, ◌+◌, ◌==◌, List, [], ◌∷◌, ◌++◌, length, map, Result, if◌then◌else◌}
 use Rattle.script_lines.specs.declared.line.Ask.{Ask}
 use Rattle.script_lines.specs.declared.line.Ask.TheVariants.{Ic as AskIc, Disk as AskDisk}
 use Rattle.script_lines.specs.declared.line.Line.{Line}
 use Rattle.bus_script.specs.declared.outcome.Reply.{Reply}
-use Rattle.bus_script.specs.declared.outcome.Reply.TheVariants.{Ic as ReplyIc, Disk as ReplyDisk}
+use Rattle.bus_script.specs.declared.outcome.Reply.TheVariants.{Ic as ReplyIc, Disk as ReplyDisk, Net as ReplyNet}
 use Rattle.script_lines.specs.declared.line.DeviceSpec.{DeviceSpec}
-use Rattle.script_lines.specs.declared.line.DeviceSpec.TheVariants.{Beat, Down, Disk}
+use Rattle.script_lines.specs.declared.line.DeviceSpec.TheVariants.{Beat, Down, Disk, Net}
 use Rattle.script_lines.specs.Parts.{bads_of}
 use Rattle.hist_lock.specs.declared.history.Entry.{Entry}
 use Rattle.hist_lock.specs.Legal.{IsLegal}
@@ -17,9 +17,14 @@ use Rattle.scsi_disk.specs.declared.reply.DiskReply.{DiskReply}
 use Rattle.util_ic.specs.declared.ic.IcAsk.{IcAsk}
 use Rattle.util_ic.specs.declared.ic.IcAnswer.{IcAnswer}
 use Rattle.util_ic.specs.Machines.{beat_start, beat_reply, down_start, down_reply}
-use Rattle.bus_model.specs.Served.{Served}
+use Rattle.rndis_msg.specs.declared.rndis.Rndis.{Rndis}
+use Rattle.rndis_msg.specs.declared.fault.RndisFault.{RndisFault}
+use Rattle.net_dev.specs.declared.reply.NetReply.{NetReply}
+use Rattle.net_dev.specs.declared.station.Station.{Station}
+use Rattle.net_dev.specs.Station.{station_reply, station_after}
+use Rattle.bus_model.specs.Served.{Served, message_asked}
 use Rattle.bus_model.specs.declared.history.DeviceHistory.{DeviceHistory}
-use Rattle.bus_model.specs.declared.history.DeviceHistory.TheVariants.{Beat as BeatHistory, Down as DownHistory, Disk as DiskHistory}
+use Rattle.bus_model.specs.declared.history.DeviceHistory.TheVariants.{Beat as BeatHistory, Down as DownHistory, Disk as DiskHistory, Net as NetHistory}
 
 -- an entry of any device's history
 pub record Recorded : Type 0 where
@@ -33,10 +38,14 @@ ic_log entries = map (λ e. record { seat = e.seat; ask = AskIc e.request; reply
 abbrev pub disk_log : {S : Type 0} → List (Entry S DiskRequest DiskReply) → List Recorded
 disk_log entries = map (λ e. record { seat = e.seat; ask = AskDisk e.request; reply = ReplyDisk e.reply }) entries
 
+abbrev pub net_log : {S : Type 0} → List (Entry S (Result Rndis RndisFault) NetReply) → List Recorded
+net_log entries = map (λ e. record { seat = e.seat; ask = message_asked e.request; reply = ReplyNet e.reply.status e.reply.back }) entries
+
 abbrev pub log_of : DeviceHistory → List Recorded
 log_of (BeatHistory h) = ic_log (entries_of h)
 log_of (DownHistory h) = ic_log (entries_of h)
 log_of (DiskHistory h) = disk_log (entries_of h)
+log_of (NetHistory h) = net_log (entries_of h)
 
 -- what a seat served, where the first entry has this place
 abbrev pub served_from : ℕ → ℕ → List Recorded → List Served
@@ -60,18 +69,29 @@ pub record Grows (before after : List Recorded) (served : List (List Served)) : 
   pub seats : EachSeat 0 (length before) more served
   pub all : length more ≡ total served
 
+-- an adapter with its address and the station's, and packet filter 0
+abbrev pub new_station : List ℕ → List ℕ → Station
+new_station mac station = record { mac = mac; station = station; filter = 0 }
+
 -- The history is legal for the device's machine, from its first state: a disk's blocks are zero, and these places are bad. A disk's states are those of
--- its model, all of its blocks
+-- its model, all of its blocks.
 abbrev pub IsHistory : DeviceSpec → List ℕ → DeviceHistory → Type 0
 IsHistory Beat bad (BeatHistory h) = IsLegal (λ s q. s) (λ s q. beat_reply q) beat_start (entries_of h)
 IsHistory Beat bad (DownHistory h) = ⊥
 IsHistory Beat bad (DiskHistory h) = ⊥
+IsHistory Beat bad (NetHistory h) = ⊥
 IsHistory Down bad (BeatHistory h) = ⊥
 IsHistory Down bad (DownHistory h) = IsLegal (λ s q. s) (λ s q. down_reply q) down_start (entries_of h)
 IsHistory Down bad (DiskHistory h) = ⊥
+IsHistory Down bad (NetHistory h) = ⊥
 IsHistory (Disk blocks subs) bad (BeatHistory h) = ⊥
 IsHistory (Disk blocks subs) bad (DownHistory h) = ⊥
 IsHistory (Disk blocks subs) bad (DiskHistory h) = IsLegal disk_after disk_reply (new_disk blocks bad) (entries_of h)
+IsHistory (Disk blocks subs) bad (NetHistory h) = ⊥
+IsHistory (Net mac station) bad (BeatHistory h) = ⊥
+IsHistory (Net mac station) bad (DownHistory h) = ⊥
+IsHistory (Net mac station) bad (DiskHistory h) = ⊥
+IsHistory (Net mac station) bad (NetHistory h) = IsLegal station_after station_reply (new_station mac station) (entries_of h)
 
 -- one for each device from one on, in order of offer
 abbrev pub EachHistory : List Line → ℕ → List DeviceSpec → List DeviceHistory → Type 0

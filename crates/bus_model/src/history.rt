@@ -1,5 +1,6 @@
 //! What one device served over the whole run.
 use hist_lock::History;
+use net_dev::Station;
 use scsi_disk::Disk;
 use util_ic::{BeatMachine, DownMachine};
 
@@ -9,4 +10,5 @@ pub enum DeviceHistory {
     Beat(History<BeatMachine>),
     Down(History<DownMachine>),
     Disk(History<Disk>),
+    Net(History<Station>),
 }

@@ -1,5 +1,5 @@
 //! Laws of runs. The functions do nothing: each one's contract is the law.
-ghost use Rattle.bus_model.specs.Laws.{Arrives, ServesEach, ServesFirst, OneEach, CarriesOpened, TableOfOutcomes, RowsOfEnded, ListsTell, Rescinds, UnservedNowhere, FewRunsBack, ReportFits, OrdersRun};
+ghost use Rattle.bus_model.specs.Laws.{Arrives, ServesEach, ServesFirst, AsksAsScripted, CompletesEach, OneEach, CarriesOpened, TableOfOutcomes, RowsOfEnded, ListsTell, Rescinds, UnservedNowhere, OrdersRun};
 ghost use Rattle.bus_model.specs.Worked.{Shares, SharesOtherwise, Closes, Rescinded, Held};
 
 /// What each end of a channel got is what the other one sent, as it was sent: all of it, unless
@@ -13,9 +13,15 @@ pub fn serves_each()
     ensures { ServesEach }
 {}
 
-/// What a channel served are the first requests that it was asked.
+/// What a channel served are the first requests that it was asked: those of the script, but that a message for an adapter has the id of its packet.
 pub fn serves_first()
-    ensures { ServesFirst }
+    ensures first { ServesFirst }
+    ensures others { AsksAsScripted }
+{}
+
+/// Each message that came back besides the answers was completed, in order.
+pub fn completes_each()
+    ensures { CompletesEach }
 {}
 
 /// Each line that prints has one outcome.
@@ -43,13 +49,6 @@ pub fn lists_tell()
 pub fn rescinds()
     ensures requests { Rescinds }
     ensures unserved { UnservedNowhere }
-{}
-
-/// The bytes that come back in a run of a script have few runs of one byte, so that its report is
-/// short.
-pub fn few_runs_back()
-    ensures few { FewRunsBack }
-    ensures fits { ReportFits }
 {}
 
 /// Each order that can be asked has a run, wherever its service stops: no field of a run excludes

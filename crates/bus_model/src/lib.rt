@@ -8,6 +8,6 @@ mod laws;
 pub use channel_run::ChannelRun;
 pub use history::DeviceHistory;
 pub use laws::{
-    arrives, carries_opened, few_runs_back, lists_tell, one_each, orders_run, rescinds,
+    arrives, carries_opened, completes_each, lists_tell, one_each, orders_run, rescinds,
     serves_each, serves_first, table, worked,
 };

@@ -7,7 +7,7 @@ use Rattle.std.proofs.lemmas.Bool.Decides.{nat_tests}
 use Rattle.std.proofs.lemmas.List.{append-nil, take_more, take_all, length-map, get_or-map}
 use Rattle.script_lines.specs.declared.line.Line.{Line}
 use Rattle.script_lines.specs.declared.line.DeviceSpec.{DeviceSpec}
-use Rattle.script_lines.specs.declared.line.DeviceSpec.TheVariants.{Beat, Down, Disk}
+use Rattle.script_lines.specs.declared.line.DeviceSpec.TheVariants.{Beat, Down, Disk, Net}
 use Rattle.script_lines.specs.Parts.{kind_of, channels_of}
 use Rattle.script_phases.specs.Says.{asks_of, stop_of, is_rescinded, is_shut}
 use Rattle.script_phases.specs.Openings.{Opening, Phase, subs_of, is_ended, is_opened, subs_from, channels_from, opened_from, is_first, firsts, others, by_relid}
@@ -55,6 +55,7 @@ pub all_channels : (spec : DeviceSpec) → channels_of spec ≡ subs_of spec + 1
 all_channels Beat = refl
 all_channels Down = refl
 all_channels (Disk blocks subs) = omega arith
+all_channels (Net mac station) = omega arith
 
 pub channel_ordered : (p : Phase) (part : List Line) (relid device sub subs : ℕ) (spec : DeviceSpec) (x : ChannelOrder) → p.part ≡ part → subs_of spec ≡ subs → x.opening.relid ≡ relid → x.opening.device ≡ device → x.opening.sub ≡ sub
     → x.asks.items ≡ share (subs + 1) sub 0 (asks_of device part) → stop_told x.stop ≡ stop_of device part → IsOrdered p (opening_at relid device spec sub) x

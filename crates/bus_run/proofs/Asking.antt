@@ -1,5 +1,5 @@
 -- What the lines of a phase say suits its devices.
-use Rattle.std.proofs.Common.{◌≡◌, ℕ, ◌+◌, ◌<◌, ◌≤◌, ◌==◌, Bool, true, false, cond, List, [], ◌∷◌, length, length-append, refl, ap, sym, ◌∙◌, subst, arith, slice_get, Option, Some, None}
+use Rattle.std.proofs.Common.{◌≡◌, ℕ, ◌+◌, ◌<◌, ◌≤◌, ◌==◌, Bool, true, false, cond, List, [], ◌∷◌, length, length-append, refl, ap, sym, ◌∙◌, subst, arith, slice_get, inl, inr, Option, Some, None}
 use Rattle.std.specs.Prelude.{map, filter}
 use Rattle.std.specs.Option.{IfSome}
 use Rattle.std.specs.List.{flat_map, AllByRecursion}
@@ -9,13 +9,15 @@ use Rattle.std.proofs.lemmas.Grind.{flat_map-append}
 use Rattle.std.proofs.lemmas.Option.{slice_get_within, same_Some}
 use Rattle.std.proofs.lemmas.Bool.Decides.{nat_tests}
 use Rattle.contact.specs.declared.kind.Kind.{Kind}
-use Rattle.contact.specs.declared.kind.Kind.TheVariants.{Disk as KindDisk}
+use Rattle.contact.specs.declared.kind.Kind.TheVariants.{Disk as KindDisk, Net as KindNet}
+use Rattle.io_edge.specs.declared.side.Side.TheVariants.{Guest}
+use Rattle.work_model.specs.Roles.{side_that_asks}
 use Rattle.script_lines.specs.declared.line.Line.{Line}
 use Rattle.script_lines.specs.declared.line.What.{What}
 use Rattle.script_lines.specs.declared.line.What.TheVariants.{Contact as IsContact, Offer as IsOffer, Bad as IsBad, RingSize as IsRingSize, Window as IsWindow, Ask as IsAsk, Rescind as IsRescind, Shut as IsShut, Phase as IsPhase}
 use Rattle.script_lines.specs.declared.line.DeviceSpec.{DeviceSpec}
 use Rattle.script_lines.specs.Parts.{is_ask, asks_in, kind_of, kind_asked}
-use Rattle.script_lines.specs.WellFormed.{IsRight, AllRight, CanGo, AskGoes, AllGo}
+use Rattle.script_lines.specs.WellFormed.{IsRescindable, IsRight, AllRight, CanGo, AskGoes, AllGo}
 use Rattle.script_phases.specs.Says.{Says, Asks, Rescinds, Shuts, said, said_to, heard_by, asked, stops, asks_of}
 use Rattle.bus_model.proofs.Lists.{each_append}
 use Rattle.bus_plan.specs.Heard.{AllBelow}
@@ -24,7 +26,7 @@ use Rattle.end_work.specs.Plans.{AllCarried, CanStop}
 -- what is said to a device is for one of its kind, and goes through its channel
 abbrev pub FitsSays : List DeviceSpec → ℕ → Says → Type 0
 FitsSays kinds device (Asks ask) = (slice_get (map kind_of kinds) device ≡ Some (kind_asked ask)) × CanGo ask
-FitsSays kinds device (Rescinds after held) = (slice_get (map kind_of kinds) device ≡ Some KindDisk) × (after ≤ 4096) × (held ≡ true → 1 ≤ after)
+FitsSays kinds device (Rescinds after held) = IsRescindable (slice_get (map kind_of kinds) device) × (after ≤ 4096) × (held ≡ true → 1 ≤ after)
 FitsSays kinds device Shuts = device < length kinds
 
 line_fits : (kinds : List DeviceSpec) (w : What) → IsRight kinds w → AskGoes w → IfSome (said w) (λ s. FitsSays kinds s.0 s.1)
@@ -43,9 +45,13 @@ line_fits kinds IsPhase right goes = tt
 offered_at : (kinds : List DeviceSpec) (device : ℕ) (kind : Kind) → slice_get (map kind_of kinds) device ≡ Some kind → device < length kinds
 offered_at kinds device kind fits = omega (arith, slice_get_within (map kind_of kinds) device kind fits, length-map kinds kind_of)
 
+rescinded_at : (kinds : List DeviceSpec) (device : ℕ) → IsRescindable (slice_get (map kind_of kinds) device) → device < length kinds
+rescinded_at kinds device (inl disk) = offered_at kinds device KindDisk disk
+rescinded_at kinds device (inr net) = offered_at kinds device KindNet net
+
 says_below : (kinds : List DeviceSpec) (device : ℕ) (s : Says) → FitsSays kinds device s → device < length kinds
 says_below kinds device (Asks ask) fits = offered_at kinds device (kind_asked ask) fits.0
-says_below kinds device (Rescinds after held) fits = offered_at kinds device KindDisk fits.0
+says_below kinds device (Rescinds after held) fits = rescinded_at kinds device fits.0
 says_below kinds device Shuts fits = fits
 
 below_said : (kinds : List DeviceSpec) (o : Option (ℕ × Says)) → IfSome o (λ s. FitsSays kinds s.0 s.1) → IfSome o (λ s. s.0 < length kinds)
@@ -79,10 +85,15 @@ asks_fit kinds k kind (Asks ask ∷ ss) is fits = (same_Some (kind_asked ask) ki
 asks_fit kinds k kind (Rescinds after held ∷ ss) is fits = asks_fit kinds k kind ss is fits.1
 asks_fit kinds k kind (Shuts ∷ ss) is fits = asks_fit kinds k kind ss is fits.1
 
+-- what is rescinded is asked by the guest
+guest_asks : (kinds : List DeviceSpec) (k : ℕ) (kind : Kind) → slice_get (map kind_of kinds) k ≡ Some kind → IsRescindable (slice_get (map kind_of kinds) k) → side_that_asks kind ≡ Guest
+guest_asks kinds k kind is (inl disk) = ap side_that_asks (same_Some kind KindDisk (sym is ∙ disk))
+guest_asks kinds k kind is (inr net) = ap side_that_asks (same_Some kind KindNet (sym is ∙ net))
+
 pub stop_fits : (kinds : List DeviceSpec) (k : ℕ) (kind : Kind) (ss : List Says) → slice_get (map kind_of kinds) k ≡ Some kind → AllByRecursion (FitsSays kinds k) ss → CanStop kind (slice_get (flat_map stops ss) 0)
 stop_fits kinds k kind [] is fits = tt
 stop_fits kinds k kind (Asks ask ∷ ss) is fits = stop_fits kinds k kind ss is fits.1
-stop_fits kinds k kind (Rescinds after held ∷ ss) is fits = (same_Some kind KindDisk (sym is ∙ fits.0.0), fits.0.1, fits.0.2)
+stop_fits kinds k kind (Rescinds after held ∷ ss) is fits = (guest_asks kinds k kind is fits.0.0, fits.0.1, fits.0.2)
 stop_fits kinds k kind (Shuts ∷ ss) is fits = stop_fits kinds k kind ss is fits.1
 
 -- a device is asked no more than the phase asks

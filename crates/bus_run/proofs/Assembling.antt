@@ -29,7 +29,7 @@ use Rattle.bus_run.specs.Seats.{AreSeatsFor, ComesBack, EachWith, IsAway, kind_i
 use Rattle.bus_run.specs.declared.desk.Desk.{Desk}
 use Rattle.bus_run.specs.declared.desk.Desk.TheVariants.{Out}
 use Rattle.bus_run.specs.declared.seats.Seats.{Seats}
-use Rattle.bus_run.specs.declared.seats.Seats.TheVariants.{None as NoSeats, Beat as BeatSeats, Down as DownSeats, Disk as DiskSeats}
+use Rattle.bus_run.specs.declared.seats.Seats.TheVariants.{None as NoSeats, Beat as BeatSeats, Down as DownSeats, Disk as DiskSeats, Net as NetSeats}
 use Rattle.bus_run.specs.declared.settings.Settings.{Settings}
 use Rattle.bus_run.proofs.Opened.{room_here}
 use Rattle.bus_run.proofs.ServedLines.{no_more}
@@ -96,6 +96,7 @@ no_kind NoSeats is = refl
 no_kind (BeatSeats v) is = absurd (cc)
 no_kind (DownSeats v) is = absurd (cc)
 no_kind (DiskSeats v) is = absurd (cc)
+no_kind (NetSeats v) is = absurd (cc)
 
 comes_back : (old held : Desk) (quotas : List ℕ) (before seats : Seats) (given : List DeviceSeat) → IsKept old → IsAway old quotas held before (seats_in before) → kind_in seats ≡ kind_in before → seats_in before ≡ given → EachWith IsSameSeat given (seats_in seats)
     → ComesBack old quotas given held seats

@@ -11,7 +11,7 @@ use Rattle.bus_model.specs.declared.channel_run.ChannelRun.{ChannelRun}
 use Rattle.bus_script.specs.declared.outcome.LineResult.{LineResult}
 use Rattle.end_work.specs.Seats.{kind_at, served_at, IsSameSeat}
 use Rattle.end_work.specs.declared.device_seat.DeviceSeat.{DeviceSeat}
-use Rattle.end_work.specs.declared.device_seat.DeviceSeat.TheVariants.{Beat as BeatSeat, Down as DownSeat, Disk as DiskSeat}
+use Rattle.end_work.specs.declared.device_seat.DeviceSeat.TheVariants.{Beat as BeatSeat, Down as DownSeat, Disk as DiskSeat, Net as NetSeat}
 use Rattle.phase_run.specs.Pairs.{Ran}
 use Rattle.phase_run.specs.declared.pair.PairDone.{PairDone}
 use Rattle.bus_run.specs.Desk.{desk_at, GoesOn}
@@ -31,12 +31,19 @@ pub same_kind : (s t : DeviceSeat) → IsSameSeat s t → kind_at t ≡ kind_at 
 same_kind (BeatSeat s) (BeatSeat t) same = refl
 same_kind (BeatSeat s) (DownSeat t) same = absurd same
 same_kind (BeatSeat s) (DiskSeat t) same = absurd same
+same_kind (BeatSeat s) (NetSeat t) same = absurd same
 same_kind (DownSeat s) (BeatSeat t) same = absurd same
 same_kind (DownSeat s) (DownSeat t) same = refl
 same_kind (DownSeat s) (DiskSeat t) same = absurd same
+same_kind (DownSeat s) (NetSeat t) same = absurd same
 same_kind (DiskSeat s) (BeatSeat t) same = absurd same
 same_kind (DiskSeat s) (DownSeat t) same = absurd same
 same_kind (DiskSeat s) (DiskSeat t) same = refl
+same_kind (DiskSeat s) (NetSeat t) same = absurd same
+same_kind (NetSeat s) (BeatSeat t) same = absurd same
+same_kind (NetSeat s) (DownSeat t) same = absurd same
+same_kind (NetSeat s) (DiskSeat t) same = absurd same
+same_kind (NetSeat s) (NetSeat t) same = refl
 
 pub record ClosedNow (phase i : ℕ) (old : List Desk) (given : List Given) (before seats : List Seats) (dones : List PairDone) (settled settled' : List ChannelRun) (outcomes : List (List (List LineResult))) : Type 0 where
   pub so_far : AllClosed phase old (take i given) before seats settled settled' outcomes

@@ -11,15 +11,15 @@ use Rattle.std.proofs.lemmas.Bool.Decides.{nat_tests}
 use Rattle.bus_model.proofs.Lists.{each_append}
 use Rattle.chan_state.specs.declared.stop.Stop.{Stop}
 use Rattle.contact.specs.declared.kind.Kind.{Kind}
-use Rattle.contact.specs.declared.kind.Kind.TheVariants.{Beat as KindBeat, Down as KindDown, Disk as KindDisk}
+use Rattle.contact.specs.declared.kind.Kind.TheVariants.{Beat as KindBeat, Down as KindDown, Disk as KindDisk, Net as KindNet}
 use Rattle.script_lines.specs.Parts.{kind_of}
 use Rattle.script_phases.specs.Openings.{subs_of as subs_beside}
 use Rattle.hist_lock.specs.Seat.{Lock, Seat, seats_from}
 use Rattle.phase_run.specs.Pairs.{Pairing}
 use Rattle.end_work.specs.Plans.{stop_of}
-use Rattle.end_work.specs.Seats.{kind_at, served_at, left_at, ic_served, disk_served}
+use Rattle.end_work.specs.Seats.{kind_at, served_at, left_at, ic_served, disk_served, net_served}
 use Rattle.end_work.specs.declared.device_seat.DeviceSeat.{DeviceSeat}
-use Rattle.end_work.specs.declared.device_seat.DeviceSeat.TheVariants.{Beat as BeatSeat, Down as DownSeat, Disk as DiskSeat}
+use Rattle.end_work.specs.declared.device_seat.DeviceSeat.TheVariants.{Beat as BeatSeat, Down as DownSeat, Disk as DiskSeat, Net as NetSeat}
 use Rattle.bus_plan.specs.Heard.{stop_told}
 use Rattle.bus_plan.specs.declared.opening.ChannelOrder.{ChannelOrder}
 use Rattle.bus_run.specs.Desk.{spec_of, subs_of, desk_at, Suits, IsReady}
@@ -27,7 +27,7 @@ use Rattle.bus_run.specs.Opening.{quotas_of, orders_of, seats_at, order_with, or
 use Rattle.bus_run.specs.Seats.{AreSeatsFor, EachWith, IsAway, away_of, kind_in, seats_in}
 use Rattle.bus_run.specs.Settings.{unset}
 use Rattle.bus_run.specs.declared.desk.Desk.{Desk}
-use Rattle.bus_run.specs.declared.desk.Desk.TheVariants.{Out, Beat as BeatDesk, Down as DownDesk, Disk as DiskDesk}
+use Rattle.bus_run.specs.declared.desk.Desk.TheVariants.{Out, Beat as BeatDesk, Down as DownDesk, Disk as DiskDesk, Net as NetDesk}
 use Rattle.bus_run.specs.declared.seats.Seats.{Seats}
 use Rattle.bus_run.specs.declared.seats.Seats.TheVariants.{None as NoSeats}
 use Rattle.bus_run.specs.declared.settings.Settings.{Settings}
@@ -104,6 +104,8 @@ left_new (DownDesk state history) quotas seats new =
     subst (AreLeft (Some KindDown) quotas) (sym (new.1 ∙ ap (map DownSeat) new.2.seats_are)) (left_from DownSeat KindDown (λ s. refl) (λ s none. ap ic_served none) (λ s. refl) new.2.lock 0 quotas)
 left_new (DiskDesk subs state history) quotas seats new =
     subst (AreLeft (Some KindDisk) quotas) (sym (new.1 ∙ ap (map DiskSeat) new.2.seats_are)) (left_from DiskSeat KindDisk (λ s. refl) (λ s none. ap disk_served none) (λ s. refl) new.2.lock 0 quotas)
+left_new (NetDesk state history) quotas seats new =
+    subst (AreLeft (Some KindNet) quotas) (sym (new.1 ∙ ap (map NetSeat) new.2.seats_are)) (left_from NetSeat KindNet (λ s. refl) (λ s none. ap net_served none) (λ s. refl) new.2.lock 0 quotas)
 
 away_left : (old held : Desk) (quotas : List ℕ) (seats : Seats) → IsAway old quotas held seats (seats_in seats) → AreLeft (kind_in seats) quotas (seats_in seats)
 away_left old held [] seats away = subst (AreLeft (kind_in seats) []) (sym away.2) tt
@@ -116,6 +118,7 @@ seats_subs (Out subs) quotas seats new = absurd new
 seats_subs (BeatDesk state history) quotas seats new = refl
 seats_subs (DownDesk state history) quotas seats new = refl
 seats_subs (DiskDesk subs state history) quotas seats new = refl
+seats_subs (NetDesk state history) quotas seats new = refl
 
 -- a device whose channels have it, whose seats are of this kind
 pub record IsHeld (old held : Desk) (kind : Kind) : Type 0 where

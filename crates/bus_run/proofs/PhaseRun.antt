@@ -30,7 +30,7 @@ use Rattle.bus_plan.proofs.Ordering.{all_channels, each_long, sub_count, still_s
 use Rattle.bus_plan.proofs.Devices.{of_device, channels_here}
 use Rattle.bus_plan.proofs.Dealt.{has_nth}
 use Rattle.bus_run.specs.Desk.{spec_of, subs_of as subs_beside, desk_at, IsKept, IsReady, Suits}
-use Rattle.bus_run.specs.declared.desk.Desk.TheVariants.{Out, Beat as BeatDesk, Down as DownDesk, Disk as DiskDesk}
+use Rattle.bus_run.specs.declared.desk.Desk.TheVariants.{Out, Beat as BeatDesk, Down as DownDesk, Disk as DiskDesk, Net as NetDesk}
 use Rattle.bus_run.specs.Opening.{CanOpen, orders_of, quotas_of}
 use Rattle.bus_run.specs.Channels.{CanRun, ChannelsRan, IsOf}
 use Rattle.bus_run.specs.Whole.{IsThis, PhaseRan, specs_of}
@@ -163,6 +163,7 @@ subs_same (Out subs) kept = absurd kept
 subs_same (BeatDesk state history) kept = refl
 subs_same (DownDesk state history) kept = refl
 subs_same (DiskDesk subs state history) kept = refl
+subs_same (NetDesk state history) kept = refl
 
 pub known_subs : (most : ℕ) (desks : List Desk) → All (IsReady most) desks → map subs_of (specs_of desks) ≡ map subs_beside desks
 known_subs most [] ready = refl

@@ -1,13 +1,14 @@
 -- A device behind the seats that it had in a phase.
 use Rattle.std.proofs.Common.{◌≡◌, ℕ, suc, ◌+◌, List, [], ◌∷◌, length, Some, None, ap, sym, ◌∙◌, subst, refl, arith, slice_get}
-use Rattle.std.specs.Prelude.{map}
+use Rattle.std.specs.Prelude.{map, Result}
 use Rattle.contact.specs.declared.kind.Kind.{Kind}
-use Rattle.contact.specs.declared.kind.Kind.TheVariants.{Beat as KindBeat, Down as KindDown, Disk as KindDisk}
+use Rattle.contact.specs.declared.kind.Kind.TheVariants.{Beat as KindBeat, Down as KindDown, Disk as KindDisk, Net as KindNet}
 use Rattle.script_lines.specs.declared.line.Ask.TheVariants.{Ic as AskIc, Disk as AskDisk}
-use Rattle.script_lines.specs.declared.line.DeviceSpec.TheVariants.{Disk}
+use Rattle.script_lines.specs.declared.line.DeviceSpec.TheVariants.{Disk, Net}
 use Rattle.script_lines.specs.Parts.{kind_of}
-use Rattle.bus_script.specs.declared.outcome.Reply.TheVariants.{Ic as ReplyIc, Disk as ReplyDisk}
-use Rattle.bus_model.specs.Logs.{Grows, ic_log, disk_log}
+use Rattle.bus_script.specs.declared.outcome.Reply.TheVariants.{Ic as ReplyIc, Disk as ReplyDisk, Net as ReplyNet}
+use Rattle.bus_model.specs.Logs.{Grows, ic_log, disk_log, net_log}
+use Rattle.bus_model.specs.Served.{message_asked}
 use Rattle.hist_lock.specs.Calls.{Closes}
 use Rattle.hist_lock.specs.History.{entries_of}
 use Rattle.hist_lock.specs.Legal.{Leaves}
@@ -17,11 +18,16 @@ use Rattle.hist_lock.specs.declared.history.History.{History}
 use Rattle.hist_lock.proofs.Rows.{new_all}
 use Rattle.end_work.specs.Seats.{IsSameSeat, served_at}
 use Rattle.end_work.specs.declared.device_seat.DeviceSeat.{DeviceSeat}
-use Rattle.end_work.specs.declared.device_seat.DeviceSeat.TheVariants.{Beat as BeatSeat, Down as DownSeat, Disk as DiskSeat}
+use Rattle.end_work.specs.declared.device_seat.DeviceSeat.TheVariants.{Beat as BeatSeat, Down as DownSeat, Disk as DiskSeat, Net as NetSeat}
 use Rattle.scsi_disk.specs.DiskModel.{disk_reply}
 use Rattle.scsi_disk.specs.FiniteMap.{Kept, unwritten, kept_after, stands_for}
 use Rattle.scsi_disk.specs.declared.request.DiskRequest.{DiskRequest}
 use Rattle.scsi_disk.specs.declared.reply.DiskReply.{DiskReply}
+use Rattle.rndis_msg.specs.declared.rndis.Rndis.{Rndis}
+use Rattle.rndis_msg.specs.declared.fault.RndisFault.{RndisFault}
+use Rattle.net_dev.specs.declared.reply.NetReply.{NetReply}
+use Rattle.net_dev.specs.declared.station.Station.{Station}
+use Rattle.net_dev.specs.Station.{unfiltered, station_after, station_reply}
 use Rattle.util_ic.specs.Machines.{beat_start, beat_reply, down_start, down_reply}
 use Rattle.util_ic.specs.declared.beat.BeatMachine.{BeatMachine}
 use Rattle.util_ic.specs.declared.down.DownMachine.{DownMachine}
@@ -30,7 +36,7 @@ use Rattle.util_ic.specs.declared.ic.IcAnswer.{IcAnswer}
 use Rattle.bus_run.specs.Desk.{GoesOn, spec_of, subs_of}
 use Rattle.bus_run.specs.Seats.{ComesBack, EachWith, kind_in, seats_in}
 use Rattle.bus_run.specs.declared.desk.Desk.{Desk}
-use Rattle.bus_run.specs.declared.desk.Desk.TheVariants.{Out, Beat as BeatDesk, Down as DownDesk, Disk as DiskDesk}
+use Rattle.bus_run.specs.declared.desk.Desk.TheVariants.{Out, Beat as BeatDesk, Down as DownDesk, Disk as DiskDesk, Net as NetDesk}
 use Rattle.bus_run.specs.declared.seats.Seats.{Seats}
 use Rattle.bus_run.specs.declared.seats.Seats.TheVariants.{None as NoSeats}
 use Rattle.bus_run.proofs.ManySeats.{grows_all}
@@ -95,18 +101,28 @@ BeatBack (Out subs) own = ⊥
 BeatBack (BeatDesk state history) own = Back beat_start (entries_of history) own
 BeatBack (DownDesk state history) own = ⊥
 BeatBack (DiskDesk subs state history) own = ⊥
+BeatBack (NetDesk state history) own = ⊥
 
 abbrev DownBack : Desk → List (Seat DownMachine IcAsk IcAnswer) → Type 0
 DownBack (Out subs) own = ⊥
 DownBack (BeatDesk state history) own = ⊥
 DownBack (DownDesk state history) own = Back down_start (entries_of history) own
 DownBack (DiskDesk subs state history) own = ⊥
+DownBack (NetDesk state history) own = ⊥
 
 abbrev DiskBack : Desk → List (Seat Kept DiskRequest DiskReply) → Type 0
 DiskBack (Out subs) own = ⊥
 DiskBack (BeatDesk state history) own = ⊥
 DiskBack (DownDesk state history) own = ⊥
 DiskBack (DiskDesk subs state history) own = Back (unwritten state) (entries_of history) own
+DiskBack (NetDesk state history) own = ⊥
+
+abbrev NetBack : Desk → List (Seat Station (Result Rndis RndisFault) NetReply) → Type 0
+NetBack (Out subs) own = ⊥
+NetBack (BeatDesk state history) own = ⊥
+NetBack (DownDesk state history) own = ⊥
+NetBack (DiskDesk subs state history) own = ⊥
+NetBack (NetDesk state history) own = Back (unfiltered state) (entries_of history) own
 
 module _ (held : Desk) (given : List DeviceSeat) (seats : Seats) where
   no_kind : (kind : Kind) → kind_in seats ≡ Some kind → seats ≡ NoSeats → ⊥
@@ -120,6 +136,7 @@ module _ (held : Desk) (given : List DeviceSeat) (seats : Seats) where
       back_of beat_start (entries_of history) q quotas new.0 own new.2 (unmap BeatSeat (λ s t same. same) new.0 own (subst (λ l. EachWith IsSameSeat l (map BeatSeat own)) new.1 (subst (EachWith IsSameSeat given) is back.3)))
   beat_back (DownDesk state history) (q ∷ quotas) own is kind back = let both : Some KindBeat ≡ Some KindDown = sym kind ∙ back.1 in absurd (cc)
   beat_back (DiskDesk subs state history) (q ∷ quotas) own is kind back = let both : Some KindBeat ≡ Some KindDisk = sym kind ∙ back.1 in absurd (cc)
+  beat_back (NetDesk state history) (q ∷ quotas) own is kind back = let both : Some KindBeat ≡ Some KindNet = sym kind ∙ back.1 in absurd (cc)
 
   pub down_back : (old : Desk) (quotas : List ℕ) (own : List (Seat DownMachine IcAsk IcAnswer)) → seats_in seats ≡ map DownSeat own → kind_in seats ≡ Some KindDown → ComesBack old quotas given held seats → DownBack old own
   down_back old [] own is kind back = absurd (no_kind KindDown kind back.1)
@@ -129,6 +146,7 @@ module _ (held : Desk) (given : List DeviceSeat) (seats : Seats) where
       let new = back.2 in
       back_of down_start (entries_of history) q quotas new.0 own new.2 (unmap DownSeat (λ s t same. same) new.0 own (subst (λ l. EachWith IsSameSeat l (map DownSeat own)) new.1 (subst (EachWith IsSameSeat given) is back.3)))
   down_back (DiskDesk subs state history) (q ∷ quotas) own is kind back = let both : Some KindDown ≡ Some KindDisk = sym kind ∙ back.1 in absurd (cc)
+  down_back (NetDesk state history) (q ∷ quotas) own is kind back = let both : Some KindDown ≡ Some KindNet = sym kind ∙ back.1 in absurd (cc)
 
   pub disk_back : (old : Desk) (quotas : List ℕ) (own : List (Seat Kept DiskRequest DiskReply)) → seats_in seats ≡ map DiskSeat own → kind_in seats ≡ Some KindDisk → ComesBack old quotas given held seats → DiskBack old own
   disk_back old [] own is kind back = absurd (no_kind KindDisk kind back.1)
@@ -138,6 +156,17 @@ module _ (held : Desk) (given : List DeviceSeat) (seats : Seats) where
   disk_back (DiskDesk subs state history) (q ∷ quotas) own is kind back =
       let new = back.2 in
       back_of (unwritten state) (entries_of history) q quotas new.0 own new.2 (unmap DiskSeat (λ s t same. same) new.0 own (subst (λ l. EachWith IsSameSeat l (map DiskSeat own)) new.1 (subst (EachWith IsSameSeat given) is back.3)))
+  disk_back (NetDesk state history) (q ∷ quotas) own is kind back = let both : Some KindDisk ≡ Some KindNet = sym kind ∙ back.1 in absurd (cc)
+
+  pub net_back : (old : Desk) (quotas : List ℕ) (own : List (Seat Station (Result Rndis RndisFault) NetReply)) → seats_in seats ≡ map NetSeat own → kind_in seats ≡ Some KindNet → ComesBack old quotas given held seats → NetBack old own
+  net_back old [] own is kind back = absurd (no_kind KindNet kind back.1)
+  net_back (Out subs) (q ∷ quotas) own is kind back = absurd back.2
+  net_back (BeatDesk state history) (q ∷ quotas) own is kind back = let both : Some KindNet ≡ Some KindBeat = sym kind ∙ back.1 in absurd (cc)
+  net_back (DownDesk state history) (q ∷ quotas) own is kind back = let both : Some KindNet ≡ Some KindDown = sym kind ∙ back.1 in absurd (cc)
+  net_back (DiskDesk subs state history) (q ∷ quotas) own is kind back = let both : Some KindNet ≡ Some KindDisk = sym kind ∙ back.1 in absurd (cc)
+  net_back (NetDesk state history) (q ∷ quotas) own is kind back =
+      let new = back.2 in
+      back_of (unfiltered state) (entries_of history) q quotas new.0 own new.2 (unmap NetSeat (λ s t same. same) new.0 own (subst (λ l. EachWith IsSameSeat l (map NetSeat own)) new.1 (subst (EachWith IsSameSeat given) is back.3)))
 
   -- so all of them can be closed
 
@@ -146,18 +175,28 @@ module _ (held : Desk) (given : List DeviceSeat) (seats : Seats) where
   beat_all (BeatDesk state history) own back = back.all
   beat_all (DownDesk state history) own back = absurd back
   beat_all (DiskDesk subs state history) own back = absurd back
+  beat_all (NetDesk state history) own back = absurd back
 
   pub down_all : (old : Desk) (own : List (Seat DownMachine IcAsk IcAnswer)) → DownBack old own → AreAll own
   down_all (Out subs) own back = absurd back
   down_all (BeatDesk state history) own back = absurd back
   down_all (DownDesk state history) own back = back.all
   down_all (DiskDesk subs state history) own back = absurd back
+  down_all (NetDesk state history) own back = absurd back
 
   pub disk_all : (old : Desk) (own : List (Seat Kept DiskRequest DiskReply)) → DiskBack old own → AreAll own
   disk_all (Out subs) own back = absurd back
   disk_all (BeatDesk state history) own back = absurd back
   disk_all (DownDesk state history) own back = absurd back
   disk_all (DiskDesk subs state history) own back = back.all
+  disk_all (NetDesk state history) own back = absurd back
+
+  pub net_all : (old : Desk) (own : List (Seat Station (Result Rndis RndisFault) NetReply)) → NetBack old own → AreAll own
+  net_all (Out subs) own back = absurd back
+  net_all (BeatDesk state history) own back = absurd back
+  net_all (DownDesk state history) own back = absurd back
+  net_all (DiskDesk subs state history) own back = absurd back
+  net_all (NetDesk state history) own back = back.all
 
   -- and the device is whole again
 
@@ -175,6 +214,7 @@ module _ (held : Desk) (given : List DeviceSeat) (seats : Seats) where
       }
   beat_whole (DownDesk state' history') own state history is back closes leaves = absurd back
   beat_whole (DiskDesk subs state' history') own state history is back closes leaves = absurd back
+  beat_whole (NetDesk state' history') own state history is back closes leaves = absurd back
 
   pub down_whole : (old : Desk) (own : List (Seat DownMachine IcAsk IcAnswer)) (state : DownMachine) (history : History DownMachine IcAsk IcAnswer) → seats_in seats ≡ map DownSeat own → DownBack old own
       → Closes (λ s q. s) (λ s q. down_reply q) own (entries_of history) → Leaves (λ s. down_start) (λ s q. s) (λ s q. down_reply q) (entries_of history) state → GoesOn old (DownDesk state history) (map served_at (seats_in seats))
@@ -190,6 +230,7 @@ module _ (held : Desk) (given : List DeviceSeat) (seats : Seats) where
         kept = leaves;
       }
   down_whole (DiskDesk subs state' history') own state history is back closes leaves = absurd back
+  down_whole (NetDesk state' history') own state history is back closes leaves = absurd back
 
   -- no request changes how many blocks a disk has and which places are bad
   pub disk_whole : (old : Desk) (own : List (Seat Kept DiskRequest DiskReply)) (subs : ℕ) (state : Kept) (history : History Kept DiskRequest DiskReply) → seats_in seats ≡ map DiskSeat own → subs_of old ≡ subs → DiskBack old own
@@ -207,6 +248,27 @@ module _ (held : Desk) (given : List DeviceSeat) (seats : Seats) where
             (subst (λ l. Closes kept_after (λ s q. disk_reply (stands_for s) q) l (entries_of history)) back.seats_are closes));
         spec = ap (λ n. Disk state.blocks n) (sym with_subs) ∙ ap (λ (k : Kept). Disk k.blocks subs') setup;
         setup = ap (λ k. Some (stands_for k)) setup;
+        kept = leaves;
+      }
+  disk_whole (NetDesk state' history') own subs state history is with_subs back closes leaves firsts = absurd back
+
+  -- nor an adapter's addresses
+  pub net_whole : (old : Desk) (own : List (Seat Station (Result Rndis RndisFault) NetReply)) (state : Station) (history : History Station (Result Rndis RndisFault) NetReply) → seats_in seats ≡ map NetSeat own → NetBack old own
+      → Closes station_after station_reply own (entries_of history) → Leaves unfiltered station_after station_reply (entries_of history) state
+      → ((k : ℕ) (s : Seat Station (Result Rndis RndisFault) NetReply) → slice_get own k ≡ Some s → unfiltered state ≡ s.lock.first) → GoesOn old (NetDesk state history) (map served_at (seats_in seats))
+  net_whole (Out n) own state history is back closes leaves firsts = absurd back
+  net_whole (BeatDesk state' history') own state history is back closes leaves firsts = absurd back
+  net_whole (DownDesk state' history') own state history is back closes leaves firsts = absurd back
+  net_whole (DiskDesk subs state' history') own state history is back closes leaves firsts = absurd back
+  net_whole (NetDesk state' history') own state history is back closes leaves firsts =
+      let served = ap (map served_at) is ∙ (served_map NetSeat own ∙ ap (map (λ (s : Seat Station (Result Rndis RndisFault) NetReply). served_at (NetSeat s))) back.seats_are) in
+      let setup : unfiltered state ≡ unfiltered state' = firsts 0 back.head (ap (λ l. slice_get l 0) back.seats_are) ∙ back.first_is in
+      record {
+        grows = subst (Grows (net_log (entries_of history')) (net_log (entries_of history))) (sym served)
+            (grows_all message_asked (λ (r : NetReply). ReplyNet r.status r.back) station_after station_reply back.head.lock back.head back.rest (entries_of history') (entries_of history) back.each back.past_is
+            (subst (λ l. Closes station_after station_reply l (entries_of history)) back.seats_are closes));
+        spec = ap (λ (s : Station). Net s.mac s.station) setup;
+        setup = refl;
         kept = leaves;
       }
 

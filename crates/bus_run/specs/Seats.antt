@@ -1,16 +1,21 @@
 -- The seats of a device, which its channels have in a phase.
-use Rattle.std.specs.Prelude.{ℕ, ◌≡◌, List, [], ◌∷◌, map, Option, Some, None}
+use Rattle.std.specs.Prelude.{ℕ, ◌≡◌, List, [], ◌∷◌, map, Option, Some, None, Result}
 use Rattle.contact.specs.declared.kind.Kind.{Kind}
-use Rattle.contact.specs.declared.kind.Kind.TheVariants.{Beat as KindBeat, Down as KindDown, Disk as KindDisk}
+use Rattle.contact.specs.declared.kind.Kind.TheVariants.{Beat as KindBeat, Down as KindDown, Disk as KindDisk, Net as KindNet}
 use Rattle.script_lines.specs.Parts.{kind_of}
 use Rattle.hist_lock.specs.History.{entries_of}
 use Rattle.hist_lock.specs.Seat.{Seat, AreNew}
 use Rattle.end_work.specs.Seats.{IsSameSeat}
 use Rattle.end_work.specs.declared.device_seat.DeviceSeat.{DeviceSeat}
-use Rattle.end_work.specs.declared.device_seat.DeviceSeat.TheVariants.{Beat as BeatSeat, Down as DownSeat, Disk as DiskSeat}
+use Rattle.end_work.specs.declared.device_seat.DeviceSeat.TheVariants.{Beat as BeatSeat, Down as DownSeat, Disk as DiskSeat, Net as NetSeat}
 use Rattle.scsi_disk.specs.FiniteMap.{Kept, unwritten}
 use Rattle.scsi_disk.specs.declared.request.DiskRequest.{DiskRequest}
 use Rattle.scsi_disk.specs.declared.reply.DiskReply.{DiskReply}
+use Rattle.rndis_msg.specs.declared.rndis.Rndis.{Rndis}
+use Rattle.rndis_msg.specs.declared.fault.RndisFault.{RndisFault}
+use Rattle.net_dev.specs.declared.reply.NetReply.{NetReply}
+use Rattle.net_dev.specs.declared.station.Station.{Station}
+use Rattle.net_dev.specs.Station.{unfiltered}
 use Rattle.util_ic.specs.Machines.{beat_start, down_start}
 use Rattle.util_ic.specs.declared.beat.BeatMachine.{BeatMachine}
 use Rattle.util_ic.specs.declared.down.DownMachine.{DownMachine}
@@ -18,9 +23,9 @@ use Rattle.util_ic.specs.declared.ic.IcAsk.{IcAsk}
 use Rattle.util_ic.specs.declared.ic.IcAnswer.{IcAnswer}
 use Rattle.bus_run.specs.Desk.{spec_of, subs_of, IsKept}
 use Rattle.bus_run.specs.declared.desk.Desk.{Desk}
-use Rattle.bus_run.specs.declared.desk.Desk.TheVariants.{Out, Beat as BeatDesk, Down as DownDesk, Disk as DiskDesk}
+use Rattle.bus_run.specs.declared.desk.Desk.TheVariants.{Out, Beat as BeatDesk, Down as DownDesk, Disk as DiskDesk, Net as NetDesk}
 use Rattle.bus_run.specs.declared.seats.Seats.{Seats}
-use Rattle.bus_run.specs.declared.seats.Seats.TheVariants.{None as NoSeats, Beat as BeatSeats, Down as DownSeats, Disk as DiskSeats}
+use Rattle.bus_run.specs.declared.seats.Seats.TheVariants.{None as NoSeats, Beat as BeatSeats, Down as DownSeats, Disk as DiskSeats, Net as NetSeats}
 
 -- P of the items of two lists, one by one
 abbrev pub EachWith : {A B : Type 0} → (A → B → Type 0) → List A → List B → Type 0
@@ -35,6 +40,7 @@ kind_in NoSeats = None
 kind_in (BeatSeats seats) = Some KindBeat
 kind_in (DownSeats seats) = Some KindDown
 kind_in (DiskSeats seats) = Some KindDisk
+kind_in (NetSeats seats) = Some KindNet
 
 -- the seats that stand here, in order
 abbrev pub seats_in : Seats → List DeviceSeat
@@ -42,6 +48,7 @@ seats_in NoSeats = []
 seats_in (BeatSeats seats) = map BeatSeat seats.items
 seats_in (DownSeats seats) = map DownSeat seats.items
 seats_in (DiskSeats seats) = map DiskSeat seats.items
+seats_in (NetSeats seats) = map NetSeat seats.items
 
 -- new seats of this device's history, one for each of these quotas
 abbrev pub AreSeatsFor : Desk → List ℕ → List DeviceSeat → Type 0
@@ -49,6 +56,7 @@ AreSeatsFor (Out subs) quotas seats = ⊥
 AreSeatsFor (BeatDesk state history) quotas seats = (own : List (Seat BeatMachine IcAsk IcAnswer)) × (seats ≡ map BeatSeat own) × AreNew beat_start (entries_of history) quotas own
 AreSeatsFor (DownDesk state history) quotas seats = (own : List (Seat DownMachine IcAsk IcAnswer)) × (seats ≡ map DownSeat own) × AreNew down_start (entries_of history) quotas own
 AreSeatsFor (DiskDesk subs state history) quotas seats = (own : List (Seat Kept DiskRequest DiskReply)) × (seats ≡ map DiskSeat own) × AreNew (unwritten state) (entries_of history) quotas own
+AreSeatsFor (NetDesk state history) quotas seats = (own : List (Seat Station (Result Rndis RndisFault) NetReply)) × (seats ≡ map NetSeat own) × AreNew (unfiltered state) (entries_of history) quotas own
 
 -- what stays of a device while its channels have it
 abbrev pub away_of : Desk → Desk

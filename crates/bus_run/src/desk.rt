@@ -11,6 +11,7 @@ use bus_model::DeviceHistory;
 use bus_script::DeviceSpec;
 use contact::Kind;
 use hist_lock::{HistLock, History, Machine};
+use net_dev::Station;
 use scsi_disk::Disk;
 use std::alloc::{AllocError, Global};
 use util_ic::{BeatMachine, DownMachine};
@@ -36,6 +37,8 @@ pub enum Desk {
         /// What it served.
         history: History<Disk>,
     },
+    /// A network's adapter.
+    Net(Station, History<Station>),
 }
 
 impl Desk {
@@ -48,6 +51,7 @@ impl Desk {
             Desk::Beat(_, _) => Kind::Beat,
             Desk::Down(_, _) => Kind::Down,
             Desk::Disk { .. } => Kind::Disk,
+            Desk::Net(_, _) => Kind::Net,
             Desk::Out { .. } => unreachable!(),
         }
     }
@@ -61,6 +65,7 @@ impl Desk {
             Desk::Beat(_, _) => 0,
             Desk::Down(_, _) => 0,
             Desk::Disk { subs, .. } => *subs,
+            Desk::Net(_, _) => 0,
         }
     }
 }
@@ -117,6 +122,10 @@ pub fn new_desk(alloc: Global, spec: DeviceSpec, bad: &[u64]) -> Result<Desk, Al
             Ok(Desk::Down(machine, history))
         }
         DeviceSpec::Disk { blocks, subs } => new_disk_desk(alloc, blocks, subs, bad),
+        DeviceSpec::Net { mac, station } => {
+            let (machine, history) = fresh(alloc, Station::make(mac, station))?;
+            Ok(Desk::Net(machine, history))
+        }
     }
 }
 
@@ -134,6 +143,7 @@ pub fn history_of(desk: Desk) -> DeviceHistory
             state: _,
             history,
         } => DeviceHistory::Disk(history),
+        Desk::Net(_, history) => DeviceHistory::Net(history),
         Desk::Out { .. } => unreachable!(),
     }
 }

@@ -84,6 +84,7 @@ fn kind_at(seat: &DeviceSeat) -> Kind
         DeviceSeat::Beat(_) => Kind::Beat,
         DeviceSeat::Down(_) => Kind::Down,
         DeviceSeat::Disk(_) => Kind::Disk,
+        DeviceSeat::Net(_) => Kind::Net,
     }
 }
 

@@ -10,6 +10,7 @@ ghost use Rattle.bus_run.specs.declared.desk.Desk.{Desk as OneDesk};
 use crate::desk::Desk;
 use end_work::DeviceSeat;
 use hist_lock::{HistLock, HistSeat};
+use net_dev::Station;
 use scsi_disk::Disk;
 use std::alloc::{AllocError, Global};
 use util_ic::{BeatMachine, DownMachine};
@@ -26,6 +27,8 @@ pub enum Seats {
     Down(Vec<HistSeat<DownMachine>>),
     /// A disk's.
     Disk(Vec<HistSeat<Disk>>),
+    /// A network's adapter's.
+    Net(Vec<HistSeat<Station>>),
 }
 
 impl Seats {
@@ -55,6 +58,10 @@ impl Seats {
                 let seats = HistLock::reopen(alloc, disk, history, quotas)?;
                 Ok(Seats::Disk(seats))
             }
+            Desk::Net(state, history) => {
+                let seats = HistLock::reopen(alloc, state, history, quotas)?;
+                Ok(Seats::Net(seats))
+            }
             Desk::Out { .. } => unreachable!(),
         }
     }
@@ -69,6 +76,7 @@ impl Seats {
             Seats::Beat(seats) => DeviceSeat::Beat(seats.remove(0)),
             Seats::Down(seats) => DeviceSeat::Down(seats.remove(0)),
             Seats::Disk(seats) => DeviceSeat::Disk(seats.remove(0)),
+            Seats::Net(seats) => DeviceSeat::Net(seats.remove(0)),
             Seats::None => unreachable!(),
         }
     }
@@ -92,12 +100,14 @@ impl Seats {
                 seats.push(seat)?;
                 Ok(())
             }
-            (Seats::Beat(_), DeviceSeat::Down(_)) => unreachable!(),
-            (Seats::Beat(_), DeviceSeat::Disk(_)) => unreachable!(),
-            (Seats::Down(_), DeviceSeat::Beat(_)) => unreachable!(),
-            (Seats::Down(_), DeviceSeat::Disk(_)) => unreachable!(),
-            (Seats::Disk(_), DeviceSeat::Beat(_)) => unreachable!(),
-            (Seats::Disk(_), DeviceSeat::Down(_)) => unreachable!(),
+            (Seats::Net(seats), DeviceSeat::Net(seat)) => {
+                seats.push(seat)?;
+                Ok(())
+            }
+            (Seats::Beat(_), _) => unreachable!(),
+            (Seats::Down(_), _) => unreachable!(),
+            (Seats::Disk(_), _) => unreachable!(),
+            (Seats::Net(_), _) => unreachable!(),
             (Seats::None, _) => unreachable!(),
         }
     }
@@ -125,6 +135,10 @@ impl Seats {
                     state,
                     history,
                 };
+            }
+            Seats::Net(seats) => {
+                let (state, history) = HistLock::close(seats);
+                *desk = Desk::Net(state, history);
             }
         }
     }

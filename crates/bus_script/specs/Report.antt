@@ -1,9 +1,12 @@
 -- The text of a run's outcomes.
-use Rattle.std.specs.Prelude.{ℕ, ◌≡◌, ◌+◌, ◌*◌, ◌/◌, ◌%◌, Bool, true, false, List, [], ◌∷◌, ◌++◌, codes, count_by, sum_by, length, filter, take, nat_le}
+use Rattle.std.specs.Prelude.{ℕ, ◌≡◌, ◌+◌, ◌*◌, ◌/◌, ◌%◌, Bool, true, false, List, [], ◌∷◌, ◌++◌, Option, Some, None, codes, count_by, sum_by, length, filter, take, nat_le}
 use Rattle.std.specs.List.{flat_map, zip}
 use Rattle.std.specs.Fmt.{decimal}
 use Rattle.contact.specs.Versions.{versions, IsVersion}
 use Rattle.contact.specs.declared.version.Version.{Version}
+use Rattle.rndis_msg.specs.declared.rndis.Rndis.{Rndis}
+use Rattle.rndis_msg.specs.declared.rndis.Rndis.TheVariants.{Packet, QueryComplete, SetComplete, ResetComplete, KeepaliveComplete}
+use Rattle.rndis_msg.specs.Messages.{body_of}
 use Rattle.scsi_disk.specs.declared.reply.DiskReply.{DiskReply}
 use Rattle.scsi_disk.specs.declared.reply.DiskReply.TheVariants.{Good, Check}
 use Rattle.util_ic.specs.declared.ic.IcAnswer.{IcAnswer}
@@ -13,9 +16,9 @@ use Rattle.script_lines.specs.declared.line.Line.{Line}
 use Rattle.script_lines.specs.declared.line.What.{What}
 use Rattle.script_lines.specs.declared.line.What.TheVariants.{Contact as IsContact, Offer as IsOffer, Bad as IsBad, RingSize as IsRingSize, Window as IsWindow, Ask as IsAsk, Rescind as IsRescind, Shut as IsShut, Phase as IsPhase}
 use Rattle.script_lines.specs.declared.line.Ask.{Ask}
-use Rattle.script_lines.specs.declared.line.Ask.TheVariants.{Ic, Disk as AskDisk}
+use Rattle.script_lines.specs.declared.line.Ask.TheVariants.{Ic, Disk as AskDisk, Net as AskNet}
 use Rattle.bus_script.specs.declared.outcome.Reply.{Reply}
-use Rattle.bus_script.specs.declared.outcome.Reply.TheVariants.{Ic as IcReply, Disk as ReplyDisk}
+use Rattle.bus_script.specs.declared.outcome.Reply.TheVariants.{Ic as IcReply, Disk as ReplyDisk, Net as ReplyNet}
 use Rattle.bus_script.specs.declared.outcome.LineResult.{LineResult}
 use Rattle.bus_script.specs.declared.outcome.LineResult.TheVariants.{Version as Agreed, Done, RescindedServed, Unserved, Gone, Closed}
 use Rattle.script_text.specs.Hex.{hex_8, hex_2, hex_short}
@@ -62,21 +65,60 @@ abbrev pub answer_text : IcAsk → IcAnswer → List ℕ
 answer_text (AskBeat seq) answer = codes "seq " ++ decimal answer.seq
 answer_text (AskDown reason timeout flags) answer = codes "status 0x" ++ hex_8 answer.status
 
+-- the runs of bytes behind a space, if there are any
+abbrev pub bytes_text : List ℕ → List ℕ
+bytes_text [] = []
+bytes_text (b ∷ bs) = codes " " ++ runs_text (b ∷ bs)
+
+-- status 0xSTATUS
+abbrev pub status_text : ℕ → List ℕ
+status_text status = codes "status 0x" ++ hex_8 status
+
+-- what came back of a query, with its bytes, of a set, of a reset or of a keepalive: its own status is told, and not that of the packet's completion
+abbrev pub completion_text : Rndis → List ℕ
+completion_text (QueryComplete request_id status body) = status_text status ++ bytes_text body
+completion_text (SetComplete request_id status) = status_text status
+completion_text (ResetComplete status addressing_reset) = status_text status
+completion_text (KeepaliveComplete request_id status) = status_text status
+completion_text others = []
+
+-- back LENGTH RUNS of a frame that came back
+abbrev pub back_text : Option Rndis → List ℕ
+back_text (Some (Packet frame)) = codes " back " ++ (decimal (length frame) ++ bytes_text frame)
+back_text others = []
+
+-- what came back of a message: a frame of a frame, and a completion of any other
+abbrev pub net_text : Rndis → Option Rndis → List ℕ
+net_text (Packet frame) back = codes "sent" ++ back_text back
+net_text message None = []
+net_text message (Some back) = completion_text back
+
 -- a reply to a request; one of another kind of device has no text
 abbrev pub reply_text : Ask → Reply → List ℕ
 reply_text (Ic ask) (IcReply answer) = answer_text ask answer
 reply_text (Ic ask) (ReplyDisk reply) = []
+reply_text (Ic ask) (ReplyNet status back) = []
 reply_text (AskDisk request) (IcReply answer) = []
 reply_text (AskDisk request) (ReplyDisk reply) = disk_text reply
+reply_text (AskDisk request) (ReplyNet status back) = []
+reply_text (AskNet message) (IcReply answer) = []
+reply_text (AskNet message) (ReplyDisk reply) = []
+reply_text (AskNet message) (ReplyNet status back) = net_text message back
 
 -- how many runs the bytes of a disk's reply have
 abbrev pub disk_runs : DiskReply → ℕ
 disk_runs (Good back) = length (runs_of back)
 disk_runs (Check key asc ascq) = 0
 
+-- how many the message that came back has
+abbrev pub net_runs : Option Rndis → ℕ
+net_runs None = 0
+net_runs (Some message) = length (runs_of (body_of message))
+
 abbrev pub reply_runs : Reply → ℕ
 reply_runs (IcReply answer) = 0
 reply_runs (ReplyDisk reply) = disk_runs reply
+reply_runs (ReplyNet status back) = net_runs back
 
 -- how many runs an outcome has
 abbrev pub result_runs : LineResult → ℕ
@@ -193,7 +235,7 @@ most_text (IsOffer name device) = 0
 most_text (IsBad device lba) = 0
 most_text (IsRingSize device pages) = 0
 most_text (IsWindow device size) = 0
-most_text (IsAsk device ask) = 51
+most_text (IsAsk device ask) = 58
 most_text (IsRescind device after held) = 0
 most_text (IsShut device) = 0
 most_text IsPhase = 0

@@ -1,6 +1,7 @@
 //! How the lines of a script ended.
 ghost use Rattle.std.specs.Prelude.{◌≡◌};
 
+use rndis_msg::Rndis;
 use scsi_disk::DiskReply;
 use util_ic::IcAnswer;
 
@@ -11,6 +12,13 @@ pub enum Reply {
     Ic(IcAnswer),
     /// The reply of a disk.
     Disk(DiskReply),
+    /// The reply of a network's adapter.
+    Net {
+        /// The status in the completion: 1 is success, 2 failure.
+        status: u32,
+        /// The message that came back, if one did.
+        back: Option<Rndis>,
+    },
 }
 
 impl Reply {
@@ -21,6 +29,13 @@ impl Reply {
         match self {
             Reply::Ic(answer) => Reply::Ic(*answer),
             Reply::Disk(reply) => Reply::Disk(reply.again()),
+            Reply::Net { status, back } => Reply::Net {
+                status: *status,
+                back: match back {
+                    Some(message) => Some(message.again()),
+                    None => None,
+                },
+            },
         }
     }
 }

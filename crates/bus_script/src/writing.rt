@@ -5,10 +5,12 @@ ghost use Rattle.contact.specs.Versions.{IsVersion};
 ghost use Rattle.script_lines.specs.Parts.{is_ask, asks_in};
 ghost use Rattle.script_text.specs.Hex.{hex_short};
 ghost use Rattle.script_text.specs.Runs.{runs_of, runs_text};
-ghost use Rattle.bus_script.specs.Report.{Answers, versions_from, last_or, tried, version_text, versions_text, contact_text, good_text, disk_text, disk_runs, answer_text, reply_text, reply_runs, result_runs, runs_back, ask_text, agreed_text, outcome_text, line_text, end_text, report_of, tells, HasVersion, most_text, is_done, is_rescinded};
+ghost use Rattle.rndis_msg.specs.Messages.{body_of};
+ghost use Rattle.bus_script.specs.Report.{Answers, versions_from, last_or, tried, version_text, versions_text, contact_text, good_text, disk_text, disk_runs, answer_text, bytes_text, status_text, completion_text, back_text, net_text, net_runs, reply_text, reply_runs, result_runs, runs_back, ask_text, agreed_text, outcome_text, line_text, end_text, report_of, tells, HasVersion, most_text, is_done, is_rescinded};
 
 use crate::{LineResult, Reply};
 use contact::{Version, next_version};
+use rndis_msg::Rndis;
 use script_lines::{Ask, Line, Script, What};
 use script_text::{hex_2, hex_8, push_decimal, push_runs};
 use scsi_disk::DiskReply;
@@ -122,21 +124,93 @@ fn push_answer(text: &mut Vec<u8>, ask: &IcAsk, answer: &IcAnswer) -> Result<(),
     Ok(())
 }
 
+/// Bytes behind a space, if there are any.
+fn push_bytes(text: &mut Vec<u8>, bytes: &[u8]) -> Result<(), AllocError>
+    ensures text { OnOk result (text.new.items ≡ text.old.items ++ bytes_text bytes.now) }
+    ensures short { OnOk result (vec_len text.new ≤ vec_len text.old + 1 + 24 * length (runs_of bytes.now)) }
+{
+    if !bytes.is_empty() {
+        text.extend_from_slice(b" ")?;
+        push_runs(text, bytes)?;
+    }
+    Ok(())
+}
+
+fn push_status(text: &mut Vec<u8>, status: u32) -> Result<(), AllocError>
+    ensures text { OnOk result (text.new.items ≡ text.old.items ++ status_text status) }
+    ensures short { OnOk result (vec_len text.new ≤ vec_len text.old + 17) }
+{
+    text.extend_from_slice(b"status 0x")?;
+    text.extend_from_slice(&hex_8(status))?;
+    Ok(())
+}
+
+/// The status of a completion that came back, and its bytes.
+fn push_completion(text: &mut Vec<u8>, back: &Rndis) -> Result<(), AllocError>
+    ensures text { OnOk result (text.new.items ≡ text.old.items ++ completion_text back.now) }
+    ensures short { OnOk result (vec_len text.new ≤ vec_len text.old + 18 + 24 * length (runs_of (body_of back.now))) }
+{
+    match back {
+        Rndis::QueryComplete { status, body, .. } => {
+            push_status(text, *status)?;
+            push_bytes(text, body.bytes())
+        }
+        Rndis::SetComplete { status, .. }
+        | Rndis::ResetComplete { status, .. }
+        | Rndis::KeepaliveComplete { status, .. } => push_status(text, *status),
+        _ => Ok(()),
+    }
+}
+
+/// The length and the bytes of a frame that came back, if one did.
+fn push_back(text: &mut Vec<u8>, back: &Option<Rndis>) -> Result<(), AllocError>
+    ensures text { OnOk result (text.new.items ≡ text.old.items ++ back_text back.now) }
+    ensures short { OnOk result (vec_len text.new ≤ vec_len text.old + 27 + 24 * net_runs back.now) }
+{
+    match back {
+        Some(Rndis::Packet { body }) => {
+            let frame = body.bytes();
+            text.extend_from_slice(b" back ")?;
+            push_decimal(text, frame.len() as u64)?;
+            push_bytes(text, frame)
+        }
+        _ => Ok(()),
+    }
+}
+
+/// What came back of a message.
+fn push_net(text: &mut Vec<u8>, message: &Rndis, back: &Option<Rndis>) -> Result<(), AllocError>
+    ensures text { OnOk result (text.new.items ≡ text.old.items ++ net_text message.now back.now) }
+    ensures short { OnOk result (vec_len text.new ≤ vec_len text.old + 31 + 24 * net_runs back.now) }
+{
+    match (message, back) {
+        (Rndis::Packet { .. }, _) => {
+            text.extend_from_slice(b"sent")?;
+            push_back(text, back)
+        }
+        (_, Some(back)) => push_completion(text, back),
+        (_, None) => Ok(()),
+    }
+}
+
 /// A reply to a request. One of another kind of device has no text.
 fn push_reply(text: &mut Vec<u8>, ask: &Ask, reply: &Reply) -> Result<(), AllocError>
     ensures text { OnOk result (text.new.items ≡ text.old.items ++ reply_text ask.now reply.now) }
-    ensures short { OnOk result (vec_len text.new ≤ vec_len text.old + 24 + 24 * reply_runs reply.now) }
+    ensures short { OnOk result (vec_len text.new ≤ vec_len text.old + 31 + 24 * reply_runs reply.now) }
 {
     match (ask, reply) {
         (Ask::Ic(ask), Reply::Ic(answer)) => push_answer(text, ask, answer),
         (Ask::Disk(_), Reply::Disk(reply)) => push_disk(text, reply),
-        (Ask::Ic(_), Reply::Disk(_)) | (Ask::Disk(_), Reply::Ic(_)) => Ok(()),
+        (Ask::Net(message), Reply::Net { back, .. }) => push_net(text, message, back),
+        (Ask::Ic(_), Reply::Disk(_) | Reply::Net { .. })
+        | (Ask::Disk(_), Reply::Ic(_) | Reply::Net { .. })
+        | (Ask::Net(_), Reply::Ic(_) | Reply::Disk(_)) => Ok(()),
     }
 }
 
 fn push_done(text: &mut Vec<u8>, serial: u32, ask: &Ask, reply: &Reply) -> Result<(), AllocError>
     ensures text { OnOk result (text.new.items ≡ text.old.items ++ ask_text ask.now (LineResult.Done serial reply.now)) }
-    ensures short { OnOk result (vec_len text.new ≤ vec_len text.old + 51 + 24 * reply_runs reply.now) }
+    ensures short { OnOk result (vec_len text.new ≤ vec_len text.old + 58 + 24 * reply_runs reply.now) }
 {
     text.extend_from_slice(b"done @")?;
     push_decimal(text, serial as u64)?;
@@ -147,7 +221,7 @@ fn push_done(text: &mut Vec<u8>, serial: u32, ask: &Ask, reply: &Reply) -> Resul
 
 fn push_rescinded(text: &mut Vec<u8>, serial: u32) -> Result<(), AllocError>
     ensures text { OnOk result (text.new.items ≡ text.old.items ++ (codes "rescinded @" ++ decimal serial)) }
-    ensures short { OnOk result (vec_len text.new ≤ vec_len text.old + 51) }
+    ensures short { OnOk result (vec_len text.new ≤ vec_len text.old + 31) }
 {
     text.extend_from_slice(b"rescinded @")?;
     push_decimal(text, serial as u64)?;
@@ -216,7 +290,7 @@ fn push_contact(text: &mut Vec<u8>, guest: Version, count: u32) -> Result<(), Al
 
 fn push_asked(text: &mut Vec<u8>, ask: &Ask, outcome: &LineResult) -> Result<(), AllocError>
     ensures text { OnOk result (text.new.items ≡ text.old.items ++ ask_text ask.now outcome.now) }
-    ensures short { OnOk result (vec_len text.new ≤ vec_len text.old + 51 + 24 * result_runs outcome.now) }
+    ensures short { OnOk result (vec_len text.new ≤ vec_len text.old + 58 + 24 * result_runs outcome.now) }
 {
     match outcome {
         LineResult::Version { .. } => {}

@@ -8,3 +8,4 @@ pub mod CodecLaws
 pub mod KindLaws
 pub mod SpeechLaws
 pub mod TalkLaws
+pub mod NetLaws

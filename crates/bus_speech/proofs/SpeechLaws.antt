@@ -1,6 +1,7 @@
 -- Each kind of channel keeps to the laws of a speech.
-use Rattle.std.proofs.Common.{◌≡◌, ◌≢◌, ℕ, zero, suc, ◌+◌, Bool, true, false, List, [], ◌∷◌, Option, Some, None, ◌⊎◌, inl, inr, refl, sym, ap, subst, ◌∙◌}
-use Rattle.std.specs.Prelude.{map, is_some}
+use Rattle.std.proofs.Common.{◌≡◌, ℕ, zero, suc, ◌+◌, ◌==◌, Bool, true, false, List, [], ◌∷◌, Option, Some, None, Ok, ◌⊎◌, inl, inr, refl, sym, ap, subst, ◌∙◌, arith}
+use Rattle.std.specs.Prelude.{map, is_some, not}
+use Rattle.std.proofs.lemmas.Bool.Decides.{nat_tests}
 use Rattle.std.specs.List.{AllByRecursion}
 use Rattle.contact.specs.declared.kind.Kind.{Kind}
 use Rattle.contact.specs.declared.kind.Kind.TheVariants.{Beat, Down, Disk, Net}
@@ -12,9 +13,12 @@ use Rattle.scsi_disk.specs.DiskModel.{IsSized}
 use Rattle.scsi_disk.specs.declared.request.DiskRequest.{DiskRequest}
 use Rattle.scsi_disk.specs.declared.reply.DiskReply.{DiskReply}
 use Rattle.script_lines.specs.declared.line.Ask.{Ask}
-use Rattle.script_lines.specs.declared.line.Ask.TheVariants.{Ic as AskIc, Disk as AskDisk}
+use Rattle.rndis_msg.specs.declared.rndis.Rndis.{Rndis}
+use Rattle.net_dev.specs.declared.reply.NetReply.{NetReply}
+use Rattle.net_dev.specs.Station.{Keeps as StationKeeps}
+use Rattle.script_lines.specs.declared.line.Ask.TheVariants.{Ic as AskIc, Disk as AskDisk, Net as AskNet}
 use Rattle.bus_script.specs.declared.outcome.Reply.{Reply}
-use Rattle.bus_script.specs.declared.outcome.Reply.TheVariants.{Ic as ReplyIc, Disk as ReplyDisk}
+use Rattle.bus_script.specs.declared.outcome.Reply.TheVariants.{Ic as ReplyIc, Disk as ReplyDisk, Net as ReplyNet}
 use Rattle.pkt_desc.specs.Packets.{id_of}
 use Rattle.chan_talk.specs.Listed.{has_message_in, message_in}
 use Rattle.work_model.specs.Amounts.{HasNoMessages, MayHaveMessages}
@@ -27,11 +31,13 @@ use Rattle.bus_speech.specs.Packets.{is_inband}
 use Rattle.bus_speech.specs.Codecs.{WantOf, Step, Request, Codec, speech_by}
 use Rattle.bus_speech.specs.Services.{service_read, service_fixed, service_answer, service_fits, service_encode, service_codec}
 use Rattle.bus_speech.specs.Disks.{disk_codec, IsDiskAsk}
-use Rattle.bus_speech.specs.Kinds.{ic_request, disk_request, ic_reply, disk_reply, services, disks}
-use Rattle.bus_speech.specs.Wants.{startup, CanBe, IsBeatAsk, IsDownAsk, IsAskable}
-use Rattle.bus_speech.specs.Speeches.{besides_on, encode_on, waits_on, read_on, fits_on, answer_on, has_answer_on, silent_speech, speech_of}
+use Rattle.bus_speech.specs.Nets.{net_speech}
+use Rattle.bus_speech.specs.Kinds.{ic_request, disk_request, net_request, ic_reply, disk_reply, net_reply, services, disks, nets}
+use Rattle.bus_speech.specs.Wants.{startup, start_answered, CanBe, IsBeatAsk, IsDownAsk, IsNetAsk, IsAskable}
+use Rattle.bus_speech.specs.Speeches.{besides_on, asked_as, encode_on, waits_on, read_on, fits_on, answer_on, has_answer_on, speech_of}
 use Rattle.bus_speech.proofs.DiskLaws.{by_test, start_waits as disk_start_waits, start_read as disk_start_read, ask_read as disk_ask_read}
 use Rattle.bus_speech.proofs.DoneLaws.{sized_fits}
+use Rattle.bus_speech.proofs.NetLaws.{net_keeps, asked_read, step_read as net_step_read, station_fits}
 use Rattle.bus_speech.proofs.ServiceLaws.{served_answers, ask_read, start_waits, start_read, reply_fits}
 use Rattle.bus_speech.proofs.KindLaws.{service_keeps, service_silent, disk_keeps, disk_silent}
 
@@ -53,72 +59,43 @@ disk_replied : (reply : Reply) (r : DiskReply) → disk_reply reply ≡ Some r �
 disk_replied (ReplyDisk x) r h = let same : x ≡ r = cc in ap ReplyDisk (sym same)
 disk_replied _ r h = cc
 
+net_whole : (ask : Ask) (q : Rndis) → net_request ask ≡ Some q → AskNet q ≡ ask
+net_whole (AskNet x) q h = let same : x ≡ q = cc in ap AskNet (sym same)
+net_whole _ q h = cc
+
+net_replied : (reply : Reply) (r : NetReply) → net_reply reply ≡ Some r → nets.reply r ≡ reply
+net_replied (ReplyNet status back) r h =
+    let own : NetReply = record { status = status; back = back } in
+    let same : own ≡ r = cc in ap nets.reply (sym same)
+net_replied _ r h = cc
+
 among_services : IsAmong services
 among_services = record { found = λ q. refl; whole = service_replied }
 
 among_disks : IsAmong disks
 among_disks = record { found = λ q. refl; whole = disk_replied }
 
-silent_keeps : Keeps silent_speech
-silent_keeps = record {
-  given = λ p r waits. cc;
-  fixes = λ p waits none. cc;
-  unread = λ p not. refl;
-  silent = λ p not. refl;
-  asks = λ p not. cc;
-  encodes = λ id a. refl;
-  waits_ask = λ id a. refl;
-  id_kept = λ id a fits waits. cc;
-  id_own = λ id a none. refl;
-  reads = λ id a q r h fits. cc;
-  no_result = λ id a before p h. refl;
-  acks = λ p is. cc;
-  ack_asks = λ p is. cc;
-}
+among_nets : IsAmong nets
+among_nets = record { found = λ q. refl; whole = net_replied }
 
 pub keeps : (kind : Kind) → Keeps (speech_of kind)
 keeps Beat = lifts (speech_by (service_codec Beat)) services among_services (service_keeps Beat)
 keeps Down = lifts (speech_by (service_codec Down)) services among_services (service_keeps Down)
 keeps Disk = lifts (speech_by disk_codec) disks among_disks disk_keeps
-keeps Net = silent_keeps
+keeps Net = lifts net_speech nets among_nets net_keeps
 
--- on each kind of channel all packets are requests or answers, and say their ids alike
-pub all_ask : (kind : Kind) (p : List ℕ) → (speech_of kind).is_request p ≡ true
-all_ask Beat p = refl
-all_ask Down p = refl
-all_ask Disk p = refl
-all_ask Net p = refl
-
-pub all_answer : (kind : Kind) (p : List ℕ) → (speech_of kind).is_answer p ≡ true
-all_answer Beat p = refl
-all_answer Down p = refl
-all_answer Disk p = refl
-all_answer Net p = refl
-
--- on none of them are there messages
-pub none_acks : (kind : Kind) (p : List ℕ) → (speech_of kind).is_ack p ≡ false
-none_acks Beat p = refl
-none_acks Down p = refl
-none_acks Disk p = refl
-none_acks Net p = refl
-
-pub none_message : (kind : Kind) (p : List ℕ) → (speech_of kind).is_message p ≡ false
-none_message Beat p = refl
-none_message Down p = refl
-none_message Disk p = refl
-none_message Net p = refl
-
-pub no_messages : (kind : Kind) → HasNoMessages (speech_of kind)
-no_messages Beat = record { gives = λ p r. refl; fixed = (service_silent Beat).fixed }
-no_messages Down = record { gives = λ p r. refl; fixed = (service_silent Down).fixed }
-no_messages Disk = record { gives = λ p r. refl; fixed = disk_silent.fixed }
-no_messages Net = record { gives = λ p r. refl; fixed = λ p back is. cc }
+-- but for a network's there are no messages
+pub no_messages : (kind : Kind) → besides_on kind ≡ false → HasNoMessages (speech_of kind)
+no_messages Beat none = record { gives = λ p r. refl; fixed = (service_silent Beat).fixed }
+no_messages Down none = record { gives = λ p r. refl; fixed = (service_silent Down).fixed }
+no_messages Disk none = record { gives = λ p r. refl; fixed = disk_silent.fixed }
+no_messages Net none = cc
 
 pub may_have : (kind : Kind) → MayHaveMessages (speech_of kind) (besides_on kind)
-may_have Beat = no_messages Beat
-may_have Down = no_messages Down
-may_have Disk = no_messages Disk
-may_have Net = no_messages Net
+may_have Beat = no_messages Beat refl
+may_have Down = no_messages Down refl
+may_have Disk = no_messages Disk refl
+may_have Net = tt
 
 none_in_back : (o : Option (Back (List ℕ))) → ((b : Back (List ℕ)) → o ≡ Some b → b.message ≡ None) → has_message_in o ≡ false
 none_in_back None none = refl
@@ -129,14 +106,11 @@ none_for own None none = refl
 none_for own (Some b) none = ap (under_own own) (none b refl)
 
 -- so none goes back
-pub none_fixed : (kind : Kind) (p : List ℕ) → has_message_in ((speech_of kind).fixed p) ≡ false
-none_fixed kind p = none_in_back ((speech_of kind).fixed p) ((no_messages kind).fixed p)
+pub none_fixed : (kind : Kind) (p : List ℕ) → besides_on kind ≡ false → has_message_in ((speech_of kind).fixed p) ≡ false
+none_fixed kind p none = none_in_back ((speech_of kind).fixed p) ((no_messages kind none).fixed p)
 
-pub none_fixed_in : (kind : Kind) (own : ℕ) (p : List ℕ) → message_in own ((speech_of kind).fixed p) ≡ None
-none_fixed_in kind own p = none_for own ((speech_of kind).fixed p) ((no_messages kind).fixed p)
-
-pub none_given : (kind : Kind) (p : List ℕ) (r : Reply) → ((speech_of kind).gives p r).message ≡ None
-none_given kind p r = (no_messages kind).gives p r
+pub none_fixed_in : (kind : Kind) (own : ℕ) (p : List ℕ) → besides_on kind ≡ false → message_in own ((speech_of kind).fixed p) ≡ None
+none_fixed_in kind own p none = none_for own ((speech_of kind).fixed p) ((no_messages kind none).fixed p)
 
 pub id_is : (kind : Kind) (p : List ℕ) → (speech_of kind).id_of p ≡ id_of p
 id_is Beat p = refl
@@ -151,7 +125,7 @@ pub step_read : (kind : Kind) (id k : ℕ) → read_on kind (encode_on kind id (
 step_read Beat id k = ap (mapped AskIc) (start_read Beat id)
 step_read Down id k = ap (mapped AskIc) (start_read Down id)
 step_read Disk id k = ap (mapped AskDisk) (disk_start_read id k)
-step_read Net id k = refl
+step_read Net id k = ap (mapped AskNet) (net_step_read id k)
 
 -- what goes back for the start-up is fixed
 pub start_is_fixed : (kind : Kind) (sub subs : ℕ) → AllFixed (speech_of kind) (startup kind sub subs)
@@ -159,7 +133,7 @@ start_is_fixed Beat zero subs = (λ id. step_read Beat id 0, tt)
 start_is_fixed Down zero subs = (λ id. step_read Down id 0, tt)
 start_is_fixed Disk zero zero = (λ id. step_read Disk id 0, (λ id. step_read Disk id 1, (λ id. step_read Disk id 2, (λ id. step_read Disk id 3, tt))))
 start_is_fixed Disk zero (suc n) = (λ id. step_read Disk id 0, (λ id. step_read Disk id 1, (λ id. step_read Disk id 2, (λ id. step_read Disk id 3, (λ id. step_read Disk id (3 + suc n), tt)))))
-start_is_fixed Net zero subs = tt
+start_is_fixed Net zero subs = (λ id. step_read Net id 0, (λ id. step_read Net id 1, (λ id. step_read Net id 2, tt)))
 start_is_fixed Beat (suc s) subs = tt
 start_is_fixed Down (suc s) subs = tt
 start_is_fixed Disk (suc s) subs = tt
@@ -179,17 +153,33 @@ down_read : (id : ℕ) (ask : IcAsk) → IsDownAsk ask → service_read Down (se
 down_read id (AskBeat seq) can = absurd can
 down_read id (AskDown reason timeout flags) can = ask_read id (AskDown reason timeout flags) can
 
+-- a request to another kind of device has the same form under each id
+service_same : (Can : IcAsk → Type 0) (id : ℕ) (ask : Ask) → CanBe Can (ic_request ask) → ask ≡ asked_as id ask
+service_same Can id (AskIc q) can = refl
+service_same Can id (AskDisk q) can = absurd can
+service_same Can id (AskNet q) can = absurd can
+
+disk_same : (Can : DiskRequest → Type 0) (id : ℕ) (ask : Ask) → CanBe Can (disk_request ask) → ask ≡ asked_as id ask
+disk_same Can id (AskIc q) can = absurd can
+disk_same Can id (AskDisk q) can = refl
+disk_same Can id (AskNet q) can = absurd can
+
+net_asked : (id : ℕ) (ask : Ask) → CanBe IsNetAsk (net_request ask) → read_on Net (encode_on Net id (Script ask)) ≡ Some (asked_as id ask)
+net_asked id (AskIc q) can = absurd can
+net_asked id (AskDisk q) can = absurd can
+net_asked id (AskNet m) can = ap (mapped AskNet) (asked_read id m can)
+
 -- the device is asked what the script asked
-pub asked_is : (kind : Kind) (id : ℕ) (ask : Ask) → IsAskable kind ask → read_on kind (encode_on kind id (Script ask)) ≡ Some ask
-asked_is Beat id ask can = asked_so (service_codec Beat) AskIc IsBeatAsk id (beat_read id) ask (ic_request ask) (service_whole ask) can
-asked_is Down id ask can = asked_so (service_codec Down) AskIc IsDownAsk id (down_read id) ask (ic_request ask) (service_whole ask) can
-asked_is Disk id ask can = asked_so disk_codec AskDisk IsDiskAsk id (disk_ask_read id) ask (disk_request ask) (disk_whole ask) can
-asked_is Net id ask can = absurd can
+pub asked_is : (kind : Kind) (id : ℕ) (ask : Ask) → IsAskable kind ask → read_on kind (encode_on kind id (Script ask)) ≡ Some (asked_as id ask)
+asked_is Beat id ask can = asked_so (service_codec Beat) AskIc IsBeatAsk id (beat_read id) ask (ic_request ask) (service_whole ask) can ∙ ap Some (service_same IsBeatAsk id ask can)
+asked_is Down id ask can = asked_so (service_codec Down) AskIc IsDownAsk id (down_read id) ask (ic_request ask) (service_whole ask) can ∙ ap Some (service_same IsDownAsk id ask can)
+asked_is Disk id ask can = asked_so disk_codec AskDisk IsDiskAsk id (disk_ask_read id) ask (disk_request ask) (disk_whole ask) can ∙ ap Some (disk_same IsDiskAsk id ask can)
+asked_is Net id ask can = net_asked id ask can
 
 -- the script asks the device
 pub script_asks : (kind : Kind) (asks : List Ask) → AllByRecursion (IsAskable kind) asks → AllAsk (speech_of kind) (map Script asks)
 script_asks kind [] all = tt
-script_asks kind (ask ∷ asks) all = (λ id. (ask, asked_is kind id ask all.0), script_asks kind asks all.1)
+script_asks kind (ask ∷ asks) all = (λ id. (asked_as id ask, asked_is kind id ask all.0), script_asks kind asks all.1)
 
 -- what asks the device has an answer
 pub read_waits : (kind : Kind) (p : List ℕ) (q : Ask) → read_on kind p ≡ Some q → waits_on kind p ≡ true
@@ -197,15 +187,17 @@ read_waits kind p q h =
     by_test (waits_on kind p) (λ is. is) (λ not. let none : read_on kind p ≡ None = (keeps kind).unread p not in cc)
 
 pub script_waits : (kind : Kind) (ask : Ask) → IsAskable kind ask → has_answer_on kind (Script ask) ≡ true
-script_waits kind ask can = sym ((keeps kind).waits_ask 0 (Script ask)) ∙ read_waits kind (encode_on kind 0 (Script ask)) ask (asked_is kind 0 ask can)
+script_waits kind ask can = sym ((keeps kind).waits_ask 0 (Script ask)) ∙ read_waits kind (encode_on kind 0 (Script ask)) (asked_as 0 ask) (asked_is kind 0 ask can)
 
-pub start_has_answer : (kind : Kind) (k : ℕ) → kind ≢ Net → has_answer_on kind (Starts k) ≡ true
-start_has_answer Beat k other = start_waits 0
-start_has_answer Down k other = start_waits 0
-start_has_answer Disk k other = disk_start_waits 0 k
-start_has_answer Net k other = absurd (other refl)
+pub start_answers : (kind : Kind) (k : ℕ) → has_answer_on kind (Starts k) ≡ start_answered kind k
+start_answers Beat k = start_waits 0
+start_answers Down k = start_waits 0
+start_answers Disk k = disk_start_waits 0 k
+start_answers Net zero = refl
+start_answers Net (suc zero) = refl
+start_answers Net (suc (suc k)) = let other : (suc (suc k) == 1) ≡ false = grind (arith, nat_tests) in sym (ap not other)
 
--- each reply of a service or of a disk fits
+-- each reply of a service, of a disk, or of an adapter fits
 pub beat_fits : (q : IcAsk) (r : IcAnswer) → r ≡ reply_of Beat q → fits_on Beat (AskIc q) (ReplyIc r) ≡ true
 beat_fits q r is = reply_fits Beat q r is
 
@@ -214,6 +206,9 @@ down_fits q r is = reply_fits Down q r is
 
 pub disk_reply_fits : (q : DiskRequest) (r : DiskReply) → IsSized q r → fits_on Disk (AskDisk q) (ReplyDisk r) ≡ true
 disk_reply_fits q r sized = sized_fits q r sized
+
+pub net_reply_fits : (q : Rndis) (r : NetReply) → StationKeeps (Ok q) r → fits_on Net (AskNet q) (ReplyNet r.status r.back) ≡ true
+net_reply_fits q r keeps = station_fits q r keeps
 
 -- a fitting reply is one of the device's kind
 pub record Replied {Q R : Type 0} (read : Option Q) (fits : Q → R → Bool) (reply : Option R) : Type 0 where

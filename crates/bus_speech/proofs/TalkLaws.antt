@@ -1,12 +1,13 @@
 -- What the end that asks has to ask, one by one.
-use Rattle.std.proofs.Common.{◌≡◌, ◌≢◌, ℕ, zero, suc, ◌+◌, ◌-◌, ◌<◌, ◌≤◌, true, List, [], ◌∷◌, ◌++◌, length, Option, Some, None, slice_get, length-append, ⊎_elim, refl, sym, ap, subst, ◌∙◌, arith}
-use Rattle.std.proofs.lemmas.Bool.{cases_lt}
+use Rattle.std.proofs.Common.{◌≡◌, ℕ, zero, suc, ◌+◌, ◌-◌, ◌<◌, ◌≤◌, true, List, [], ◌∷◌, ◌++◌, length, Option, Some, None, slice_get, length-append, cond, refl, sym, ap, subst, ◌∙◌, arith}
 use Rattle.std.specs.Prelude.{map, is_some}
 use Rattle.std.specs.List.{AllByRecursion}
 use Rattle.std.proofs.lemmas.List.{length-map}
 use Rattle.contact.specs.declared.kind.Kind.{Kind}
 use Rattle.contact.specs.declared.kind.Kind.TheVariants.{Beat, Down, Disk, Net}
+use Rattle.rndis_msg.specs.declared.rndis.Rndis.{Rndis}
 use Rattle.script_lines.specs.declared.line.Ask.{Ask}
+use Rattle.script_lines.specs.declared.line.Ask.TheVariants.{Ic as AskIc, Disk as AskDisk, Net as AskNet}
 use Rattle.bus_script.specs.declared.outcome.Reply.{Reply}
 use Rattle.chan_talk.specs.Listed.{listed_packet}
 use Rattle.bus_speech.specs.declared.want.Want.{Want}
@@ -15,11 +16,12 @@ use Rattle.work_model.specs.Lift.{mapped}
 use Rattle.bus_speech.specs.Codecs.{Codec, result_in}
 use Rattle.bus_speech.specs.Services.{service_fixed, service_codec}
 use Rattle.bus_speech.specs.Disks.{done_packet, disk_fixed, disk_codec}
-use Rattle.bus_speech.specs.Kinds.{services, disks}
-use Rattle.bus_speech.specs.Wants.{startup, step_at, IsAskable}
-use Rattle.bus_speech.specs.Speeches.{said_on, has_answer_on, speech_of}
+use Rattle.bus_speech.specs.Nets.{rndis_packet, net_done, init_done, net_said}
+use Rattle.bus_speech.specs.Kinds.{net_request, services, disks, nets}
+use Rattle.bus_speech.specs.Wants.{startup, start_answered, step_at, CanBe, IsNetAsk, IsAskable}
+use Rattle.bus_speech.specs.Speeches.{asked_as, said_on, has_answer_on, speech_of}
 use Rattle.bus_speech.specs.Talks.{Talked, asks_of, CanAsk}
-use Rattle.bus_speech.proofs.SpeechLaws.{keeps, step_read, asked_is, script_waits, start_has_answer}
+use Rattle.bus_speech.proofs.SpeechLaws.{keeps, step_read, asked_is, script_waits, start_answers}
 
 -- the start-up is part of what is asked
 pub starts_within : (kind : Kind) (sub subs : ℕ) (asks : List Want) → length (startup kind sub subs) ≤ length (startup kind sub subs ++ asks)
@@ -50,7 +52,10 @@ start_at Disk zero subs asks (suc (suc (suc zero))) a lt h = cc
 start_at Disk zero zero asks (suc (suc (suc (suc k)))) a lt h = absurd (omega arith)
 start_at Disk zero (suc n) asks (suc (suc (suc (suc zero)))) a lt h = let is : Some (Starts (3 + suc n)) ≡ Some a = h in let e : Starts (3 + suc n) ≡ a = cc in sym e
 start_at Disk zero (suc n) asks (suc (suc (suc (suc (suc k))))) a lt h = absurd (omega arith)
-start_at Net zero subs asks k a lt h = absurd (omega arith)
+start_at Net zero subs asks zero a lt h = cc
+start_at Net zero subs asks (suc zero) a lt h = cc
+start_at Net zero subs asks (suc (suc zero)) a lt h = cc
+start_at Net zero subs asks (suc (suc (suc k))) a lt h = absurd (omega arith)
 start_at Beat (suc s) subs asks k a lt h = absurd (omega arith)
 start_at Down (suc s) subs asks k a lt h = absurd (omega arith)
 start_at Disk (suc s) subs asks k a lt h = absurd (omega arith)
@@ -80,11 +85,16 @@ some_mapped f (Some x) y h = refl
 says_so : {A Q R : Type 0} (x : Codec A Q R) (request : Q → Ask) (reply : R → Reply) (a : A) (before : Option (List ℕ)) (p : List ℕ) (ask : Ask) → mapped request (x.read (x.encode 0 a)) ≡ Some ask → mapped reply (result_in x a before p) ≡ mapped reply (x.said p)
 says_so x request reply a before p ask h = rw (some_mapped request (x.read (x.encode 0 a)) ask h) refl
 
-answer_says : (kind : Kind) (ask : Ask) (before : Option (List ℕ)) (p : List ℕ) → IsAskable kind ask → (speech_of kind).result (Script ask) before p ≡ said_on kind p
-answer_says Beat ask before p can = says_so (service_codec Beat) services.request services.reply (services.ask (Script ask)) before p ask (asked_is Beat 0 ask can)
-answer_says Down ask before p can = says_so (service_codec Down) services.request services.reply (services.ask (Script ask)) before p ask (asked_is Down 0 ask can)
-answer_says Disk ask before p can = says_so disk_codec disks.request disks.reply (disks.ask (Script ask)) before p ask (asked_is Disk 0 ask can)
-answer_says Net ask before p can = absurd can
+net_says : (ask : Ask) (before : Option (List ℕ)) (p : List ℕ) → CanBe IsNetAsk (net_request ask) → (speech_of Net).result (Script ask) before p ≡ said_on Net before p
+net_says (AskIc q) before p can = absurd can
+net_says (AskDisk q) before p can = absurd can
+net_says (AskNet m) before p can = ap (λ t. mapped nets.reply (cond t (net_said before p) None)) can
+
+answer_says : (kind : Kind) (ask : Ask) (before : Option (List ℕ)) (p : List ℕ) → IsAskable kind ask → (speech_of kind).result (Script ask) before p ≡ said_on kind before p
+answer_says Beat ask before p can = says_so (service_codec Beat) services.request services.reply (services.ask (Script ask)) before p (asked_as 0 ask) (asked_is Beat 0 ask can)
+answer_says Down ask before p can = says_so (service_codec Down) services.request services.reply (services.ask (Script ask)) before p (asked_as 0 ask) (asked_is Down 0 ask can)
+answer_says Disk ask before p can = says_so disk_codec disks.request disks.reply (disks.ask (Script ask)) before p (asked_as 0 ask) (asked_is Disk 0 ask can)
+answer_says Net ask before p can = net_says ask before p can
 
 module _ (t : Talked) (can : CanAsk t.kind t.asks) where
   pub length-asks : length (asks_of t) ≡ length (startup t.kind t.sub t.subs) + length t.asks
@@ -109,24 +119,18 @@ module _ (t : Talked) (can : CanAsk t.kind t.asks) where
       ap (λ x. (speech_of t.kind).result x before p) (at_start k a lt h) ∙ (keeps t.kind).no_result 0 (Starts (step_at t.subs k)) before p (step_read t.kind 0 (step_at t.subs k))
 
   -- to one of the script it says what the answer says
-  pub script_says : (k : ℕ) (a : Want) (before : Option (List ℕ)) (p : List ℕ) → length (startup t.kind t.sub t.subs) ≤ k → slice_get (asks_of t) k ≡ Some a → (speech_of t.kind).result a before p ≡ said_on t.kind p
+  pub script_says : (k : ℕ) (a : Want) (before : Option (List ℕ)) (p : List ℕ) → length (startup t.kind t.sub t.subs) ≤ k → slice_get (asks_of t) k ≡ Some a → (speech_of t.kind).result a before p ≡ said_on t.kind before p
   script_says k a before p le h =
       let at = at_script k a le h in
       ap (λ x. (speech_of t.kind).result x before p) at.2 ∙ answer_says t.kind at.0 before p (can_at (k - length (startup t.kind t.sub t.subs)) at.0 at.1)
 
-  -- each has an answer
-  pub all_wait : (k : ℕ) (a : Want) → slice_get (asks_of t) k ≡ Some a → has_answer_on t.kind a ≡ true
-  all_wait k a h =
-      ⊎_elim (λ lt. ap (has_answer_on t.kind) (at_start k a lt h) ∙ start_has_answer t.kind (step_at t.subs k) (not_net t.kind t.sub t.subs k lt))
-      (λ le. let at = at_script k a le h in ap (has_answer_on t.kind) at.2 ∙ script_waits t.kind at.0 (can_at (k - length (startup t.kind t.sub t.subs)) at.0 at.1))
-      (cases_lt k (length (startup t.kind t.sub t.subs)))
-    where
-      not_net : (kind : Kind) (sub subs k : ℕ) → k < length (startup kind sub subs) → kind ≢ Net
-      not_net Beat sub subs k lt = λ is. cc
-      not_net Down sub subs k lt = λ is. cc
-      not_net Disk sub subs k lt = λ is. cc
-      not_net Net zero subs k lt = absurd (omega arith)
-      not_net Net (suc s) subs k lt = absurd (omega arith)
+  -- a step of the start-up has an answer or has none, and each request of the script has one
+  pub start_waits_at : (k : ℕ) (a : Want) → k < length (startup t.kind t.sub t.subs) → slice_get (asks_of t) k ≡ Some a → has_answer_on t.kind a ≡ start_answered t.kind (step_at t.subs k)
+  start_waits_at k a lt h = ap (has_answer_on t.kind) (at_start k a lt h) ∙ start_answers t.kind (step_at t.subs k)
+
+  pub script_waits_at : (k : ℕ) (a : Want) → length (startup t.kind t.sub t.subs) ≤ k → slice_get (asks_of t) k ≡ Some a → has_answer_on t.kind a ≡ true
+  script_waits_at k a le h =
+      let at = at_script k a le h in ap (has_answer_on t.kind) at.2 ∙ script_waits t.kind at.0 (can_at (k - length (startup t.kind t.sub t.subs)) at.0 at.1)
 
 -- packets have words
 
@@ -137,3 +141,15 @@ listed_service kind p = refl
 pub listed_disk : (p : List ℕ) → listed_packet (disk_fixed p) ≡ disk_fixed p ∷ []
 unfolding disk_fixed done_packet
 listed_disk p = refl
+
+pub listed_rndis : (id : ℕ) (m : Rndis) → listed_packet (rndis_packet id m) ≡ rndis_packet id m ∷ []
+unfolding rndis_packet
+listed_rndis id m = refl
+
+pub listed_net_done : (id status : ℕ) → listed_packet (net_done id status) ≡ net_done id status ∷ []
+unfolding net_done
+listed_net_done id status = refl
+
+pub listed_init_done : (p : List ℕ) → listed_packet (init_done p) ≡ init_done p ∷ []
+unfolding init_done
+listed_init_done p = refl

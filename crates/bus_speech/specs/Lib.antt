@@ -2,6 +2,7 @@ pub mod Packets
 pub mod Codecs
 pub mod Services
 pub mod Disks
+pub mod Nets
 pub mod Kinds
 pub mod Wants
 pub mod Speeches

@@ -1,7 +1,7 @@
 -- Packets that a worker reads: of a type, and of no more words than a packet of this program has.
-use Rattle.std.specs.Prelude.{ℕ, ◌==◌, Bool, ◌&&◌, nat_le, List, [], length}
+use Rattle.std.specs.Prelude.{ℕ, ◌==◌, Bool, ◌&&◌, nat_le, List, length}
 use Rattle.vm_page.specs.Words.{bytes_in}
-use Rattle.pkt_desc.specs.Packets.{kind_of, payload_of, inband_packet}
+use Rattle.pkt_desc.specs.Packets.{kind_of, payload_of}
 
 -- of this type, and of at most 384 words
 abbrev pub is_of : ℕ → List ℕ → Bool
@@ -18,7 +18,3 @@ is_completion p = is_of 11 p
 -- the bytes of a packet's payload
 unfoldable pub content_of : List ℕ → List ℕ
 content_of p = bytes_in (payload_of p)
-
--- an in-band packet without payload
-unfoldable pub bare_packet : ℕ → List ℕ
-bare_packet id = inband_packet id 0 []

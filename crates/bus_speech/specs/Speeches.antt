@@ -1,55 +1,42 @@
 -- What the packets of each kind of channel say.
-use Rattle.std.specs.Prelude.{ℕ, Bool, true, false, List, Option, None}
+use Rattle.std.specs.Prelude.{ℕ, Bool, true, false, List, Option}
 use Rattle.contact.specs.declared.kind.Kind.{Kind}
 use Rattle.contact.specs.declared.kind.Kind.TheVariants.{Beat, Down, Disk, Net}
 use Rattle.script_lines.specs.declared.line.Ask.{Ask}
+use Rattle.script_lines.specs.declared.line.Ask.TheVariants.{Ic as AskIc, Disk as AskDisk, Net as AskNet}
 use Rattle.bus_script.specs.declared.outcome.Reply.{Reply}
-use Rattle.pkt_desc.specs.Packets.{id_of}
 use Rattle.work_model.specs.Speech.{Speech}
 use Rattle.work_model.specs.Lift.{lift, mapped}
 use Rattle.bus_speech.specs.declared.want.Want.{Want}
-use Rattle.bus_speech.specs.Packets.{bare_packet}
-use Rattle.bus_speech.specs.Codecs.{alone, speech_by}
+use Rattle.bus_speech.specs.Codecs.{speech_by}
 use Rattle.bus_speech.specs.Services.{service_result, service_codec}
 use Rattle.bus_speech.specs.Disks.{disk_result, disk_codec}
-use Rattle.bus_speech.specs.Kinds.{services, disks}
+use Rattle.bus_speech.specs.Nets.{with_id, request_id_of, net_said, net_speech}
+use Rattle.bus_speech.specs.Kinds.{services, disks, nets}
 
--- a channel on which nothing is asked
-abbrev pub silent_speech : Speech (List ℕ) Want Ask Reply
-silent_speech = record {
-  id_of = λ p. id_of p;
-  is_request = λ p. true;
-  waits = λ p. false;
-  is_ack = λ p. false;
-  is_answer = λ p. true;
-  is_message = λ p. false;
-  ack = λ p. p;
-  encode = λ id a. bare_packet 0;
-  has_answer = λ a. false;
-  read = λ p. None;
-  fixed = λ p. None;
-  fits = λ q r. false;
-  gives = λ p r. alone p;
-  result = λ a before p. None;
-}
-
--- what both ends of a channel of this kind say: its own speech, in the asks and replies of all kinds. Nothing is asked of a network
+-- what both ends of a channel of this kind say: its own speech, in the asks and replies of all kinds
 abbrev pub speech_of : Kind → Speech (List ℕ) Want Ask Reply
 speech_of Beat = lift (speech_by (service_codec Beat)) services
 speech_of Down = lift (speech_by (service_codec Down)) services
 speech_of Disk = lift (speech_by disk_codec) disks
-speech_of Net = silent_speech
+speech_of Net = lift net_speech nets
 
--- whether messages go back besides the answers
+-- whether messages go back besides the answers: what comes back of a network's adapter
 abbrev pub besides_on : Kind → Bool
 besides_on Beat = false
 besides_on Down = false
 besides_on Disk = false
-besides_on Net = false
+besides_on Net = true
 
 -- the packet that asks, under an id
 abbrev pub encode_on : Kind → ℕ → Want → List ℕ
 encode_on kind id a = (speech_of kind).encode id a
+
+-- what the device is asked where the script asks this under an id: a message for an adapter has the id of its packet
+abbrev pub asked_as : ℕ → Ask → Ask
+asked_as id (AskIc ask) = AskIc ask
+asked_as id (AskDisk request) = AskDisk request
+asked_as id (AskNet message) = AskNet (with_id (request_id_of id) message)
 
 -- what a packet asks of the device
 abbrev pub read_on : Kind → List ℕ → Option Ask
@@ -62,12 +49,12 @@ waits_on kind p = (speech_of kind).waits p
 abbrev pub has_answer_on : Kind → Want → Bool
 has_answer_on kind a = (speech_of kind).has_answer a
 
--- what an answer says
-abbrev pub said_on : Kind → List ℕ → Option Reply
-said_on Beat p = mapped services.reply (service_result Beat p)
-said_on Down p = mapped services.reply (service_result Down p)
-said_on Disk p = mapped disks.reply (disk_result p)
-said_on Net p = None
+-- what an answer says, with the message that came just before it, if one did
+abbrev pub said_on : Kind → Option (List ℕ) → List ℕ → Option Reply
+said_on Beat before p = mapped services.reply (service_result Beat p)
+said_on Down before p = mapped services.reply (service_result Down p)
+said_on Disk before p = mapped disks.reply (disk_result p)
+said_on Net before p = mapped nets.reply (net_said before p)
 
 -- the device may reply so
 abbrev pub fits_on : Kind → Ask → Reply → Bool

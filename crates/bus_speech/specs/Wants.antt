@@ -1,23 +1,32 @@
 -- What can be asked on a channel of each kind, and what its start-up asks.
-use Rattle.std.specs.Prelude.{ℕ, ◌≡◌, zero, suc, ◌+◌, ◌<◌, ◌^◌, ◌==◌, if◌then◌else◌, List, [], ◌∷◌, ◌++◌, Option, Some, None}
+use Rattle.std.specs.Prelude.{ℕ, ◌≡◌, zero, suc, ◌+◌, ◌<◌, ◌^◌, ◌==◌, Bool, true, not, if◌then◌else◌, List, [], ◌∷◌, ◌++◌, Option, Some, None}
 use Rattle.contact.specs.declared.kind.Kind.{Kind}
 use Rattle.contact.specs.declared.kind.Kind.TheVariants.{Beat, Down, Disk, Net}
 use Rattle.util_ic.specs.declared.ic.IcAsk.{IcAsk}
 use Rattle.util_ic.specs.declared.ic.IcAsk.TheVariants.{Beat as AskBeat, Down as AskDown}
+use Rattle.rndis_msg.specs.declared.rndis.Rndis.{Rndis}
 use Rattle.script_lines.specs.declared.line.Ask.{Ask}
 use Rattle.bus_speech.specs.declared.want.Want.{Want}
 use Rattle.bus_speech.specs.declared.want.Want.TheVariants.{Starts}
 use Rattle.stor_proto.specs.Fields.{number_at}
 use Rattle.stor_proto.specs.Opening.{answer_of}
 use Rattle.bus_speech.specs.Disks.{start_vstor, IsDiskAsk}
-use Rattle.bus_speech.specs.Kinds.{ic_request, disk_request}
+use Rattle.bus_speech.specs.Nets.{can_ask}
+use Rattle.bus_speech.specs.Kinds.{ic_request, disk_request, net_request}
 
--- a utility service negotiates its versions, and a disk starts up in four steps
+-- a utility service negotiates its versions, a disk starts up in four steps, and a network in three
 abbrev pub first_steps : Kind → List Want
 first_steps Beat = Starts 0 ∷ []
 first_steps Down = Starts 0 ∷ []
 first_steps Disk = Starts 0 ∷ Starts 1 ∷ Starts 2 ∷ Starts 3 ∷ []
-first_steps Net = []
+first_steps Net = Starts 0 ∷ Starts 1 ∷ Starts 2 ∷ []
+
+-- each step has an answer, but for the second one of a network, which tells the host a version
+abbrev pub start_answered : Kind → ℕ → Bool
+start_answered Beat k = true
+start_answered Down k = true
+start_answered Disk k = true
+start_answered Net k = not (k == 1)
 
 -- behind them a disk with sub-channels is asked for them: the step that asks for so many has a number of its own
 abbrev pub subs_asked : Kind → ℕ → List Want
@@ -54,6 +63,10 @@ abbrev pub IsDownAsk : IcAsk → Type 0
 IsDownAsk (AskBeat seq) = ⊥
 IsDownAsk (AskDown reason timeout flags) = (reason < 2 ^ 32) × (timeout < 2 ^ 32) × (flags < 2 ^ 32)
 
+-- a message that can be asked of an adapter
+abbrev pub IsNetAsk : Rndis → Type 0
+IsNetAsk message = can_ask message ≡ true
+
 -- there is a request of this kind, and it can be asked
 abbrev pub CanBe : {Q : Type 0} → (Q → Type 0) → Option Q → Type 0
 CanBe Can None = ⊥
@@ -64,4 +77,4 @@ abbrev pub IsAskable : Kind → Ask → Type 0
 IsAskable Beat ask = CanBe IsBeatAsk (ic_request ask)
 IsAskable Down ask = CanBe IsDownAsk (ic_request ask)
 IsAskable Disk ask = CanBe IsDiskAsk (disk_request ask)
-IsAskable Net ask = ⊥
+IsAskable Net ask = CanBe IsNetAsk (net_request ask)

@@ -1,2 +1,4 @@
 pub mod AskableLaws
 pub mod FrontLaws
+pub mod CameLaws
+pub mod PutLaws

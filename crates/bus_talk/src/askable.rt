@@ -1,17 +1,19 @@
 //! What can be asked on a channel.
-ghost use Rattle.std.specs.Prelude.{◌≡◌, ◌≤◌, ◌<◌, true, Some};
+ghost use Rattle.std.specs.Prelude.{◌≡◌, ◌≤◌, ◌<◌, ◌^◌, true, Some};
 ghost use Rattle.std.specs.List.{AllByRecursion};
 ghost use Rattle.stor_proto.specs.Srbs.{bytes_moved};
 ghost use Rattle.bus_speech.specs.Disks.{IsDiskAsk};
+ghost use Rattle.bus_speech.specs.Nets.{can_ask};
 ghost use Rattle.bus_speech.specs.Wants.{IsBeatAsk, IsDownAsk, IsAskable};
 
 use bus_script::Ask;
 use contact::Kind;
+use rndis_msg::Rndis;
 use scsi_disk::Command;
 use util_ic::IcAsk;
 
 /// Whether this can be asked on a channel of this kind: a heartbeat, a shutdown, or of a disk a built command that moves at most 2,048 bytes, with data
-/// exactly where it is a write.
+/// exactly where it is a write, and of an adapter a frame, a query, a set, a reset or a keepalive.
 pub fn is_askable(kind: Kind, ask: &Ask) -> bool
     ensures { result ≡ true → IsAskable kind ask.now }
 {
@@ -19,6 +21,7 @@ pub fn is_askable(kind: Kind, ask: &Ask) -> bool
         (Kind::Beat, Ask::Ic(ask)) => is_beat_ask(*ask),
         (Kind::Down, Ask::Ic(ask)) => is_down_ask(*ask),
         (Kind::Disk, Ask::Disk(request)) => is_disk_ask(&request.cdb, request.out.bytes()),
+        (Kind::Net, Ask::Net(message)) => is_net_ask(message),
         _ => false,
     }
 }
@@ -48,6 +51,49 @@ fn is_disk_ask(cdb: &[u8; 16], out: &[u8]) -> bool
         None => false,
     }
 }
+
+/// Whether this message can be asked of an adapter.
+fn is_net_ask(message: &Rndis) -> bool
+    ensures { result ≡ true → can_ask message.now ≡ true }
+{
+    match message {
+        Rndis::Packet { body } => {
+            let _bytes = body.bytes();
+            true
+        }
+        Rndis::Query {
+            request_id,
+            oid,
+            body,
+        } => {
+            fits(*request_id);
+            fits(*oid);
+            let _bytes = body.bytes();
+            true
+        }
+        Rndis::Set {
+            request_id,
+            oid,
+            body,
+        } => {
+            fits(*request_id);
+            fits(*oid);
+            let _bytes = body.bytes();
+            true
+        }
+        Rndis::Reset => true,
+        Rndis::Keepalive { request_id } => {
+            fits(*request_id);
+            true
+        }
+        _ => false,
+    }
+}
+
+/// A number of 32 bits is below 2^32. It does nothing.
+fn fits(_number: u32)
+    ensures { _number < 2 ^ 32 }
+{}
 
 /// Bytes are below 256. It does nothing.
 fn are_bytes(bytes: &[u8])

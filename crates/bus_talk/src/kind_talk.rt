@@ -1,23 +1,30 @@
 //! The talk of a channel of any kind.
-ghost use Rattle.std.specs.Prelude.{◌≡◌, ◌≤◌, ◌<◌, ◌^◌, ◌&&◌, ◌∷◌, [], length, take, true, Some, is_some};
+ghost use Rattle.std.specs.Prelude.{◌≡◌, ◌≤◌, ◌<◌, ◌^◌, ◌&&◌, ◌==◌, ◌⊎◌, ◌∷◌, [], length, take, true, Some, is_some};
 ghost use Rattle.std.specs.List.{AllByRecursion};
 ghost use Rattle.ring_machine.specs.States.{IsPacket};
-ghost use Rattle.chan_talk.specs.Listed.{answer_in, listed_packet};
-ghost use Rattle.work_model.specs.Speech.{listed};
-ghost use Rattle.pkt_desc.specs.Packets.{id_of};
+ghost use Rattle.chan_talk.specs.Listed.{answer_in, has_message_in, listed_packet, message_in, packet_in};
+ghost use Rattle.work_model.specs.Lift.{or_else};
+ghost use Rattle.work_model.specs.Speech.{listed, under_own};
+ghost use Rattle.pkt_desc.specs.Packets.{id_of, kind_of};
+ghost use Rattle.net_dev.specs.Station.{not_served};
 ghost use Rattle.script_lines.specs.declared.line.Ask.{Ask as OneAsk};
 ghost use Rattle.bus_speech.specs.declared.want.Want.{Want as OneWant};
 ghost use Rattle.bus_speech.specs.declared.want.Want.TheVariants.{Starts, Script};
-ghost use Rattle.bus_speech.specs.Kinds.{ic_request as ic_of, disk_request as disk_of, disk_reply as disk_reply_of};
-ghost use Rattle.bus_speech.specs.Wants.{first_steps, subs_asked, startup, step_at, IsAskable};
+ghost use Rattle.bus_speech.specs.Kinds.{ic_request as ic_of, disk_request as disk_of, net_request as net_of, disk_reply as disk_reply_of, net_reply as net_reply_of};
+ghost use Rattle.bus_speech.specs.Wants.{first_steps, start_answered, subs_asked, startup, step_at, IsAskable};
 ghost use Rattle.bus_speech.specs.Speeches.{besides_on, encode_on, waits_on, read_on, fits_on, answer_on, said_on, speech_of};
+ghost use Rattle.bus_speech.specs.Nets.{message_of};
 ghost use Rattle.bus_speech.specs.Talks.{asks_of};
 
 use crate::disks::{
     is_disk_request, read_disk, read_disk_said, write_disk_answer, write_disk_ask,
     write_disk_fixed, write_start,
 };
-use crate::packets::is_inband;
+use crate::nets::{
+    has_net_message, is_net_request, read_net, read_net_said, write_done, write_net_ask,
+    write_net_fixed, write_net_fixed_message, write_net_message, write_net_start,
+};
+use crate::packets::{COMPLETION, INBAND, is_inband};
 use crate::services::{
     read_said, read_service, write_ask, write_negotiate, write_service_answer, write_service_fixed,
 };
@@ -25,6 +32,7 @@ use bus_script::{Ask, Reply};
 use bus_speech::Want;
 use chan_talk::Talk;
 use contact::Kind;
+use rndis_msg::Rndis;
 use scsi_disk::{DiskReply, DiskRequest};
 use std::marker::Model;
 use util_ic::IcAsk;
@@ -32,7 +40,7 @@ use util_ic::IcAsk;
 /// The part of an end in the talk of a channel: the kind of the channel, its number among the device's channels, how many are beside the first one, and
 /// what the script asks on it. The end that serves asks nothing.
 ///
-/// A utility service starts up with one request, which negotiates its versions, and a disk with four: it begins, version 6.2 is asked for, then the
+/// A network starts up with three: an init, a version that has no answer, and an initialize. A utility service starts up with one request, which negotiates its versions, and a disk with four: it begins, version 6.2 is asked for, then the
 /// properties, and it ends. A fifth one asks for the sub-channels, where the disk has some. A sub-channel has no start-up. Linux asks for version 6.0 and then for 5.1 where one is refused; between the two ends of this program none is, so the list
 /// is fixed.
 #[derive(Drop)]
@@ -78,12 +86,23 @@ impl KindTalk {
     }
 }
 
-/// Whether messages go back besides the answers: a disk and a service give one packet for each request.
+/// Whether messages go back besides the answers: a disk and a service give one packet for each request, and a network may give two.
 fn besides_on(kind: Kind) -> bool
     ensures { result ≡ besides_on kind }
 {
     match kind {
-        Kind::Beat | Kind::Down | Kind::Disk | Kind::Net => false,
+        Kind::Beat | Kind::Down | Kind::Disk => false,
+        Kind::Net => true,
+    }
+}
+
+/// Whether a step of the start-up has an answer.
+fn start_answered(kind: Kind, step: u32) -> bool
+    ensures { result ≡ start_answered kind step }
+{
+    match kind {
+        Kind::Beat | Kind::Down | Kind::Disk => true,
+        Kind::Net => step != 1,
     }
 }
 
@@ -95,7 +114,7 @@ fn count_first(kind: Kind) -> u32
     match kind {
         Kind::Beat | Kind::Down => 1,
         Kind::Disk => 4,
-        Kind::Net => 0,
+        Kind::Net => 3,
     }
 }
 
@@ -142,7 +161,7 @@ fn encode_start(kind: Kind, sub: u32, subs: u32, k: u32, id: u64, out: &mut [u64
     match kind {
         Kind::Beat | Kind::Down => write_negotiate(kind, id, out),
         Kind::Disk => write_start(step_at(subs, k), id, out),
-        Kind::Net => unreachable!(),
+        Kind::Net => write_net_start(step_at(subs, k), id, out),
     }
 }
 
@@ -168,6 +187,17 @@ fn disk_request(ask: &Ask) -> &DiskRequest
     request
 }
 
+/// The message for an adapter.
+fn net_request(ask: &Ask) -> &Rndis
+    requires { is_some (net_of ask.now) ≡ true }
+    ensures { net_of ask.now ≡ Some result.now }
+{
+    let Ask::Net(message) = ask else {
+        unreachable!()
+    };
+    message
+}
+
 /// The reply of a disk.
 fn disk_reply(reply: &Reply) -> &DiskReply
     requires { is_some (disk_reply_of reply.now) ≡ true }
@@ -190,7 +220,7 @@ fn encode_ask(kind: Kind, ask: &Ask, id: u64, out: &mut [u64]) -> usize
     match kind {
         Kind::Beat | Kind::Down => write_ask(ic_request(ask), id, out),
         Kind::Disk => write_disk_ask(disk_request(ask), id, out),
-        Kind::Net => unreachable!(),
+        Kind::Net => write_net_ask(net_request(ask), id, out),
     }
 }
 
@@ -202,7 +232,7 @@ fn waits(kind: Kind, packet: &[u64]) -> bool
     match kind {
         Kind::Beat | Kind::Down => is_inband(packet),
         Kind::Disk => is_disk_request(packet),
-        Kind::Net => false,
+        Kind::Net => is_net_request(packet),
     }
 }
 
@@ -220,7 +250,10 @@ fn read(kind: Kind, packet: &[u64]) -> Option<Ask>
             Some(request) => Some(Ask::Disk(request)),
             None => None,
         },
-        Kind::Net => None,
+        Kind::Net => match read_net(packet) {
+            Some(message) => Some(Ask::Net(message)),
+            None => None,
+        },
     }
 }
 
@@ -235,7 +268,7 @@ fn write_fixed_on(kind: Kind, packet: &[u64], out: &mut [u64]) -> usize
     match kind {
         Kind::Beat | Kind::Down => write_service_fixed(kind, packet, out),
         Kind::Disk => write_disk_fixed(packet, out),
-        Kind::Net => 0,
+        Kind::Net => write_net_fixed(packet, out),
     }
 }
 
@@ -251,14 +284,153 @@ fn write_answer_on(kind: Kind, packet: &[u64], reply: &Reply, out: &mut [u64]) -
     match kind {
         Kind::Beat | Kind::Down => write_service_answer(kind, packet, out),
         Kind::Disk => write_disk_answer(packet, disk_reply(reply), out),
-        Kind::Net => unreachable!(),
+        Kind::Net => write_done(packet[1], net_status(reply), out),
     }
 }
 
-/// What an answer says.
-fn said(kind: Kind, packet: &[u64]) -> Option<Reply>
+/// Whether a packet is of a type.
+fn is_type(packet: &[u64], kind: u64) -> bool
     requires { IsPacket packet.now }
-    ensures { result ≡ said_on kind packet.now }
+    ensures { result ≡ (kind_of packet.now == kind) }
+{
+    packet[0] % 0x1_0000 == kind
+}
+
+/// Whether a packet of the end that asks acknowledges a message.
+fn is_ack(kind: Kind, packet: &[u64]) -> bool
+    requires { IsPacket packet.now }
+    ensures { result ≡ (speech_of kind).is_ack packet.now }
+{
+    match kind {
+        Kind::Beat | Kind::Down | Kind::Disk => false,
+        Kind::Net => is_type(packet, COMPLETION),
+    }
+}
+
+/// Whether a packet of the end that serves is an answer.
+fn is_answer(kind: Kind, packet: &[u64]) -> bool
+    requires { IsPacket packet.now }
+    ensures { result ≡ (speech_of kind).is_answer packet.now }
+{
+    match kind {
+        Kind::Beat | Kind::Down | Kind::Disk => true,
+        Kind::Net => is_type(packet, COMPLETION),
+    }
+}
+
+/// Whether a packet of the end that serves is a message.
+fn is_message(kind: Kind, packet: &[u64]) -> bool
+    requires { IsPacket packet.now }
+    ensures { result ≡ (speech_of kind).is_message packet.now }
+{
+    match kind {
+        Kind::Beat | Kind::Down | Kind::Disk => false,
+        Kind::Net => is_type(packet, INBAND),
+    }
+}
+
+/// Writes what acknowledges a message: its words.
+fn write_ack_on(kind: Kind, packet: &[u64], out: &mut [u64]) -> usize
+    requires packet { IsPacket packet.now }
+    requires out { length out.old ≡ 384 }
+    ensures value { (speech_of kind).is_message packet.now ≡ true → take result out.new ≡ (speech_of kind).ack packet.now }
+    ensures written { (speech_of kind).is_message packet.now ≡ true → IsPacket (take result out.new) }
+    ensures most { result ≤ 384 }
+{
+    match kind {
+        Kind::Beat | Kind::Down | Kind::Disk => 0,
+        Kind::Net => write_done(packet[1], 1, out),
+    }
+}
+
+/// Whether a message goes back besides a fixed answer.
+#[tactic(auto, using(bus_speech::proofs::SpeechLaws::none_fixed))]
+fn has_fixed_message_on(kind: Kind, packet: &[u64]) -> bool
+    requires { IsPacket packet.now }
+    ensures { result ≡ has_message_in ((speech_of kind).fixed packet.now) }
+{
+    match kind {
+        Kind::Beat | Kind::Down | Kind::Disk => false,
+        Kind::Net => has_net_message(packet),
+    }
+}
+
+/// Writes that message, if there is one, under an id of the serving end's own: its words.
+#[tactic(auto, using(bus_speech::proofs::SpeechLaws::none_fixed_in))]
+fn write_fixed_message_on(kind: Kind, packet: &[u64], own: u64, out: &mut [u64]) -> usize
+    requires packet { IsPacket packet.now }
+    requires out { length out.old ≡ 384 }
+    ensures value { listed_packet (take result out.new) ≡ listed (message_in own ((speech_of kind).fixed packet.now)) }
+    ensures written { 0 < result → IsPacket (take result out.new) }
+    ensures most { result ≤ 384 }
+{
+    match kind {
+        Kind::Beat | Kind::Down | Kind::Disk => 0,
+        Kind::Net => write_net_fixed_message(packet, own, out),
+    }
+}
+
+/// Whether a message came back with an adapter's reply. A reply of another device has none.
+fn has_back(reply: &Reply) -> bool
+    ensures { result ≡ is_some (or_else not_served (net_reply_of reply.now)).back }
+{
+    match reply {
+        Reply::Net { back, .. } => back.is_some(),
+        Reply::Ic(_) | Reply::Disk(_) => false,
+    }
+}
+
+/// Writes it, if one did, under an id of the serving end's own: its words.
+fn write_back(reply: &Reply, own: u64, out: &mut [u64]) -> usize
+    requires out { length out.old ≡ 384 }
+    ensures value { listed_packet (take result out.new) ≡ listed (under_own own (message_of (or_else not_served (net_reply_of reply.now)).back)) }
+    ensures written { 0 < result → IsPacket (take result out.new) }
+    ensures most { result ≤ 384 }
+{
+    match reply {
+        Reply::Net { back, .. } => write_net_message(back, own, out),
+        Reply::Ic(_) | Reply::Disk(_) => 0,
+    }
+}
+
+/// The status of an adapter's reply. A reply of another device counts as one to what isn't served.
+fn net_status(reply: &Reply) -> u32
+    ensures { result ≡ (or_else not_served (net_reply_of reply.now)).status }
+{
+    match reply {
+        Reply::Net { status, .. } => *status,
+        Reply::Ic(_) | Reply::Disk(_) => 2,
+    }
+}
+
+/// Whether a message goes back with a reply besides the answer.
+fn has_message_on(kind: Kind, packet: &[u64], reply: &Reply) -> bool
+    ensures { result ≡ is_some ((speech_of kind).gives packet.now reply.now).message }
+{
+    match kind {
+        Kind::Beat | Kind::Down | Kind::Disk => false,
+        Kind::Net => has_back(reply),
+    }
+}
+
+/// Writes that message, if there is one, under an id of the serving end's own: its words.
+fn write_message_on(kind: Kind, packet: &[u64], reply: &Reply, own: u64, out: &mut [u64]) -> usize
+    requires out { length out.old ≡ 384 }
+    ensures value { listed_packet (take result out.new) ≡ listed (under_own own ((speech_of kind).gives packet.now reply.now).message) }
+    ensures written { 0 < result → IsPacket (take result out.new) }
+    ensures most { result ≤ 384 }
+{
+    match kind {
+        Kind::Beat | Kind::Down | Kind::Disk => 0,
+        Kind::Net => write_back(reply, own, out),
+    }
+}
+
+/// What an answer says, with the message that came just before it, where one did.
+fn said(kind: Kind, before: &[u64], packet: &[u64]) -> Option<Reply>
+    requires before { before.now ≡ [] ⊎ IsPacket before.now }
+    requires packet { IsPacket packet.now }
+    ensures { result ≡ said_on kind (packet_in before.now) packet.now }
 {
     match kind {
         Kind::Beat | Kind::Down => match read_said(kind, packet) {
@@ -269,7 +441,13 @@ fn said(kind: Kind, packet: &[u64]) -> Option<Reply>
             Some(reply) => Some(Reply::Disk(reply)),
             None => None,
         },
-        Kind::Net => None,
+        Kind::Net => match read_net_said(before, packet) {
+            Some(reply) => Some(Reply::Net {
+                status: reply.status,
+                back: reply.back,
+            }),
+            None => None,
+        },
     }
 }
 
@@ -314,10 +492,12 @@ impl Talk for KindTalk {
         besides_on(self.kind)
     }
 
-    /// Each has one: the requests of both start-ups, and those of a script, which can be asked.
+    /// Each request of a script has one, which can be asked, and so has each step of a start-up but the second one of a network.
     fn has_answer(&self, k: u32) -> bool {
-        let starts = count_starts(self.kind, self.sub, self.subs);
-        (k as usize) < starts as usize + self.asks.len()
+        if k < count_starts(self.kind, self.sub, self.subs) {
+            return start_answered(self.kind, step_at(self.subs, k));
+        }
+        true
     }
 
     fn encode(&self, k: u32, id: u64, out: &mut [u64]) -> usize {
@@ -337,62 +517,54 @@ impl Talk for KindTalk {
         waits(self.kind, packet)
     }
 
-    #[tactic(auto, using(bus_speech::proofs::SpeechLaws::none_acks))]
-    fn is_ack(&self, _packet: &[u64]) -> bool {
-        false
+    fn is_ack(&self, packet: &[u64]) -> bool {
+        is_ack(self.kind, packet)
     }
 
-    #[tactic(auto, using(bus_speech::proofs::SpeechLaws::all_answer))]
-    fn is_answer(&self, _packet: &[u64]) -> bool {
-        true
+    fn is_answer(&self, packet: &[u64]) -> bool {
+        is_answer(self.kind, packet)
     }
 
-    #[tactic(auto, using(bus_speech::proofs::SpeechLaws::none_message))]
-    fn is_message(&self, _packet: &[u64]) -> bool {
-        false
+    fn is_message(&self, packet: &[u64]) -> bool {
+        is_message(self.kind, packet)
     }
 
-    #[tactic(auto, using(bus_speech::proofs::SpeechLaws::none_message))]
-    fn write_ack(&self, _packet: &[u64], _out: &mut [u64]) -> usize {
-        0
+    fn write_ack(&self, packet: &[u64], out: &mut [u64]) -> usize {
+        write_ack_on(self.kind, packet, out)
     }
 
     fn read(&self, packet: &[u64]) -> Option<Ask> {
         read(self.kind, packet)
     }
 
-    #[tactic(auto, using(bus_speech::proofs::SpeechLaws::none_fixed))]
-    fn has_fixed_message(&self, _packet: &[u64]) -> bool {
-        false
+    fn has_fixed_message(&self, packet: &[u64]) -> bool {
+        has_fixed_message_on(self.kind, packet)
     }
 
-    #[tactic(auto, using(bus_speech::proofs::SpeechLaws::none_fixed_in))]
-    fn write_fixed_message(&self, _packet: &[u64], _own: u64, _out: &mut [u64]) -> usize {
-        0
+    fn write_fixed_message(&self, packet: &[u64], own: u64, out: &mut [u64]) -> usize {
+        write_fixed_message_on(self.kind, packet, own, out)
     }
 
     fn write_fixed(&self, packet: &[u64], out: &mut [u64]) -> usize {
         write_fixed_on(self.kind, packet, out)
     }
 
-    #[tactic(auto, using(bus_speech::proofs::SpeechLaws::none_given))]
-    fn has_message(&self, _packet: &[u64], _reply: &Reply) -> bool {
-        false
+    fn has_message(&self, packet: &[u64], reply: &Reply) -> bool {
+        has_message_on(self.kind, packet, reply)
     }
 
-    #[tactic(auto, using(bus_speech::proofs::SpeechLaws::none_given))]
-    fn write_message(&self, _packet: &[u64], _reply: &Reply, _own: u64, _out: &mut [u64]) -> usize {
-        0
+    fn write_message(&self, packet: &[u64], reply: &Reply, own: u64, out: &mut [u64]) -> usize {
+        write_message_on(self.kind, packet, reply, own, out)
     }
 
     fn write_answer(&self, packet: &[u64], reply: &Reply, out: &mut [u64]) -> usize {
         write_answer_on(self.kind, packet, reply, out)
     }
 
-    fn result(&self, k: u32, _before: &[u64], packet: &[u64]) -> Option<Reply> {
+    fn result(&self, k: u32, before: &[u64], packet: &[u64]) -> Option<Reply> {
         if k < count_starts(self.kind, self.sub, self.subs) {
             return None;
         }
-        said(self.kind, packet)
+        said(self.kind, before, packet)
     }
 }

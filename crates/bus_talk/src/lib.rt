@@ -4,6 +4,7 @@
 mod askable;
 mod disks;
 mod kind_talk;
+mod nets;
 mod packets;
 mod services;
 

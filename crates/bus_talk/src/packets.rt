@@ -6,6 +6,11 @@ ghost use Rattle.bus_speech.specs.Packets.{is_of, is_inband as inband, is_comple
 
 use vm_page::bytes_of;
 
+/// The types of in-band data and of a completion.
+pub(crate) const INBAND: u64 = 6;
+
+pub(crate) const COMPLETION: u64 = 11;
+
 /// The most bytes of a payload: a packet has at most 384 words, two of them before its payload.
 pub(crate) const MOST_BYTES: usize = 3_056;
 
@@ -23,7 +28,7 @@ pub(crate) fn is_inband(packet: &[u64]) -> bool
     requires { IsPacket packet.now }
     ensures value { result ≡ inband packet.now }
 {
-    is_of_type(packet, 6)
+    is_of_type(packet, INBAND)
 }
 
 /// Whether a packet is a completion of at most 384 words.
@@ -32,7 +37,7 @@ pub(crate) fn is_completion(packet: &[u64]) -> bool
     requires { IsPacket packet.now }
     ensures value { result ≡ completion packet.now }
 {
-    is_of_type(packet, 11)
+    is_of_type(packet, COMPLETION)
 }
 
 /// The words of a packet's payload.

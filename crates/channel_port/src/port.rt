@@ -1,12 +1,12 @@
 //! One end of a channel, as its worker uses it.
-ghost use Rattle.std.specs.Prelude.{◌≡◌, ◌<◌, ◌≤◌, ◌+◌, ◌*◌, ◌++◌, [], ◌∷◌, ℕ, List, true, false, not, length, slice_get, Some, OnOk, MatchOption, if◌then◌else◌};
+ghost use Rattle.std.specs.Prelude.{◌≡◌, ◌<◌, ◌≤◌, ◌+◌, ◌*◌, ◌^◌, ◌++◌, [], ◌∷◌, ℕ, List, true, false, not, length, slice_get, Some, IfOk, OnOk, MatchOption, if◌then◌else◌};
 ghost use Rattle.chan_run.specs.declared.event.Event.TheVariants.{Sent, Marked};
 ghost use Rattle.chan_run.specs.Runs.{got_of, has_marked};
 ghost use Rattle.ring_machine.specs.Endings.{want_of};
 ghost use Rattle.ring_machine.specs.States.{IsPacket};
 ghost use Rattle.ring_seat.specs.Seats.{new_end};
 ghost use Rattle.channel_port.specs.Owed.{HasSendRoom, IsNeed, LacksSendOf};
-ghost use Rattle.channel_port.specs.Rooms.{GotInto, SentInto};
+ghost use Rattle.channel_port.specs.Rooms.{GotInto, KeepsRoom, SentInto};
 ghost use Rattle.channel_port.specs.Line.{IsReady, Stays, TookOne, looked, look_of, is_asleep, armed_by, polled_by, PolledOnce, HasTakeRoom, LacksTake};
 
 use ring_core::{Armed, End, Room};
@@ -45,8 +45,8 @@ impl Model for Port {
 }
 
 impl Port {
-    /// A port over a new end, whose rings have 512 to 8,192 cells.
-    pub fn over(end: End<TableSeat>) -> Port
+    // A port over a new end, whose rings have 512 to 8,192 cells.
+    fn over(end: End<TableSeat>) -> Port
         requires fresh { end.state ≡ new_end end.state.machine.cells end.state.machine.side }
         requires size { (512 ≤ end.state.machine.cells) × (end.state.machine.cells ≤ 8192) }
         ensures { result ≡ end }
@@ -54,12 +54,40 @@ impl Port {
         Port { end }
     }
 
-    /// Makes room in both lists of packets, so that neither `send` nor `take` allocates.
-    pub fn reserve(&mut self, sent: Room, got: Room) -> Result<(), AllocError>
+    // Makes room in both lists of packets.
+    fn reserve(&mut self, sent: Room, got: Room) -> Result<(), AllocError>
         ensures state { (self.new.state ≡ self.old.state) × (self.new.seat ≡ self.old.seat) }
         ensures room { OnOk result ((sent.packets ≤ self.new.spare_sent.packets) × (sent.words ≤ self.new.spare_sent.words) × (got.packets ≤ self.new.spare_got.packets) × (got.words ≤ self.new.spare_got.words)) }
     {
         self.end.reserve(sent, got)
+    }
+
+    /// A port over a new end, whose rings have 512 to 8,192 cells. It makes room for so many packets each way, and of what comes for one more, and the words
+    /// of a whole ring besides 384 for each. Afterwards neither `send` nor `take` allocates.
+    pub fn with_room(end: End<TableSeat>, packets: u64) -> Result<Port, AllocError>
+        requires fresh { end.state ≡ new_end end.state.machine.cells end.state.machine.side }
+        requires size { (512 ≤ end.state.machine.cells) × (end.state.machine.cells ≤ 8192) }
+        requires few { packets ≤ 2 ^ 34 }
+        ensures end { IfOk result (λ p. (p.state ≡ end.state) × (p.seat ≡ end.seat)) }
+        ensures room { IfOk result (λ p. KeepsRoom packets p) }
+    {
+        let mut port = Port::over(end);
+        let cells = port.cells() as u64;
+        let sent = Room {
+            packets,
+            words: 384 * packets,
+        };
+        let got = Room {
+            packets: packets + 1,
+            words: 384 * packets + cells,
+        };
+        match port.reserve(sent, got) {
+            Ok(()) => Ok(port),
+            Err(refused) => {
+                drop(port);
+                Err(refused)
+            }
+        }
     }
 
     /// The packets and words for which the list of what was got has room.
@@ -95,8 +123,8 @@ impl Port {
         None
     }
 
-    /// The cells of each ring.
-    pub fn cells(&self) -> u32
+    // The cells of each ring.
+    fn cells(&self) -> u32
         ensures value { result ≡ self.now.state.machine.cells }
         ensures most { result ≤ 8192 }
     {

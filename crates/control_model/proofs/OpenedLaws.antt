@@ -5,7 +5,7 @@ use Rattle.std.proofs.lemmas.List.Elements.{All-nil, All-cons}
 use Rattle.std.proofs.lemmas.List.Sums.{sum_by-cons}
 use Rattle.std.specs.List.{AllByRecursion}
 use Rattle.script_lines.specs.declared.line.DeviceSpec.{DeviceSpec}
-use Rattle.script_lines.specs.declared.line.DeviceSpec.TheVariants.{Beat, Down, Disk}
+use Rattle.script_lines.specs.declared.line.DeviceSpec.TheVariants.{Beat, Down, Disk, Net}
 use Rattle.script_lines.specs.Parts.{channels_of}
 use Rattle.script_phases.specs.Openings.{Opening as PhaseOpening, subs_of, subs_from, channels_from, opened_from, others}
 use Rattle.control_model.specs.declared.opening.Opening.{Opening}
@@ -70,6 +70,7 @@ all_of_device : (spec : DeviceSpec) → channels_of spec ≡ 1 + subs_of spec
 all_of_device Beat = refl
 all_of_device Down = refl
 all_of_device (Disk blocks subs) = refl
+all_of_device (Net mac station) = refl
 
 few_if : (device next most : ℕ) (spec : DeviceSpec) (on off : List PhaseOpening) (b : Bool) → length on ≤ most → length off ≤ most → length (if b then channels_from device spec next ++ on else off) ≤ channels_of spec + most
 few_if device next most spec on off true some none =

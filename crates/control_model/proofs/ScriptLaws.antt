@@ -14,7 +14,7 @@ use Rattle.script_lines.specs.declared.line.Line.{Line}
 use Rattle.script_lines.specs.declared.line.What.{What}
 use Rattle.script_lines.specs.declared.line.What.TheVariants.{Contact as IsContact, Offer as IsOffer, Bad as IsBad, RingSize as IsRingSize, Window as IsWindow, Ask as IsAsk, Rescind as IsRescind, Shut as IsShut, Phase as IsPhase}
 use Rattle.script_lines.specs.declared.line.DeviceSpec.{DeviceSpec}
-use Rattle.script_lines.specs.declared.line.DeviceSpec.TheVariants.{Beat, Down, Disk}
+use Rattle.script_lines.specs.declared.line.DeviceSpec.TheVariants.{Beat, Down, Disk, Net}
 use Rattle.script_lines.specs.Parts.{parts, ends_part, offered, offered_by, kind_of, channels_of, ring_pages_of, pages_by}
 use Rattle.script_lines.specs.WellFormed.{IsDevice, IsRight, AllRight, IsScript}
 use Rattle.script_phases.specs.Says.{rescinds, heard_by, said, said_to, is_rescinded, is_shut}
@@ -315,6 +315,7 @@ subs_right : (spec : DeviceSpec) → IsDevice spec → subs_of spec ≤ 3
 subs_right Beat is = omega arith
 subs_right Down is = omega arith
 subs_right (Disk blocks subs) is = is.2
+subs_right (Net mac station) is = omega arith
 
 subs_offered : (kinds : List DeviceSpec) (what : What) → IsRight kinds what → All (λ spec. subs_of spec ≤ 3) (offered_by what)
 subs_offered kinds (IsContact guest host) right = All-nil (λ spec. subs_of spec ≤ 3)

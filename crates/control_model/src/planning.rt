@@ -76,6 +76,7 @@ fn kind_of(device: DeviceSpec) -> Kind
         DeviceSpec::Beat => Kind::Beat,
         DeviceSpec::Down => Kind::Down,
         DeviceSpec::Disk { .. } => Kind::Disk,
+        DeviceSpec::Net { .. } => Kind::Net,
     }
 }
 
@@ -333,8 +334,10 @@ fn subs_of(spec: DeviceSpec) -> u16
     ensures { result ≡ subs_of spec }
 {
     match spec {
+        DeviceSpec::Beat => 0,
+        DeviceSpec::Down => 0,
         DeviceSpec::Disk { subs, .. } => subs as u16,
-        _ => 0,
+        DeviceSpec::Net { .. } => 0,
     }
 }
 

@@ -1,4 +1,4 @@
-//! Tests of the disk and the services: their packets against those of Linux's own structs, their replies, and each public call once.
+//! Tests of the disk, the services and the talk of a network: their packets against those of Linux's own structs, their replies, and each public call once.
 #![tactic(auto)]
 
 #[cfg(test)]
@@ -9,6 +9,8 @@ mod check;
 mod hex;
 #[cfg(test)]
 mod hist_lock_tests;
+#[cfg(test)]
+mod net_talk_tests;
 #[cfg(test)]
 mod scsi_disk_tests;
 #[cfg(test)]

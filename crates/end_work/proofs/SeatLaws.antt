@@ -1,6 +1,6 @@
 -- Seats of devices.
 use Rattle.std.proofs.Common.{◌≡◌, ◌≤◌, ◌<◌, ℕ, ◌==◌, Bool, true, List, [], ◌∷◌, length, refl, ap, sym, ◌∙◌, subst, arith}
-use Rattle.std.specs.Prelude.{nat_le, nat_lt, ◌&&◌}
+use Rattle.std.specs.Prelude.{nat_le, nat_lt, ◌&&◌, Result, Ok}
 use Rattle.std.specs.List.{AllByRecursion, list_all}
 use Rattle.std.proofs.lemmas.Bool.Decides.{nat_tests}
 use Rattle.hist_lock.specs.Seat.{Seat, IsSame}
@@ -8,57 +8,79 @@ use Rattle.bus_speech.specs.Services.{service_fits}
 use Rattle.bus_speech.specs.Disks.{disk_fits}
 use Rattle.bus_speech.specs.Speeches.{fits_on}
 use Rattle.script_lines.specs.declared.line.Ask.{Ask}
-use Rattle.script_lines.specs.declared.line.Ask.TheVariants.{Ic as AskIc, Disk as AskDisk}
+use Rattle.script_lines.specs.declared.line.Ask.TheVariants.{Ic as AskIc, Disk as AskDisk, Net as AskNet}
 use Rattle.bus_script.specs.declared.outcome.Reply.{Reply}
-use Rattle.bus_script.specs.declared.outcome.Reply.TheVariants.{Ic as ReplyIc, Disk as ReplyDisk}
+use Rattle.bus_script.specs.declared.outcome.Reply.TheVariants.{Ic as ReplyIc, Disk as ReplyDisk, Net as ReplyNet}
 use Rattle.util_ic.specs.Machines.{beat_reply, down_reply}
 use Rattle.contact.specs.declared.kind.Kind.{Kind}
-use Rattle.contact.specs.declared.kind.Kind.TheVariants.{Beat as KindBeat, Down as KindDown, Disk as KindDisk}
+use Rattle.contact.specs.declared.kind.Kind.TheVariants.{Beat as KindBeat, Down as KindDown, Disk as KindDisk, Net as KindNet}
 use Rattle.scsi_disk.specs.DiskModel.{IsSized, most_back}
 use Rattle.scsi_disk.specs.Commands.{command_of}
 use Rattle.scsi_disk.specs.FiniteMap.{Kept}
 use Rattle.scsi_disk.specs.declared.request.DiskRequest.{DiskRequest}
 use Rattle.scsi_disk.specs.declared.reply.DiskReply.{DiskReply}
 use Rattle.scsi_disk.specs.declared.reply.DiskReply.TheVariants.{Good, Check}
+use Rattle.rndis_msg.specs.declared.rndis.Rndis.{Rndis}
+use Rattle.rndis_msg.specs.declared.fault.RndisFault.{RndisFault}
+use Rattle.net_dev.specs.declared.reply.NetReply.{NetReply}
+use Rattle.net_dev.specs.declared.station.Station.{Station}
+use Rattle.net_dev.specs.Station.{Keeps as StationKeeps}
+use Rattle.bus_speech.proofs.SpeechLaws.{net_reply_fits}
 use Rattle.util_ic.specs.declared.ic.IcAsk.{IcAsk}
 use Rattle.util_ic.specs.declared.ic.IcAnswer.{IcAnswer}
 use Rattle.util_ic.specs.Asks.{reply_of}
 use Rattle.util_ic.specs.declared.beat.BeatMachine.{BeatMachine}
 use Rattle.util_ic.specs.declared.down.DownMachine.{DownMachine}
-use Rattle.end_work.specs.Seats.{IsSameSeat, Place, place_of, DevicePlace, BeatPlace, DownPlace, DiskPlace, device_place, kind_at}
+use Rattle.end_work.specs.Seats.{IsSameSeat, Place, place_of, DevicePlace, BeatPlace, DownPlace, DiskPlace, NetPlace, device_place, kind_at}
 use Rattle.end_work.specs.declared.device_seat.DeviceSeat.{DeviceSeat}
-use Rattle.end_work.specs.declared.device_seat.DeviceSeat.TheVariants.{Beat, Down, Disk}
+use Rattle.end_work.specs.declared.device_seat.DeviceSeat.TheVariants.{Beat, Down, Disk, Net}
 
 beat_in : Place BeatMachine IcAsk IcAnswer → DevicePlace → Place BeatMachine IcAsk IcAnswer
 beat_in d (BeatPlace p) = p
 beat_in d (DownPlace p) = d
 beat_in d (DiskPlace p) = d
+beat_in d (NetPlace p) = d
 
 down_in : Place DownMachine IcAsk IcAnswer → DevicePlace → Place DownMachine IcAsk IcAnswer
 down_in d (BeatPlace p) = d
 down_in d (DownPlace p) = p
 down_in d (DiskPlace p) = d
+down_in d (NetPlace p) = d
 
 disk_in : Place Kept DiskRequest DiskReply → DevicePlace → Place Kept DiskRequest DiskReply
 disk_in d (BeatPlace p) = d
 disk_in d (DownPlace p) = d
 disk_in d (DiskPlace p) = p
+disk_in d (NetPlace p) = d
+
+net_in : Place Station (Result Rndis RndisFault) NetReply → DevicePlace → Place Station (Result Rndis RndisFault) NetReply
+net_in d (BeatPlace p) = d
+net_in d (DownPlace p) = d
+net_in d (DiskPlace p) = d
+net_in d (NetPlace p) = p
 
 same : {S Q A : Type 0} (s t : Seat S Q A) → place_of t ≡ place_of s → IsSame s t
 same s t is = record { lock = ap (λ p. p.lock) is; number = ap (λ p. p.number) is }
 
 -- a seat that keeps its place is the same one
 pub same_place : (s t : DeviceSeat) → device_place t ≡ device_place s → IsSameSeat s t
-unfolding beat_in down_in disk_in
+unfolding beat_in down_in disk_in net_in
 same_place (Beat s) (Beat t) is = same s t (ap (beat_in (place_of s)) is)
 same_place (Beat s) (Down t) is = absurd (cc (is))
 same_place (Beat s) (Disk t) is = absurd (cc (is))
+same_place (Beat s) (Net t) is = absurd (cc (is))
 same_place (Down s) (Beat t) is = absurd (cc (is))
 same_place (Down s) (Down t) is = same s t (ap (down_in (place_of s)) is)
 same_place (Down s) (Disk t) is = absurd (cc (is))
+same_place (Down s) (Net t) is = absurd (cc (is))
 same_place (Disk s) (Beat t) is = absurd (cc (is))
 same_place (Disk s) (Down t) is = absurd (cc (is))
 same_place (Disk s) (Disk t) is = same s t (ap (disk_in (place_of s)) is)
+same_place (Disk s) (Net t) is = absurd (cc (is))
+same_place (Net s) (Beat t) is = absurd (cc (is))
+same_place (Net s) (Down t) is = absurd (cc (is))
+same_place (Net s) (Disk t) is = absurd (cc (is))
+same_place (Net s) (Net t) is = same s t (ap (net_in (place_of s)) is)
 
 both : (a b : Bool) → a ≡ true → b ≡ true → (a && b) ≡ true
 both a b p q = ap (λ x. x && b) p ∙ q
@@ -105,3 +127,9 @@ pub disk_fits_on : (s : DeviceSeat) (kind : Kind) (q : Ask) (out : ℕ × Reply)
 disk_fits_on s kind q out seat ask n r is serves asked given fits =
     subst (λ k. fits_on k q out.1 ≡ true) (sym (ap kind_at is) ∙ serves)
     (subst (λ x. fits_on KindDisk x out.1 ≡ true) (sym asked) (subst (λ (x : ℕ × Reply). fits_on KindDisk (AskDisk ask) x.1 ≡ true) (sym given) (disk_ok ask r fits)))
+
+pub net_fits_on : (s : DeviceSeat) (kind : Kind) (q : Ask) (out : ℕ × Reply) (seat : Seat Station (Result Rndis RndisFault) NetReply) (message : Rndis) (n : ℕ) (r : NetReply) → s ≡ Net seat → kind_at s ≡ kind → q ≡ AskNet message
+    → out ≡ (n, ReplyNet r.status r.back) → StationKeeps (Ok message) r → fits_on kind q out.1 ≡ true
+net_fits_on s kind q out seat message n r is serves asked given fits =
+    subst (λ k. fits_on k q out.1 ≡ true) (sym (ap kind_at is) ∙ serves)
+    (subst (λ x. fits_on KindNet x out.1 ≡ true) (sym asked) (subst (λ (x : ℕ × Reply). fits_on KindNet (AskNet message) x.1 ≡ true) (sym given) (net_reply_fits message r fits)))

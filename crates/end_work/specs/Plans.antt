@@ -1,18 +1,21 @@
 -- What the workers of a channel are made for.
-use Rattle.std.specs.Prelude.{ℕ, ◌≡◌, ◌≤◌, Bool, true, List, [], ◌∷◌, length, map, filter, Option, Some, None, is_some}
+use Rattle.std.specs.Prelude.{ℕ, zero, suc, ◌≡◌, ◌≤◌, ◌+◌, Bool, true, List, [], ◌∷◌, length, map, filter, Option, Some, None, is_some}
 use Rattle.std.specs.List.{AllByRecursion}
 use Rattle.script_lines.specs.Parts.{kind_asked}
 use Rattle.script_lines.specs.WellFormed.{CanGo}
 use Rattle.script_lines.specs.declared.line.Ask.{Ask}
-use Rattle.script_lines.specs.declared.line.Ask.TheVariants.{Ic as AskIc, Disk as AskDisk}
+use Rattle.script_lines.specs.declared.line.Ask.TheVariants.{Ic as AskIc, Disk as AskDisk, Net as AskNet}
+use Rattle.rndis_msg.specs.declared.rndis.Rndis.{Rndis}
+use Rattle.scsi_disk.specs.declared.request.DiskRequest.{DiskRequest}
 use Rattle.bus_script.specs.declared.outcome.Reply.{Reply}
 use Rattle.bus_speech.specs.Speeches.{has_answer_on}
 use Rattle.bus_speech.specs.Talks.{Talked}
 use Rattle.bus_speech.specs.Wants.{startup, IsAskable}
 use Rattle.chan_state.specs.declared.stop.Stop.{Stop}
 use Rattle.contact.specs.declared.kind.Kind.{Kind}
-use Rattle.contact.specs.declared.kind.Kind.TheVariants.{Disk as DiskKind}
+use Rattle.contact.specs.declared.kind.Kind.TheVariants.{Beat as BeatKind, Down as DownKind, Disk as DiskKind, Net as NetKind}
 use Rattle.io_edge.specs.declared.side.Side.{Side}
+use Rattle.io_edge.specs.declared.side.Side.TheVariants.{Guest}
 use Rattle.work_model.specs.Channel.{count_of, held_of}
 use Rattle.work_model.specs.Roles.{side_that_asks}
 use Rattle.requester.specs.Asking.{Asking}
@@ -47,8 +50,15 @@ pub record Planned : Type 0 where
   pub stop : Option (ℕ × Bool)
   pub asks : List Ask
 
+-- what a guest asks a device of this kind: the commands for a disk, or the messages for an adapter. It asks no service
+abbrev pub guest_asks : Kind → List DiskRequest → List Rndis → List Ask
+guest_asks BeatKind disk net = []
+guest_asks DownKind disk net = []
+guest_asks DiskKind disk net = map AskDisk disk
+guest_asks NetKind disk net = map AskNet net
+
 abbrev pub guest_planned : GuestPlan → Planned
-guest_planned p = record { relid = p.relid; kind = p.kind; sub = p.sub; subs = p.subs; window = p.window; count = p.count; stop = None; asks = map AskDisk p.disk.items }
+guest_planned p = record { relid = p.relid; kind = p.kind; sub = p.sub; subs = p.subs; window = p.window; count = p.count; stop = None; asks = guest_asks p.kind p.disk.items p.net.items }
 
 abbrev pub host_planned : HostPlan → Planned
 host_planned p = record { relid = p.relid; kind = p.kind; sub = p.sub; subs = p.subs; window = p.window; count = p.count; stop = stop_of p.stop; asks = map AskIc p.asks.items }
@@ -56,10 +66,10 @@ host_planned p = record { relid = p.relid; kind = p.kind; sub = p.sub; subs = p.
 abbrev pub planned : Order → Planned
 planned p = record { relid = p.relid; kind = p.kind; sub = p.sub; subs = p.subs; window = p.window; count = p.count; stop = stop_of p.stop; asks = p.asks.items }
 
--- a host stops at a disk alone, and holds the last answer where there is one
+-- a host stops where the guest asks, and holds the last answer where there is one
 abbrev pub CanStop : Kind → Option (ℕ × Bool) → Type 0
 CanStop kind None = Unit {0}
-CanStop kind (Some k) = (kind ≡ DiskKind) × (k.0 ≤ 4096) × (k.1 ≡ true → 1 ≤ k.0)
+CanStop kind (Some k) = (side_that_asks kind ≡ Guest) × (k.0 ≤ 4096) × (k.1 ≡ true → 1 ≤ k.0)
 
 -- A plan that a worker of this side can have: at most 64 requests are open, at most 3 channels are beside the device's first one, and where this side asks
 -- the list has all requests, each of which the channel carries
@@ -69,6 +79,14 @@ pub record CanPlan (side : Side) (p : Planned) : Type 0 where
   pub subs : p.subs ≤ 3
   pub stop : CanStop p.kind p.stop
   pub asks : side ≡ side_that_asks p.kind → (length p.asks ≡ p.count) × AllCarried p.kind p.asks
+
+-- how many requests of a start-up have no answer: that of a network tells the host a version
+abbrev pub silent : Kind → ℕ → ℕ
+silent BeatKind sub = 0
+silent DownKind sub = 0
+silent DiskKind sub = 0
+silent NetKind zero = 1
+silent NetKind (suc s) = 0
 
 -- the side that asks has no seat; the other one has a seat of a device of the plan's kind, with a call for each request. It may have made calls before
 abbrev pub HasSeat : Side → Planned → Option DeviceSeat → Type 0
@@ -83,7 +101,7 @@ pub record AsksFor (p : Planned) (w : Asking Talked Reply) : Type 0 where
   pub starts : w.starts ≡ length (startup p.kind p.sub p.subs)
   pub window : length w.table ≡ p.window
 
--- and one that serves, with this seat
+-- and one that serves, with this seat: it awaits the start-up's requests that have answers, and makes room for them all and for each request
 pub record ServesFor (p : Planned) (seat : DeviceSeat) (w : Serving Talked DeviceSeat Ask Reply) : Type 0 where
   pub answers : w.desk.talk.kind ≡ p.kind
   pub relid : w.desk.relid ≡ p.relid
@@ -93,7 +111,7 @@ pub record ServesFor (p : Planned) (seat : DeviceSeat) (w : Serving Talked Devic
   pub held : w.desk.held ≡ held_of p.stop p.count
   pub stops : w.stops ≡ is_some p.stop
   pub starts : w.starts ≡ length (filter (has_answer_on p.kind) (startup p.kind p.sub p.subs))
-  pub come : w.come ≡ p.count
+  pub come : w.starts + w.come ≡ length (startup p.kind p.sub p.subs) + p.count
 
 -- a worker was made for this plan: without a seat it asks, and with one it serves
 abbrev pub IsMade : Planned → Option DeviceSeat → ChannelWorker → Type 0

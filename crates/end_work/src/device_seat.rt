@@ -3,6 +3,7 @@ use bus_script::{Ask, Reply};
 use bus_talk::KindTalk;
 use chan_talk::Seat;
 use hist_lock::HistSeat;
+use net_dev::Station;
 use scsi_disk::Disk;
 use std::sync::Wait;
 use util_ic::{BeatMachine, DownMachine};
@@ -13,6 +14,7 @@ pub enum DeviceSeat {
     Beat(HistSeat<BeatMachine>),
     Down(HistSeat<DownMachine>),
     Disk(HistSeat<Disk>),
+    Net(HistSeat<Station>),
 }
 
 impl Seat<KindTalk> for DeviceSeat {
@@ -37,6 +39,7 @@ impl Seat<KindTalk> for DeviceSeat {
             DeviceSeat::Beat(seat) => seat.left(),
             DeviceSeat::Down(seat) => seat.left(),
             DeviceSeat::Disk(seat) => seat.left(),
+            DeviceSeat::Net(seat) => seat.left(),
         }
     }
 
@@ -54,9 +57,26 @@ impl Seat<KindTalk> for DeviceSeat {
                 let receipt = seat.with(rt, request);
                 (receipt.serial, Reply::Disk(receipt.reply))
             }
+            (DeviceSeat::Net(seat), Ask::Net(message)) => {
+                let receipt = seat.with(rt, Ok(message));
+                let reply = receipt.reply;
+                let status = reply.status;
+                (
+                    receipt.serial,
+                    Reply::Net {
+                        status,
+                        back: reply.back,
+                    },
+                )
+            }
             (DeviceSeat::Beat(_), Ask::Disk(_)) => unreachable!(),
+            (DeviceSeat::Beat(_), Ask::Net(_)) => unreachable!(),
             (DeviceSeat::Down(_), Ask::Disk(_)) => unreachable!(),
+            (DeviceSeat::Down(_), Ask::Net(_)) => unreachable!(),
             (DeviceSeat::Disk(_), Ask::Ic(_)) => unreachable!(),
+            (DeviceSeat::Disk(_), Ask::Net(_)) => unreachable!(),
+            (DeviceSeat::Net(_), Ask::Ic(_)) => unreachable!(),
+            (DeviceSeat::Net(_), Ask::Disk(_)) => unreachable!(),
         }
     }
 }

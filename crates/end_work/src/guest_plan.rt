@@ -1,5 +1,6 @@
 //! What a guest's worker is made for.
 use contact::Kind;
+use rndis_msg::Rndis;
 use scsi_disk::DiskRequest;
 
 /// What the guest's worker of a channel does in a phase.
@@ -19,4 +20,6 @@ pub struct GuestPlan {
     pub count: u32,
     /// The requests, where the guest asks a disk.
     pub disk: Vec<DiskRequest>,
+    /// The messages, where the guest asks an adapter. Each that has a request id has 0 there: it goes with the id of its packet.
+    pub net: Vec<Rndis>,
 }

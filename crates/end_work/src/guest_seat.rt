@@ -41,6 +41,7 @@ impl GuestSeat {
             Some(DeviceSeat::Beat(seat)) => GuestSeat::Beat(seat),
             Some(DeviceSeat::Down(seat)) => GuestSeat::Down(seat),
             Some(DeviceSeat::Disk(_)) => unreachable!(),
+            Some(DeviceSeat::Net(_)) => unreachable!(),
         }
     }
 }

@@ -7,7 +7,7 @@ ghost use Rattle.end_work.specs.Plans.{CanPlan, HasSeat, IsMade, guest_planned};
 ghost use Rattle.end_work.specs.Seats.{IsAt, at_guest};
 ghost use Rattle.end_work.specs.Workers.{Caused, GoesOn, IsLive, IsOfSide, Turned, end_at};
 
-use crate::making::{Order, disk_asks, make_worker};
+use crate::making::{Order, guest_asks, make_worker};
 use crate::worker::{ChannelWorker, WorkerDone};
 use crate::{GuestDone, GuestPlan, GuestSeat};
 use channel_port::Turn;
@@ -17,7 +17,7 @@ use std::alloc::{AllocError, Global};
 use std::marker::Model;
 use std::sync::Wait;
 
-/// The worker of the guest's end of a channel. It asks a disk, and serves heartbeats and shutdowns.
+/// The worker of the guest's end of a channel. It asks a disk or a network's adapter, and serves heartbeats and shutdowns.
 #[derive(Drop)]
 pub struct GuestWorker {
     worker: ChannelWorker,
@@ -50,18 +50,27 @@ impl GuestWorker {
         ensures made { IfOk result (IsMade (guest_planned plan) (at_guest seat)) }
         ensures end { IfOk result (λ w. ((end_at w).state ≡ end.state) × ((end_at w).seat ≡ end.seat)) }
     {
-        let order = Order {
-            relid: plan.relid,
-            kind: plan.kind,
-            sub: plan.sub,
-            subs: plan.subs,
-            window: plan.window,
-            count: plan.count,
-            stop: None,
-            asks: disk_asks(alloc, plan.disk)?,
-        };
-        let worker = make_worker(alloc, Side::Guest, end, seat.into_device(), order)?;
-        Ok(GuestWorker { worker })
+        match guest_asks(alloc, plan.kind, plan.disk, plan.net) {
+            Ok(asks) => {
+                let order = Order {
+                    relid: plan.relid,
+                    kind: plan.kind,
+                    sub: plan.sub,
+                    subs: plan.subs,
+                    window: plan.window,
+                    count: plan.count,
+                    stop: None,
+                    asks,
+                };
+                let worker = make_worker(alloc, Side::Guest, end, seat.into_device(), order)?;
+                Ok(GuestWorker { worker })
+            }
+            Err(refused) => {
+                drop(end);
+                drop(seat);
+                Err(refused)
+            }
+        }
     }
 
     /// A turn. An end that is asleep polls its signal. Otherwise the worker takes a packet, sends one, serves one, ends, or falls asleep.

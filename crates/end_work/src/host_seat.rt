@@ -5,6 +5,7 @@ ghost use Rattle.io_edge.specs.declared.side.Side.TheVariants.{Host as HostSide}
 
 use crate::DeviceSeat;
 use hist_lock::HistSeat;
+use net_dev::Station;
 use scsi_disk::Disk;
 
 /// The seat that the host's worker of a channel has at its device.
@@ -14,6 +15,8 @@ pub enum HostSeat {
     None,
     /// It serves a disk.
     Disk(HistSeat<Disk>),
+    /// It serves a network's adapter.
+    Net(HistSeat<Station>),
 }
 
 impl HostSeat {
@@ -25,6 +28,7 @@ impl HostSeat {
         match self {
             HostSeat::None => None,
             HostSeat::Disk(seat) => Some(DeviceSeat::Disk(seat)),
+            HostSeat::Net(seat) => Some(DeviceSeat::Net(seat)),
         }
     }
 
@@ -36,6 +40,7 @@ impl HostSeat {
         match seat {
             None => HostSeat::None,
             Some(DeviceSeat::Disk(seat)) => HostSeat::Disk(seat),
+            Some(DeviceSeat::Net(seat)) => HostSeat::Net(seat),
             Some(DeviceSeat::Beat(_)) => unreachable!(),
             Some(DeviceSeat::Down(_)) => unreachable!(),
         }

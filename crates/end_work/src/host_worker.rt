@@ -17,7 +17,7 @@ use std::alloc::{AllocError, Global};
 use std::marker::Model;
 use std::sync::Wait;
 
-/// The worker of the host's end of a channel. It serves a disk, and asks for heartbeats and shutdowns.
+/// The worker of the host's end of a channel. It serves a disk or a network's adapter, and asks for heartbeats and shutdowns.
 #[derive(Drop)]
 pub struct HostWorker {
     worker: ChannelWorker,
@@ -50,18 +50,27 @@ impl HostWorker {
         ensures made { IfOk result (IsMade (host_planned plan) (at_host seat)) }
         ensures end { IfOk result (λ w. ((end_at w).state ≡ end.state) × ((end_at w).seat ≡ end.seat)) }
     {
-        let order = Order {
-            relid: plan.relid,
-            kind: plan.kind,
-            sub: plan.sub,
-            subs: plan.subs,
-            window: plan.window,
-            count: plan.count,
-            stop: plan.stop,
-            asks: ic_asks(alloc, plan.asks)?,
-        };
-        let worker = make_worker(alloc, Side::Host, end, seat.into_device(), order)?;
-        Ok(HostWorker { worker })
+        match ic_asks(alloc, plan.asks) {
+            Ok(asks) => {
+                let order = Order {
+                    relid: plan.relid,
+                    kind: plan.kind,
+                    sub: plan.sub,
+                    subs: plan.subs,
+                    window: plan.window,
+                    count: plan.count,
+                    stop: plan.stop,
+                    asks,
+                };
+                let worker = make_worker(alloc, Side::Host, end, seat.into_device(), order)?;
+                Ok(HostWorker { worker })
+            }
+            Err(refused) => {
+                drop(end);
+                drop(seat);
+                Err(refused)
+            }
+        }
     }
 
     /// A turn. An end that is asleep polls its signal. Otherwise the worker takes a packet, sends one, serves one, ends, or falls asleep.

@@ -1,16 +1,17 @@
 //! The making of a worker.
-ghost use Rattle.std.specs.Prelude.{◌≡◌, ◌≤◌, [], length, map, filter, is_some, IfOk, None};
+ghost use Rattle.std.specs.Prelude.{◌≡◌, ◌≤◌, ◌+◌, [], length, map, filter, is_some, IfOk, None};
 ghost use Rattle.std.specs.List.{AllByRecursion};
 ghost use Rattle.script_lines.specs.Parts.{kind_asked};
-ghost use Rattle.script_lines.specs.Requests.{IsCarried};
+ghost use Rattle.script_lines.specs.Requests.{IsCarried, IsSent};
+ghost use Rattle.contact.specs.declared.kind.Kind.TheVariants.{Net as NetKind};
 ghost use Rattle.script_lines.specs.WellFormed.{CanGo};
 ghost use Rattle.script_lines.specs.declared.line.Ask.{Ask as Asked};
-ghost use Rattle.script_lines.specs.declared.line.Ask.TheVariants.{Ic as AskedIc, Disk as AskedDisk};
+ghost use Rattle.script_lines.specs.declared.line.Ask.TheVariants.{Ic as AskedIc, Disk as AskedDisk, Net as AskedNet};
 ghost use Rattle.bus_speech.specs.Disks.{IsDiskAsk};
 ghost use Rattle.bus_speech.specs.Speeches.{has_answer_on};
 ghost use Rattle.bus_speech.specs.Wants.{startup, IsAskable};
 ghost use Rattle.ring_seat.specs.Seats.{new_end};
-ghost use Rattle.end_work.specs.Plans.{AllCarried, CanPlan, HasSeat, IsMade, planned, stop_of};
+ghost use Rattle.end_work.specs.Plans.{AllCarried, CanPlan, HasSeat, IsMade, guest_asks, planned, silent, stop_of};
 ghost use Rattle.work_model.specs.Channel.{count_of, held_of};
 ghost use Rattle.end_work.specs.Seats.{served_at, kind_at, left_at, IsAt};
 ghost use Rattle.end_work.specs.Workers.{IsOfSide, end_at};
@@ -26,6 +27,7 @@ use io_edge::Side;
 use requester::Requester;
 use ring_core::End;
 use ring_seat::TableSeat;
+use rndis_msg::Rndis;
 use scsi_disk::DiskRequest;
 use server::Server;
 use std::alloc::{AllocError, Global};
@@ -47,6 +49,14 @@ fn disk_can(cdb: &[u8], out: &[u8])
     let _len = cdb.len() + out.len();
 }
 
+// A message that a line of a script sends can be asked of an adapter. It does nothing.
+fn message_can(message: &Rndis)
+    requires { IsSent message.now }
+    ensures { IsAskable NetKind (Asked.Net message.now) }
+{
+    let _message = message;
+}
+
 // A request that stands in a script can be asked on its channel. It does nothing.
 fn ask_can(kind: Kind, ask: &Ask)
     requires kind { kind_asked ask.now ≡ kind }
@@ -56,6 +66,7 @@ fn ask_can(kind: Kind, ask: &Ask)
     match ask {
         Ask::Ic(ask) => service_can(kind, *ask),
         Ask::Disk(request) => disk_can(&request.cdb, request.out.bytes()),
+        Ask::Net(message) => message_can(message),
     }
 }
 
@@ -69,8 +80,8 @@ fn all_can(kind: Kind, asks: &[Ask])
     }
 }
 
-/// What a disk is asked, as requests to any device.
-pub(crate) fn disk_asks(alloc: Global, disk: Vec<DiskRequest>) -> Result<Vec<Ask>, AllocError>
+// What a disk is asked, as requests to any device.
+fn disk_asks(alloc: Global, disk: Vec<DiskRequest>) -> Result<Vec<Ask>, AllocError>
     ensures { IfOk result (λ asks. asks.items ≡ map AskedDisk disk.items) }
 {
     let mut asks = Vec::with_capacity(alloc, disk.len())?;
@@ -78,6 +89,34 @@ pub(crate) fn disk_asks(alloc: Global, disk: Vec<DiskRequest>) -> Result<Vec<Ask
         asks.push_reserved(Ask::Disk(request));
     }
     Ok(asks)
+}
+
+// What an adapter is asked.
+fn net_asks(alloc: Global, net: Vec<Rndis>) -> Result<Vec<Ask>, AllocError>
+    ensures { IfOk result (λ asks. asks.items ≡ map AskedNet net.items) }
+{
+    let mut asks = Vec::with_capacity(alloc, net.len())?;
+    for message in net {
+        asks.push_reserved(Ask::Net(message));
+    }
+    Ok(asks)
+}
+
+/// What a guest asks a device of this kind.
+pub(crate) fn guest_asks(
+    alloc: Global,
+    kind: Kind,
+    disk: Vec<DiskRequest>,
+    net: Vec<Rndis>,
+) -> Result<Vec<Ask>, AllocError>
+    ensures { IfOk result (λ asks. asks.items ≡ guest_asks kind disk.items net.items) }
+{
+    match kind {
+        Kind::Beat => Ok(Vec::new(alloc)),
+        Kind::Down => Ok(Vec::new(alloc)),
+        Kind::Disk => disk_asks(alloc, disk),
+        Kind::Net => net_asks(alloc, net),
+    }
 }
 
 /// What a service is asked.
@@ -143,6 +182,17 @@ fn is_held(stop: Option<Stop>, count: u32) -> bool
     }
 }
 
+// How many requests of a channel's start-up have no answer: that of a network tells the host a version.
+fn count_silent(kind: Kind, sub: u32) -> u32
+    ensures value { result ≡ silent kind sub }
+    ensures most { result ≤ 1 }
+{
+    match kind {
+        Kind::Beat | Kind::Down | Kind::Disk => 0,
+        Kind::Net => if sub == 0 { 1 } else { 0 },
+    }
+}
+
 // A worker that serves.
 fn make_server(
     alloc: Global,
@@ -165,17 +215,30 @@ fn make_server(
     requires side { side ≡ end.state.machine.side }
     ensures relid { IfOk result (λ w. w.desk.relid ≡ relid) }
     ensures talk { IfOk result (λ w. (w.desk.talk.kind ≡ kind) × (w.desk.seat ≡ seat) × (w.desk.before ≡ served_at seat)) }
-    ensures orders { IfOk result (λ w. (w.serve ≡ count_of (stop_of stop) count) × (w.desk.held ≡ held_of (stop_of stop) count) × (w.stops ≡ is_some (stop_of stop)) × (w.come ≡ count)) }
+    ensures orders { IfOk result (λ w. (w.serve ≡ count_of (stop_of stop) count) × (w.desk.held ≡ held_of (stop_of stop) count) × (w.stops ≡ is_some (stop_of stop))) }
+    ensures come { IfOk result (λ w. w.starts + w.come ≡ length (startup kind sub subs) + count) }
     ensures starts { IfOk result (λ w. w.starts ≡ length (filter (has_answer_on kind) (startup kind sub subs))) }
     ensures end { IfOk result (λ w. (w.end.state ≡ end.state) × (w.end.seat ≡ end.seat)) }
 {
     let talk = KindTalk::make(kind, sub, subs, Vec::new(alloc));
-    let starts = talk.starts();
+    let silent = count_silent(kind, sub);
+    let all = talk.starts();
+    let starts = all - silent;
     let serve = serve_count(stop, count);
     let held = is_held(stop, count);
     let stops = stop.is_some();
     Server::make(
-        alloc, talk, end, seat, side, relid, starts, serve, held, stops, count,
+        alloc,
+        talk,
+        end,
+        seat,
+        side,
+        relid,
+        starts,
+        serve,
+        held,
+        stops,
+        count + silent,
     )
 }
 

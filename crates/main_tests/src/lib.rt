@@ -10,6 +10,8 @@ mod hold;
 #[cfg(test)]
 mod load_tests;
 #[cfg(test)]
+mod network_tests;
+#[cfg(test)]
 mod rescind_tests;
 #[cfg(test)]
 mod sub_channel_tests;

@@ -15,11 +15,11 @@ none_from : (b : Bool) (x : NvspFault) (y : Option NvspFault) → cond b (Some x
 none_from true x y h = cc
 none_from false x y h = (refl, h)
 
-type_fits : (m : Nvsp) → type_of m < 256 ^ 4
+pub type_fits : (m : Nvsp) → type_of m < 256 ^ 4
 type_fits (Init min max) = omega arith
 type_fits m = omega arith
 
-fields_within : (m : Nvsp) → size_of_fields m ≤ 40
+pub fields_within : (m : Nvsp) → size_of_fields m ≤ 40
 fields_within (Init min max) = omega arith
 fields_within m = omega arith
 

@@ -1,6 +1,6 @@
 -- The station, as a machine of messages and answers.
-use Rattle.std.specs.Prelude.{◌≡◌, ◌≤◌, nat_lt, IfSome, ℕ, Bool, ◌||◌, ◌&&◌, ◌==◌, nat_eq, nat_le, List, [], ◌++◌, length, drop, replicate, slice_range, Option, Some, None, Result, Ok, Err, if◌then◌else◌}
-use Rattle.std.specs.List.{starts_with}
+use Rattle.std.specs.Prelude.{◌≡◌, ◌≤◌, ◌<◌, nat_lt, IfSome, ℕ, Bool, ◌||◌, ◌&&◌, ◌==◌, nat_eq, nat_le, List, [], ◌++◌, length, drop, replicate, slice_range, Option, Some, None, Result, Ok, Err, if◌then◌else◌}
+use Rattle.std.specs.List.{starts_with, AllByRecursion}
 use Rattle.wire_table.specs.Little.{number_of, bytes_of}
 use Rattle.rndis_msg.specs.declared.rndis.Rndis.{Rndis}
 use Rattle.rndis_msg.specs.declared.rndis.Rndis.TheVariants.{Packet, Initialize, InitializeComplete, Halt, Query, QueryComplete, Set, SetComplete, Reset, ResetComplete, Keepalive, KeepaliveComplete}
@@ -121,11 +121,12 @@ most_back (Packet body) = length body
 most_back (Query request_id oid body) = 40
 most_back m = 0
 
--- a message that may come back of another
+-- a message that may come back of another. It is in form, with a buffer of bytes, so it can be written
 pub record IsBack (q m : Rndis) : Type 0 where
   pub kind : Some (type_of m) ≡ type_back q
   pub most : length (body_of m) ≤ most_back q
   pub form : InForm m
+  pub bytes : AllByRecursion (λ b. b < 256) (body_of m)
 
 -- the status of an answer: a type above 0x80000000 is what a host sends, and isn't served
 abbrev pub status_for : Rndis → ℕ

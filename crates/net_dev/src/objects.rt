@@ -1,5 +1,6 @@
 //! The objects that a query may ask for, as a table.
-ghost use Rattle.std.specs.Prelude.{◌≡◌, length};
+ghost use Rattle.std.specs.Prelude.{◌≡◌, ◌<◌, length};
+ghost use Rattle.std.specs.List.{AllByRecursion};
 ghost use Rattle.net_dev.specs.Objects.{answer_for, object_bytes};
 
 use rndis_msg::Small;
@@ -90,6 +91,7 @@ pub fn answer_of(oid: u32) -> Option<Answer>
 pub fn object_list() -> Small
     ensures value { result ≡ object_bytes }
     ensures few { length result ≡ 40 }
+    ensures bytes { AllByRecursion (λ b. b < 256) result }
 {
     let mut bytes = [0; 40];
     for (i, object) in OBJECTS.iter().enumerate() {

@@ -1,5 +1,6 @@
 //! The station as a machine of messages and answers.
-ghost use Rattle.std.specs.Prelude.{◌≡◌, ◌≤◌, length, None, Ok, IfSome};
+ghost use Rattle.std.specs.Prelude.{◌≡◌, ◌≤◌, ◌<◌, length, None, Ok, IfSome};
+ghost use Rattle.std.specs.List.{AllByRecursion};
 ghost use Rattle.rndis_msg.specs.Messages.{type_of, body_of};
 ghost use Rattle.rndis_msg.specs.Grammar.{InForm};
 ghost use Rattle.rndis_msg.specs.declared.message_type.MessageType.TheVariants.{PacketMsg, QueryCmplt};
@@ -59,6 +60,7 @@ impl Station {
         requires { length frame.now ≤ 1514 }
         ensures value { result ≡ frame_back self.now frame.now }
         ensures sized { IfSome result (λ m. (type_of m ≡ PacketMsg) × (length (body_of m) ≡ length frame.now)) }
+        ensures bytes { IfSome result (λ m. AllByRecursion (λ b. b < 256) (body_of m)) }
     {
         if !self.is_addressed(frame) {
             return None;
@@ -73,6 +75,7 @@ impl Station {
     fn value(&self, answer: Answer) -> Small
         ensures value { result ≡ value_bytes self.now answer }
         ensures few { length result ≤ 40 }
+        ensures bytes { AllByRecursion (λ b. b < 256) result }
     {
         match answer {
             Answer::Objects => objects::object_list(),
@@ -87,6 +90,7 @@ impl Station {
         ensures value { result ≡ query_reply self.now request_id oid }
         ensures sized { (type_of result ≡ QueryCmplt) × (length (body_of result) ≤ 40) }
         ensures form { InForm result }
+        ensures bytes { AllByRecursion (λ b. b < 256) (body_of result) }
     {
         match objects::answer_of(oid) {
             Some(answer) => Rndis::QueryComplete {
@@ -177,6 +181,7 @@ fn refused() -> NetReply
 fn number_bytes(n: u32) -> Small
     ensures value { result ≡ bytes_of 4 n }
     ensures few { length result ≡ 4 }
+    ensures bytes { AllByRecursion (λ b. b < 256) result }
 {
     let mut bytes = [0; 4];
     put_at(&mut bytes, 0, 4, u64::from(n));

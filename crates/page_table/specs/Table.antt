@@ -37,6 +37,13 @@ abbrev pub first_owners : Side → ℕ → List Owner
 first_owners x zero = []
 first_owners x (suc c) = first_owners x c ++ first_owner x ((layout 0).home c) ∷ []
 
+-- the end has the page
+abbrev pub is_had : Owner → Bool
+is_had Has = true
+is_had (Lent t n) = false
+is_had (Held t n) = false
+is_had Away = false
+
 -- the end has the page, or holds it
 abbrev pub is_owned : Owner → Bool
 is_owned Has = true

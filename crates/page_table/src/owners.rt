@@ -1,9 +1,10 @@
 //! Questions to what an end has to do with its pages.
-ghost use Rattle.std.specs.Prelude.{◌≡◌, ◌<◌, ◌≤◌, length, true, false};
+ghost use Rattle.std.specs.Prelude.{◌≡◌, ◌<◌, ◌≤◌, length, true, false, IsTrue};
 ghost use Rattle.std.specs.List.{position};
 ghost use Rattle.page_kept.specs.Kept.{first_owner, is_held, is_lent, lent_words, may_hold};
+ghost use Rattle.page_kept.specs.Keepers.{CanStore};
 ghost use Rattle.page_kept.specs.Layouts.{layout};
-ghost use Rattle.page_table.specs.Table.{is_owned};
+ghost use Rattle.page_table.specs.Table.{is_had, is_owned};
 
 use io_edge::Side;
 use page_kept::Owner;
@@ -31,6 +32,31 @@ pub(crate) fn owned(owner: Owner) -> bool
     match owner {
         Owner::Has => true,
         Owner::Held { .. } => true,
+        Owner::Lent { .. } => false,
+        Owner::Away => false,
+    }
+}
+
+// Whether the end has the page.
+pub(crate) fn had(owner: Owner) -> bool
+    ensures { result ≡ is_had owner }
+{
+    match owner {
+        Owner::Has => true,
+        Owner::Held { .. } => false,
+        Owner::Lent { .. } => false,
+        Owner::Away => false,
+    }
+}
+
+// Whether a word of the page may be stored to.
+pub(crate) fn can_store(owner: Owner, word: u32) -> bool
+    ensures can { IsTrue result → CanStore owner word }
+    ensures whole { CanStore owner word → IsTrue result }
+{
+    match owner {
+        Owner::Has => true,
+        Owner::Held { tid: _, words } => word < words,
         Owner::Lent { .. } => false,
         Owner::Away => false,
     }

@@ -1,15 +1,18 @@
 //! The pages of one end.
-ghost use Rattle.std.specs.Prelude.{◌≡◌, ◌≢◌, ℕ, ◌+◌, ◌*◌, ◌/◌, ◌<◌, ◌≤◌, true, false, length, replicate, slice_get, slice_set, Option, Some, None, IfOk, IfSome, MatchOption};
+ghost use Rattle.std.specs.Prelude.{◌≡◌, ◌≢◌, ℕ, ◌+◌, ◌*◌, ◌/◌, ◌<◌, ◌≤◌, true, false, length, replicate, slice_get, slice_index_or, slice_set, Option, Some, None, IfOk, IfSome, IsTrue, MatchOption};
 ghost use Rattle.page_kept.specs.Items.{values};
 ghost use Rattle.page_kept.specs.declared.kept.Kept.{Kept};
 ghost use Rattle.page_kept.specs.Kept.{pages_sent, pages_took, is_held, is_lent};
-ghost use Rattle.page_kept.specs.Layouts.{layout};
+ghost use Rattle.page_kept.specs.Keepers.{CanStore};
+ghost use Rattle.page_kept.specs.Layouts.{layout, Loan as Lending};
 ghost use Rattle.page_kept.specs.declared.owner.Owner.TheVariants.{Has, Lent, Held, Away};
 ghost use Rattle.pkt_desc.specs.Packets.{IsPacket, kind_of, id_of};
-ghost use Rattle.page_table.specs.Table.{KeepsPages, word_of, owned_in, named_in, first_owners, sent_by, took_by, loan_of, GoesBack, Lends, Holds, IsPart};
+ghost use Rattle.page_table.specs.Table.{Fits, KeepsPages, word_of, is_had, owned_in, named_in, first_owners, sent_by, took_by, loan_of, GoesBack, Lends, Holds, IsPart};
 
 use crate::loan::Loan;
-use crate::owners::{at_first, first_held, first_lent, may_be_held, owned, words_in};
+use crate::owners::{
+    at_first, can_store, first_held, first_lent, had, may_be_held, owned, words_in,
+};
 use io_edge::Side;
 use page_kept::Owner;
 use pkt_desc::lent;
@@ -68,6 +71,28 @@ impl PageTable {
             Some(owner) => owned(*owner),
             None => false,
         }
+    }
+
+    /// Whether a word of a page may be stored to: the end has the page, or holds it, and the word is lent.
+    pub fn can_store(&self, page: u32, word: u32) -> bool
+        ensures can { IsTrue result → (page < length self.now.owners) × (word < 512) × CanStore (slice_index_or self.now.owners page Away) word }
+        ensures whole { page < length self.now.owners → word < 512 → CanStore (slice_index_or self.now.owners page Away) word → IsTrue result }
+    {
+        match self.owners.get(page as usize) {
+            Some(owner) => (word as usize) < WORDS && can_store(*owner, word),
+            None => false,
+        }
+    }
+
+    /// Whether the end has the page that a packet names, or none where it names no page of the channel. Whatever is lent or held is 1 to 512 words.
+    pub fn has_named(&self, packet: &[u64]) -> Option<bool>
+        requires packet { IsPacket packet.now }
+        ensures has { MatchOption result (named_in self.now.owners packet.now ≡ None) (λ has. (a : Lending) × (named_in self.now.owners packet.now ≡ Some a) × (has ≡ is_had (slice_index_or self.now.owners a.page Away))) }
+        ensures fit { (q : ℕ) → Fits (slice_index_or self.now.owners q Away) }
+    {
+        let owners = self.owners.as_slice();
+        let loan = self.named(packet)?;
+        Some(had(owners[loan.page as usize]))
     }
 
     /// The first words of a page, as this end knows them.

@@ -1,5 +1,5 @@
 -- The two workers of a channel are made.
-use Rattle.std.proofs.Common.{◌≡◌, ◌≤◌, ◌+◌, ◌*◌, ℕ, length, filter, List, [], Option, Some, None, is_some, Bool, true, false, Result, Ok, Err, refl, ap, sym, ◌∙◌, subst, arith}
+use Rattle.std.proofs.Common.{◌≡◌, ◌≤◌, ◌+◌, ◌*◌, ℕ, length, filter, List, [], Option, Some, None, is_some, Bool, false, Result, Ok, Err, refl, ap, sym, ◌∙◌, subst, arith}
 use Rattle.std.specs.Prelude.{IfOk}
 use Rattle.std.specs.List.{AllByRecursion}
 use Rattle.script_lines.specs.declared.line.Ask.{Ask}
@@ -27,7 +27,7 @@ use Rattle.end_work.specs.Plans.{Planned, CanStop, AsksFor, ServesFor, IsMade}
 use Rattle.end_work.specs.declared.device_seat.DeviceSeat.{DeviceSeat}
 use Rattle.end_work.specs.declared.worker.ChannelWorker.{ChannelWorker}
 use Rattle.end_work.specs.declared.worker.ChannelWorker.TheVariants.{Asks, Serves}
-use Rattle.end_work.proofs.Opening.{asks_length, starts_all}
+use Rattle.end_work.proofs.Opening.{asks_length}
 use Rattle.phase_run.specs.Agreeing.{HasCells}
 use Rattle.phase_run.specs.Pairs.{Pairing, AreOnChannel, MadeFor, OpensWith, IsNewSeat}
 
@@ -55,9 +55,16 @@ answered_starts : Kind → ℕ → ℕ → ℕ
 answered_starts kind sub subs = length (filter (has_answer_on kind) (startup kind sub subs))
 
 -- where the one that serves made room for the start-up and the requests, it made room for all that the other one asks
-room_for : (order : Order) (a : Asking Talked Reply) (s : Serving Talked DeviceSeat Ask Reply) → a.talk ≡ talked order.kind order.sub order.subs order.asks → s.starts ≡ length (filter (has_answer_on order.kind) (startup_of order)) → s.come ≡ length order.asks
+room_for : (order : Order) (a : Asking Talked Reply) (s : Serving Talked DeviceSeat Ask Reply) → a.talk ≡ talked order.kind order.sub order.subs order.asks → s.starts + s.come ≡ length (startup_of order) + length order.asks
     → length (asks_of a.talk) ≤ s.starts + s.come
-room_for order a s talk starts come = omega (arith, asks_length order.kind order.sub order.subs order.asks a.talk talk, starts_all order.kind order.sub order.subs, starts, come)
+room_for order a s talk come = omega (arith, asks_length order.kind order.sub order.subs order.asks a.talk talk, come)
+
+-- the room that a plan makes is the order's
+all_for : (order : Order) (p : Planned) (n : ℕ) → IsFor order p → p.count ≡ length order.asks → n ≡ length (startup p.kind p.sub p.subs) + p.count → n ≡ length (startup_of order) + length order.asks
+all_for order p n is_for count is =
+    is
+    ∙ (ap (λ k. length (startup k p.sub p.subs) + p.count) is_for.kind
+    ∙ (ap (λ m. length (startup order.kind m p.subs) + p.count) is_for.sub ∙ (ap (λ m. length (startup order.kind order.sub m) + p.count) is_for.subs ∙ ap (λ m. length (startup_of order) + m) count)))
 
 unstopped : (stop : Option (ℕ × Bool)) → is_some stop ≡ false → stop ≡ None
 unstopped None e = refl
@@ -66,13 +73,13 @@ unstopped (Some k) e = absurd (cc)
 -- no service stops
 pub goes_on : (kind : Kind) (stop : Option (ℕ × Bool)) → side_that_asks kind ≡ Host → CanStop kind stop → None ≡ stop
 goes_on kind None side can = refl
-goes_on kind (Some k) side can = let other : Guest ≡ Host = sym (ap side_that_asks can.0) ∙ side in absurd (cc)
+goes_on kind (Some k) side can = let other : Guest ≡ Host = sym can.0 ∙ side in absurd (cc)
 
 -- so the plans agree
-plans_agree : (order : Order) (seat : DeviceSeat) (a : Asking Talked Reply) (s : Serving Talked DeviceSeat Ask Reply) → MadeFor order seat a s → s.come ≡ length order.asks → PlansAgree a s
+plans_agree : (order : Order) (seat : DeviceSeat) (a : Asking Talked Reply) (s : Serving Talked DeviceSeat Ask Reply) → MadeFor order seat a s → s.starts + s.come ≡ length (startup_of order) + length order.asks → PlansAgree a s
 plans_agree order seat a s made come = record {
   kind = ap (λ (t : Talked). t.kind) made.talk ∙ sym made.answers;
-  room = room_for order a s made.talk made.starts come;
+  room = room_for order a s made.talk come;
   calls = λ go.
       let all : s.serve ≡ length order.asks = made.serve ∙ ap (λ k. count_of k (length order.asks)) (unstopped order.stop (sym made.stops ∙ go)) in
       omega (arith, all, ap (λ (t : Talked). length t.asks) made.talk);
@@ -100,7 +107,7 @@ pub guest_roles : (order : Order) (seat : Option DeviceSeat) (g h : Planned) (gu
 guest_roles order None g h guest host new g_for g_count g_stop h_for h_asks made asked = absurd new
 guest_roles order (Some seat) g h (Asks a) host new g_for g_count g_stop h_for h_asks made asked = absurd made
 guest_roles order (Some seat) g h (Serves s) (Asks a) new g_for g_count g_stop h_for h_asks made asked =
-    plans_agree order seat a s (made_for order seat h g a s h_for h_asks g_for g_count g_stop new.1 asked made) (made.come ∙ g_count)
+    plans_agree order seat a s (made_for order seat h g a s h_for h_asks g_for g_count g_stop new.1 asked made) (all_for order g (s.starts + s.come) g_for g_count made.come)
 guest_roles order (Some seat) g h (Serves s) (Serves t) new g_for g_count g_stop h_for h_asks made asked = absurd asked
 
 pub guest_opens : (order : Order) (seat : Option DeviceSeat) (g h : Planned) (guest host : ChannelWorker) → side_that_asks order.kind ≡ Host → IsNewSeat order.kind (length order.asks) seat → IsFor order g → g.count ≡ length order.asks → g.stop ≡ order.stop → IsFor order h → h.asks ≡ order.asks
@@ -116,7 +123,7 @@ pub host_roles : (order : Order) (seat : Option DeviceSeat) (g h : Planned) (gue
 host_roles order None g h guest host new h_for h_count h_stop g_for g_asks made asked = absurd new
 host_roles order (Some seat) g h guest (Asks a) new h_for h_count h_stop g_for g_asks made asked = absurd made
 host_roles order (Some seat) g h (Asks a) (Serves s) new h_for h_count h_stop g_for g_asks made asked =
-    plans_agree order seat a s (made_for order seat g h a s g_for g_asks h_for h_count h_stop new.1 asked made) (made.come ∙ h_count)
+    plans_agree order seat a s (made_for order seat g h a s g_for g_asks h_for h_count h_stop new.1 asked made) (all_for order h (s.starts + s.come) h_for h_count made.come)
 host_roles order (Some seat) g h (Serves t) (Serves s) new h_for h_count h_stop g_for g_asks made asked = absurd asked
 
 pub host_opens : (order : Order) (seat : Option DeviceSeat) (g h : Planned) (guest host : ChannelWorker) → side_that_asks order.kind ≡ Guest → IsNewSeat order.kind (length order.asks) seat → IsFor order h → h.count ≡ length order.asks → h.stop ≡ order.stop → IsFor order g → g.asks ≡ order.asks

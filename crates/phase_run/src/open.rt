@@ -1,11 +1,11 @@
 //! A channel is opened with its two workers.
 ghost use Rattle.std.specs.Prelude.{◌≡◌, ◌≤◌, ◌*◌, [], length, map, IfOk, None};
 ghost use Rattle.script_lines.specs.Parts.{kind_asked};
-ghost use Rattle.script_lines.specs.declared.line.Ask.TheVariants.{Ic as AskedIc, Disk as AskedDisk};
-ghost use Rattle.contact.specs.declared.kind.Kind.TheVariants.{Disk as DiskKind};
+ghost use Rattle.script_lines.specs.declared.line.Ask.TheVariants.{Ic as AskedIc, Disk as AskedDisk, Net as AskedNet};
+ghost use Rattle.contact.specs.declared.kind.Kind.TheVariants.{Disk as DiskKind, Net as NetKind};
 ghost use Rattle.io_edge.specs.declared.side.Side.TheVariants.{Guest as GuestSide, Host as HostSide};
 ghost use Rattle.work_model.specs.Roles.{side_that_asks};
-ghost use Rattle.end_work.specs.Plans.{AllCarried, CanPlan, CanStop, HasSeat, IsMade, guest_planned, host_planned, stop_of};
+ghost use Rattle.end_work.specs.Plans.{AllCarried, CanPlan, CanStop, HasSeat, IsMade, guest_asks, guest_planned, host_planned, stop_of};
 ghost use Rattle.end_work.specs.Seats.{served_at, kind_at, left_at, at_guest, at_host};
 ghost use Rattle.ring_seat.specs.Seats.{new_end};
 ghost use Rattle.ring_seat.specs.Settling.{AreOfOneChannel};
@@ -20,6 +20,7 @@ use chan_state::Stop;
 use contact::Kind;
 use end_work::{DeviceSeat, GuestPlan, GuestSeat, GuestWorker, HostPlan, HostSeat, HostWorker};
 use ring_seat::{ChannelMem, GuestEnd, HostEnd};
+use rndis_msg::Rndis;
 use scsi_disk::DiskRequest;
 use std::alloc::{AllocError, Global};
 use util_ic::IcAsk;
@@ -33,6 +34,7 @@ fn disk_of(kind: Kind, ask: Ask) -> DiskRequest
     match ask {
         Ask::Disk(request) => request,
         Ask::Ic(_) => unreachable!(),
+        Ask::Net(_) => unreachable!(),
     }
 }
 
@@ -49,6 +51,50 @@ fn disk_requests(alloc: Global, kind: Kind, asks: Vec<Ask>) -> Result<Vec<DiskRe
     Ok(all)
 }
 
+// The message for an adapter that a request is.
+fn message_of(kind: Kind, ask: Ask) -> Rndis
+    requires kind { kind_asked ask ≡ kind }
+    requires net { kind ≡ NetKind }
+    ensures { AskedNet result ≡ ask }
+{
+    match ask {
+        Ask::Net(message) => message,
+        Ask::Ic(_) => unreachable!(),
+        Ask::Disk(_) => unreachable!(),
+    }
+}
+
+// The messages for an adapter, each of which is moved.
+fn messages(alloc: Global, kind: Kind, asks: Vec<Ask>) -> Result<Vec<Rndis>, AllocError>
+    requires asks { AllCarried kind asks.items }
+    requires net { kind ≡ NetKind }
+    ensures { IfOk result (λ all. map AskedNet all.items ≡ asks.items) }
+{
+    let mut all = Vec::with_capacity(alloc, asks.len())?;
+    for ask in asks {
+        all.push_reserved(message_of(kind, ask));
+    }
+    Ok(all)
+}
+
+// What a guest asks: the commands for a disk, or the messages for an adapter.
+fn guest_requests(
+    alloc: Global,
+    kind: Kind,
+    asks: Vec<Ask>,
+) -> Result<(Vec<DiskRequest>, Vec<Rndis>), AllocError>
+    requires asks { AllCarried kind asks.items }
+    requires guest { side_that_asks kind ≡ GuestSide }
+    ensures { IfOk result (λ all. guest_asks kind all.0.items all.1.items ≡ asks.items) }
+{
+    match kind {
+        Kind::Disk => Ok((disk_requests(alloc, kind, asks)?, Vec::new(alloc))),
+        Kind::Net => Ok((Vec::new(alloc), messages(alloc, kind, asks)?)),
+        Kind::Beat => unreachable!(),
+        Kind::Down => unreachable!(),
+    }
+}
+
 // The request to a service that a request is.
 fn ic_of(kind: Kind, ask: Ask) -> IcAsk
     requires kind { kind_asked ask ≡ kind }
@@ -58,6 +104,7 @@ fn ic_of(kind: Kind, ask: Ask) -> IcAsk
     match ask {
         Ask::Ic(ask) => ask,
         Ask::Disk(_) => unreachable!(),
+        Ask::Net(_) => unreachable!(),
     }
 }
 
@@ -83,8 +130,9 @@ fn guest_plan(
     window: u32,
     count: u32,
     disk: Vec<DiskRequest>,
+    net: Vec<Rndis>,
 ) -> GuestPlan
-    ensures { guest_planned result ≡ record { relid = relid; kind = kind; sub = sub; subs = subs; window = window; count = count; stop = None; asks = map AskedDisk disk.items } }
+    ensures { guest_planned result ≡ record { relid = relid; kind = kind; sub = sub; subs = subs; window = window; count = count; stop = None; asks = guest_asks kind disk.items net.items } }
 {
     GuestPlan {
         relid,
@@ -94,6 +142,7 @@ fn guest_plan(
         window,
         count,
         disk,
+        net,
     }
 }
 
@@ -147,8 +196,13 @@ fn pair_with(
     ensures host { IfOk result (λ pair. IsMade (host_planned host_plan) (at_host host_seat) pair.host) }
     ensures end { IfOk result (λ pair. (end_at pair.host).state ≡ host_end.state) }
 {
-    let host = HostWorker::make(alloc, host_end, host_seat, host_plan)?;
-    Ok(paired(guest, host))
+    match HostWorker::make(alloc, host_end, host_seat, host_plan) {
+        Ok(host) => Ok(paired(guest, host)),
+        Err(refused) => {
+            drop(guest);
+            Err(refused)
+        }
+    }
 }
 
 // The two workers of a channel over its new ends, whose plans agree.
@@ -176,8 +230,15 @@ fn pair_over(
     ensures guest_end { IfOk result (λ pair. (end_at pair.guest).state ≡ guest_end.state) }
     ensures host_end { IfOk result (λ pair. (end_at pair.host).state ≡ host_end.state) }
 {
-    let guest = GuestWorker::make(alloc, guest_end, guest_seat, guest_plan)?;
-    pair_with(alloc, guest, host_end, host_seat, host_plan)
+    match GuestWorker::make(alloc, guest_end, guest_seat, guest_plan) {
+        Ok(guest) => pair_with(alloc, guest, host_end, host_seat, host_plan),
+        Err(refused) => {
+            drop(host_end);
+            drop(host_seat);
+            drop(host_plan);
+            Err(refused)
+        }
+    }
 }
 
 // Makes the two workers of a new channel, whose plans agree.
@@ -199,10 +260,18 @@ fn make_pair(
     ensures host { IfOk result (λ pair. IsMade (host_planned host_plan) (at_host host_seat) pair.host) }
     ensures cells { IfOk result (HasCells (512 * pages)) }
 {
-    let (guest_end, host_end) = ChannelMem::make(alloc, pages, 0)?;
-    pair_over(
-        alloc, guest_end, guest_seat, guest_plan, host_end, host_seat, host_plan,
-    )
+    match ChannelMem::make(alloc, pages, 0) {
+        Ok((guest_end, host_end)) => pair_over(
+            alloc, guest_end, guest_seat, guest_plan, host_end, host_seat, host_plan,
+        ),
+        Err(refused) => {
+            drop(guest_seat);
+            drop(guest_plan);
+            drop(host_seat);
+            drop(host_plan);
+            Err(refused)
+        }
+    }
 }
 
 // Opens the channel of a service, which the guest serves. No service stops.
@@ -230,14 +299,22 @@ fn open_service(
     ensures channel { IfOk result (AreOnChannel relid (512 * pages) window) }
 {
     let count = asks.len() as u32;
-    let requests = ic_requests(alloc, kind, asks)?;
-    let guest = guest_plan(relid, kind, sub, subs, window, count, Vec::new(alloc));
-    let host = host_plan(relid, kind, sub, subs, window, count, stop, requests);
-    make_pair(alloc, pages, seat, guest, HostSeat::None, host)
+    match ic_requests(alloc, kind, asks) {
+        Ok(requests) => {
+            let (disk, net) = (Vec::new(alloc), Vec::new(alloc));
+            let guest = guest_plan(relid, kind, sub, subs, window, count, disk, net);
+            let host = host_plan(relid, kind, sub, subs, window, count, stop, requests);
+            make_pair(alloc, pages, seat, guest, HostSeat::None, host)
+        }
+        Err(refused) => {
+            drop(seat);
+            Err(refused)
+        }
+    }
 }
 
-// Opens the channel of a disk, which the host serves up to where it stops.
-fn open_disk(
+// Opens the channel of a disk or of a network, which the host serves up to where it stops.
+fn open_asked(
     alloc: Global,
     kind: Kind,
     relid: u32,
@@ -249,7 +326,7 @@ fn open_disk(
     asks: Vec<Ask>,
     stop: Option<Stop>,
 ) -> Result<Pair, AllocError>
-    requires disk { kind ≡ DiskKind }
+    requires guest { side_that_asks kind ≡ GuestSide }
     requires stop { CanStop kind (stop_of stop) }
     requires subs { subs ≤ 3 }
     requires pages { (1 ≤ pages) × (pages ≤ 16) }
@@ -261,15 +338,22 @@ fn open_disk(
     ensures channel { IfOk result (AreOnChannel relid (512 * pages) window) }
 {
     let count = asks.len() as u32;
-    let requests = disk_requests(alloc, kind, asks)?;
-    let guest = guest_plan(relid, kind, sub, subs, window, count, requests);
-    let host = host_plan(relid, kind, sub, subs, window, count, stop, Vec::new(alloc));
-    make_pair(alloc, pages, GuestSeat::None, guest, seat, host)
+    match guest_requests(alloc, kind, asks) {
+        Ok((disk, net)) => {
+            let guest = guest_plan(relid, kind, sub, subs, window, count, disk, net);
+            let host = host_plan(relid, kind, sub, subs, window, count, stop, Vec::new(alloc));
+            make_pair(alloc, pages, GuestSeat::None, guest, seat, host)
+        }
+        Err(refused) => {
+            drop(seat);
+            Err(refused)
+        }
+    }
 }
 
 /// Opens a channel whose rings have so many pages, with its two workers, and takes all memory that they need. `sub` is its number among the channels of its
 /// device, of which `subs` are beside the first one: that one asks for them at the end of its start-up, and a sub-channel has no start-up. The end that serves stops where this says,
-/// which the channel of a disk alone can.
+/// which the channel of a disk or of a network alone can.
 pub fn open_pair(
     alloc: Global,
     kind: Kind,
@@ -309,7 +393,13 @@ pub fn open_pair(
         }
         DeviceSeat::Disk(seat) => {
             let seat = HostSeat::Disk(seat);
-            open_disk(
+            open_asked(
+                alloc, kind, relid, sub, subs, pages, window, seat, asks, stop,
+            )
+        }
+        DeviceSeat::Net(seat) => {
+            let seat = HostSeat::Net(seat);
+            open_asked(
                 alloc, kind, relid, sub, subs, pages, window, seat, asks, stop,
             )
         }

@@ -7,7 +7,7 @@ use Rattle.chan_run.specs.Runs.{got_of, has_marked, has_seen}
 use Rattle.ring_core.specs.Seen.{Seen}
 use Rattle.ring_seat.specs.Settling.{IsSameEnd}
 use Rattle.ring_seat.specs.declared.table_seat.TableSeat.{TableSeat}
-use Rattle.txn_table.specs.Open.{request_of}
+use Rattle.txn_table.specs.Open.{HasNone, request_of}
 use Rattle.work_model.specs.Speech.{Speech, listed}
 use Rattle.work_model.specs.Amounts.{room_of, SendsKinds}
 use Rattle.work_model.specs.Asker.{requests_of, open_of}
@@ -139,10 +139,6 @@ abbrev pub AsksBy : {A Q R : Type 0} → Speech (List ℕ) A Q R → Ended → L
 AsksBy s Marked asks past told = AsksAll s asks past told × (has_marked past ≡ true) × (has_seen past ≡ false)
 AsksBy s PeerMarked asks past told = AsksAll s asks past told × (has_marked past ≡ true) × (has_seen past ≡ true)
 AsksBy s (Room packets words left) asks past told = AskerBreaks s asks past told
-
--- its table is empty
-abbrev pub HasNone : List (Option ℕ) → Type 0
-HasNone rs = (id : ℕ) → request_of rs id ≡ None
 
 -- what is to be sent next lacks room: what acknowledges a message, or the next ask
 abbrev pub LacksNext : {T A Q R : Type 0} → Speech (List ℕ) A Q R → List A → ℕ → ℕ → Asking T R → Type 0

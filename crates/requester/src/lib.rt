@@ -2,6 +2,7 @@
 #![tactic(auto)]
 
 mod came;
+mod lists;
 mod next;
 mod requester;
 mod settle;

@@ -1,5 +1,5 @@
 //! The worker of the end that asks.
-ghost use Rattle.std.specs.Prelude.{◌≡◌, ◌<◌, ◌≤◌, ◌+◌, [], ◌∷◌, ℕ, length, replicate, slice_get, All, IsSome, Some, None, true, false, IfOk, count_by, is_some};
+ghost use Rattle.std.specs.Prelude.{◌≡◌, ◌<◌, ◌≤◌, ◌+◌, [], ◌∷◌, ℕ, length, replicate, slice_get, All, IsSome, Some, None, true, false, IfOk, count_by, is_some, vec_len, vec_capacity};
 ghost use Rattle.chan_run.specs.Runs.{got_of, is_drained};
 ghost use Rattle.ring_seat.specs.Seats.{new_end};
 ghost use Rattle.ring_seat.specs.Settling.{IsSameEnd};
@@ -8,17 +8,19 @@ ghost use Rattle.channel_port.specs.declared.ended.Ended.TheVariants.{Marked as 
 ghost use Rattle.channel_port.specs.Causes.{Arms, Polls};
 ghost use Rattle.requester.specs.Causes.{AskCause, AskerActs, AsksOne, AsksOrArms};
 ghost use Rattle.channel_port.specs.Line.{IsReady, HasTakeRoom, TookOne};
-ghost use Rattle.requester.specs.Asking.{AsksBy, AskTurns, IsPaced, AskLacks, AskerLacks, AsksOn, AskEnds, Holds, HasAcked, HasMessage, HasOpen, HasSettled, HasNone, waits_under, want_by, AskedBy};
+ghost use Rattle.requester.specs.Asking.{AsksBy, AskTurns, IsPaced, AskLacks, AskerLacks, AsksOn, AskEnds, Holds, HasAcked, HasMessage, HasOpen, HasSettled, waits_under, want_by, AskedBy};
 ghost use Rattle.channel_port.specs.Rooms.{AskedWithin, AskLacksFor, KeepsRoom};
+ghost use Rattle.txn_table.specs.Open.{HasNone};
 ghost use Rattle.work_model.specs.Amounts.{room_of};
 
 use crate::came::came_before;
+use crate::lists::Lists;
 use crate::next::next_message;
 use crate::settle::settle;
 use chan_talk::Talk;
 use channel_port::{Ended, Looked, Port, Sheet, Turn, room_of};
 use io_edge::{Gate, Side};
-use ring_core::{End, Room};
+use ring_core::End;
 use ring_seat::TableSeat;
 use std::alloc::{AllocError, Global};
 use std::marker::Model;
@@ -487,26 +489,45 @@ impl<T: Talk> Requester<T> {
         ensures window { IfOk result (λ w. length w.table ≡ window) }
         ensures end { IfOk result (λ w. (w.end.state ≡ end.state) × (w.end.seat ≡ end.seat)) }
     {
-        let mut port = Port::over(end);
-        let count = talk.count() as u64;
-        let packets = room_of(talk.besides(), count);
-        let cells = port.cells() as u64;
-        port.reserve(
-            Room {
-                packets,
-                words: 384 * packets,
-            },
-            Room {
-                packets: packets + 1,
-                words: 384 * packets + cells,
-            },
-        )?;
-        let table = TxnTable::make(alloc, window)?;
-        let replies = Vec::with_capacity(alloc, count as usize)?;
-        let rescinded = Vec::with_capacity(alloc, 64)?;
-        let sheet = Sheet::make(alloc)?;
+        let count = talk.count();
+        let packets = room_of(talk.besides(), count as u64);
+        let port = match Port::with_room(end, packets) {
+            Ok(port) => port,
+            Err(refused) => {
+                drop(talk);
+                return Err(refused);
+            }
+        };
+        match Lists::make(alloc, count, window) {
+            Ok(lists) => Ok(Requester::over(talk, port, lists, side, relid)),
+            Err(refused) => {
+                drop(talk);
+                drop(port);
+                Err(refused)
+            }
+        }
+    }
+
+    // A worker that has asked nothing, over a port with room and empty lists.
+    fn over(talk: T, port: Port, lists: Lists<T::Reply>, side: Side, relid: u32) -> Requester<T>
+        requires fresh { (port.state.past ≡ []) × (port.state.got ≡ []) × (port.state.machine.asleep ≡ false) }
+        requires side { side ≡ port.state.machine.side }
+        requires room { KeepsRoom (room_of (T.besides talk) (length (T.asks talk))) port }
+        requires window { (window : ℕ) × (window ≤ 64) × (lists.table ≡ replicate window None) }
+        requires none { lists.replies.items ≡ [] }
+        requires replies { (vec_len lists.replies ≡ 0) × (length (T.asks talk) ≤ vec_capacity lists.replies) }
+        requires rescinded { (vec_len lists.rescinded ≡ 0) × (64 ≤ vec_capacity lists.rescinded) }
+        ensures talk { (result.talk ≡ talk) × (result.relid ≡ relid) × (result.starts ≡ T.starts talk) }
+        ensures parts { (result.end ≡ port) × (result.table ≡ lists.table) }
+    {
         let starts = talk.starts();
-        Ok(Requester {
+        let Lists {
+            table,
+            replies,
+            rescinded,
+            sheet,
+        } = lists;
+        Requester {
             talk,
             port,
             table,
@@ -522,7 +543,7 @@ impl<T: Talk> Requester<T> {
             passed: false,
             side,
             relid,
-        })
+        }
     }
 
     /// A turn: an end that is asleep polls its signal. Otherwise the worker takes a packet, asks the next request, ends, or rests.

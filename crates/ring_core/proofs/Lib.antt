@@ -5,3 +5,5 @@ pub mod Openings
 pub mod Paging
 pub mod Performed
 pub mod Loading
+pub mod Counts
+pub mod Lendable

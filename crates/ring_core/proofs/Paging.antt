@@ -61,11 +61,11 @@ sent_is : (k : Kept) (p : List ℕ) (os : List Owner) (o : Option Part) → sent
 sent_is k p os None = refl
 sent_is k p os (Some a) = refl
 
-first_of : {A : Type 0} (b : Bool) (x y : A) → b ≡ true → cond b x y ≡ x
+pub first_of : {A : Type 0} (b : Bool) (x y : A) → b ≡ true → cond b x y ≡ x
 first_of true x y h = refl
 first_of false x y h = absurd (cc)
 
-other_of : {A : Type 0} (b : Bool) (x y : A) → b ≡ false → cond b x y ≡ y
+pub other_of : {A : Type 0} (b : Bool) (x y : A) → b ≡ false → cond b x y ≡ y
 other_of true x y h = absurd (cc)
 other_of false x y h = refl
 

@@ -6,3 +6,5 @@ pub mod Refused
 pub mod Pages
 pub mod PageRuns
 pub mod Loading
+pub mod Lending
+pub mod Tallies

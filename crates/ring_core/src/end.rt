@@ -10,7 +10,7 @@ ghost use Rattle.page_kept.specs.declared.due.Due.TheVariants.{Clear};
 ghost use Rattle.page_kept.specs.declared.page_call.PageCall.TheVariants.{StoreWord};
 ghost use Rattle.page_table.specs.Table.{owned_in};
 ghost use Rattle.ring_core.specs.PageRuns.{RanPages};
-ghost use Rattle.ring_core.specs.Pages.{IsClear, along, first_kept, last_words};
+ghost use Rattle.ring_core.specs.Pages.{IsClear, along, first_kept, items_of, last_words};
 ghost use Rattle.ring_core.specs.Seen.{SentRoom, Kept, KeptByPages};
 ghost use Rattle.ring_core.specs.Loading.{Loads};
 ghost use Rattle.ring_machine.specs.PageCalls.{newest};
@@ -46,17 +46,16 @@ pub struct End<S: Seatlike> {
 impl<S: Seatlike> Model for End<S> {
     ghost use Rattle.std.specs.Prelude.{◌≡◌, ◌≢◌, false, Some};
     ghost use Rattle.ring_core.specs.Seen.{Seen};
-    ghost use Rattle.ring_core.specs.Pages.{kept_of};
-    ghost use Rattle.ring_machine.specs.States.{resting_with};
+    ghost use Rattle.ring_core.specs.Pages.{resting_in};
     ghost use Rattle.ring_machine.specs.Steps.{is_busy_at};
     ghost use Rattle.ring_machine.specs.declared.machine.Stage.TheVariants.{Stopped};
     ghost use Rattle.ring_core.specs.declared.told.Told.{Told};
 
     ghost Value = { Seen S };
 
-    ghost view = { λ e. record { state = resting_with e.parts.core.machine e.parts.sent.list e.parts.got.list e.parts.past.events (kept_of e.parts.core.pages e.parts.sent e.parts.got e.parts.table); seat = e.parts.seat; spare_sent = e.parts.sent.room; spare_got = e.parts.got.room } };
+    ghost view = { λ e. record { state = resting_in e.parts.core.machine e.parts.core.pages e.parts.sent e.parts.got e.parts.past.events e.parts.table; seat = e.parts.seat; spare_sent = e.parts.sent.room; spare_got = e.parts.got.room } };
 
-    ghost invariant = { λ e. record { rests : is_busy_at e.parts.core.machine.stage ≡ false; cells : S.cells e.parts.seat ≡ e.parts.core.machine.cells; told : (u : Told) → S.told e.parts.seat ≡ Some u → u.state ≡ resting_with e.parts.core.machine e.parts.sent.list e.parts.got.list e.parts.past.events (kept_of e.parts.core.pages e.parts.sent e.parts.got e.parts.table); pages : S.pages e.parts.seat ≡ e.parts.core.pages.count; honest : (u : Told) → S.told e.parts.seat ≡ Some u → e.parts.core.machine.stage ≢ Stopped } };
+    ghost invariant = { λ e. record { rests : is_busy_at e.parts.core.machine.stage ≡ false; cells : S.cells e.parts.seat ≡ e.parts.core.machine.cells; told : (u : Told) → S.told e.parts.seat ≡ Some u → u.state ≡ resting_in e.parts.core.machine e.parts.core.pages e.parts.sent e.parts.got e.parts.past.events e.parts.table; pages : S.pages e.parts.seat ≡ e.parts.core.pages.count; honest : (u : Told) → S.told e.parts.seat ≡ Some u → e.parts.core.machine.stage ≢ Stopped } };
 }
 
 impl<S: Seatlike> End<S> {
@@ -146,6 +145,28 @@ impl<S: Seatlike> End<S> {
         self.parts.table.owns(page)
     }
 
+    /// Whether a store of this word of a page may begin, as far as the page goes: nothing is to be loaded, and the end has the page, or holds it, and the word
+    /// is lent.
+    pub fn can_store(&self, page: u32, word: u32) -> bool
+        ensures may { IsTrue result → MayStore (layout self.now.state.pages.count) self.now.state.machine.side self.now.state.pages page word }
+        ensures whole { MayStore (layout self.now.state.pages.count) self.now.state.machine.side self.now.state.pages page word → IsTrue result }
+    {
+        !self.is_due() && self.parts.table.can_store(page, word)
+    }
+
+    /// Whether a packet may be sent, as far as the data pages go: nothing is to be loaded; the end has the page that a request names, and all earlier requests
+    /// of its id are completed; a completion answers a request that was taken and isn't completed. At most 512 page words go along. Between two questions for
+    /// one id only the packets that came since are looked at.
+    pub fn can_lend(&mut self, p: &[u64]) -> bool
+        requires packet { IsPacket p.now }
+        ensures may { IsTrue result → MayLend self.old.state p.now }
+        ensures whole { MayLend self.old.state p.now → IsTrue result }
+        ensures few { IsTrue result → along self.old.state.pages p.now ≤ 512 }
+        ensures same { self.new ≡ self.old }
+    {
+        self.pages() == 0 || !self.is_due() && self.parts.can_lend(p)
+    }
+
     /// Whether page words that came with the packet that was taken last are still to be loaded.
     pub fn is_due(&self) -> bool
         ensures clear { result ≡ false → self.now.state.pages.due ≡ Clear }
@@ -203,6 +224,7 @@ impl<S: Seatlike> End<S> {
         ensures seat { result.0 ≡ self.seat }
         ensures sent { result.1.list ≡ self.state.sent }
         ensures got { result.2.list ≡ self.state.got }
+        ensures items { (items_of result.1.list result.1.lent ≡ self.state.pages.sent) × (items_of result.2.list result.2.lent ≡ self.state.pages.got) }
         ensures told { (u : Told) → S.told result.0 ≡ Some u → u.state ≡ self.state }
     {
         let End { parts } = self;

@@ -12,13 +12,14 @@ mod rows;
 mod seat;
 mod solo_mem;
 mod taken;
+mod tally;
 mod told;
 mod told_mem;
 mod words;
 
 pub use driver::step;
 pub use end::End;
-pub use guards::{is_packet, may_begin, may_send, may_take};
+pub use guards::{is_packet, may_begin, may_lend, may_send, may_take};
 pub use laws::refuses_by_value;
 pub use packets::Packets;
 pub use ring_machine::{

@@ -1,11 +1,17 @@
 //! A list of packets, each with the page words that went along.
 ghost use Rattle.std.specs.Prelude.{◌≡◌, ℕ, ◌+◌, ◌≤◌, ◌<◌, ◌++◌, ◌-◌, [], ◌∷◌, length, slice_get, slice_index_or, true, false, cond, OnOk, MatchOption, Some};
+ghost use Rattle.page_kept.specs.Counts.{count, is_done, is_ask};
 ghost use Rattle.ring_core.specs.Seen.{Listed, room_in};
+ghost use Rattle.ring_core.specs.Tallies.{IsTally};
 
 use crate::room::Room;
 use crate::rows::Rows;
+use crate::tally::Tally;
 use std::alloc::{AllocError, Global};
 use std::marker::Model;
+
+/// Tallies are kept of so many ids at a time: as many as a channel can have pages.
+const TALLIES: usize = 128;
 
 /// A list of packets, and the room that is reserved for more. In a channel with data pages each packet has the page words that went along, none or some.
 #[derive(Drop)]
@@ -13,17 +19,21 @@ pub struct Packets {
     rows: Rows,
     lent: Rows,
     paged: bool,
+    // None before the first question, and then one for each rest of an id.
+    tallies: Vec<Tally>,
 }
 
 impl Model for Packets {
     ghost use Rattle.std.specs.Prelude.{◌≡◌, false, []};
+    ghost use Rattle.std.specs.List.{All};
+    ghost use Rattle.ring_core.specs.Tallies.{IsTally};
     ghost use Rattle.ring_core.specs.Seen.{Listed, listed_in};
 
     ghost Value = { Listed };
 
     ghost view = { λ p. listed_in p.paged p.rows p.lent };
 
-    ghost invariant = { λ p. p.paged ≡ false → p.lent.list ≡ [] };
+    ghost invariant = { λ p. record { bare : p.paged ≡ false → p.lent.list ≡ []; tallied : All (IsTally p.rows.list) p.tallies.items } };
 }
 
 impl Packets {
@@ -36,6 +46,7 @@ impl Packets {
             rows: Rows::new(alloc),
             lent: Rows::new(alloc),
             paged,
+            tallies: Vec::new(alloc),
         }
     }
 
@@ -154,6 +165,43 @@ impl Packets {
         ensures room { (self.old.room.packets ≤ self.new.room.packets + 1) × (self.old.room.words ≤ self.new.room.words + length words.now) }
     {
         self.lent.push(words);
+    }
+
+    // How many packets of this id there are. Between two questions for one id only the packets that came since are looked at.
+    pub(crate) fn tally(&mut self, tid: u64) -> Tally
+        ensures counts { (result.dones ≡ count (is_done tid) self.old.list) × (result.asks ≡ count (is_ask tid) self.old.list) }
+        ensures same { self.new ≡ self.old }
+    {
+        self.open_tallies();
+        let slot = (tid % TALLIES as u64) as usize;
+        let tally = self.tally_at(slot, tid).of_all(&self.rows);
+        if slot < self.tallies.len() {
+            self.tallies[slot] = tally;
+        }
+        tally
+    }
+
+    // Has a place for each tally, where there is memory for them.
+    fn open_tallies(&mut self)
+        ensures { self.new ≡ self.old }
+    {
+        if !self.tallies.is_empty() {
+            return;
+        }
+        if let Ok(tallies) = Vec::from_elem(*self.tallies.allocator(), Tally::new(0), TALLIES) {
+            self.tallies = tallies;
+        }
+    }
+
+    // The tally that is kept of this id, or a new one.
+    fn tally_at(&self, slot: usize, tid: u64) -> Tally
+        ensures right { IsTally self.now.list result }
+        ensures tid { result.tid ≡ tid }
+    {
+        match self.tallies.get(slot) {
+            Some(tally) if tally.tid == tid => *tally,
+            _ => Tally::new(tid),
+        }
     }
 
     // The packet that came last.

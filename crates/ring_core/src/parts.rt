@@ -1,14 +1,16 @@
 //! What a call works on, and the call as a whole.
-ghost use Rattle.std.specs.Prelude.{◌≡◌, ◌≢◌, ℕ, ◌+◌, ◌<◌, ◌≤◌, cond, true, false, List, [], ◌∷◌, ◌++◌, length, take, Option, Some, None, IfSome};
+ghost use Rattle.std.specs.Prelude.{◌≡◌, ◌≢◌, ℕ, ◌+◌, ◌<◌, ◌≤◌, cond, true, false, List, [], ◌∷◌, ◌++◌, length, take, Option, Some, None, IfSome, IsTrue, ◌↔◌};
 ghost use Rattle.chan_run.specs.declared.event.Event.{Event};
 ghost use Rattle.page_kept.specs.Kept.{pages_sent, pages_took};
 ghost use Rattle.page_kept.specs.Items.{values};
 ghost use Rattle.page_kept.specs.Keepers.{MayStore};
 ghost use Rattle.page_kept.specs.Layouts.{layout};
 ghost use Rattle.page_kept.specs.Stepped.{page_stored};
+ghost use Rattle.pkt_desc.specs.Packets.{kind_of};
 ghost use Rattle.page_kept.specs.declared.due.Due.TheVariants.{Clear, Loads};
 ghost use Rattle.page_kept.specs.declared.page_call.PageCall.TheVariants.{StoreWord, LoadWords};
 ghost use Rattle.page_table.specs.Table.{IsPart, word_of};
+ghost use Rattle.ring_core.specs.Lending.{Answers, Asks};
 ghost use Rattle.ring_core.specs.PageRuns.{RanPages};
 ghost use Rattle.ring_core.specs.Pages.{ArePages, kept_of, resting_in, along, part_words, part_len};
 ghost use Rattle.ring_machine.specs.Endings.{Leaves, LeavesBy};
@@ -26,6 +28,7 @@ ghost use Rattle.chan_run.specs.declared.event.Event.TheVariants.{Sent as SentEv
 use crate::driver::{Driver, page_step};
 use crate::packets::Packets;
 use crate::seat::Seatlike;
+use crate::tally::COMPLETION;
 use chan_run::Past;
 use page_table::{Loan, PageTable};
 use ring_machine::{EndCore, Ending};
@@ -222,6 +225,26 @@ impl<S: Seatlike> Parts<S> {
     {
         D::drive(self, packet);
         self.keep(packet);
+    }
+
+    /// Whether the lists and the table let this packet be sent: the end has the page that a request names, and all earlier requests of its id are completed;
+    /// a completion answers a request that was taken and isn't completed.
+    pub(crate) fn can_lend(&mut self, packet: &[u64]) -> bool
+        requires packet { IsPacket packet.now }
+        ensures answers { kind_of packet.now ≡ 11 → (IsTrue result ↔ Answers self.old.sent.list self.old.got.list packet.now) }
+        ensures asks { kind_of packet.now ≢ 11 → (IsTrue result ↔ Asks self.old.table.owners self.old.sent.list self.old.got.list packet.now) }
+        ensures along { along (kept_of self.old.core.pages self.old.sent self.old.got self.old.table) packet.now ≤ 512 }
+        ensures kept { (self.new.core ≡ self.old.core) × (self.new.sent ≡ self.old.sent) × (self.new.got ≡ self.old.got) × (self.new.past ≡ self.old.past) × (self.new.table ≡ self.old.table) × (self.new.seat ≡ self.old.seat) }
+    {
+        let tid = packet[1];
+        let had = self.table.has_named(packet);
+        if packet[0] % 65536 == COMPLETION {
+            return self.sent.tally(tid).dones < self.got.tally(tid).asks;
+        }
+        match had {
+            Some(had) => had && self.sent.tally(tid).asks <= self.got.tally(tid).dones,
+            None => true,
+        }
     }
 
     /// Stores a word of a page, and keeps it in the copy: 1 step.

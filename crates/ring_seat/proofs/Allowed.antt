@@ -1,30 +1,39 @@
 -- Each step that an end's machine names is allowed at the table: it keeps the rule, and leaves the end in its next state.
-use Rattle.std.proofs.Common.{◌≡◌, ◌≢◌, ℕ, ◌<◌, List, [], get_or, set, Option, Some, refl, sym, ap, ◌∙◌, subst, inl, inr, ⊎_elim, arith}
+use Rattle.std.proofs.Common.{◌≡◌, ◌≢◌, ℕ, ◌+◌, ◌*◌, ◌<◌, Bool, true, false, ◌||◌, List, [], get_or, set, Option, Some, refl, sym, ap, ◌∙◌, subst, inl, inr, ⊎_elim, arith}
 use Rattle.std.proofs.lemmas.List.{set-get_or}
 use mathlib.Core.Option.{some, none}
 use lib.ListN.{get_elem?}
-use Rattle.atomic_table.specs.Table.{Me, step, keeps, Allows}
+use Rattle.atomic_table.specs.Table.{State, Me, step, keeps, Allows}
 use Rattle.atomic_table.proofs.Lists.{at_set}
 use Rattle.io_edge.specs.declared.side.Side.{Side}
 use Rattle.io_edge.specs.declared.side.Side.TheVariants.{Guest, Host}
+use Rattle.page_kept.specs.declared.page_call.PageCall.{PageCall}
+use Rattle.page_kept.specs.declared.page_call.PageCall.TheVariants.{Off, StoreWord, LoadWords}
+use Rattle.ring_machine.specs.declared.machine.Stage.{Stage}
+use Rattle.ring_machine.specs.declared.machine.Stage.TheVariants.{Stopped}
 use Rattle.ring_machine.specs.declared.machine.Machine.{Machine}
+use Rattle.ring_machine.specs.declared.page_core.PageCore.{PageCore}
 use Rattle.ring_machine.specs.declared.state.EndState.{EndState}
-use Rattle.ring_machine.specs.declared.place.Ring.TheVariants.{ToHost, ToGuest}
-use Rattle.ring_machine.specs.declared.place.Place.{Place}
-use Rattle.ring_machine.specs.declared.place.Place.TheVariants.{Write, Read, Mask, Pending, Feature, Cell, Signal, Mark, Page}
 use Rattle.ring_machine.specs.declared.place.Op.{Op}
 use Rattle.ring_machine.specs.declared.place.Op.TheVariants.{Load, Store, Raise, TakeSignal, StoreMark}
-use Rattle.ring_machine.specs.Inside.{IsOpOf, IsInside}
-use Rattle.ring_machine.specs.Places.{IsPlaceOf, peer_of, index_of, signal_of, words_of}
-use Rattle.ring_machine.specs.Steps.{IsSound, next_of}
-use Rattle.ring_machine.specs.States.{entered, Continues, BeginsSend, BeginsTake, BeginsCommit, BeginsArm, BeginsPoll, BeginsMark, BeginsPeerMark}
+use Rattle.ring_machine.specs.PageCalls.{PagesFit, is_call_of, is_paging, is_under_way, newest, page_op, next_in}
+use Rattle.ring_machine.specs.Places.{peer_of, index_of, words_of}
+use Rattle.ring_machine.specs.Steps.{IsSound, fed, next_of, is_busy_at}
+use Rattle.ring_machine.specs.States.{Continues, BeginsSend, BeginsTake, BeginsCommit, BeginsArm, BeginsPoll, BeginsMark, BeginsPeerMark}
+use Rattle.ring_machine.proofs.Fitting.{inside_store, inside_load}
 use Rattle.ring_core.specs.declared.told.Told.{Told}
-use Rattle.ring_core.specs.Told.{written, answer_in, told_at, told_next}
-use Rattle.ring_machine.proofs.Bounds.{inside_at}
+use Rattle.ring_core.specs.Told.{written, answer_in, GoesOn}
+use Rattle.ring_core.proofs.Performed.{ring_went, ring_tells, page_tells, page_next}
+use Rattle.ring_model.proofs.Sides.{fed_side}
+use Rattle.ring_machine.proofs.Tables.{fed_cells}
+use Rattle.ring_seat.proofs.Loading.{step_count, fed_count}
+use Rattle.page_kept.specs.Stepped.{with_call}
 use Rattle.ring_seat.specs.declared.view.View.{View}
 use Rattle.ring_seat.specs.declared.view.View.TheVariants.{Both, One, Spent}
-use Rattle.ring_seat.specs.Seats.{Knows, Holds, word_at, stored_by, IsOp, IsNamed, Tells}
-use Rattle.ring_seat.proofs.Counting.{Counted, counted_of, next_counted, at_counted, with_told, invariant_with, signals_with}
+use Rattle.ring_seat.specs.Seats.{Knows, Holds, Making, made, word_at, stored_by, IsOp, IsNamed, Tells}
+use Rattle.ring_seat.proofs.Counting.{with_told, signals_with}
+use Rattle.ring_seat.proofs.Known.{Known, Goes, known_of, rule_with, counts_with, loads_with, made_known, the_op}
+use Rattle.ring_seat.proofs.Places.{word_small, page_small}
 
 -- what the word of a step becomes, and what the machine is fed, by the value that was there
 abbrev pub becomes : Op → ℕ → ℕ
@@ -85,82 +94,82 @@ module _ (ends : Side → Told) (seat : Side → ℕ) (id : ℕ) (x : Side) (u :
       ⊎_elim (λ (t : (j ≡ id) × (One u ≡ v)). subst (λ (k : ℕ × View). Knows (with_told x u ends) seat k.0 k.1) (λ i. (sym t.0 i, t.1 i)) (mine side))
       (λ (t : (j ≢ id) × (get_elem? views j ≡ some v)). others j v t.0 (knows j v t.1)) (at_set views id j (One u) v at)
 
+-- the table's state after one of them made a step
+pub holds_with : (n c id : ℕ) (s : State (Unit {0}) View) (x : Side) (u : Told) (ws : List ℕ) (it : Holds n c s) → id ≡ it.seat x → Known n c x ws u (it.ends (peer_of x)) → Holds n c record { words = ws; homes = s.homes; views = set s.views id (One u) }
+holds_with n c id s x u ws it here k = record {
+  ends = with_told x u it.ends;
+  seat = it.seat;
+  seats = views_kept it.ends it.seat id x u here s.views k.rings.sided.both.fits.side it.seats;
+  channel = rule_with n c x ws u it.ends (λ some. (it.channel.pages some).own) k;
+  counts = counts_with c x u it.ends k.count it.counts;
+  loads = λ some. loads_with x u it.ends (k.loads some) (it.loads some);
+  signals = signals_with n x _ u it.ends k.rings;
+}
+
 -- one step of the end that the view id tells of
-pub allowed : (n slots id : ℕ) (u : Told) (m : Machine) (q : List ℕ) (op : Op) → Continues u.state m q → next_of m q ≡ Some op
-    → Allows (Holds n) slots id (One u, []) (word_at n op) (becomes op) (λ f me. Tells (told_at u m q) (answers op f) me)
-allowed n slots id u m q op go h s it deep at small =
-    let x : Side = u.state.machine.side in
-    let knows : (u ≡ it.ends x) × (id ≡ it.seat x) = it.seats id (One u) at in
+pub allowed : (n c slots id : ℕ) (k : Making) (op : Op) → Goes c k op → Allows (Holds n c) slots id (One k.told, []) (word_at n op) (becomes op) (λ f me. Tells k (answers op f) me)
+allowed n c slots id k op go s it deep at small =
+    let x : Side = k.told.state.machine.side in
+    let knows : (k.told ≡ it.ends x) × (id ≡ it.seat x) = it.seats id (One k.told) at in
     let p : Told = it.ends (peer_of x) in
-    let base : Told = told_at u m q in
     let v : ℕ = answers op (get_or s.words (word_at n op) 0) in
-    let before : Counted n x s.words u p = subst (λ (k : Told). Counted n x s.words k p) (sym knows.0) (counted_of n s.words it.ends it.channel it.signals x) in
-    let made : Counted n x (written n op s.words) (told_next base (answer_in n op s.words)) p = next_counted n x s.words base p (at_counted n x s.words u p before m q go) op h in
-    let new : Counted n x (set s.words (word_at n op) (becomes op (get_or s.words (word_at n op) 0))) (told_next base v) p =
-    subst (λ (k : List ℕ × ℕ). Counted n x k.0 (told_next base k.1) p) (λ j. (written_is n op s.words j, answer_is n op s.words j)) made in (
-      One (told_next base v),
+    let before : Known n c x s.words k.told p = subst (λ (u : Told). Known n c x s.words u p) (sym knows.0) (known_of n c s.words it.ends it.channel it.counts it.loads it.signals x) in
+    let new : Known n c x (set s.words (word_at n op) (becomes op (get_or s.words (word_at n op) 0))) (made k v) p × ((fed k.machine v).stage ≢ Stopped) =
+    subst (λ (z : List ℕ × ℕ). Known n c x z.0 (made k z.1) p × ((fed k.machine z.1).stage ≢ Stopped)) (λ j. (written_is n op s.words j, answer_is n op s.words j)) (made_known n c x s.words k p op before go) in (
+      One (made k v),
       keeps,
       tt,
-      record {
-        ends = with_told x (told_next base v) it.ends;
-        seat = it.seat;
-        seats = views_kept it.ends it.seat id x (told_next base v) knows.1 s.views new.sided.both.fits.side it.seats;
-        channel = invariant_with n x _ (told_next base v) it.ends new;
-        signals = signals_with n x _ (told_next base v) it.ends new;
-      },
-      (refl, new.sided.mine.goes),
+      holds_with n c id s x (made k v) _ it knows.1 new.0,
+      (refl, new.1),
     )
 
 -- what a step asks of the table
-pub asks : (n slots id : ℕ) (me : Me (Unit {0}) View) (u base : Told) (m : Machine) (q : List ℕ) → me ≡ (One u, []) → base ≡ told_at u m q → Continues u.state m q → n ≡ m.cells
-    → (op : Op) (i : ℕ) → i ≡ word_at m.cells op → next_of m q ≡ Some op
-    → Allows (Holds n) slots id me i (becomes op) (λ f now. IsNamed base.state (step slots i (stored_by op) 0 none) × Tells base (answers op f) now)
-asks n slots id me u base m q view is go sized op i at h =
-    subst (λ (k : Me (Unit {0}) View × Told × ℕ). Allows (Holds n) slots id k.0 k.2 (becomes op) (λ f now. IsNamed k.1.state (step slots k.2 (stored_by op) 0 none) × Tells k.1 (answers op f) now))
-    (λ j. (sym view j, sym is j, (ap (λ (c : ℕ). word_at c op) sized ∙ sym at) j)) here
+asks : (n c slots id : ℕ) (me : Me (Unit {0}) View) (base k : Making) → me ≡ (One k.told, []) → base ≡ k → n ≡ k.machine.cells → (op : Op) → Goes c k op → next_in k.machine k.call k.packet ≡ Some op → (i : ℕ) → i ≡ word_at k.machine.cells op
+    → Allows (Holds n c) slots id me i (becomes op) (λ f now. IsNamed base (step slots i (stored_by op) 0 none) × Tells base (answers op f) now)
+asks n c slots id me base k view is sized op go named_op i at =
+    subst (λ (z : Me (Unit {0}) View × Making × ℕ). Allows (Holds n c) slots id z.0 z.2 (becomes op) (λ f now. IsNamed z.1 (step slots z.2 (stored_by op) 0 none) × Tells z.1 (answers op f) now))
+    (λ j. (sym view j, sym is j, (ap (λ (d : ℕ). word_at d op) sized ∙ sym at) j)) here
   where
-    named : IsNamed (entered u.state m q) (step slots (word_at n op) (stored_by op) 0 none)
-    named = subst (λ (o : Option Op). IsOp m.cells o (step slots (word_at n op) (stored_by op) 0 none)) (sym h) (ap (λ (c : ℕ). word_at c op) sized, refl)
+    named : IsNamed k (step slots (word_at n op) (stored_by op) 0 none)
+    named = subst (λ (o : Option Op). IsOp k.machine.cells o (step slots (word_at n op) (stored_by op) 0 none)) (sym named_op) (ap (λ (d : ℕ). word_at d op) sized, refl)
 
-    here : Allows (Holds n) slots id (One u, []) (word_at n op) (becomes op) (λ f now. IsNamed (entered u.state m q) (step slots (word_at n op) (stored_by op) 0 none) × Tells (told_at u m q) (answers op f) now)
+    here : Allows (Holds n c) slots id (One k.told, []) (word_at n op) (becomes op) (λ f now. IsNamed k (step slots (word_at n op) (stored_by op) 0 none) × Tells k (answers op f) now)
     here s it deep at_id small =
-        let r = allowed n slots id u m q op go h s it deep at_id small in
+        let r = allowed n c slots id k op go s it deep at_id small in
         (r.0, r.1, r.2, r.3, (named, r.4))
 
--- the word of each step is one of the channel's
-place_small : (n : ℕ) (p : Place) → IsPlaceOf n 0 p → index_of n p < words_of n
-place_small n (Write ToHost) h = omega arith
-place_small n (Write ToGuest) h = omega arith
-place_small n (Read ToHost) h = omega arith
-place_small n (Read ToGuest) h = omega arith
-place_small n (Mask ToHost) h = omega arith
-place_small n (Mask ToGuest) h = omega arith
-place_small n (Pending ToHost) h = omega arith
-place_small n (Pending ToGuest) h = omega arith
-place_small n (Feature ToHost) h = omega arith
-place_small n (Feature ToGuest) h = omega arith
-place_small n (Cell ToHost at) h = omega (arith, h.1)
-place_small n (Cell ToGuest at) h = omega (arith, h.1)
-place_small n (Signal Guest) h = omega arith
-place_small n (Signal Host) h = omega arith
-place_small n (Mark Guest) h = omega arith
-place_small n (Mark Host) h = omega arith
-place_small n (Page q w) h = absurd (omega (arith, h.0))
+-- the word of each step stands in the table
+page_word : (n c : ℕ) (d : PageCall) (op : Op) → is_call_of c d ≡ true → page_op d ≡ Some op → word_at n op < words_of n + 512 * c
+page_word n c Off op h e = absurd (cc)
+page_word n c (StoreWord q w v) op h e = let z = inside_store c q w v h in subst (λ (o : Op). word_at n o < words_of n + 512 * c) (ap the_op e) (page_small n c q w z.0 z.1)
+page_word n c (LoadWords q m j) op h e = let z = inside_load c q m j h in subst (λ (o : Op). word_at n o < words_of n + 512 * c) (ap the_op e) (page_small n c q j z.0 (omega (arith, z.1, z.2)))
 
-op_small : (n : ℕ) (op : Op) → IsOpOf n 0 op → word_at n op < words_of n
-op_small n (Load p) h = place_small n p h
-op_small n (Store p v) h = place_small n p h
-op_small n (Raise x) h = place_small n (Signal x) tt
-op_small n (TakeSignal x) h = place_small n (Signal x) tt
-op_small n (StoreMark x) h = place_small n (Mark x) tt
+op_small : (c : ℕ) (k : Making) (op : Op) → IsSound k.machine → Goes c k op → word_at k.machine.cells op < words_of k.machine.cells + 512 * c
+op_small c k op sound g = by (is_busy_at k.machine.stage) refl
+  where
+    by : (b : Bool) → is_busy_at k.machine.stage ≡ b → word_at k.machine.cells op < words_of k.machine.cells + 512 * c
+    by true e = let z = word_small k.machine k.packet op (word_at k.machine.cells op) (words_of k.machine.cells) sound (g.ring e) refl refl in omega (arith, z)
+    by false e = page_word k.machine.cells c k.call op g.call (g.page e)
 
-pub signal_small : (n : ℕ) (x : Side) → signal_of n x < words_of n
-signal_small n x = place_small n (Signal x) tt
+-- a page call of a channel of as many pages
+pub call_in : (a c : ℕ) (d : PageCall) → is_call_of a d ≡ true → (is_paging d ≡ true → a ≡ c) → is_call_of c d ≡ true
+call_in a c Off h e = refl
+call_in a c (StoreWord q w v) h e = subst (λ (b : ℕ). is_call_of b (StoreWord q w v) ≡ true) (e refl) h
+call_in a c (LoadWords q n j) h e = subst (λ (b : ℕ). is_call_of b (LoadWords q n j) ≡ true) (e refl) h
 
-pub word_small : (m : Machine) (q : List ℕ) (op : Op) (i words : ℕ) → IsSound m → next_of m q ≡ Some op → i ≡ word_at m.cells op → words ≡ words_of m.cells → i < words
-word_small m q op i words sound h at all =
-    let small : word_at m.cells op < words_of m.cells = op_small m.cells op (subst (IsInside m.cells 0) h (inside_at m 0 q sound m.stage refl)) in
-    omega (arith, at, all)
+-- what is under way, where no call of the rings is, is a page call
+pub paging_of : (st : Stage) (d : PageCall) → is_under_way st d ≡ true → is_busy_at st ≡ false → is_paging d ≡ true
+paging_of st d h e = sym (ap (λ (b : Bool). b || is_paging d) e) ∙ h
+
+pub went : (c : ℕ) (told : Told) (core : PageCore) (m : Machine) (p : List ℕ) (op : Op) → PagesFit core m.stage → is_under_way m.stage core.call ≡ true → (is_paging core.call ≡ true → core.count ≡ c)
+    → GoesOn (is_busy_at m.stage) told.state m core.call p → (is_busy_at m.stage ≡ true → next_of m p ≡ Some op) → next_in m core.call p ≡ Some op → Goes c record { told = told; machine = m; call = core.call; packet = p } op
+went c told core m p op fit way pages on ring named = record {
+  goes_on = on;
+  call = call_in core.count c core.call fit.call pages;
+  idle = λ e. fit.idle (paging_of m.stage core.call way e);
+  ring = ring;
+  page = λ e. sym (page_next m core.call p e) ∙ named;
+}
 
 -- a machine that goes on from a state, or begins a call there, is of the same end
 pub continues_side : (e : EndState) (m : Machine) (q : List ℕ) → Continues e m q → m.side ≡ e.machine.side
@@ -173,9 +182,33 @@ continues_side e m q (inr c) =
     (⊎_elim (λ (b : BeginsPoll e m q). ap (λ (k : Machine). k.side) b.0)
     (⊎_elim (λ (b : BeginsMark e m q). ap (λ (k : Machine). k.side) b.0) (λ (b : BeginsPeerMark e m q). ap (λ (k : Machine). k.side) b.0)))))) c.1
 
+-- what a step leaves of an end's side, of its cells and of its pages
+pub made_side : (k : Making) (v : ℕ) → GoesOn (is_busy_at k.machine.stage) k.told.state k.machine k.call k.packet → (made k v).state.machine.side ≡ k.told.state.machine.side
+made_side k v go = by (is_busy_at k.machine.stage) refl
+  where
+    by : (b : Bool) → is_busy_at k.machine.stage ≡ b → (made k v).state.machine.side ≡ k.told.state.machine.side
+    by true e =
+        ap (λ (t : Told). t.state.machine.side) (ring_tells _ k.told k.machine k.call k.packet v e)
+        ∙ (fed_side k.machine v k.machine.stage ∙ continues_side k.told.state k.machine k.packet (ring_went _ k.told.state k.machine k.call k.packet e go))
+    by false e = ap (λ (t : Told). t.state.machine.side) (page_tells _ k.told k.machine k.call k.packet v e)
+
+pub made_cells : (k : Making) (v : ℕ) → k.machine.cells ≡ k.told.state.machine.cells → (made k v).state.machine.cells ≡ k.told.state.machine.cells
+made_cells k v fits = by (is_busy_at k.machine.stage) refl
+  where
+    by : (b : Bool) → is_busy_at k.machine.stage ≡ b → (made k v).state.machine.cells ≡ k.told.state.machine.cells
+    by true e = ap (λ (t : Told). t.state.machine.cells) (ring_tells _ k.told k.machine k.call k.packet v e) ∙ (fed_cells k.machine v k.machine.stage ∙ fits)
+    by false e = ap (λ (t : Told). t.state.machine.cells) (page_tells _ k.told k.machine k.call k.packet v e)
+
+pub made_count : (k : Making) (v : ℕ) → (made k v).state.pages.count ≡ k.told.state.pages.count
+made_count k v = by (is_busy_at k.machine.stage) refl
+  where
+    by : (b : Bool) → is_busy_at k.machine.stage ≡ b → (made k v).state.pages.count ≡ k.told.state.pages.count
+    by true e = ap (λ (t : Told). t.state.pages.count) (ring_tells _ k.told k.machine k.call k.packet v e) ∙ step_count k.machine.stage k.machine k.told.state.pages k.packet k.told.state.copied v
+    by false e = ap (λ (t : Told). t.state.pages.count) (page_tells _ k.told k.machine k.call k.packet v e) ∙ fed_count k.call (with_call k.call k.told.state.pages) (newest k.told.state.got) v
+
 -- what a call on the table requires, which makes this step of the end that the seat tells of
-pub calls : {T : Type 0} {table board : T} (words n slots id : ℕ) (me : Me (Unit {0}) View) (u base : Told) (m : Machine) (q : List ℕ) (op : Op) (i : ℕ) → table ≡ board → (words ≡ words_of m.cells) × (n ≡ m.cells)
-    → me ≡ (One u, []) → base ≡ told_at u m q → Continues u.state m q → IsSound m → next_of m q ≡ Some op → i ≡ word_at m.cells op
-    → (table ≡ board) × (i < words) × Allows (Holds n) slots id me i (becomes op) (λ f now. IsNamed base.state (step slots i (stored_by op) 0 none) × Tells base (answers op f) now)
-calls words n slots id me u base m q op i seated sized view is go sound h at =
-    (seated, word_small m q op i words sound h at sized.0, asks n slots id me u base m q view is go sized.1 op i at h)
+pub calls : {T : Type 0} {table board : T} (words n c slots id : ℕ) (me : Me (Unit {0}) View) (base k : Making) (op : Op) (i : ℕ) → table ≡ board → (words ≡ words_of k.machine.cells + 512 * c) × (n ≡ k.machine.cells)
+    → me ≡ (One k.told, []) → base ≡ k → IsSound k.machine → Goes c k op → next_in k.machine k.call k.packet ≡ Some op → i ≡ word_at k.machine.cells op
+    → (table ≡ board) × (i < words) × Allows (Holds n c) slots id me i (becomes op) (λ f now. IsNamed base (step slots i (stored_by op) 0 none) × Tells base (answers op f) now)
+calls words n c slots id me base k op i seated sized view is sound go named at =
+    (seated, (let z = op_small c k op sound go in omega (arith, z, at, sized.0)), asks n c slots id me base k view is sized.1 op go named i at)

@@ -75,7 +75,7 @@ with_told Guest u ends Host = ends Host
 with_told Host u ends Guest = ends Guest
 with_told Host u ends Host = u
 
-states_with : (x : Side) (u : Told) (ends : Side → Told) (y : Side) → with_end x u.state (states ends) y ≡ (with_told x u ends y).state
+pub states_with : (x : Side) (u : Told) (ends : Side → Told) (y : Side) → with_end x u.state (states ends) y ≡ (with_told x u ends y).state
 states_with Guest u ends Guest = refl
 states_with Guest u ends Host = refl
 states_with Host u ends Guest = refl

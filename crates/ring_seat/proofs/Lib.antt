@@ -15,3 +15,6 @@ pub mod PageStages
 pub mod PageLists
 pub mod PageSteps
 pub mod WholeLaws
+pub mod Places
+pub mod Loading
+pub mod Known

@@ -33,7 +33,7 @@ use Rattle.ring_machine.specs.States.{after, entered, got_after, sent_after, pag
 use Rattle.ring_core.specs.Told.{written, answer_in}
 use Rattle.ring_seat.specs.Rule.{ChannelInvariant, with_end}
 use Rattle.ring_seat.specs.Seats.{word_at}
-use Rattle.ring_seat.proofs.Allowed.{word_small}
+use Rattle.ring_seat.proofs.Places.{word_small}
 use Rattle.ring_seat.proofs.Reading.{keeps_begin}
 use Rattle.ring_seat.proofs.Sided.{Sided, sided_of, invariant_of, stepped}
 use Rattle.ring_model.specs.Ring.{Sending_at, Taking_at}
@@ -67,14 +67,14 @@ take_set (suc k) [] (suc i) v = refl
 take_set (suc k) (w ∷ ws) zero v = refl
 take_set (suc k) (w ∷ ws) (suc i) v = ap (λ (l : List _). w ∷ l) (take_set k ws i v)
 
-written_take : (n : ℕ) (op : Op) (ws : List ℕ) → word_at n op < words_of n → take (words_of n) (written n op ws) ≡ written n op (take (words_of n) ws)
+pub written_take : (n : ℕ) (op : Op) (ws : List ℕ) → word_at n op < words_of n → take (words_of n) (written n op ws) ≡ written n op (take (words_of n) ws)
 written_take n (Load pl) ws a = refl
 written_take n (Store pl v) ws a = take_set (words_of n) ws (index_of n pl) v
 written_take n (Raise x) ws a = take_set (words_of n) ws (signal_of n x) 1
 written_take n (TakeSignal x) ws a = take_set (words_of n) ws (signal_of n x) 0
 written_take n (StoreMark x) ws a = take_set (words_of n) ws (mark_of n x) 1
 
-answer_take : (n : ℕ) (op : Op) (ws : List ℕ) → word_at n op < words_of n → answer_in n op (take (words_of n) ws) ≡ answer_in n op ws
+pub answer_take : (n : ℕ) (op : Op) (ws : List ℕ) → word_at n op < words_of n → answer_in n op (take (words_of n) ws) ≡ answer_in n op ws
 answer_take n (Load pl) ws a = get_or-take (words_of n) ws (index_of n pl) 0 a
 answer_take n (Store pl v) ws a = refl
 answer_take n (Raise x) ws a = refl
@@ -91,7 +91,7 @@ module _ (n c : ℕ) (x : Side) (ws : List ℕ) (e p : EndState) (some : c ≢ 0
   abbrev y : Keeper
   y = keeper_of c (peer_of x) p
 
-  small : word_at n op < words_of n
+  pub small : word_at n op < words_of n
   small = word_small e.machine e.packet op (word_at n op) (words_of n) s.both.fits.sound h (ap (λ (k : ℕ). word_at k op) (sym s.both.fits.cells)) (ap words_of (sym s.both.fits.cells))
 
   pub made : Sided n x (take (words_of n) (written n op ws)) (after e v) p
@@ -232,19 +232,21 @@ module _ (c : ℕ) (x : Side) (e : EndState) (m : Machine) (q : List ℕ) (some 
       (⊎_elim (λ (d : BeginsMark e m q). none_asks MarkStore refl refl (ap (λ (k : Machine). k.stage) d.0))
       (λ (d : BeginsPeerMark e m q). none_asks PeerMark refl refl (ap (λ (k : Machine). k.stage) d.0))))))) b.1
 
+pub part_begun : (n c : ℕ) (x : Side) (ws : List ℕ) (e p : EndState) (m : Machine) (q : List ℕ) → c ≢ 0 → e.machine.side ≡ x → PagesPart n c ws x e p → Begins e m q → PagesPart n c ws x (entered e m q) p
+part_begun n c x ws e p m q some side g b =
+    let asks = begins_ask c x e m q some g.mine.count side b in
+    record {
+      wide = g.wide;
+      mine = record { count = g.mine.count; listed = g.mine.listed; copied = g.mine.copied; sent = g.mine.sent; sending = asks.sends; taking = asks.takes };
+      theirs = g.theirs;
+      owned = g.owned;
+    }
+
 pub calls_keep : (n c : ℕ) (x : Side) (ws : List ℕ) (ends : Side → EndState) (m : Machine) (q : List ℕ) → c ≢ 0 → ChannelInvariant n (take (words_of n) ws) ends → PagesPart n c ws x (ends x) (ends (peer_of x)) → Begins (ends x) m q
     → ChannelInvariant n (take (words_of n) ws) (with_end x (entered (ends x) m q) ends) × PagesPart n c ws x (entered (ends x) m q) (ends (peer_of x))
 calls_keep n c x ws ends m q some i g b =
     let s : Sided n x (take (words_of n) ws) (ends x) (ends (peer_of x)) = sided_of n (take (words_of n) ws) ends i x in
-    let asks = begins_ask c x (ends x) m q some g.mine.count s.both.fits.side b in (
-      keeps_begin n (take (words_of n) ws) ends x m q i b,
-      record {
-        wide = g.wide;
-        mine = record { count = g.mine.count; listed = g.mine.listed; copied = g.mine.copied; sent = g.mine.sent; sending = asks.sends; taking = asks.takes };
-        theirs = g.theirs;
-        owned = g.owned;
-      },
-    )
+    (keeps_begin n (take (words_of n) ws) ends x m q i b, part_begun n c x ws (ends x) (ends (peer_of x)) m q some s.both.fits.side g b)
 
 -- the rings don't see an end's pages
 module _ (n : ℕ) (x : Side) (ws : List ℕ) (e p : EndState) (k : Kept) (s : Sided n x ws e p) where
@@ -283,18 +285,16 @@ module _ (n : ℕ) (x : Side) (ws : List ℕ) (e p : EndState) (k : Kept) (s : S
     peers_wakes = s.peers_wakes;
   }
 
-idle_unsent : (st : Stage) → st ≡ Idle → is_unsent_at st ≡ true → ⊥
+pub idle_unsent : (st : Stage) → st ≡ Idle → is_unsent_at st ≡ true → ⊥
 idle_unsent st i u = let z : is_unsent_at st ≡ false = ap is_unsent_at i in let w : true ≡ false = sym u ∙ z in (cc)
 
-idle_taking : (st : Stage) → st ≡ Idle → is_taking_at st ≡ true → ⊥
+pub idle_taking : (st : Stage) → st ≡ Idle → is_taking_at st ≡ true → ⊥
 idle_taking st i u = let z : is_taking_at st ≡ false = ap is_taking_at i in let w : true ≡ false = sym u ∙ z in (cc)
 
-module _ (n c : ℕ) (x : Side) (ws : List ℕ) (ends : Side → EndState) (some : c ≢ 0) (i : ChannelInvariant n (take (words_of n) ws) ends) (g : PagesPart n c ws x (ends x) (ends (peer_of x))) (idle : (ends x).machine.stage ≡ Idle) where
-  abbrev pub e0 : EndState
-  e0 = ends x
-
+-- a page call of an end that neither sends nor takes
+module _ (n c : ℕ) (x : Side) (ws : List ℕ) (e0 p0 : EndState) (some : c ≢ 0) (s : Sided n x (take (words_of n) ws) e0 p0) (g : PagesPart n c ws x e0 p0) (unsent : is_unsent_at e0.machine.stage ≡ true → ⊥) (untaken : is_taking_at e0.machine.stage ≡ true → ⊥) where
   abbrev pub y0 : Keeper
-  y0 = keeper_of c (peer_of x) (ends (peer_of x))
+  y0 = keeper_of c (peer_of x) p0
 
   pub lawful : Lawful (layout c) e0.pages
   lawful = record { pages = (let z = g.mine.count in grind (arith, nat_tests, z, some)); listed = g.mine.listed ∙ sym g.mine.count; copied = g.mine.copied ∙ ap (λ (k : ℕ). 512 * k) (sym g.mine.count); inside = λ q a j. (let z = (fits c q a j).0 in let m = g.mine.count in omega (arith, z, m), (fits c q a j).1, (fits c q a j).2) }
@@ -305,19 +305,19 @@ module _ (n c : ℕ) (x : Side) (ws : List ℕ) (ends : Side → EndState) (some
   -- the rest, where the pages become k and the words ws'
   rebuilt : (k : Kept) (ws' : List ℕ) → length ws' ≡ length ws → take (words_of n) ws' ≡ take (words_of n) ws → k.count ≡ e0.pages.count → length k.owners ≡ length e0.pages.owners → length k.copy ≡ length e0.pages.copy → k.sent ≡ e0.pages.sent
       → PagesOwned (layout c) x (word_in (words_of n) ws') (keeper (layout c) x e0.got k) y0
-      → ChannelInvariant n (take (words_of n) ws') (with_end x (with_pages e0 k) ends) × PagesPart n c ws' x (with_pages e0 k) (ends (peer_of x))
+      → Sided n x (take (words_of n) ws') (with_pages e0 k) p0 × PagesPart n c ws' x (with_pages e0 k) p0
   rebuilt k ws' long same count listed copied sent owned = (
-    subst (λ (z : List ℕ). ChannelInvariant n z (with_end x (with_pages e0 k) ends)) (sym same) (invariant_of n x _ (with_pages e0 k) ends (aside n x (take (words_of n) ws) e0 (ends (peer_of x)) k (sided_of n (take (words_of n) ws) ends i x))),
+    subst (λ (z : List ℕ). Sided n x z (with_pages e0 k) p0) (sym same) (aside n x (take (words_of n) ws) e0 p0 k s),
     record {
       wide = (let w = g.wide in omega (arith, w, long));
-      mine = record { count = count ∙ g.mine.count; listed = listed ∙ g.mine.listed; copied = copied ∙ g.mine.copied; sent = ap packets sent ∙ g.mine.sent; sending = λ u. absurd (idle_unsent e0.machine.stage idle u); taking = λ u. absurd (idle_taking e0.machine.stage idle u) };
+      mine = record { count = count ∙ g.mine.count; listed = listed ∙ g.mine.listed; copied = copied ∙ g.mine.copied; sent = ap packets sent ∙ g.mine.sent; sending = λ u. absurd (unsent u); taking = λ u. absurd (untaken u) };
       theirs = g.theirs;
       owned = owned;
     },
   )
 
   pub store_keeps : (q w v : ℕ) → MayStore (layout c) x e0.pages q w
-      → ChannelInvariant n (take (words_of n) (set ws (page_index n q w) v)) (with_end x (with_pages e0 (page_stored e0.pages q w v)) ends) × PagesPart n c (set ws (page_index n q w) v) x (with_pages e0 (page_stored e0.pages q w v)) (ends (peer_of x))
+      → Sided n x (take (words_of n) (set ws (page_index n q w) v)) (with_pages e0 (page_stored e0.pages q w v)) p0 × PagesPart n c (set ws (page_index n q w) v) x (with_pages e0 (page_stored e0.pages q w v)) p0
   store_keeps q w v may =
       rebuilt (page_stored e0.pages q w v) (set ws (page_index n q w) v) (length-set ws _ v) (take-set-le (words_of n) ws (page_index n q w) v (omega arith)) refl refl (length-set e0.pages.copy _ v) refl
       (keeps_stored (layout c) x (words_of n) ws e0.got e0.pages y0 lawful all g.owned q w v may)
@@ -342,7 +342,7 @@ module _ (n c : ℕ) (x : Side) (ws : List ℕ) (ends : Side → EndState) (some
     lists_at Clear v = record { count = refl; listed = refl; copied = refl; sent = refl }
     lists_at (Loads r k u) v = at_cond Lists (ltb (u + 1) k) _ _ (λ _. record { count = refl; listed = refl; copied = length-set e0.pages.copy _ v; sent = refl }) (λ _. record { count = refl; listed = refl; copied = length-set e0.pages.copy _ v; sent = refl })
 
-    pub load_keeps : ChannelInvariant n (take (words_of n) ws) (with_end x (with_pages e0 (page_loaded e0.pages pk (word_in (words_of n) ws q j))) ends) × PagesPart n c ws x (with_pages e0 (page_loaded e0.pages pk (word_in (words_of n) ws q j))) (ends (peer_of x))
+    pub load_keeps : Sided n x (take (words_of n) ws) (with_pages e0 (page_loaded e0.pages pk (word_in (words_of n) ws q j))) p0 × PagesPart n c ws x (with_pages e0 (page_loaded e0.pages pk (word_in (words_of n) ws q j))) p0
     load_keeps =
         let l = lists_at e0.pages.due (word_in (words_of n) ws q j) in
         rebuilt (page_loaded e0.pages pk (word_in (words_of n) ws q j)) ws refl refl l.count l.listed l.copied l.sent (keeps_loaded (layout c) x (words_of n) ws e0.got e0.pages y0 lawful all g.owned q m j due within b)

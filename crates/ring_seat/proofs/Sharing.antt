@@ -1,6 +1,7 @@
 -- The table at the start, its view cut in two, two views put together, and what the whole view tells.
-use Rattle.std.proofs.Common.{◌≡◌, ◌≢◌, ℕ, true, zero, suc, ◌+◌, ◌<◌, ◌≤◌, ◌⊎◌, List, [], ◌∷◌, ◌++◌, length, get_or, set, replicate, refl, sym, ap, ◌∙◌, subst, arith, inl, inr, ⊎_elim, length-set}
-use Rattle.std.proofs.lemmas.List.{append-nil, set-get_or, get_or-set_same, get_or-set_other, length-replicate}
+use Rattle.std.proofs.Common.{◌≡◌, ◌≢◌, ℕ, Bool, true, false, zero, suc, ◌+◌, ◌*◌, ◌<◌, ◌≤◌, ◌⊎◌, ltb, cond, List, [], ◌∷◌, ◌++◌, length, take, get_or, set, replicate, refl, sym, ap, ◌∙◌, subst, arith, inl, inr, ⊎_elim, length-set}
+use Rattle.std.proofs.Math.Seq.{take-append_seam}
+use Rattle.std.proofs.lemmas.List.{set-get_or, get_or-set_same, get_or-set_other, get_or-append_right, length-append, length-replicate}
 use mathlib.Core.Option.{some, some-injective, some-ne-none}
 use lib.ListN.{get_elem?}
 use Rattle.atomic_table.specs.Table.{State, Me, keeps, opening, Allows, Splits, Joins}
@@ -18,11 +19,15 @@ use Rattle.ring_model.proofs.Settling.{guest_front, host_front, one_run, guest_d
 use Rattle.ring_seat.specs.declared.view.View.{View}
 use Rattle.ring_seat.specs.declared.view.View.TheVariants.{Both, One, Spent}
 use Rattle.ring_seat.specs.Rule.{OwnWords, ChannelInvariant}
-use Rattle.ring_seat.specs.Seats.{Knows, Holds, SignalsRaised, new_end, new_told, told_in, looked, is_one, guest_in, host_in, joined}
-use Rattle.ring_seat.specs.Settling.{AreSettled, SignalsTaken, IsSettled}
+use Rattle.ring_seat.specs.Seats.{Knows, Holds, SignalsRaised, states, new_end, new_told, told_in, looked, is_one, guest_in, host_in, joined}
+use Rattle.ring_seat.specs.Settling.{AreSettled, SignalsTaken, PagesSettled, IsSettled}
+use Rattle.ring_seat.specs.PageRule.{ring_words}
+use Rattle.ring_seat.specs.Whole.{WholeRule, new_paged}
 use Rattle.ring_seat.proofs.PointLaws.{new_point}
-use Rattle.ring_seat.proofs.Counting.{Counted, counted_of, with_told, invariant_with, signals_with}
-use Rattle.ring_seat.proofs.Allowed.{views_kept}
+use Rattle.ring_seat.proofs.Allowed.{holds_with}
+use Rattle.ring_seat.proofs.Known.{Known, known_of}
+use Rattle.ring_seat.proofs.WholeLaws.{new_keeps, end_tells}
+use Rattle.page_kept.specs.Stepped.{word_in}
 
 at_end : {A : Type 0} (l : List A) (a b : A) (j : ℕ) → get_elem? (l ++ a ∷ []) j ≡ some b → (get_elem? l j ≡ some b) ⊎ ((j ≡ length l) × (a ≡ b))
 at_end [] a b zero e = inr (refl, some-injective a b e)
@@ -94,25 +99,59 @@ module _ (n : ℕ) where
   }
 
   -- no signal is up
-  new_signals : (x : Side) → SignalsRaised n (opening_words n) x (new_told n x) (new_told n (peer_of x))
-  new_signals Guest = let z = zero_at (n + n + 10) (omega arith) (λ e. omega arith) (λ e. omega arith) (λ e. omega arith) (λ e. omega arith) in omega (arith, z)
-  new_signals Host = let z = zero_at (n + n + 11) (omega arith) (λ e. omega arith) (λ e. omega arith) (λ e. omega arith) (λ e. omega arith) in omega (arith, z)
+  new_signals : (c : ℕ) (x : Side) → SignalsRaised n (opening_words n) x (new_told n c x) (new_told n c (peer_of x))
+  new_signals c Guest = let z = zero_at (n + n + 10) (omega arith) (λ e. omega arith) (λ e. omega arith) (λ e. omega arith) (λ e. omega arith) in omega (arith, z)
+  new_signals c Host = let z = zero_at (n + n + 11) (omega arith) (λ e. omega arith) (λ e. omega arith) (λ e. omega arith) (λ e. omega arith) in omega (arith, z)
 
-pub opens : (n : ℕ) (words : List ℕ) → 512 ≤ n → n ≤ 8192 → words ≡ opening_with n 0 → Holds n (opening words [] (Both (new_told n Guest) (new_told n Host)))
-opens n words a b is = subst (λ (l : List ℕ). Holds n (opening l [] (Both (new_told n Guest) (new_told n Host)))) (sym (is ∙ append-nil (opening_words n))) (record { ends = new_told n; seat = λ x. 0; seats = alone; channel = new_invariant n a b; signals = new_signals n })
+  -- the words of the rings, and those of the pages behind them
+  opening_long : length (opening_words n) ≡ words_of n
+  opening_long = length-set three 4 1 ∙ three_long
+
+  new_rings : (c : ℕ) → ring_words n (opening_with n c) ≡ opening_words n
+  new_rings c = ap (λ (k : ℕ). take k (opening_with n c)) (sym opening_long) ∙ take-append_seam (opening_words n) (replicate (512 * c) 0)
+
+  zeros_in : (k i : ℕ) → get_or (replicate {A = ℕ} k 0) i 0 ≡ 0
+  zeros_in zero i = refl
+  zeros_in (suc k) zero = refl
+  zeros_in (suc k) (suc i) = zeros_in k i
+
+  new_word : (c q w : ℕ) → word_in (words_of n) (opening_with n c) q w ≡ 0
+  new_word c q w = either_zero (ltb w 512) _ (get_or-append_right (opening_words n) (replicate (512 * c) 0) (words_of n) (words_of n + (512 * q + w)) 0 opening_long (omega arith) ∙ zeros_in (512 * c) _)
+    where
+      either_zero : (b : Bool) (v : ℕ) → v ≡ 0 → cond b v 0 ≡ 0
+      either_zero true v e = e
+      either_zero false v e = refl
+
+  new_rule : (c : ℕ) → 512 ≤ n → n ≤ 8192 → WholeRule n c (opening_with n c) (new_paged n c)
+  new_rule c a b =
+      new_keeps n c (opening_with n c) a b (let l = length-append (opening_words n) (replicate (512 * c) 0) in let m = length-replicate {A = ℕ} (512 * c) 0 in let o = opening_long in omega (arith, l, m, o))
+      (subst (λ (z : List ℕ). ChannelInvariant n z (new_end n)) (sym (new_rings c)) (new_invariant a b)) (new_word c)
+
+pub opens : (n c : ℕ) (words : List ℕ) → 512 ≤ n → n ≤ 8192 → words ≡ opening_with n c → Holds n c (opening words [] (Both (new_told n c Guest) (new_told n c Host)))
+opens n c words a b is = subst (λ (l : List ℕ). Holds n c (opening l [] (Both (new_told n c Guest) (new_told n c Host)))) (sym is) (record {
+  ends = new_told n c;
+  seat = λ x. 0;
+  seats = alone;
+  channel = new_rule n c a b;
+  counts = λ x. refl;
+  loads = λ some x. tt;
+  signals = λ x. subst (λ (z : List ℕ). SignalsRaised n z x (new_told n c x) (new_told n c (peer_of x))) (sym (new_rings n c)) (new_signals n c x);
+})
   where
-    alone : (id : ℕ) (v : View) → get_elem? (Both (new_told n Guest) (new_told n Host) ∷ []) id ≡ some v → Knows (new_told n) (λ x. 0) id v
-    alone zero v e = subst (Knows (new_told n) (λ x. 0) 0) (some-injective _ _ e) (refl, refl, refl, refl)
+    alone : (id : ℕ) (v : View) → get_elem? (Both (new_told n c Guest) (new_told n c Host) ∷ []) id ≡ some v → Knows (new_told n c) (λ x. 0) id v
+    alone zero v e = subst (Knows (new_told n c) (λ x. 0) 0) (some-injective _ _ e) (refl, refl, refl, refl)
     alone (suc id) v e = absurd (some-ne-none v (sym e))
 
-splits : (n id : ℕ) (g h : Told) → Splits (Holds n) id (Both g h) (One g) (One h)
+splits : (n c id : ℕ) (g h : Told) → Splits (Holds n c) id (Both g h) (One g) (One h)
 unfolding two_seats
-splits n id g h s it at = record {
+splits n c id g h s it at = record {
   ends = it.ends;
   seat = two_seats id (length s.views);
   seats = λ j v k. ⊎_elim (λ t. ⊎_elim (λ u. subst (Knows it.ends (two_seats id (length s.views)) j) u.1 (mine j u.0)) (λ u. others j v u.0 (it.seats j v u.1)) (at_set s.views id j (One g) v t))
       (λ t. subst (Knows it.ends (two_seats id (length s.views)) j) t.1 (theirs j (t.0 ∙ length-set s.views id (One g)))) (at_end (set s.views id (One g)) (One h) v j k);
   channel = it.channel;
+  counts = it.counts;
+  loads = it.loads;
   signals = it.signals;
 }
   where
@@ -120,10 +159,10 @@ splits n id g h s it at = record {
     knows = it.seats id (Both g h) at
 
     guest : Guest ≡ g.state.machine.side
-    guest = sym (ap (λ (u : Told). u.state.machine.side) knows.0 ∙ it.channel.channel.guest_fits.side)
+    guest = sym (ap (λ (u : Told). u.state.machine.side) knows.0 ∙ it.channel.rings.channel.guest_fits.side)
 
     host : Host ≡ h.state.machine.side
-    host = sym (ap (λ (u : Told). u.state.machine.side) knows.1 ∙ it.channel.channel.host_fits.side)
+    host = sym (ap (λ (u : Told). u.state.machine.side) knows.1 ∙ it.channel.rings.channel.host_fits.side)
 
     mine : (j : ℕ) → j ≡ id → Knows it.ends (two_seats id (length s.views)) j (One g)
     mine j e = (knows.0 ∙ ap it.ends guest, e ∙ ap (two_seats id (length s.views)) guest)
@@ -139,12 +178,14 @@ splits n id g h s it at = record {
     others j (One a) ne k = absurd (ne (k.1 ∙ seat_is a.state.machine.side))
     others j Spent ne k = k
 
-joins : (n id away : ℕ) (g h : Told) → g.state.machine.side ≡ Guest → h.state.machine.side ≡ Host → Joins (Holds n) id (One g) away (One h) (Both g h) Spent
-joins n id away g h guest host s it at apart there = record {
+joins : (n c id away : ℕ) (g h : Told) → g.state.machine.side ≡ Guest → h.state.machine.side ≡ Host → Joins (Holds n c) id (One g) away (One h) (Both g h) Spent
+joins n c id away g h guest host s it at apart there = record {
   ends = it.ends;
   seat = λ x. id;
   seats = λ j v k. ⊎_elim (λ t. subst (Knows it.ends (λ x. id) j) t.1 tt) (λ t. ⊎_elim (λ u. subst (Knows it.ends (λ x. id) j) u.1 (whole j u.0)) (λ u. others j v t.0 u.0 (it.seats j v u.1)) (at_set s.views id j (Both g h) v t.1)) (at_set (set s.views id (Both g h)) away j Spent v k);
   channel = it.channel;
+  counts = it.counts;
+  loads = it.loads;
   signals = it.signals;
 }
   where
@@ -186,62 +227,63 @@ taken_of n ws ends s =
     let h = s Host in
     record { guest = omega (arith, g); host = omega (arith, h) }
 
-settled_of : (n id : ℕ) (s : State (Unit {0}) View) (it : Holds n s) (v : View) → get_elem? s.views id ≡ some v → IsSettled v
-settled_of n id s it (Both g h) at =
+-- what the pages' rule tells of both ends
+paged_of : (n c : ℕ) (ws : List ℕ) (ends : Side → Told) → WholeRule n c ws (states ends) → ((x : Side) → (ends x).state.pages.count ≡ c) → PagesSettled (ends Guest).state (ends Host).state
+paged_of n c ws ends r count = record {
+  guest = λ some clear. end_tells n c Guest ws (states ends) (λ z. some (count Guest ∙ z)) r clear;
+  host = λ some clear. end_tells n c Host ws (states ends) (λ z. some (count Host ∙ z)) r clear;
+}
+
+settled_of : (n c id : ℕ) (s : State (Unit {0}) View) (it : Holds n c s) (v : View) → get_elem? s.views id ≡ some v → IsSettled v
+settled_of n c id s it (Both g h) at =
     let k = it.seats id (Both g h) at in
-    subst (λ (z : Told × Told). AreSettled z.0.state z.1.state × SignalsTaken z.0 z.1) (λ i. (sym k.0 i, sym k.1 i))
-    (settled n s.words (it.ends Guest).state (it.ends Host).state it.channel.channel, taken_of n s.words it.ends it.signals)
-settled_of n id s it (One u) at = tt
-settled_of n id s it Spent at = tt
+    subst (λ (z : Told × Told). AreSettled z.0.state z.1.state × SignalsTaken z.0 z.1 × PagesSettled z.0.state z.1.state) (λ i. (sym k.0 i, sym k.1 i))
+    (settled n (ring_words n s.words) (it.ends Guest).state (it.ends Host).state it.channel.rings.channel, taken_of n (ring_words n s.words) it.ends it.signals, paged_of n c s.words it.ends it.channel it.counts)
+settled_of n c id s it (One u) at = tt
+settled_of n c id s it Spent at = tt
 
 -- a look of one end changes no word, and counts
-look_holds : (n id : ℕ) (s : State (Unit {0}) View) (u : Told) → Holds n s → get_elem? s.views id ≡ some (One u)
-    → Holds n record { words = s.words; homes = s.homes; views = set s.views id (One (record u { steps = u.steps + 1 })) }
-look_holds n id s u it at =
+look_holds : (n c id : ℕ) (s : State (Unit {0}) View) (u : Told) → Holds n c s → get_elem? s.views id ≡ some (One u)
+    → Holds n c record { words = s.words; homes = s.homes; views = set s.views id (One (record u { steps = u.steps + 1 })) }
+look_holds n c id s u it at =
     let x : Side = u.state.machine.side in
     let knows : (u ≡ it.ends x) × (id ≡ it.seat x) = it.seats id (One u) at in
     let more : Told = record u { steps = u.steps + 1 } in
-    let c : Counted n x s.words u (it.ends (peer_of x)) = subst (λ (k : Told). Counted n x s.words k (it.ends (peer_of x))) (sym knows.0) (counted_of n s.words it.ends it.channel it.signals x) in
-    let new : Counted n x s.words more (it.ends (peer_of x)) = record { sided = c.sided; mine = c.mine; peers = c.peers } in
-    record {
-      ends = with_told x more it.ends;
-      seat = it.seat;
-      seats = views_kept it.ends it.seat id x more knows.1 s.views refl it.seats;
-      channel = invariant_with n x _ more it.ends new;
-      signals = signals_with n x _ more it.ends new;
-    }
+    let k : Known n c x s.words u (it.ends (peer_of x)) = subst (λ (w : Told). Known n c x s.words w (it.ends (peer_of x))) (sym knows.0) (known_of n c s.words it.ends it.channel it.counts it.loads it.signals x) in
+    let new : Known n c x s.words more (it.ends (peer_of x)) = record { rings = record { sided = k.rings.sided; mine = k.rings.mine; peers = k.rings.peers }; pages = k.pages; count = k.count; loads = k.loads } in
+    holds_with n c id s x more s.words it knows.1 new
 
-looks_at : (n slots id i : ℕ) (v : View) (held : List (ℕ × Unit {0})) → Allows (Holds n) slots id (v, held) i (λ k. k) (λ f now. (now ≡ (looked v, held)) × IsSettled v)
-looks_at n slots id i (One u) held s it deep at small = (
+looks_at : (n c slots id i : ℕ) (v : View) (held : List (ℕ × Unit {0})) → Allows (Holds n c) slots id (v, held) i (λ k. k) (λ f now. (now ≡ (looked v, held)) × IsSettled v)
+looks_at n c slots id i (One u) held s it deep at small = (
   looked (One u),
   keeps,
   tt,
-  subst (λ (z : List ℕ). Holds n record { words = z; homes = s.homes; views = set s.views id (looked (One u)) }) (sym (set-get_or s.words i 0)) (look_holds n id s u it at),
+  subst (λ (z : List ℕ). Holds n c record { words = z; homes = s.homes; views = set s.views id (looked (One u)) }) (sym (set-get_or s.words i 0)) (look_holds n c id s u it at),
   (refl, tt),
 )
-looks_at n slots id i (Both g h) held s it deep at small = (
+looks_at n c slots id i (Both g h) held s it deep at small = (
   Both g h,
   keeps,
   tt,
-  subst (λ (z : List ℕ × List View). Holds n record { words = z.0; homes = s.homes; views = z.1 }) (λ k. (sym (set-get_or s.words i 0) k, sym (set_again s.views id (Both g h) at) k)) it,
-  (refl, settled_of n id s it (Both g h) at),
+  subst (λ (z : List ℕ × List View). Holds n c record { words = z.0; homes = s.homes; views = z.1 }) (λ k. (sym (set-get_or s.words i 0) k, sym (set_again s.views id (Both g h) at) k)) it,
+  (refl, settled_of n c id s it (Both g h) at),
 )
-looks_at n slots id i Spent held s it deep at small = (
+looks_at n c slots id i Spent held s it deep at small = (
   Spent,
   keeps,
   tt,
-  subst (λ (z : List ℕ × List View). Holds n record { words = z.0; homes = s.homes; views = z.1 }) (λ k. (sym (set-get_or s.words i 0) k, sym (set_again s.views id Spent at) k)) it,
+  subst (λ (z : List ℕ × List View). Holds n c record { words = z.0; homes = s.homes; views = z.1 }) (λ k. (sym (set-get_or s.words i 0) k, sym (set_again s.views id Spent at) k)) it,
   (refl, tt),
 )
 
-pub learns : (n slots id i : ℕ) (me : Me (Unit {0}) View) → Allows (Holds n) slots id me i (λ k. k) (λ v now. (now ≡ (looked me.0, me.1)) × IsSettled me.0)
-learns n slots id i me = looks_at n slots id i me.0 me.1
+pub learns : (n c slots id i : ℕ) (me : Me (Unit {0}) View) → Allows (Holds n c) slots id me i (λ k. k) (λ v now. (now ≡ (looked me.0, me.1)) × IsSettled me.0)
+learns n c slots id i me = looks_at n c slots id i me.0 me.1
 
-pub split_asks : (n id : ℕ) (v : View) (g h : Told) → v ≡ Both g h → Splits (Holds n) id v (guest_in v) (host_in v)
-split_asks n id v g h is = subst (λ (w : View). Splits (Holds n) id w (guest_in w) (host_in w)) (sym is) (splits n id g h)
+pub split_asks : (n c id : ℕ) (v : View) (g h : Told) → v ≡ Both g h → Splits (Holds n c) id v (guest_in v) (host_in v)
+split_asks n c id v g h is = subst (λ (w : View). Splits (Holds n c) id w (guest_in w) (host_in w)) (sym is) (splits n c id g h)
 
-pub join_asks : (n id away : ℕ) (v w : View) (g h : Told) → v ≡ One g → w ≡ One h → g.state.machine.side ≡ Guest → h.state.machine.side ≡ Host → Joins (Holds n) id v away w (joined v w) Spent
-join_asks n id away v w g h a b guest host = subst (λ (z : View × View). Joins (Holds n) id z.0 away z.1 (joined z.0 z.1) Spent) (λ i. (sym a i, sym b i)) (joins n id away g h guest host)
+pub join_asks : (n c id away : ℕ) (v w : View) (g h : Told) → v ≡ One g → w ≡ One h → g.state.machine.side ≡ Guest → h.state.machine.side ≡ Host → Joins (Holds n c) id v away w (joined v w) Spent
+join_asks n c id away v w g h a b guest host = subst (λ (z : View × View). Joins (Holds n c) id z.0 away z.1 (joined z.0 z.1) Spent) (λ i. (sym a i, sym b i)) (joins n c id away g h guest host)
 
 pub one_is : (v : View) → is_one v ≡ true → v ≡ One (told_in v)
 one_is (Both g h) e = absurd (cc)

@@ -13,9 +13,11 @@ use Rattle.page_kept.specs.declared.owner.Owner.{Owner}
 use Rattle.page_rule.specs.Laws.{new_keeper}
 use Rattle.page_rule.specs.Pages.{PagesOwned}
 use Rattle.ring_machine.specs.PageCalls.{with_pages}
-use Rattle.ring_seat.proofs.PageSteps.{steps_keep, calls_keep, store_keeps, pk, pk_is, load_keeps, aside}
+use Rattle.ring_seat.proofs.PageSteps.{steps_keep, calls_keep, idle_unsent, idle_taking, store_keeps, pk, pk_is, load_keeps, aside}
 use Rattle.ring_seat.specs.PageRule.{keeper_of, OwnPages, PagesPart, page_index}
-use Rattle.ring_seat.specs.Whole.{PagesRule, WholeRule, first_owners, new_pages, new_paged, GotItems}
+use Rattle.page_table.specs.Table.{first_owners}
+use Rattle.ring_core.specs.Pages.{first_kept}
+use Rattle.ring_seat.specs.Whole.{PagesRule, WholeRule, new_paged, GotItems}
 use Rattle.page_rule.proofs.Reading.{opens_owned, turned, says}
 use Rattle.ring_machine.specs.declared.machine.Machine.{Machine}
 use Rattle.ring_machine.specs.declared.machine.Stage.TheVariants.{Idle}
@@ -30,11 +32,11 @@ use Rattle.ring_seat.proofs.Sided.{sided_of, invariant_of}
 use Rattle.ring_seat.proofs.Reading.{drained_all}
 
 -- the rule from one side, and back
-part_of : (n c : ℕ) (ws : List ℕ) (ends : Side → EndState) (x : Side) → PagesRule n c ws ends → PagesPart n c ws x (ends x) (ends (peer_of x))
+pub part_of : (n c : ℕ) (ws : List ℕ) (ends : Side → EndState) (x : Side) → PagesRule n c ws ends → PagesPart n c ws x (ends x) (ends (peer_of x))
 part_of n c ws ends Guest r = record { wide = r.wide; mine = r.own Guest; theirs = (r.own Host).sent; owned = r.owned }
 part_of n c ws ends Host r = record { wide = r.wide; mine = r.own Host; theirs = (r.own Guest).sent; owned = turned (layout c) Guest _ _ _ r.owned }
 
-rule_of : (n c : ℕ) (ws : List ℕ) (ends : Side → EndState) (x : Side) (e : EndState) → ((y : Side) → OwnPages c y (ends y)) → PagesPart n c ws x e (ends (peer_of x)) → PagesRule n c ws (with_end x e ends)
+pub rule_of : (n c : ℕ) (ws : List ℕ) (ends : Side → EndState) (x : Side) (e : EndState) → ((y : Side) → OwnPages c y (ends y)) → PagesPart n c ws x e (ends (peer_of x)) → PagesRule n c ws (with_end x e ends)
 rule_of n c ws ends Guest e own p = record { wide = p.wide; own = two; owned = p.owned }
   where
     two : (y : Side) → OwnPages c y (with_end Guest e ends y)
@@ -64,18 +66,21 @@ pub store_keeps_all : (n c : ℕ) (x : Side) (ws : List ℕ) (ends : Side → En
     → WholeRule n c (set ws (page_index n q w) v) (with_end x (with_pages (ends x) (page_stored (ends x).pages q w v)) ends)
 store_keeps_all n c x ws ends q w v some r idle may =
     let p = r.pages some in
-    let k = store_keeps n c x ws ends some r.rings (part_of n c ws ends x p) idle q w v may in
-    record { rings = k.0; pages = λ _. rule_of n c (set ws (page_index n q w) v) ends x _ p.own k.1 }
+    let k = store_keeps n c x ws (ends x) (ends (peer_of x)) some (sided_of n (take (words_of n) ws) ends r.rings x) (part_of n c ws ends x p) (idle_unsent (ends x).machine.stage idle) (idle_taking (ends x).machine.stage idle) q w v may in
+    record { rings = invariant_of n x _ _ ends k.0; pages = λ _. rule_of n c (set ws (page_index n q w) v) ends x _ p.own k.1 }
 
 pub load_keeps_all : (n c : ℕ) (x : Side) (ws : List ℕ) (ends : Side → EndState) (q m j : ℕ) → c ≢ 0 → WholeRule n c ws ends → (ends x).machine.stage ≡ Idle → (ends x).pages.due ≡ Loads q m j → q < c → j < 512
     → (k : List ℕ) × ((ends x).got ≡ packets (ends x).pages.got ++ k ∷ []) × WholeRule n c ws (with_end x (with_pages (ends x) (page_loaded (ends x).pages k (word_in (words_of n) ws q j))) ends)
 load_keeps_all n c x ws ends q m j some r idle due a b =
     let p = r.pages some in
     let g = part_of n c ws ends x p in
-    let k = load_keeps n c x ws ends some r.rings g idle q m j due a b in (
-      pk n c x ws ends some r.rings g idle q m j due a b,
-      pk_is n c x ws ends some r.rings g idle q m j due a b,
-      record { rings = k.0; pages = λ _. rule_of n c ws ends x _ p.own k.1 },
+    let s = sided_of n (take (words_of n) ws) ends r.rings x in
+    let t = idle_unsent (ends x).machine.stage idle in
+    let u = idle_taking (ends x).machine.stage idle in
+    let k = load_keeps n c x ws (ends x) (ends (peer_of x)) some s g t u q m j due a b in (
+      pk n c x ws (ends x) (ends (peer_of x)) some s g t u q m j due a b,
+      pk_is n c x ws (ends x) (ends (peer_of x)) some s g t u q m j due a b,
+      record { rings = invariant_of n x _ _ ends k.0; pages = λ _. rule_of n c ws ends x _ p.own k.1 },
     )
 
 -- what the rule tells of an end with nothing to load
@@ -147,13 +152,13 @@ abbrev old : ℕ → Side → EndState
 old n x = resting (machine_new x n) [] [] []
 
 -- an end of this side with other pages
-with_new : (n c : ℕ) (ws : List ℕ) (x : Side) (ends : Side → EndState) → ChannelInvariant n ws ends → ChannelInvariant n ws (with_end x (with_pages (ends x) (new_pages c x)) ends)
-with_new n c ws x ends i = invariant_of n x ws (with_pages (ends x) (new_pages c x)) ends (aside n x ws (ends x) (ends (peer_of x)) (new_pages c x) (sided_of n ws ends i x))
+with_new : (n c : ℕ) (ws : List ℕ) (x : Side) (ends : Side → EndState) → ChannelInvariant n ws ends → ChannelInvariant n ws (with_end x (with_pages (ends x) (first_kept x c)) ends)
+with_new n c ws x ends i = invariant_of n x ws (with_pages (ends x) (first_kept x c)) ends (aside n x ws (ends x) (ends (peer_of x)) (first_kept x c) (sided_of n ws ends i x))
 
 pub new_keeps : (n c : ℕ) (ws : List ℕ) → 512 ≤ n → n ≤ 8192 → words_of n + 512 * c ≤ length ws → ChannelInvariant n (take (words_of n) ws) (λ x. resting (machine_new x n) [] [] []) → ((q w : ℕ) → word_in (words_of n) ws q w ≡ 0)
     → WholeRule n c ws (new_paged n c)
 new_keeps n c ws a b wide rings zero_words = record {
-  rings = subst (ChannelInvariant n (take (words_of n) ws)) (λ j x. ends_are x j) (with_new n c (take (words_of n) ws) Guest (with_end Host (with_pages (old n Host) (new_pages c Host)) (old n)) (with_new n c (take (words_of n) ws) Host (old n) rings));
+  rings = subst (ChannelInvariant n (take (words_of n) ws)) (λ j x. ends_are x j) (with_new n c (take (words_of n) ws) Guest (with_end Host (with_pages (old n Host) (first_kept Host c)) (old n)) (with_new n c (take (words_of n) ws) Host (old n) rings));
   pages = λ _. record {
     wide = wide;
     own = own_new n c;
@@ -161,6 +166,6 @@ new_keeps n c ws a b wide rings zero_words = record {
   };
 }
   where
-    ends_are : (x : Side) → with_end Guest (with_pages (with_end Host (with_pages (old n Host) (new_pages c Host)) (old n) Guest) (new_pages c Guest)) (with_end Host (with_pages (old n Host) (new_pages c Host)) (old n)) x ≡ new_paged n c x
+    ends_are : (x : Side) → with_end Guest (with_pages (with_end Host (with_pages (old n Host) (first_kept Host c)) (old n) Guest) (first_kept Guest c)) (with_end Host (with_pages (old n Host) (first_kept Host c)) (old n)) x ≡ new_paged n c x
     ends_are Guest = refl
     ends_are Host = refl

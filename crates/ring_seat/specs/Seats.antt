@@ -5,26 +5,33 @@ use lib.ListN.{get_elem?}
 use Rattle.atomic_table.specs.Table.{State, Me, Step}
 use Rattle.io_edge.specs.declared.side.Side.{Side}
 use Rattle.io_edge.specs.declared.side.Side.TheVariants.{Guest, Host}
+use Rattle.page_kept.specs.declared.page_call.PageCall.{PageCall}
+use Rattle.page_kept.specs.declared.page_call.PageCall.TheVariants.{Off, StoreWord, LoadWords}
+use Rattle.page_kept.specs.declared.due.Due.{Due}
+use Rattle.page_kept.specs.declared.due.Due.TheVariants.{Loads}
+use Rattle.ring_machine.specs.declared.machine.Machine.{Machine}
 use Rattle.ring_machine.specs.declared.machine.Stage.TheVariants.{Stopped}
 use Rattle.ring_machine.specs.declared.state.EndState.{EndState}
 use Rattle.ring_machine.specs.declared.place.Op.{Op}
 use Rattle.ring_machine.specs.declared.place.Op.TheVariants.{Load, Store, Raise, TakeSignal, StoreMark}
 use Rattle.ring_machine.specs.Places.{index_of, signal_of, mark_of, peer_of}
-use Rattle.ring_machine.specs.Steps.{machine_new, fed, next_of}
+use Rattle.ring_machine.specs.PageCalls.{next_in}
+use Rattle.ring_machine.specs.Steps.{machine_new, fed, is_busy_at}
 use Rattle.ring_machine.specs.States.{resting}
 use Rattle.ring_core.specs.declared.told.Told.{Told}
-use Rattle.ring_core.specs.Told.{told_next}
+use Rattle.ring_core.specs.Told.{told_step}
 use Rattle.ring_seat.specs.declared.view.View.{View}
 use Rattle.ring_seat.specs.declared.view.View.TheVariants.{Both, One, Spent}
-use Rattle.ring_seat.specs.Rule.{ChannelInvariant}
+use Rattle.ring_seat.specs.PageRule.{ring_words}
+use Rattle.ring_seat.specs.Whole.{WholeRule, new_paged}
 
 -- a new end of a channel whose rings have n cells
 abbrev pub new_end : ℕ → Side → EndState
 new_end n x = resting (machine_new x n) [] [] []
 
--- it made no step yet
-abbrev pub new_told : ℕ → Side → Told
-new_told n x = record { state = new_end n x; steps = 0; raised = 0; woke = 0 }
+-- what is told of a new end of a channel of c data pages: it made no step yet
+abbrev pub new_told : ℕ → ℕ → Side → Told
+new_told n c x = record { state = new_paged n c x; steps = 0; raised = 0; woke = 0 }
 
 -- the view of a seat is what is told of the ends that have it
 abbrev pub Knows : (Side → Told) → (Side → ℕ) → ℕ → View → Type 0
@@ -39,15 +46,25 @@ SignalsRaised n ws x u p = u.woke + slice_index ws (signal_of n x) ≤ p.raised
 abbrev pub states : (Side → Told) → Side → EndState
 states ends x = (ends x).state
 
-pub record Holds (n : ℕ) (s : State (Unit {0}) View) : Type 0 where
+-- A page call that is under way between two steps is a load, of what is still due: a store is one step
+abbrev pub IsLoading : PageCall → Due → Type 0
+IsLoading Off d = Unit {0}
+IsLoading (StoreWord q w v) d = ⊥
+IsLoading (LoadWords q n j) d = d ≡ Loads q n j
+
+-- The rule of the table of a channel whose rings have n cells, and which has c data pages: words and ends belong together, each view tells of the ends that
+-- its seat has, each load of page words that is under way loads what is due, and no end took more signals than its peer raised
+pub record Holds (n c : ℕ) (s : State (Unit {0}) View) : Type 0 where
   pub ends : Side → Told
   pub seat : Side → ℕ
   pub seats : (id : ℕ) (v : View) → get_elem? s.views id ≡ some v → Knows ends seat id v
-  pub channel : ChannelInvariant n s.words (states ends)
-  pub signals : (x : Side) → SignalsRaised n s.words x (ends x) (ends (peer_of x))
+  pub channel : WholeRule n c s.words (states ends)
+  pub counts : (x : Side) → (ends x).state.pages.count ≡ c
+  pub loads : c ≢ 0 → (x : Side) → IsLoading (ends x).state.pages.call (ends x).state.pages.due
+  pub signals : (x : Side) → SignalsRaised n (ring_words n s.words) x (ends x) (ends (peer_of x))
 
 abbrev pub blank : Told
-blank = new_told 0 Guest
+blank = new_told 0 0 Guest
 
 abbrev pub told_in : View → Told
 told_in (Both g h) = blank
@@ -88,12 +105,26 @@ abbrev pub IsOp : ℕ → Option Op → Step (Unit {0}) → Type 0
 IsOp n None s = ⊥
 IsOp n (Some op) s = (s.word ≡ word_at n op) × (s.first ≡ stored_by op)
 
-abbrev pub IsNamed : EndState → Step (Unit {0}) → Type 0
-IsNamed base s = IsOp base.machine.cells (next_of base.machine base.packet) s
+-- An end that makes a step: what was told of it before, and its machine, page call and packet
+pub record Making : Type 0 where
+  pub told : Told
+  pub machine : Machine
+  pub call : PageCall
+  pub packet : List ℕ
+
+abbrev pub IsNamed : Making → Step (Unit {0}) → Type 0
+IsNamed k s = IsOp k.machine.cells (next_in k.machine k.call k.packet) s
+
+abbrev pub made : Making → ℕ → Told
+made k v = told_step (is_busy_at k.machine.stage) k.told k.machine k.call k.packet v
 
 -- what a step tells: the end is in the state that the answer leaves, it has made one step more, and it goes on
-abbrev pub Tells : Told → ℕ → Me (Unit {0}) View → Type 0
-Tells base v me = (me ≡ (One (told_next base v), [])) × ((fed base.state.machine v).stage ≢ Stopped)
+abbrev pub Tells : Making → ℕ → Me (Unit {0}) View → Type 0
+Tells k v me = (me ≡ (One (made k v), [])) × ((fed k.machine v).stage ≢ Stopped)
+
+-- no end, for a step that nobody makes
+abbrev pub nobody : Making
+nobody = record { told = blank; machine = machine_new Guest 0; call = Off; packet = [] }
 
 abbrev pub guest_in : View → View
 guest_in (Both g h) = One g

@@ -1,12 +1,14 @@
 -- What the joined view of both ends tells.
-use Rattle.std.specs.Prelude.{◌≡◌, ◌≤◌, true}
+use Rattle.std.specs.Prelude.{◌≡◌, ◌≢◌, ◌≤◌, true}
 use Rattle.chan_run.specs.Laws.{AreOfOneRun}
 use Rattle.chan_run.specs.Runs.{IsFront, sent_of, got_of}
 use Rattle.io_edge.specs.declared.side.Side.TheVariants.{Guest, Host}
+use Rattle.page_kept.specs.declared.due.Due.TheVariants.{Clear}
 use Rattle.ring_machine.specs.declared.state.EndState.{EndState}
 use Rattle.ring_core.specs.Seen.{Seen}
 use Rattle.ring_core.specs.declared.told.Told.{Told}
 use Rattle.ring_seat.specs.declared.table_seat.TableSeat.{TableSeat}
+use Rattle.ring_seat.specs.Whole.{GotItems}
 use Rattle.ring_seat.specs.declared.view.View.{View}
 use Rattle.ring_seat.specs.declared.view.View.TheVariants.{Both, One, Spent}
 
@@ -25,8 +27,14 @@ pub record SignalsTaken (g h : Told) : Type 0 where
   pub guest : g.woke ≤ h.raised
   pub host : h.woke ≤ g.raised
 
+-- In a channel with data pages, an end that has nothing to load got the front of what the other one sent, each packet with its page words, and all of it
+-- where it is drained
+pub record PagesSettled (g h : EndState) : Type 0 where
+  pub guest : g.pages.count ≢ 0 → g.pages.due ≡ Clear → GotItems g h
+  pub host : h.pages.count ≢ 0 → h.pages.due ≡ Clear → GotItems h g
+
 abbrev pub IsSettled : View → Type 0
-IsSettled (Both g h) = AreSettled g.state h.state × SignalsTaken g h
+IsSettled (Both g h) = AreSettled g.state h.state × SignalsTaken g h × PagesSettled g.state h.state
 IsSettled (One u) = Unit {0}
 IsSettled Spent = Unit {0}
 

@@ -1,17 +1,14 @@
 -- The whole rule of the pages of a channel, over both ends, and what it tells at the end.
-use Rattle.std.specs.Prelude.{◌≡◌, ◌≢◌, ℕ, zero, suc, ◌+◌, ◌*◌, ◌<◌, ◌≤◌, true, List, [], ◌∷◌, ◌++◌, length, replicate, slice_set, Some}
+use Rattle.std.specs.Prelude.{◌≡◌, ◌≢◌, ℕ, ◌+◌, ◌*◌, ◌<◌, ◌≤◌, Bool, true, List, [], ◌∷◌, ◌++◌, length, slice_set, Some}
 use Rattle.chan_run.specs.Runs.{IsFront}
 use Rattle.io_edge.specs.declared.side.Side.{Side}
 use Rattle.io_edge.specs.declared.side.Side.TheVariants.{Guest, Host}
 use Rattle.page_kept.specs.Items.{packets}
+use Rattle.page_kept.specs.declared.item.Item.{Item}
 use Rattle.page_kept.specs.Keepers.{MayStore}
-use Rattle.page_kept.specs.Kept.{first_owner}
 use Rattle.page_kept.specs.Layouts.{layout}
 use Rattle.page_kept.specs.Stepped.{word_in, page_stored, page_loaded}
-use Rattle.page_kept.specs.declared.page_call.PageCall.TheVariants.{Off}
 use Rattle.page_kept.specs.declared.due.Due.TheVariants.{Clear, Loads}
-use Rattle.page_kept.specs.declared.kept.Kept.{Kept}
-use Rattle.page_kept.specs.declared.owner.Owner.{Owner}
 use Rattle.page_rule.specs.Pages.{PagesOwned}
 use Rattle.ring_machine.specs.PageCalls.{with_pages}
 use Rattle.ring_seat.specs.PageRule.{ring_words, keeper_of, OwnPages, page_index}
@@ -21,7 +18,8 @@ use Rattle.ring_machine.specs.declared.state.EndState.{EndState}
 use Rattle.ring_machine.specs.declared.place.Op.{Op}
 use Rattle.ring_machine.specs.Places.{words_of, peer_of}
 use Rattle.ring_machine.specs.Steps.{machine_new, next_of}
-use Rattle.ring_machine.specs.States.{after, entered, resting, Begins}
+use Rattle.ring_machine.specs.States.{after, entered, resting, resting_with, Begins}
+use Rattle.ring_core.specs.Pages.{first_kept}
 use Rattle.ring_core.specs.Told.{written, answer_in}
 use Rattle.ring_seat.specs.Rule.{ChannelInvariant, with_end}
 
@@ -36,16 +34,9 @@ pub record WholeRule (n c : ℕ) (ws : List ℕ) (ends : Side → EndState) : Ty
   pub rings : ChannelInvariant n (ring_words n ws) ends
   pub pages : c ≢ 0 → PagesRule n c ws ends
 
--- a new end of a channel with data pages
-abbrev pub first_owners : Side → ℕ → List Owner
-first_owners x zero = []
-first_owners x (suc c) = first_owners x c ++ first_owner x ((layout 0).home c) ∷ []
-
-abbrev pub new_pages : ℕ → Side → Kept
-new_pages c x = record { count = c; sent = []; got = []; owners = first_owners x c; copy = replicate (512 * c) 0; due = Clear; call = Off }
-
+-- a new end of a channel of c data pages
 abbrev pub new_paged : ℕ → ℕ → Side → EndState
-new_paged n c x = with_pages (resting (machine_new x n) [] [] []) (new_pages c x)
+new_paged n c x = resting_with (machine_new x n) [] [] [] (first_kept x c)
 
 -- a step of an end x, a call of it that begins, a store and a load of a page word keep the rule
 abbrev pub StepKeeps : Type 0
@@ -64,12 +55,17 @@ abbrev pub LoadKeeps : Type 0
 LoadKeeps = (n c : ℕ) (x : Side) (ws : List ℕ) (ends : Side → EndState) (q m j : ℕ) → c ≢ 0 → WholeRule n c ws ends → (ends x).machine.stage ≡ Idle → (ends x).pages.due ≡ Loads q m j → q < c → j < 512
     → (pk : List ℕ) × ((ends x).got ≡ packets (ends x).pages.got ++ pk ∷ []) × WholeRule n c ws (with_end x (with_pages (ends x) (page_loaded (ends x).pages pk (word_in (words_of n) ws q j))) ends)
 
+-- Packets that an end got, and those that its peer sent, each packet with its page words: the got ones are the front of the sent ones, and all of them where the
+-- end is drained
+pub record ItemsGot (is_drained : Bool) (got : List (List ℕ)) (got_items : List Item) (sent : List (List ℕ)) (sent_items : List Item) : Type 0 where
+  pub packets_are : packets got_items ≡ got
+  pub front : IsFront got_items sent_items
+  pub sent_are : packets sent_items ≡ sent
+  pub drained : is_drained ≡ true → got_items ≡ sent_items
+
 -- What the rule tells of an end that has nothing to load: it got the front of its peer's items, with their page words, and all of them where it is drained
-pub record GotItems (e p : EndState) : Type 0 where
-  pub packets_are : packets e.pages.got ≡ e.got
-  pub front : IsFront e.pages.got p.pages.sent
-  pub sent_are : packets p.pages.sent ≡ p.sent
-  pub drained : e.machine.drained ≡ true → e.pages.got ≡ p.pages.sent
+abbrev pub GotItems : EndState → EndState → Type 0
+GotItems e p = ItemsGot e.machine.drained e.got e.pages.got p.sent p.pages.sent
 
 abbrev pub EndTells : Type 0
 EndTells = (n c : ℕ) (x : Side) (ws : List ℕ) (ends : Side → EndState) → c ≢ 0 → WholeRule n c ws ends → (ends x).pages.due ≡ Clear → GotItems (ends x) (ends (peer_of x))

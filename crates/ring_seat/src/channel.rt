@@ -1,11 +1,12 @@
 //! A new channel, in its two ends.
 ghost use Rattle.std.specs.Prelude.{◌≡◌, ℕ, ◌+◌, ◌*◌, ◌<◌, ◌≤◌, [], IfOk, length};
 ghost use Rattle.io_edge.specs.declared.side.Side.TheVariants.{Guest, Host};
-ghost use Rattle.ring_seat.specs.Seats.{new_end, new_told, told_in};
+ghost use Rattle.ring_seat.specs.Seats.{new_told, told_in};
 ghost use Rattle.ring_seat.specs.Settling.{AreOfOneChannel};
+ghost use Rattle.ring_seat.specs.Whole.{new_paged};
 ghost use Rattle.ring_seat.specs.declared.view.View.TheVariants.{One};
 
-use crate::rule::{ChannelRule, Ends};
+use crate::rule::{ChannelRule, Ends, Extent};
 use crate::table_seat::TableSeat;
 use crate::view::View;
 use atomic_table::Table;
@@ -23,40 +24,41 @@ pub type HostEnd = End<TableSeat>;
 pub struct ChannelMem;
 
 impl ChannelMem {
-    /// Makes a channel with 1 to 16 pages of 4,096 bytes in each ring, and no data pages. Both ends are new and made no step, and all words are 0, but that mask and
-    /// feature are 1 in both rings. Source: Linux `include/linux/hyperv.h`, `struct hv_ring_buffer`.
+    /// Makes a channel with 1 to 16 pages of 4,096 bytes in each ring, and at most 128 data pages. Both ends are new and made no step, and all words are 0, but
+    /// that mask and feature are 1 in both rings. Source: Linux `include/linux/hyperv.h`, `struct hv_ring_buffer`.
     pub fn make(
         alloc: Global,
         ring_pages: u32,
-        page_count: u32,
+        data_pages: u32,
     ) -> Result<(GuestEnd, HostEnd), AllocError>
         requires pages { (1 ≤ ring_pages) × (ring_pages ≤ 16) }
-        requires no_data { page_count ≡ 0 }
+        requires data { data_pages ≤ 128 }
         ensures one_channel { IfOk result (λ r. AreOfOneChannel r.0 r.1) }
-        ensures guest { IfOk result (λ r. r.0.state ≡ new_end (512 * ring_pages) Guest) }
-        ensures host { IfOk result (λ r. r.1.state ≡ new_end (512 * ring_pages) Host) }
-        ensures unmoved { IfOk result (λ r. (told_in r.0.seat.seat.me.0 ≡ new_told (512 * ring_pages) Guest) × (told_in r.1.seat.seat.me.0 ≡ new_told (512 * ring_pages) Host)) }
+        ensures guest { IfOk result (λ r. r.0.state ≡ new_paged (512 * ring_pages) data_pages Guest) }
+        ensures host { IfOk result (λ r. r.1.state ≡ new_paged (512 * ring_pages) data_pages Host) }
+        ensures unmoved { IfOk result (λ r. (told_in r.0.seat.seat.me.0 ≡ new_told (512 * ring_pages) data_pages Guest) × (told_in r.1.seat.seat.me.0 ≡ new_told (512 * ring_pages) data_pages Host)) }
     {
-        let (guest, host) = seats(alloc, 512 * ring_pages)?;
+        let (guest, host) = seats(alloc, 512 * ring_pages, data_pages)?;
         let d = 4096 * ring_pages;
-        let guest = End::make(alloc, Side::Guest, d, guest, 0)?;
-        let host = End::make(alloc, Side::Host, d, host, 0)?;
+        let guest = End::make(alloc, Side::Guest, d, guest, data_pages)?;
+        let host = End::make(alloc, Side::Host, d, host, data_pages)?;
         Ok((guest, host))
     }
 }
 
-// The seats of both ends of a new channel whose rings have this many cells.
-fn seats(alloc: Global, cells: u32) -> Result<(TableSeat, TableSeat), AllocError>
-    requires { (512 ≤ cells) × (cells ≤ 8192) }
+// The seats of both ends of a new channel whose rings have this many cells, and which has so many data pages.
+fn seats(alloc: Global, cells: u32, pages: u32) -> Result<(TableSeat, TableSeat), AllocError>
+    requires cells { (512 ≤ cells) × (cells ≤ 8192) }
+    requires pages { pages ≤ 128 }
     ensures one_channel { IfOk result (λ r. r.0.seat.table_id ≡ r.1.seat.table_id) }
-    ensures guest { IfOk result (λ r. r.0.seat.me.0 ≡ One (new_told cells Guest)) }
-    ensures host { IfOk result (λ r. r.1.seat.me.0 ≡ One (new_told cells Host)) }
+    ensures guest { IfOk result (λ r. r.0.seat.me.0 ≡ One (new_told cells pages Guest)) }
+    ensures host { IfOk result (λ r. r.1.seat.me.0 ≡ One (new_told cells pages Host)) }
 {
-    let words = opening_words(alloc, cells, 0)?;
-    let (table, mut seat) = Table::<(), View, u32, ChannelRule, Global>::of_words(
+    let words = opening_words(alloc, cells, pages)?;
+    let (table, mut seat) = Table::<(), View, Extent, ChannelRule, Global>::of_words(
         alloc,
         words.as_slice(),
-        &cells,
+        &Extent { cells, pages },
     )?;
     let board = Arc::new(alloc, table)?;
     let second = Arc::try_clone(&board)?;

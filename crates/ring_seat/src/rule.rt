@@ -3,32 +3,39 @@ use crate::view::View;
 use atomic_table::{Join, Play, Shared, Split, TableRule};
 use std::marker::{Brand, PhantomData};
 
-/// The words of a channel and the states of its two ends belong together. The key is the number of cells of each ring.
+/// What a channel is made for: the cells of each ring, and its data pages.
+#[derive(Clone, Copy)]
+pub struct Extent {
+    pub cells: u32,
+    pub pages: u32,
+}
+
+/// The words of a channel and the states of its two ends belong together. The key is the channel's extent.
 pub struct ChannelRule;
 
-impl TableRule<(), View, u32> for ChannelRule {
+impl TableRule<(), View, Extent> for ChannelRule {
     ghost use Rattle.io_edge.specs.declared.side.Side.TheVariants.{Guest, Host};
     ghost use Rattle.ring_seat.specs.Seats.{Holds, new_told};
     ghost use Rattle.ring_seat.specs.declared.view.View.TheVariants.{Both};
 
-    ghost holds = { Holds };
+    ghost holds = { λ k. Holds k.cells k.pages };
 
-    ghost first = { λ n. Both (new_told n Guest) (new_told n Host) };
+    ghost first = { λ k. Both (new_told k.cells k.pages Guest) (new_told k.cells k.pages Host) };
 }
 
-pub(crate) type Board = Shared<(), View, u32, ChannelRule>;
+pub(crate) type Board = Shared<(), View, Extent, ChannelRule>;
 
-/// What is told of the end from whose state a step is made. A call at `Brand` picks it.
+/// The end that makes a step, and the step. A call at `Brand` picks it.
 pub trait Intent {
-    ghost use Rattle.ring_core.specs.declared.told.Told.{Told};
+    ghost use Rattle.ring_seat.specs.Seats.{Making};
 
-    ghost base: { Told };
+    ghost base: { Making };
 }
 
 impl Intent for Brand {
-    ghost use Rattle.ring_seat.specs.Seats.{blank};
+    ghost use Rattle.ring_seat.specs.Seats.{nobody};
 
-    ghost base = { blank };
+    ghost base = { nobody };
 }
 
 /// A step that loads or exchanges a word.
@@ -39,7 +46,7 @@ pub(crate) struct Loads<J> {
 impl<J: Intent> Play<(), View> for Loads<J> {
     ghost use Rattle.ring_seat.specs.Seats.{IsNamed, Tells};
 
-    ghost then = { λ s before v now. IsNamed J.base.state s × Tells J.base v now };
+    ghost then = { λ s before v now. IsNamed J.base s × Tells J.base v now };
 }
 
 /// A step that stores a word.
@@ -50,7 +57,7 @@ pub(crate) struct Stores<J> {
 impl<J: Intent> Play<(), View> for Stores<J> {
     ghost use Rattle.ring_seat.specs.Seats.{IsNamed, Tells};
 
-    ghost then = { λ s before v now. IsNamed J.base.state s × Tells J.base 0 now };
+    ghost then = { λ s before v now. IsNamed J.base s × Tells J.base 0 now };
 }
 
 /// The guest's end and the host's end go apart, and come together again.

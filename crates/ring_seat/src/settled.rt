@@ -1,10 +1,13 @@
 //! What both ends of a channel did, once they are at an end.
-ghost use Rattle.std.specs.Prelude.{◌≡◌, true, List, ℕ};
+ghost use Rattle.std.specs.Prelude.{◌≡◌, ◌≢◌, true, List, ℕ};
 ghost use Rattle.chan_run.specs.Laws.{AreOfOneRun};
 ghost use Rattle.chan_run.specs.Runs.{IsFront, sent_of, got_of};
 ghost use Rattle.io_edge.specs.declared.side.Side.TheVariants.{Guest, Host};
+ghost use Rattle.page_kept.specs.declared.due.Due.TheVariants.{Clear};
+ghost use Rattle.ring_core.specs.Pages.{items_of};
 ghost use Rattle.ring_seat.specs.Seats.{told_in, state_in};
-ghost use Rattle.ring_seat.specs.Settling.{AreSettled, AreOfOneChannel, SignalsTaken};
+ghost use Rattle.ring_seat.specs.Settling.{AreSettled, AreOfOneChannel, PagesSettled, SignalsTaken};
+ghost use Rattle.ring_seat.specs.Whole.{ItemsGot};
 
 use crate::channel::{GuestEnd, HostEnd};
 use crate::rule::{Ends, Settles};
@@ -12,7 +15,7 @@ use crate::table_seat::TableSeat;
 use ring_core::Packets;
 use std::marker::Model;
 
-/// The four lists of packets of a channel's two ends. `finish` alone makes it.
+/// The four lists of packets of a channel's two ends, with the page words of each packet. `finish` alone makes it.
 #[derive(Drop)]
 pub struct Settled {
     guest_sent: Packets,
@@ -22,46 +25,51 @@ pub struct Settled {
 }
 
 impl Model for Settled {
+    ghost use Rattle.ring_core.specs.Pages.{items_of};
     ghost use Rattle.ring_model.specs.Lists.{Lists};
 
     ghost Value = { Lists };
 
-    ghost view = { λ s. record { guest_sent = s.guest_sent.list; guest_got = s.guest_got.list; host_sent = s.host_sent.list; host_got = s.host_got.list } };
+    ghost view = { λ s. record { guest_sent = s.guest_sent.list; guest_got = s.guest_got.list; host_sent = s.host_sent.list; host_got = s.host_got.list; guest_sent_items = items_of s.guest_sent.list s.guest_sent.lent; guest_got_items = items_of s.guest_got.list s.guest_got.lent; host_sent_items = items_of s.host_sent.list s.host_sent.lent; host_got_items = items_of s.host_got.list s.host_got.lent } };
 }
 
 impl Settled {
     /// The packets that the guest sent, in order.
     pub fn guest_sent(&self) -> &Packets
-        ensures { result.now.list ≡ self.now.guest_sent }
+        ensures list { result.now.list ≡ self.now.guest_sent }
+        ensures items { items_of result.now.list result.now.lent ≡ self.now.guest_sent_items }
     {
         &self.guest_sent
     }
 
     /// The packets that the guest got, in order.
     pub fn guest_got(&self) -> &Packets
-        ensures { result.now.list ≡ self.now.guest_got }
+        ensures list { result.now.list ≡ self.now.guest_got }
+        ensures items { items_of result.now.list result.now.lent ≡ self.now.guest_got_items }
     {
         &self.guest_got
     }
 
     /// The packets that the host sent, in order.
     pub fn host_sent(&self) -> &Packets
-        ensures { result.now.list ≡ self.now.host_sent }
+        ensures list { result.now.list ≡ self.now.host_sent }
+        ensures items { items_of result.now.list result.now.lent ≡ self.now.host_sent_items }
     {
         &self.host_sent
     }
 
     /// The packets that the host got, in order.
     pub fn host_got(&self) -> &Packets
-        ensures { result.now.list ≡ self.now.host_got }
+        ensures list { result.now.list ≡ self.now.host_got }
+        ensures items { items_of result.now.list result.now.lent ≡ self.now.host_got_items }
     {
         &self.host_got
     }
 }
 
-/// Ends a channel, and takes no memory for it. The four lists are those that its ends kept. Each end got the front of what the other one sent, and
-/// all of it where it is drained. What the two ends did is one run, and each took its signal at most as often as the other one raised it. It waits for
-/// nobody.
+/// Ends a channel, and takes no memory for it. The four lists are those that its ends kept, with the page words of each packet. Each end got the front of what
+/// the other one sent, and all of it where it is drained; and so of the packets with their page words, where it has none to load. What the two ends did is one run, and each took
+/// its signal at most as often as the other one raised it. It waits for nobody.
 pub fn finish(g: GuestEnd, h: HostEnd) -> Settled
     requires one_channel { AreOfOneChannel g h }
     ensures guest { (result.guest_sent ≡ g.state.sent) × (result.guest_got ≡ g.state.got) }
@@ -71,6 +79,10 @@ pub fn finish(g: GuestEnd, h: HostEnd) -> Settled
     ensures host_drained { h.state.machine.drained ≡ true → result.host_got ≡ result.guest_sent }
     ensures run { AreOfOneRun g.state.past h.state.past }
     ensures signals { SignalsTaken (told_in g.seat.seat.me.0) (told_in h.seat.seat.me.0) }
+    ensures guest_items { (result.guest_sent_items ≡ g.state.pages.sent) × (result.guest_got_items ≡ g.state.pages.got) }
+    ensures host_items { (result.host_sent_items ≡ h.state.pages.sent) × (result.host_got_items ≡ h.state.pages.got) }
+    ensures guest_pages { g.state.pages.count ≢ 0 → g.state.pages.due ≡ Clear → ItemsGot g.state.machine.drained result.guest_got result.guest_got_items result.host_sent result.host_sent_items }
+    ensures host_pages { h.state.pages.count ≢ 0 → h.state.pages.due ≡ Clear → ItemsGot h.state.machine.drained result.host_got result.host_got_items result.guest_sent result.guest_sent_items }
     ensures guest_past { (result.guest_sent ≡ sent_of g.state.past) × (result.guest_got ≡ got_of g.state.past) }
     ensures host_past { (result.host_sent ≡ sent_of h.state.past) × (result.host_got ≡ got_of h.state.past) }
 {
@@ -91,6 +103,7 @@ fn settle(guest: TableSeat, host: TableSeat)
     requires guest { (state_in guest.seat.me.0).machine.side ≡ Guest }
     requires host { (state_in host.seat.me.0).machine.side ≡ Host }
     ensures ends { AreSettled (state_in guest.seat.me.0) (state_in host.seat.me.0) }
+    ensures pages { PagesSettled (state_in guest.seat.me.0) (state_in host.seat.me.0) }
     ensures signals { SignalsTaken (told_in guest.seat.me.0) (told_in host.seat.me.0) }
 {
     let TableSeat {

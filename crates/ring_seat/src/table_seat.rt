@@ -1,15 +1,14 @@
 //! A seat at the table of a channel's words.
-ghost use Rattle.std.specs.Prelude.{◌≡◌, ◌≢◌, ℕ, ◌+◌, ◌<◌, ◌≤◌, true, [], Some, None};
+ghost use Rattle.std.specs.Prelude.{◌≡◌, ◌+◌, ◌*◌, true, [], Some, None};
 ghost use Rattle.std.specs.Arc.{arc_value};
 ghost use Rattle.ring_machine.specs.Places.{words_of, signal_of};
-ghost use Rattle.ring_machine.specs.Steps.{is_busy_at, fed};
-ghost use Rattle.ring_machine.specs.States.{Continues};
-ghost use Rattle.ring_core.specs.Told.{told_at};
-ghost use Rattle.ring_machine.specs.declared.machine.Stage.TheVariants.{Stopped};
+ghost use Rattle.ring_machine.specs.PageCalls.{is_paging, is_under_way};
+ghost use Rattle.ring_machine.specs.Steps.{is_busy_at};
+ghost use Rattle.ring_core.specs.Told.{GoesOn};
 ghost use Rattle.ring_seat.specs.Seats.{told_in, state_in, is_one, Tells};
 ghost use Rattle.ring_seat.specs.declared.view.View.TheVariants.{One};
 
-use crate::rule::{Board, ChannelRule, Intent, Loads, Stores};
+use crate::rule::{Board, ChannelRule, Extent, Intent, Loads, Stores};
 use crate::view::View;
 use atomic_table::{Seat, Table};
 use ring_core::{EndCore, Op, Seatlike, mark_index, place_index, signal_index};
@@ -17,7 +16,7 @@ use std::alloc::Global;
 use std::marker::Brand;
 use std::sync::{Arc, Wait};
 
-// Makes the step that the machine names, from the state that `J` names, and no other one.
+// Makes the step that the machine names, of the end that `J` names, and no other one.
 #[inline(always)]
 fn perform_as<J: Intent>(
     board: &Board,
@@ -26,11 +25,12 @@ fn perform_as<J: Intent>(
     packet: &[u64],
 ) -> u64
     requires seated { seat.old.table_id ≡ board.now.table_id }
-    requires sized { (board.now.table_id.words ≡ words_of core.now.machine.cells) × (board.now.key ≡ core.now.machine.cells) }
+    requires sized { (board.now.table_id.words ≡ words_of core.now.machine.cells + 512 * board.now.key.pages) × (board.now.key.cells ≡ core.now.machine.cells) }
     requires view { seat.old.me ≡ (One (told_in seat.old.me.0), []) }
-    requires busy { is_busy_at core.now.machine.stage ≡ true }
-    requires goes_on { Continues (state_in seat.old.me.0) core.now.machine packet.now }
-    requires base { J.base ≡ told_at (told_in seat.old.me.0) core.now.machine packet.now }
+    requires busy { is_under_way core.now.machine.stage core.now.pages.call ≡ true }
+    requires pages { is_paging core.now.pages.call ≡ true → core.now.pages.count ≡ board.now.key.pages }
+    requires goes_on { GoesOn (is_busy_at core.now.machine.stage) (state_in seat.old.me.0) core.now.machine core.now.pages.call packet.now }
+    requires base { J.base ≡ record { told = told_in seat.old.me.0; machine = core.now.machine; call = core.now.pages.call; packet = packet.now } }
     ensures seated { (seat.new.table_id ≡ seat.old.table_id) × (seat.new.id ≡ seat.old.id) }
     ensures tells { Tells J.base result seat.new.me }
 {
@@ -58,29 +58,31 @@ fn perform_as<J: Intent>(
 /// One end's seat at the table of a channel's words. Both ends' seats are of one table, and each step of an end is one atomic step there.
 #[derive(Drop)]
 pub struct TableSeat {
-    pub(crate) board: Arc<Table<(), View, u32, ChannelRule, Global>>,
+    pub(crate) board: Arc<Table<(), View, Extent, ChannelRule, Global>>,
     pub(crate) seat: Seat<(), View>,
     // Where the end's signal stands.
     pub(crate) signal: usize,
     ghost seated: { seat.table_id ≡ (arc_value board).shared.table_id },
-    ghost sized: { (arc_value board).shared.table_id.words ≡ words_of (arc_value board).shared.key },
-    ghost cells: { (arc_value board).shared.key ≡ (state_in seat.me.0).machine.cells },
+    ghost sized: { (arc_value board).shared.table_id.words ≡ words_of (arc_value board).shared.key.cells + 512 * (arc_value board).shared.key.pages },
+    ghost cells: { (arc_value board).shared.key.cells ≡ (state_in seat.me.0).machine.cells },
+    ghost pages: { (arc_value board).shared.key.pages ≡ (state_in seat.me.0).pages.count },
     ghost one: { is_one seat.me.0 ≡ true },
     ghost empty: { seat.me.1 ≡ [] },
-    ghost at: { signal ≡ signal_of (arc_value board).shared.key (state_in seat.me.0).machine.side },
+    ghost at: { signal ≡ signal_of (arc_value board).shared.key.cells (state_in seat.me.0).machine.side },
 }
 
 impl TableSeat {
     pub(crate) fn over(
-        board: Arc<Table<(), View, u32, ChannelRule, Global>>,
+        board: Arc<Table<(), View, Extent, ChannelRule, Global>>,
         seat: Seat<(), View>,
         signal: usize,
     ) -> TableSeat
         requires seated { seat.table_id ≡ (arc_value board).shared.table_id }
-        requires sized { (arc_value board).shared.table_id.words ≡ words_of (arc_value board).shared.key }
-        requires cells { (arc_value board).shared.key ≡ (state_in seat.me.0).machine.cells }
+        requires sized { (arc_value board).shared.table_id.words ≡ words_of (arc_value board).shared.key.cells + 512 * (arc_value board).shared.key.pages }
+        requires cells { (arc_value board).shared.key.cells ≡ (state_in seat.me.0).machine.cells }
+        requires pages { (arc_value board).shared.key.pages ≡ (state_in seat.me.0).pages.count }
         requires view { (is_one seat.me.0 ≡ true) × (seat.me.1 ≡ []) }
-        requires at { signal ≡ signal_of (arc_value board).shared.key (state_in seat.me.0).machine.side }
+        requires at { signal ≡ signal_of (arc_value board).shared.key.cells (state_in seat.me.0).machine.side }
         ensures { (result.board ≡ board) × (result.seat ≡ seat) }
     {
         TableSeat {
@@ -104,19 +106,19 @@ impl Seatlike for TableSeat {
 
     ghost cells = { λ s. (state_in s.seat.me.0).machine.cells };
 
-    ghost pages = { λ _. 0 };
+    ghost pages = { λ s. (state_in s.seat.me.0).pages.count };
 
     ghost memory = { λ _. None };
 
     ghost told = { λ s. Some (told_in s.seat.me.0) };
 
-    ghost same = { λ s t. t.seat.table_id ≡ s.seat.table_id };
+    ghost same = { λ s t. (t.seat.table_id ≡ s.seat.table_id) × ((state_in t.seat.me.0).pages.count ≡ (state_in s.seat.me.0).pages.count) };
 
-    ghost same_refl = { λ s. refl };
+    ghost same_refl = { λ s. (refl, refl) };
 
-    ghost same_trans = { λ s t u p q. q ∙ p };
+    ghost same_trans = { λ s t u p q. (q.0 ∙ p.0, q.1 ∙ p.1) };
 
-    ghost same_pages = { λ s t p. refl };
+    ghost same_pages = { λ s t p. p.1 };
 
     #[inline(always)]
     fn perform(&mut self, core: &EndCore, packet: &[u64]) -> u64 {

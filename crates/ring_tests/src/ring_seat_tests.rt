@@ -9,7 +9,8 @@ use ring_seat::{ChannelMem, GuestEnd, HostEnd, Settled, Sleeper, TableSeat, fini
 use std::alloc::AllocGlobal;
 use std::process::Abort;
 use std::sync::Wait;
-use std::thread::{join, yield_now};
+use std::thread::{join, sleep};
+use std::time::{Clock, Duration};
 
 // The same end, with room for so many packets.
 fn with_room(rt: &impl Abort, mut e: End<TableSeat>, packets: u64) -> End<TableSeat>
@@ -170,13 +171,11 @@ fn sleep_parked<R: Wait>(rt: &R, mut e: HostEnd) -> HostEnd
     e
 }
 
-// Marks itself after a million turns of other threads, which raises the peer's signal.
-fn mark_late(mut e: GuestEnd) -> GuestEnd
+// Marks itself after a tenth of a second, which raises the peer's signal.
+fn mark_late(clock: &impl Clock, mut e: GuestEnd) -> GuestEnd
     ensures { IsSameEnd e result }
 {
-    for _ in 0..1_000_000 {
-        yield_now();
-    }
+    sleep(clock, Duration::from_millis(100));
     if e.is_ready() && !e.is_due() {
         e.mark();
     }
@@ -192,7 +191,7 @@ fn a_raise_wakes_a_parked_thread(rt: HostRuntime) {
         run,
         move || -> GuestEnd
             ensures { IsSameEnd guest result }
-        { mark_late(guest) },
+        { mark_late(run, guest) },
         move || -> HostEnd
             ensures { IsSameEnd host result }
         { sleep_parked(run, host) },

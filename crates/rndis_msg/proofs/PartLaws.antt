@@ -1,17 +1,16 @@
 -- The parts of a message: its type, its values and its buffer tell it, and its front has the numbers of the bytes.
 use Rattle.std.proofs.Common.{◌≡◌, ℕ, ◌+◌, ◌-◌, ◌≤◌, List, ◌++◌, length, take, drop, slice_range, Some, refl, sym, ap, ◌∙◌, arith}
-use Rattle.std.specs.Prelude.{slice_index_or}
 use Rattle.std.proofs.lemmas.List.{take-take, drop-take, take_at, take_all, length-take-le}
 use Rattle.wire_table.specs.Little.{number_of}
 use Rattle.rndis_msg.specs.Types.{number_of_type, message_type, fixed_part, buffer_place}
 use Rattle.rndis_msg.specs.Messages.{type_of, values_of, body_of}
 use Rattle.rndis_msg.specs.Grammar.{number_at, IsBuffer, Holds}
-use Rattle.rndis_msg.specs.Reading.{buffer_in}
+use Rattle.rndis_msg.specs.Reading.{buffer_in, made}
 use Rattle.rndis_msg.specs.declared.message_type.MessageType.{MessageType}
-use Rattle.rndis_msg.specs.declared.message_type.MessageType.TheVariants.{PacketMsg, InitializeMsg, InitializeCmplt, HaltMsg, QueryMsg, QueryCmplt, SetMsg, SetCmplt, ResetMsg, ResetCmplt, KeepaliveMsg, KeepaliveCmplt}
+use Rattle.rndis_msg.specs.declared.message_type.MessageType.TheVariants.{PacketMsg}
 use Rattle.rndis_msg.specs.declared.message_type.BufferPlace.{BufferPlace}
 use Rattle.rndis_msg.specs.declared.rndis.Rndis.{Rndis}
-use Rattle.rndis_msg.specs.declared.rndis.Rndis.TheVariants.{Packet, Initialize, InitializeComplete, Halt, Query, QueryComplete, Set, SetComplete, Reset, ResetComplete, Keepalive, KeepaliveComplete}
+use Rattle.rndis_msg.specs.declared.rndis.Rndis.TheVariants.{Packet, Query, QueryComplete, Set}
 
 -- the type of a type's number
 pub type_again : (t : MessageType) → message_type (number_of_type t) ≡ Some t
@@ -30,26 +29,7 @@ pub some_fixed : (t : MessageType) → 12 ≤ fixed_part t
 some_fixed PacketMsg = omega arith
 some_fixed t = omega arith
 
--- value i
-abbrev value : ℕ → List ℕ → ℕ
-value i vs = slice_index_or vs i 0
-
--- the message of a type with these values and this buffer
-abbrev made : MessageType → List ℕ → List ℕ → Rndis
-made PacketMsg vs body = Packet body
-made InitializeMsg vs body = Initialize (value 0 vs) (value 1 vs) (value 2 vs) (value 3 vs)
-made InitializeCmplt vs body = InitializeComplete (value 0 vs) (value 1 vs) (value 2 vs) (value 3 vs) (value 4 vs) (value 5 vs) (value 6 vs) (value 7 vs) (value 8 vs)
-made HaltMsg vs body = Halt (value 0 vs)
-made QueryMsg vs body = Query (value 0 vs) (value 1 vs) body
-made QueryCmplt vs body = QueryComplete (value 0 vs) (value 1 vs) body
-made SetMsg vs body = Set (value 0 vs) (value 1 vs) body
-made SetCmplt vs body = SetComplete (value 0 vs) (value 1 vs)
-made ResetMsg vs body = Reset
-made ResetCmplt vs body = ResetComplete (value 0 vs) (value 1 vs)
-made KeepaliveMsg vs body = Keepalive (value 0 vs)
-made KeepaliveCmplt vs body = KeepaliveComplete (value 0 vs) (value 1 vs)
-
-made_again : (m : Rndis) → made (type_of m) (values_of m) (body_of m) ≡ m
+pub made_again : (m : Rndis) → made (type_of m) (values_of m) (body_of m) ≡ m
 made_again (Packet body) = refl
 made_again m = refl
 

@@ -5,13 +5,13 @@ use Rattle.rndis_msg.specs.Types.{number_of_type, message_type, fixed_part, buff
 use Rattle.rndis_msg.specs.Messages.{type_of, values_of, body_of}
 use Rattle.rndis_msg.specs.Grammar.{number_at, numbers_at, Holds, IsRndis, BeginsWith, front_of}
 use Rattle.rndis_msg.specs.Faults.{first_of, no_header, below_fixed, cut_short, above_fixed, begins_early, ends_late, size_fault, buffer_fault, typed_fault, first_fault}
-use Rattle.rndis_msg.specs.Reading.{buffer_in, Reads, Parses}
+use Rattle.rndis_msg.specs.Reading.{buffer_in, made, told, message_in, Reads, Parses}
 use Rattle.rndis_msg.specs.declared.message_type.MessageType.{MessageType}
 use Rattle.rndis_msg.specs.declared.message_type.BufferPlace.{BufferPlace}
 use Rattle.rndis_msg.specs.declared.fault.RndisFault.{RndisFault}
 use Rattle.rndis_msg.specs.declared.rndis.Rndis.{Rndis}
 use Rattle.rndis_msg.proofs.FaultLaws.{then_fault, both_none, header_there, there_header, fixed_there, there_fixed, all_there, there_all, no_more, more_not, begins_behind, behind_begins, ends_within, within_ends}
-use Rattle.rndis_msg.proofs.PartLaws.{type_again, one_type, some_fixed, same_parts, front_number, body_is}
+use Rattle.rndis_msg.proofs.PartLaws.{type_again, one_type, some_fixed, made_again, same_parts, front_number, body_is}
 
 -- what no fault says of bytes of a type
 record Sound (t : MessageType) (b : List ℕ) : Type 0 where
@@ -144,3 +144,20 @@ parsed_faulty b (Err e) p = tt
 pub typed_is : (t : MessageType) (b : List ℕ) → no_header b ≡ None → message_type (number_at 0 b) ≡ Some t → first_fault b ≡ first_of (size_fault t b) (buffer_fault t (front_of b))
 unfolding first_fault
 typed_is t b header known = then_fault (no_header b) (typed_fault (message_type (number_at 0 b)) b) (typed_fault (Some t) b) header (ap (λ o. typed_fault o b) known)
+
+-- what is read is told by the bytes alone
+read_value : (m : Rndis) (b : List ℕ) → first_fault b ≡ None → number_at 0 b ≡ number_of_type (type_of m) → Reads (type_of m) m (front_of b) → message_in b ≡ Ok m
+unfolding message_in
+read_value m b none number reads =
+    ap (λ o. told o (message_type (number_at 0 b)) (front_of b)) none
+    ∙ (ap (λ o. told None o (front_of b)) (ap message_type number ∙ type_again (type_of m))
+    ∙ ap Ok (ap (λ vs. made (type_of m) vs (buffer_in (buffer_place (type_of m)) (front_of b))) (sym reads.1) ∙ (ap (made (type_of m) (values_of m)) (sym reads.2) ∙ made_again m)))
+
+pub parsed_value : (b : List ℕ) (r : Result Rndis RndisFault) → Parses b r → r ≡ message_in b
+unfolding Parses message_in
+parsed_value b (Ok m) p = sym (read_value m b p.0 p.1 p.2)
+parsed_value b (Err e) p = sym (ap (λ o. told o (message_type (number_at 0 b)) (front_of b)) p)
+
+-- the message with which bytes begin
+pub begins_told : (m : Rndis) (b : List ℕ) → BeginsWith m b → message_in b ≡ Ok m
+begins_told m b h = read_value m b (no_fault m b h) (begun m b h).0 (refl, h.front.fields, body_is m (front_of b) h.front.buffer)

@@ -1,5 +1,5 @@
 -- What is written of a message are its bytes, and what follows them isn't looked at.
-use Rattle.std.proofs.Common.{◌≡◌, ℕ, zero, suc, ◌+◌, ◌-◌, ◌^◌, ◌<◌, ◌≤◌, false, ◌==◌, List, [], ◌∷◌, ◌++◌, length, take, drop, slice_range, refl, sym, ap, ◌∙◌, subst, arith, length-append}
+use Rattle.std.proofs.Common.{◌≡◌, ℕ, zero, suc, ◌+◌, ◌-◌, ◌^◌, ◌<◌, ◌≤◌, false, ◌==◌, List, [], ◌∷◌, ◌++◌, length, take, drop, slice_range, Ok, refl, sym, ap, ◌∙◌, subst, arith, length-append}
 use Rattle.std.specs.List.{AllByRecursion}
 use Rattle.std.proofs.lemmas.Bool.Decides.{nat_tests}
 use Rattle.std.proofs.lemmas.List.{append-nil, take_at, take_all}
@@ -11,7 +11,9 @@ use Rattle.rndis_msg.specs.Grammar.{number_at, numbers_at, IsBuffer, Holds, IsRn
 use Rattle.rndis_msg.specs.declared.message_type.BufferPlace.{BufferPlace}
 use Rattle.rndis_msg.specs.declared.rndis.Rndis.{Rndis}
 use Rattle.rndis_msg.specs.declared.rndis.Rndis.TheVariants.{Packet, Initialize, InitializeComplete, Halt, Query, QueryComplete, Set, SetComplete, Reset, ResetComplete, Keepalive, KeepaliveComplete}
+use Rattle.rndis_msg.specs.Reading.{message_in}
 use Rattle.rndis_msg.proofs.PartLaws.{some_fixed, padded_number}
+use Rattle.rndis_msg.proofs.ReadLaws.{begins_told}
 
 -- a message's bytes are its fixed part and its buffer
 bytes_are : (m : Rndis) → rndis_bytes m ≡ spelled_after [] (rows_of (words_of m)) ++ body_of m
@@ -135,6 +137,10 @@ holds_again (Set request_id oid body) b form w =
     buffer_again (record { offset = 20; length = 16 }) 28 (offset_of 20 body) body b (ap (nth_number 4) w.rows) (ap (nth_number 5) w.rows) form.few w.behind w.size (offset_low 20 28 body refl) (offset_here 20 28 body refl)
 holds_again m b form w = w.size
 
+-- how many bytes are written
+pub length-written : (m : Rndis) → InForm m → length (rndis_bytes m) ≡ length_of m
+length-written m form = let w = worded m form in w.size ∙ ap (λ n. n + length (body_of m)) (fixed_total m)
+
 -- the bytes that are written are the message's
 pub written : (m : Rndis) → InForm m → IsRndis m (rndis_bytes m)
 written m form =
@@ -165,3 +171,7 @@ written_front m w rest n len is bytes = take_at w rest n len ∙ (sym (take_all 
 -- a whole message begins its bytes
 pub whole_begins : (m : Rndis) (b : List ℕ) → IsRndis m b → BeginsWith m b
 whole_begins m b is = subst (BeginsWith m) (append-nil b) (padded m b [] is)
+
+-- what was written is read again
+pub read_again : (m : Rndis) (more : List ℕ) → InForm m → message_in (rndis_bytes m ++ more) ≡ Ok m
+read_again m more form = begins_told m (rndis_bytes m ++ more) (padded m (rndis_bytes m) more (written m form))

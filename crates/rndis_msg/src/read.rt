@@ -4,7 +4,7 @@ ghost use Rattle.rndis_msg.specs.declared.rndis.Rndis.{Rndis as Message};
 ghost use Rattle.rndis_msg.specs.Types.{message_type as type_of_number, number_of_type, fixed_part, buffer_place};
 ghost use Rattle.rndis_msg.specs.Grammar.{BeginsWith, front_of, number_at};
 ghost use Rattle.rndis_msg.specs.Faults.{first_fault, no_header, size_fault, buffer_fault};
-ghost use Rattle.rndis_msg.specs.Reading.{Reads, Parses, buffer_in};
+ghost use Rattle.rndis_msg.specs.Reading.{Reads, Parses, buffer_in, message_in};
 
 use crate::message_type::MessageType;
 use crate::{FieldName, Rndis, RndisFault, Small, tables};
@@ -232,6 +232,9 @@ pub fn decode(bytes: &[u8]) -> Result<Rndis, RndisFault>
 
     // And bytes with a fault are no message.
     ensures faulty { IfOk result (λ m. first_fault bytes.now ≡ None) }
+
+    // So the bytes tell the result.
+    ensures value { result ≡ message_in bytes.now }
 {
     parse(bytes)
 }

@@ -1,5 +1,6 @@
 //! The buffer of a message.
-ghost use Rattle.std.specs.Prelude.{◌≡◌, ◌+◌, ◌≤◌, ◌++◌, [], length};
+ghost use Rattle.std.specs.Prelude.{◌≡◌, ◌+◌, ◌≤◌, ◌<◌, ◌++◌, [], length};
+ghost use Rattle.std.specs.List.{AllByRecursion};
 
 use std::marker::Model;
 
@@ -34,7 +35,8 @@ impl Small {
     /// These bytes, 1,514 at most.
     pub fn of(bytes: &[u8]) -> Small
         requires { length bytes.now ≤ 1514 }
-        ensures { result ≡ bytes.now }
+        ensures value { result ≡ bytes.now }
+        ensures bytes { AllByRecursion (λ b. b < 256) result }
     {
         let mut small = Small::empty();
         small.extend(bytes);
@@ -45,8 +47,11 @@ impl Small {
     pub fn bytes(&self) -> &[u8]
         ensures value { result.now ≡ self.now }
         ensures most { length result.now ≤ 1514 }
+        ensures bytes { AllByRecursion (λ b. b < 256) self.now }
     {
-        &self.bytes[..self.len]
+        let bytes = &self.bytes[..self.len];
+        are_bytes(bytes);
+        bytes
     }
 
     /// The same bytes once more. It takes no memory.
@@ -62,10 +67,19 @@ impl Small {
     /// Puts more bytes at the end, 1,514 with those before at most.
     pub fn extend(&mut self, bytes: &[u8])
         requires { length self.old + length bytes.now ≤ 1514 }
-        ensures { self.new ≡ self.old ++ bytes.now }
+        ensures value { self.new ≡ self.old ++ bytes.now }
+        ensures bytes { AllByRecursion (λ b. b < 256) self.new }
     {
         let end = self.len + bytes.len();
         self.bytes[self.len..end].copy_from_slice(bytes);
         self.len = end;
+        are_bytes(&self.bytes[..end]);
     }
+}
+
+/// Bytes are below 256. It does nothing.
+fn are_bytes(bytes: &[u8])
+    ensures { AllByRecursion (λ b. b < 256) bytes.now }
+{
+    let _len = bytes.len();
 }

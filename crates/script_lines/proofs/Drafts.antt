@@ -10,7 +10,7 @@ use Rattle.std.proofs.lemmas.Option.{slice_get-get_or}
 use Rattle.std.proofs.lemmas.List.Sums.{sum_by-cons}
 use Rattle.contact.specs.declared.version.Version.{Version}
 use Rattle.contact.specs.declared.kind.Kind.{Kind}
-use Rattle.contact.specs.declared.kind.Kind.TheVariants.{Disk as KindDisk}
+use Rattle.contact.specs.declared.kind.Kind.TheVariants.{Disk as KindDisk, Net as KindNet}
 use Rattle.script_lines.specs.declared.line.Ask.{Ask}
 use Rattle.std.proofs.lemmas.List.Folds.{list_any-append, list_all-append}
 use Rattle.std.proofs.lemmas.Grind.{flat_map-append}
@@ -21,7 +21,7 @@ use Rattle.script_lines.specs.declared.line.DeviceSpec.{DeviceSpec}
 use Rattle.script_lines.specs.declared.bad_place.BadPlace.{BadPlace}
 use Rattle.script_lines.specs.declared.draft.Seen.{Seen}
 use Rattle.script_lines.specs.Parts.{is_settings, is_ask, asks_in, this_part, offered, offered_by, names, named_by, channels, channels_of, ends_part, sets_ring, sets_window, sets_bad, rescinds, shuts, has_bad, has_ring, has_window, phases_over, phase_behind, phase_from, rescinded_in, closed_in, kind_of}
-use Rattle.script_lines.specs.WellFormed.{IsRight, AllRight, Fits}
+use Rattle.script_lines.specs.WellFormed.{IsRescindable, IsRight, AllRight, Fits}
 use Rattle.script_lines.specs.Draft.{IsSeen, places_by, places, Keeps}
 use Rattle.script_lines.proofs.Phases.{by_test, phase_on, phase_more, phase_at, this_phase, this_other, count_yes, count_no}
 use Rattle.script_lines.proofs.Scripts.{offered_more, names_more, channels_more, slice_get_front, script_push}
@@ -156,6 +156,9 @@ of_kind_within [] device kind is = absurd (cc)
 of_kind_within (k ∷ kinds) zero kind is = omega arith
 of_kind_within (k ∷ kinds) (suc device) kind is = omega (arith, of_kind_within kinds device kind is)
 
+rescindable_within : (kinds : List DeviceSpec) (device : ℕ) → IsRescindable (slice_get (map kind_of kinds) device) → device < length kinds
+rescindable_within kinds device is = ⊎_elim (of_kind_within kinds device KindDisk) (of_kind_within kinds device KindNet) is
+
 -- a line that is right says nothing of a device that isn't offered
 unsaid : (kinds : List DeviceSpec) (what : What) (device : ℕ) → IsRight kinds what → length kinds ≤ device → Quiet device what
 unsaid kinds (IsContact guest host) device right more = record { ring = refl; window = refl; rescind = refl; shut = refl }
@@ -164,7 +167,7 @@ unsaid kinds (IsBad d lba) device right more = record { ring = refl; window = re
 unsaid kinds (IsRingSize d pages) device right more = ring_else d device pages (λ same. absurd (omega (arith, same, right.0)))
 unsaid kinds (IsWindow d size) device right more = window_else d device size (λ same. absurd (omega (arith, same, right.0)))
 unsaid kinds (IsAsk d ask) device right more = record { ring = refl; window = refl; rescind = refl; shut = refl }
-unsaid kinds (IsRescind d after held) device right more = rescind_else d device after held (λ same. absurd (omega (arith, same, of_kind_within kinds d KindDisk right.0)))
+unsaid kinds (IsRescind d after held) device right more = rescind_else d device after held (λ same. absurd (omega (arith, same, rescindable_within kinds d right.0)))
 unsaid kinds (IsShut d) device right more = shut_else d device (λ same. absurd (omega (arith, same, right)))
 unsaid kinds IsPhase device right more = record { ring = refl; window = refl; rescind = refl; shut = refl }
 
@@ -360,7 +363,7 @@ module _ (ls : List Line) (keys : List (List ℕ)) (seen : List Seen) (count ask
       settles (IsRescind device after held) (slice_set seen device (record s { rescinded = Some phase })) fits refl refl refl (length-set seen device (record s { rescinded = Some phase }))
       (seen_set ls l device (record s { rescinded = Some phase }) seen kept.each
       (rescind_here ls number device after held phase s (fits.rescinded device (eq_self device)) kept.over
-      (kept.each device s (placed device s (of_kind_within (offered ls ++ []) device KindDisk fits.right.0) at))) (λ d other. rescind_else device d after held other)) asks phase false
+      (kept.each device s (placed device s (rescindable_within (offered ls ++ []) device fits.right.0) at))) (λ d other. rescind_else device d after held other)) asks phase false
       (kept.asked ∙ sym (ap asks_in (this_other ls l refl) ∙ count_no (λ k. is_ask k.what) (this_part ls) l refl))
       (kept.over ∙ sym (count_no ends_part ls l refl))
       (sym (settings_no ls l refl))

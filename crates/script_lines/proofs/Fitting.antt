@@ -1,35 +1,35 @@
 -- A line against which nothing stands fits behind the lines before it.
 use Rattle.std.proofs.Common.{◌≡◌, ℕ, ◌+◌, ◌<◌, ◌≤◌, Bool, true, false, List, [], ◌∷◌, ◌++◌, length, map, refl, sym, ap, ◌∙◌, subst, arith, zero, suc, is_some, IfSome, cond}
 use Rattle.std.specs.Prelude.{◌||◌, ◌&&◌, ◌==◌, not, nat_le, Option, Some, None, slice_get, unwrap_or, option_map}
+use Rattle.std.proofs.Common.{inl, inr}
 use Rattle.std.specs.List.{list_all}
 use Rattle.std.specs.Option.{option_or, option_map_or}
 use Rattle.std.proofs.lemmas.Bool.{false≢true}
 use Rattle.std.proofs.lemmas.Bool.Decides.{nat_tests}
 use Rattle.std.proofs.lemmas.List.{append-nil}
 use Rattle.contact.specs.declared.version.Version.{Version}
+use Rattle.contact.specs.declared.kind.Kind.{Kind}
 use Rattle.contact.specs.Versions.{IsVersion}
-use Rattle.util_ic.specs.declared.ic.IcAsk.TheVariants.{Beat as AskBeat, Down as AskDown}
 use Rattle.script_text.specs.declared.fault.Why6.{Why6}
 use Rattle.script_text.specs.declared.fault.Why6.TheVariants.{Limit, Order}
 use Rattle.script_lines.specs.declared.line.Line.{Line}
 use Rattle.script_lines.specs.declared.line.What.{What}
 use Rattle.script_lines.specs.declared.line.What.TheVariants.{Contact as IsContact, Offer as IsOffer, Bad as IsBad, RingSize as IsRingSize, Window as IsWindow, Ask as IsAsk, Rescind as IsRescind, Shut as IsShut, Phase as IsPhase}
 use Rattle.script_lines.specs.declared.line.Ask.{Ask}
-use Rattle.script_lines.specs.declared.line.Ask.TheVariants.{Ic, Disk as AskDisk}
 use Rattle.script_lines.specs.declared.line.DeviceSpec.{DeviceSpec}
-use Rattle.script_lines.specs.declared.line.DeviceSpec.TheVariants.{Beat as IsBeat, Down as IsDown, Disk as IsDisk}
-use Rattle.script_lines.specs.declared.disk_ask.DiskAsk.{DiskAsk}
+use Rattle.script_lines.specs.declared.line.DeviceSpec.TheVariants.{Beat as IsBeat, Down as IsDown, Disk as IsDisk, Net as IsNet}
+use Rattle.script_lines.specs.declared.asked.Asked.{Asked}
+use Rattle.script_lines.specs.declared.asked.Asked.TheVariants.{Beat, Down, Command, Message}
 use Rattle.script_lines.specs.declared.offering.Offering.{Offering}
-use Rattle.script_lines.specs.declared.offering.Offering.TheVariants.{Beat as OfBeat, Down as OfDown, Disk as OfDisk}
-use Rattle.contact.specs.declared.kind.Kind.TheVariants.{Disk as KindDisk}
+use Rattle.script_lines.specs.declared.offering.Offering.TheVariants.{Beat as OfBeat, Down as OfDown, Disk as OfDisk, Net as OfNet}
+use Rattle.contact.specs.declared.kind.Kind.TheVariants.{Disk as KindDisk, Net as KindNet}
 use Rattle.script_lines.specs.declared.said.Said.{Said}
-use Rattle.script_lines.specs.declared.said.Said.TheVariants.{Contact, Offer, Bad, Ring, Window, Beat, Down, Command, Rescind, Close, Phase}
+use Rattle.script_lines.specs.declared.said.Said.TheVariants.{Contact, Offer, Bad, Ring, Window, Request, Rescind, Close, Phase}
 use Rattle.script_lines.specs.Parts.{is_settings, offered, kind_of, kind_asked, phases_over, phase_from, rescinds, shuts, channels, channels_of, device_of, blocks_at, has_bad}
-use Rattle.script_lines.specs.Faults.{unless, device_said, says_settings, line_limit, ask_limit, has_room, count_limit, is_first, is_over, is_now, is_ended_before, own_order, order_fault, is_beat, is_down, is_disk, is_offered, name_fault, is_bad, repeat_fault, offers_in_range, is_block, range_fault, row_fault}
-use Rattle.script_lines.specs.Grammar.{or_zero, spec_of}
-use Rattle.script_lines.specs.WellFormed.{IsDevice, CanGo, OfferInRange, InRange, Fits}
+use Rattle.script_lines.specs.Faults.{unless, device_said, says_settings, line_limit, ask_limit, has_room, count_limit, is_first, is_over, is_now, is_ended_before, own_order, order_fault, is_beat, is_down, is_disk, is_net, takes, is_rescindable, is_offered, name_fault, is_bad, repeat_fault, offers_in_range, is_block, asked_in_range, range_fault, row_fault}
+use Rattle.script_lines.specs.Grammar.{or_zero, spec_of, ask_of}
+use Rattle.script_lines.specs.WellFormed.{IsDevice, IsRescindable, CanGo, OfferInRange, AskedInRange, InRange, Fits}
 use Rattle.script_text.specs.Forms.{within}
-use Rattle.script_lines.specs.Requests.{request_of}
 use Rattle.script_lines.proofs.Carrying.{asks_carried}
 use Rattle.script_lines.proofs.Phases.{by_test, phase_by}
 
@@ -100,16 +100,47 @@ beat_is : (spec : DeviceSpec) → is_beat spec ≡ true → spec ≡ IsBeat
 beat_is IsBeat is = refl
 beat_is IsDown is = absurd (cc)
 beat_is (IsDisk blocks subs) is = absurd (cc)
+beat_is (IsNet mac station) is = absurd (cc)
 
 down_is : (spec : DeviceSpec) → is_down spec ≡ true → spec ≡ IsDown
 down_is IsBeat is = absurd (cc)
 down_is IsDown is = refl
 down_is (IsDisk blocks subs) is = absurd (cc)
+down_is (IsNet mac station) is = absurd (cc)
 
 disk_kind : (spec : DeviceSpec) → is_disk spec ≡ true → kind_of spec ≡ KindDisk
 disk_kind IsBeat is = absurd (cc)
 disk_kind IsDown is = absurd (cc)
 disk_kind (IsDisk blocks subs) is = refl
+disk_kind (IsNet mac station) is = absurd (cc)
+
+net_kind : (spec : DeviceSpec) → is_net spec ≡ true → kind_of spec ≡ KindNet
+net_kind IsBeat is = absurd (cc)
+net_kind IsDown is = absurd (cc)
+net_kind (IsDisk blocks subs) is = absurd (cc)
+net_kind (IsNet mac station) is = refl
+
+-- the device of a request has the kind that is asked so
+kind_taken : (asked : Asked) (spec : DeviceSpec) → takes asked spec ≡ true → kind_of spec ≡ kind_asked (ask_of asked)
+kind_taken (Beat seq) spec is = ap kind_of (beat_is spec is)
+kind_taken (Down flags) spec is = ap kind_of (down_is spec is)
+kind_taken (Command ask) spec is = disk_kind spec is
+kind_taken (Message message) spec is = net_kind spec is
+
+-- and a device that can be rescinded is a disk or a network
+kind_rescinded : (spec : DeviceSpec) (kind : Option Kind) → kind ≡ Some (kind_of spec) → is_rescindable spec ≡ true → IsRescindable kind
+kind_rescinded IsBeat kind same is = absurd (cc)
+kind_rescinded IsDown kind same is = absurd (cc)
+kind_rescinded (IsDisk blocks subs) kind same is = inl same
+kind_rescinded (IsNet mac station) kind same is = inr same
+
+-- a request in its ranges goes through its channel
+can_go : (asked : Asked) → asked_in_range asked ≡ true → AskedInRange asked → CanGo (ask_of asked)
+can_go (Beat seq) holds range = tt
+can_go (Down flags) holds range = tt
+can_go (Command ask) holds range = asks_carried ask holds range
+can_go (Message None) holds range = absurd (cc)
+can_go (Message (Some message)) holds range = range
 
 -- a number from 0 to 3 is 3 at most, and it is the number itself or 0
 three_within : (o : Option ℕ) → unwrap_or (within 0 3 o) 0 ≤ 3
@@ -129,11 +160,13 @@ device_right OfBeat holds range = tt
 device_right OfDown holds range = tt
 device_right (OfDisk None subs) holds range = absurd (cc)
 device_right (OfDisk (Some blocks) subs) holds range = (range.0, range.1, three_within subs)
+device_right (OfNet mac station) holds range = range
 
 -- and its channels
 room_is : (before : List Line) (offering : Offering) → has_room before offering ≡ true → channels before + channels_of (spec_of offering) ≤ 16
 room_is before OfBeat room = grind (arith, nat_tests, room)
 room_is before OfDown room = grind (arith, nat_tests, room)
+room_is before (OfNet mac station) room = grind (arith, nat_tests, room)
 room_is before (OfDisk blocks None) room = absurd (cc)
 room_is before (OfDisk blocks (Some subs)) room =
     let most : channels before + (1 + subs) ≤ 16 = grind (arith, nat_tests, room) in omega (arith, most, no_more_within subs)
@@ -327,33 +360,21 @@ module _ (number : ℕ) (before : List Line) (behind : length before < number) w
         short = is_short (length before) number line behind;
       }
 
-  pub fits_beat : (name : List ℕ) (seq device : Option ℕ) → row_fault number before device (Beat name seq) ≡ None → Fits before (IsAsk (unwrap_or device 0) (Ic (AskBeat (unwrap_or seq 0))))
-  fits_beat name seq device free =
-      let s = stands number before device (Beat name seq) free in
-      let found = offered_is is_beat before device (unless_none _ _ s.name) in
-      fits_ask (Ic (AskBeat (unwrap_or seq 0))) device found.0 found.1 (ap kind_of (beat_is found.0 found.2)) tt s.count s.line
-
-  pub fits_down : (name : List ℕ) (flags device : Option ℕ) → row_fault number before device (Down name flags) ≡ None → Fits before (IsAsk (unwrap_or device 0) (Ic (AskDown 0 0 (unwrap_or flags 0))))
-  fits_down name flags device free =
-      let s = stands number before device (Down name flags) free in
-      let found = offered_is is_down before device (unless_none _ _ s.name) in
-      fits_ask (Ic (AskDown 0 0 (unwrap_or flags 0))) device found.0 found.1 (ap kind_of (down_is found.0 found.2)) tt s.count s.line
-
-  pub fits_command : (name : List ℕ) (ask : DiskAsk) (device : Option ℕ) → row_fault number before device (Command name ask) ≡ None → InRange (Command name ask)
-      → Fits before (IsAsk (unwrap_or device 0) (AskDisk (request_of ask)))
-  fits_command name ask device free range =
-      let s = stands number before device (Command name ask) free in
-      let found = offered_is is_disk before device (unless_none _ _ s.name) in
-      fits_ask (AskDisk (request_of ask)) device found.0 found.1 (disk_kind found.0 found.2) (asks_carried ask (unless_none _ _ s.range) range) s.count s.line
+  pub fits_request : (name : List ℕ) (asked : Asked) (device : Option ℕ) → row_fault number before device (Request name asked) ≡ None → InRange (Request name asked)
+      → Fits before (IsAsk (unwrap_or device 0) (ask_of asked))
+  fits_request name asked device free range =
+      let s = stands number before device (Request name asked) free in
+      let found = offered_is (takes asked) before device (unless_none _ _ s.name) in
+      fits_ask (ask_of asked) device found.0 found.1 (kind_taken asked found.0 found.2) (can_go asked (unless_none _ _ s.range) range) s.count s.line
 
   pub fits_rescind : (name : List ℕ) (after : Option ℕ) (held : Bool) (device : Option ℕ) → row_fault number before device (Rescind name after held) ≡ None → InRange (Rescind name after held)
       → Fits before (IsRescind (unwrap_or device 0) (unwrap_or after 0) held)
   fits_rescind name after held device free range =
       let s = stands number before device (Rescind name after held) free in
-      let found = offered_is is_disk before device (unless_none _ _ s.name) in
+      let found = offered_is is_rescindable before device (unless_none _ _ s.name) in
       let served = in_range after (unless_none _ _ s.range) range in
       record {
-        right = (right_kind before device found.0 found.1 ∙ ap Some (disk_kind found.0 found.2), served.0, served.1);
+        right = (kind_rescinded found.0 _ (right_kind before device found.0 found.1) found.2, served.0, served.1);
         goes = tt;
         fresh = refl;
         contact = λ is. absurd (false≢true is);
@@ -361,7 +382,7 @@ module _ (number : ℕ) (before : List Line) (behind : length before < number) w
         few = λ one is. none_in is;
         new = λ other is. none_in is;
         asks = λ is. absurd (false≢true is);
-        rescinded = first_end rescinds before device (some_offered is_disk before device (unless_none _ _ s.name)) (λ d not. (neither _ _ not).0)
+        rescinded = first_end rescinds before device (some_offered is_rescindable before device (unless_none _ _ s.name)) (λ d not. (neither _ _ not).0)
             (not_true _ (unless_none _ _ (own_free before device (Rescind name after held) s.order))) (not_true _ (unless_none _ _ s.repeat));
         closed = λ d is. absurd (false≢true is);
         short = is_short (length before) number s.line behind;

@@ -10,20 +10,23 @@ use Rattle.script_lines.specs.declared.line.Line.{Line}
 use Rattle.script_lines.specs.declared.line.What.{What}
 use Rattle.script_lines.specs.declared.line.What.TheVariants.{Contact as IsContact, Offer as IsOffer, Bad as IsBad, RingSize as IsRingSize, Window as IsWindow, Ask as IsAsk, Rescind as IsRescind, Shut as IsShut, Phase as IsPhase}
 use Rattle.script_lines.specs.declared.line.Ask.{Ask}
-use Rattle.script_lines.specs.declared.line.Ask.TheVariants.{Ic, Disk as AskDisk}
+use Rattle.script_lines.specs.declared.line.Ask.TheVariants.{Ic, Disk as AskDisk, Net as AskNet}
+use Rattle.script_lines.specs.declared.asked.Asked.{Asked}
+use Rattle.script_lines.specs.declared.asked.Asked.TheVariants.{Beat, Down, Command, Message}
 use Rattle.script_lines.specs.declared.disk_ask.DiskAsk.{DiskAsk}
 use Rattle.script_lines.specs.declared.disk_ask.DiskAsk.TheVariants.{Ready, Inquiry, Capacity, Flush, Read, Write}
 use Rattle.script_lines.specs.declared.said.Said.{Said}
-use Rattle.script_lines.specs.declared.said.Said.TheVariants.{Nothing, Contact, Offer, Bad, Ring, Window, Beat, Down, Command, Rescind, Close, Phase}
+use Rattle.script_lines.specs.declared.said.Said.TheVariants.{Nothing, Contact, Offer, Bad, Ring, Window, Request, Rescind, Close, Phase}
 use Rattle.script_lines.specs.Requests.{request_of}
 use Rattle.script_lines.specs.Rows.{said_in}
 use Rattle.script_lines.specs.Faults.{device_said, fault_at}
-use Rattle.script_lines.specs.Grammar.{what_of, numbered, said_lines, lines_at, or_fault, read_from, script_of}
+use Rattle.script_lines.specs.Grammar.{ask_of, what_of, numbered, said_lines, lines_at, or_fault, read_from, script_of}
 
 -- the data of a request are all the same byte
 abbrev pub PlainAsk : Ask → Type 0
 PlainAsk (Ic ask) = Unit {0}
 PlainAsk (AskDisk request) = IsOneByte request.out
+PlainAsk (AskNet message) = Unit {0}
 
 abbrev pub PlainWhat : What → Type 0
 PlainWhat (IsContact guest host) = Unit {0}
@@ -54,6 +57,12 @@ request_plain Flush = no_data
 request_plain (Read lba count) = no_data
 request_plain (Write lba count byte) = one_byte (512 * unwrap_or count 0) byte
 
+asked_plain : (asked : Asked) → PlainAsk (ask_of asked)
+asked_plain (Beat seq) = tt
+asked_plain (Down flags) = tt
+asked_plain (Command ask) = request_plain ask
+asked_plain (Message message) = tt
+
 what_plain : (device : Option ℕ) (said : Said) → PlainSome (what_of device said)
 what_plain device Nothing = tt
 what_plain device (Contact guest host) = tt
@@ -61,9 +70,7 @@ what_plain device (Offer name offering) = tt
 what_plain device (Bad name lba) = tt
 what_plain device (Ring name pages) = tt
 what_plain device (Window name size) = tt
-what_plain device (Beat name seq) = tt
-what_plain device (Down name flags) = tt
-what_plain device (Command name ask) = request_plain ask
+what_plain device (Request name asked) = asked_plain asked
 what_plain device (Rescind name after held) = tt
 what_plain device (Close name) = tt
 what_plain device Phase = tt

@@ -1,5 +1,6 @@
 -- A script stays right as its lines come.
 use Rattle.std.proofs.Common.{◌≡◌, ℕ, zero, suc, ◌+◌, ◌<◌, ◌≤◌, Bool, true, false, List, [], ◌∷◌, ◌++◌, length, map, refl, sym, ap, ◌∙◌, subst, arith, All, length-append}
+use Rattle.std.proofs.Common.{inl, inr, ⊎_elim}
 use Rattle.std.specs.Prelude.{not, ◌&&◌, Option, Some, None, count_by, sum_by, slice_get, if◌then◌else◌}
 use Rattle.std.specs.List.{list_all}
 use Rattle.std.specs.Option.{option_map_or}
@@ -8,12 +9,12 @@ use Rattle.std.proofs.lemmas.Grind.{flat_map-append}
 use Rattle.std.proofs.lemmas.List.Folds.{list_all-append}
 use Rattle.std.proofs.lemmas.List.Sums.{sum_by-append, sum_by-cons}
 use Rattle.contact.specs.declared.kind.Kind.{Kind}
-use Rattle.contact.specs.declared.kind.Kind.TheVariants.{Disk as KindDisk}
+use Rattle.contact.specs.declared.kind.Kind.TheVariants.{Disk as KindDisk, Net as KindNet}
 use Rattle.script_lines.specs.declared.line.Line.{Line}
 use Rattle.script_lines.specs.declared.line.What.{What}
 use Rattle.script_lines.specs.declared.line.What.TheVariants.{Contact as IsContact, Offer as IsOffer, Bad as IsBad, RingSize as IsRingSize, Window as IsWindow, Ask as IsAsk, Rescind as IsRescind, Shut as IsShut, Phase as IsPhase}
 use Rattle.script_lines.specs.declared.line.DeviceSpec.{DeviceSpec}
-use Rattle.script_lines.specs.declared.line.DeviceSpec.TheVariants.{Beat, Down, Disk}
+use Rattle.script_lines.specs.declared.line.DeviceSpec.TheVariants.{Beat, Down, Disk, Net}
 use Rattle.script_lines.specs.Parts.{ends_part, parts, is_settings, is_ask, asks_in, offered_by, offered, named_by, names, kind_of, kind_asked, rescinds, shuts, this_part, phase_from, channels_of, channels, blocks_of, blocks_at}
 use Rattle.script_lines.specs.WellFormed.{IsRight, AllRight, AskGoes, AllGo, is_contact, contact_first, settings_first, IsScript, Fits}
 use Rattle.script_lines.proofs.Phases.{by_test, FewAsks, asks_phase, asks_other, asks_this, count_yes, count_no, none_such}
@@ -48,7 +49,8 @@ right_more kinds more (IsBad device lba) right = block_more kinds more device lb
 right_more kinds more (IsRingSize device pages) right = (omega (arith, right.0, length-append kinds more), right.1, right.2)
 right_more kinds more (IsWindow device size) right = (omega (arith, right.0, length-append kinds more), right.1, right.2)
 right_more kinds more (IsAsk device ask) right = kind_more kinds more device (kind_asked ask) right
-right_more kinds more (IsRescind device after held) right = (kind_more kinds more device KindDisk right.0, right.1, right.2)
+right_more kinds more (IsRescind device after held) right =
+    (⊎_elim (λ is. inl (kind_more kinds more device KindDisk is)) (λ is. inr (kind_more kinds more device KindNet is)) right.0, right.1, right.2)
 right_more kinds more (IsShut device) right = omega (arith, right, length-append kinds more)
 right_more kinds more IsPhase right = tt
 
@@ -97,6 +99,7 @@ one_channel : (d : DeviceSpec) → 1 ≤ channels_of d
 one_channel Beat = omega arith
 one_channel Down = omega arith
 one_channel (Disk blocks subs) = omega arith
+one_channel (Net mac station) = omega arith
 
 -- a device has a channel at least
 pub length_channels : (ds : List DeviceSpec) → length ds ≤ sum_by channels_of ds

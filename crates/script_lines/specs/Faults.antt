@@ -6,13 +6,15 @@ use Rattle.script_text.specs.declared.fault.Why6.{Why6}
 use Rattle.script_text.specs.declared.fault.Why6.TheVariants.{Form, Limit, Order, UnknownName, Repeat, Range}
 use Rattle.script_lines.specs.declared.line.Line.{Line}
 use Rattle.script_lines.specs.declared.line.DeviceSpec.{DeviceSpec}
-use Rattle.script_lines.specs.declared.line.DeviceSpec.TheVariants.{Beat as IsBeat, Down as IsDown, Disk as IsDisk}
+use Rattle.script_lines.specs.declared.line.DeviceSpec.TheVariants.{Beat as IsBeat, Down as IsDown, Disk as IsDisk, Net as IsNet}
+use Rattle.script_lines.specs.declared.asked.Asked.{Asked}
+use Rattle.script_lines.specs.declared.asked.Asked.TheVariants.{Beat, Down, Command, Message}
 use Rattle.script_lines.specs.declared.disk_ask.DiskAsk.{DiskAsk}
 use Rattle.script_lines.specs.declared.disk_ask.DiskAsk.TheVariants.{Ready, Inquiry, Capacity, Flush, Read, Write}
 use Rattle.script_lines.specs.declared.offering.Offering.{Offering}
-use Rattle.script_lines.specs.declared.offering.Offering.TheVariants.{Beat as OfBeat, Down as OfDown, Disk as OfDisk}
+use Rattle.script_lines.specs.declared.offering.Offering.TheVariants.{Beat as OfBeat, Down as OfDown, Disk as OfDisk, Net as OfNet}
 use Rattle.script_lines.specs.declared.said.Said.{Said}
-use Rattle.script_lines.specs.declared.said.Said.TheVariants.{Nothing, Contact, Offer, Bad, Ring, Window, Beat, Down, Command, Rescind, Close, Phase}
+use Rattle.script_lines.specs.declared.said.Said.TheVariants.{Nothing, Contact, Offer, Bad, Ring, Window, Request, Rescind, Close, Phase}
 use Rattle.script_lines.specs.Parts.{is_settings, asks_in, this_part, phases_over, offered, channels, has_bad, has_ring, has_window, rescinded_in, closed_in, device_of, blocks_at}
 use Rattle.script_text.specs.Forms.{within}
 use Rattle.script_lines.specs.Rows.{said_in}
@@ -29,9 +31,7 @@ name_said (Offer name offering) = Some name
 name_said (Bad name lba) = Some name
 name_said (Ring name pages) = Some name
 name_said (Window name size) = Some name
-name_said (Beat name seq) = Some name
-name_said (Down name flags) = Some name
-name_said (Command name ask) = Some name
+name_said (Request name asked) = Some name
 name_said (Rescind name after held) = Some name
 name_said (Close name) = Some name
 name_said Phase = None
@@ -48,9 +48,7 @@ says_settings (Offer name offering) = true
 says_settings (Bad name lba) = true
 says_settings (Ring name pages) = true
 says_settings (Window name size) = true
-says_settings (Beat name seq) = false
-says_settings (Down name flags) = false
-says_settings (Command name ask) = false
+says_settings (Request name asked) = false
 says_settings (Rescind name after held) = false
 says_settings (Close name) = false
 says_settings Phase = false
@@ -69,6 +67,7 @@ channels_said OfBeat = Some 1
 channels_said OfDown = Some 1
 channels_said (OfDisk blocks None) = None
 channels_said (OfDisk blocks (Some subs)) = Some (1 + subs)
+channels_said (OfNet mac station) = Some 1
 
 -- with them the devices have 16 channels at most
 abbrev pub has_room : List Line → Offering → Bool
@@ -82,9 +81,7 @@ count_limit before (Offer name offering) = unless (has_room before offering) Lim
 count_limit before (Bad name lba) = None
 count_limit before (Ring name pages) = None
 count_limit before (Window name size) = None
-count_limit before (Beat name seq) = ask_limit before
-count_limit before (Down name flags) = ask_limit before
-count_limit before (Command name ask) = ask_limit before
+count_limit before (Request name asked) = ask_limit before
 count_limit before (Rescind name after held) = None
 count_limit before (Close name) = None
 count_limit before Phase = None
@@ -114,9 +111,7 @@ own_order before device (Offer name offering) = None
 own_order before device (Bad name lba) = None
 own_order before device (Ring name pages) = None
 own_order before device (Window name size) = None
-own_order before device (Beat name seq) = None
-own_order before device (Down name flags) = None
-own_order before device (Command name ask) = None
+own_order before device (Request name asked) = None
 own_order before device (Rescind name after held) = unless (not (option_map_or (is_ended_before before) device false)) Order
 own_order before device (Close name) = unless (not (option_map_or (is_ended_before before) device false)) Order
 own_order before device Phase = None
@@ -129,16 +124,36 @@ abbrev pub is_beat : DeviceSpec → Bool
 is_beat IsBeat = true
 is_beat IsDown = false
 is_beat (IsDisk blocks subs) = false
+is_beat (IsNet mac station) = false
 
 abbrev pub is_down : DeviceSpec → Bool
 is_down IsBeat = false
 is_down IsDown = true
 is_down (IsDisk blocks subs) = false
+is_down (IsNet mac station) = false
 
 abbrev pub is_disk : DeviceSpec → Bool
 is_disk IsBeat = false
 is_disk IsDown = false
 is_disk (IsDisk blocks subs) = true
+is_disk (IsNet mac station) = false
+
+abbrev pub is_net : DeviceSpec → Bool
+is_net IsBeat = false
+is_net IsDown = false
+is_net (IsDisk blocks subs) = false
+is_net (IsNet mac station) = true
+
+-- the kind of device that is asked this
+abbrev pub takes : Asked → DeviceSpec → Bool
+takes (Beat seq) spec = is_beat spec
+takes (Down flags) spec = is_down spec
+takes (Command ask) spec = is_disk spec
+takes (Message message) spec = is_net spec
+
+-- a device that can be rescinded: a disk or a network
+abbrev pub is_rescindable : DeviceSpec → Bool
+is_rescindable spec = is_disk spec || is_net spec
 
 -- the device was offered, and it is of such a kind
 abbrev pub is_offered : (DeviceSpec → Bool) → List Line → Option ℕ → Bool
@@ -152,10 +167,8 @@ name_fault before device (Offer name offering) = None
 name_fault before device (Bad name lba) = unless (is_offered is_disk before device) UnknownName
 name_fault before device (Ring name pages) = unless (is_some device) UnknownName
 name_fault before device (Window name size) = unless (is_some device) UnknownName
-name_fault before device (Beat name seq) = unless (is_offered is_beat before device) UnknownName
-name_fault before device (Down name flags) = unless (is_offered is_down before device) UnknownName
-name_fault before device (Command name ask) = unless (is_offered is_disk before device) UnknownName
-name_fault before device (Rescind name after held) = unless (is_offered is_disk before device) UnknownName
+name_fault before device (Request name asked) = unless (is_offered (takes asked) before device) UnknownName
+name_fault before device (Rescind name after held) = unless (is_offered is_rescindable before device) UnknownName
 name_fault before device (Close name) = unless (is_some device) UnknownName
 name_fault before device Phase = None
 
@@ -179,9 +192,7 @@ repeat_fault before device (Offer name offering) = unless (not (is_some device))
 repeat_fault before device (Bad name lba) = unless (not (is_bad before device lba)) Repeat
 repeat_fault before device (Ring name pages) = unless (not (option_map_or (λ d. has_ring d before) device false)) Repeat
 repeat_fault before device (Window name size) = unless (not (option_map_or (λ d. has_window d before) device false)) Repeat
-repeat_fault before device (Beat name seq) = None
-repeat_fault before device (Down name flags) = None
-repeat_fault before device (Command name ask) = None
+repeat_fault before device (Request name asked) = None
 repeat_fault before device (Rescind name after held) = unless (not (option_map_or (is_rescinded_here before) device false)) Repeat
 repeat_fault before device (Close name) = unless (not (option_map_or (is_closed_here before) device false)) Repeat
 repeat_fault before device Phase = None
@@ -191,6 +202,7 @@ abbrev pub offers_in_range : Offering → Bool
 offers_in_range OfBeat = true
 offers_in_range OfDown = true
 offers_in_range (OfDisk blocks subs) = is_some blocks && is_some (within 0 3 subs)
+offers_in_range (OfNet mac station) = true
 
 -- a block of the device
 abbrev pub is_block : List Line → Option ℕ → Option ℕ → Bool
@@ -204,6 +216,12 @@ asks_in_range Flush = true
 asks_in_range (Read lba count) = is_some lba && is_some count
 asks_in_range (Write lba count byte) = is_some lba && is_some count
 
+abbrev pub asked_in_range : Asked → Bool
+asked_in_range (Beat seq) = is_some seq
+asked_in_range (Down flags) = is_some flags
+asked_in_range (Command ask) = asks_in_range ask
+asked_in_range (Message message) = is_some message
+
 -- Range: each value is in its range
 abbrev pub range_fault : List Line → Option ℕ → Said → Option Why6
 range_fault before device Nothing = None
@@ -212,9 +230,7 @@ range_fault before device (Offer name offering) = unless (offers_in_range offeri
 range_fault before device (Bad name lba) = unless (is_block before device lba) Range
 range_fault before device (Ring name pages) = unless (is_some pages) Range
 range_fault before device (Window name size) = unless (is_some size) Range
-range_fault before device (Beat name seq) = unless (is_some seq) Range
-range_fault before device (Down name flags) = unless (is_some flags) Range
-range_fault before device (Command name ask) = unless (asks_in_range ask) Range
+range_fault before device (Request name asked) = unless (asked_in_range asked) Range
 range_fault before device (Rescind name after held) = unless (is_some after) Range
 range_fault before device (Close name) = None
 range_fault before device Phase = None

@@ -8,13 +8,17 @@ use Rattle.script_text.specs.declared.fault.ScriptFault.{ScriptFault}
 use Rattle.script_lines.specs.declared.line.Line.{Line}
 use Rattle.script_lines.specs.declared.line.What.{What}
 use Rattle.script_lines.specs.declared.line.What.TheVariants.{Contact as IsContact, Offer as IsOffer, Bad as IsBad, RingSize as IsRingSize, Window as IsWindow, Ask as IsAsk, Rescind as IsRescind, Shut as IsShut, Phase as IsPhase}
-use Rattle.script_lines.specs.declared.line.Ask.TheVariants.{Ic, Disk as AskDisk}
+use Rattle.script_lines.specs.declared.line.Ask.{Ask}
+use Rattle.script_lines.specs.declared.line.Ask.TheVariants.{Ic, Disk as AskDisk, Net as AskNet}
 use Rattle.script_lines.specs.declared.line.DeviceSpec.{DeviceSpec}
-use Rattle.script_lines.specs.declared.line.DeviceSpec.TheVariants.{Beat as IsBeat, Down as IsDown, Disk as IsDisk}
+use Rattle.script_lines.specs.declared.line.DeviceSpec.TheVariants.{Beat as IsBeat, Down as IsDown, Disk as IsDisk, Net as IsNet}
+use Rattle.script_lines.specs.declared.asked.Asked.{Asked}
+use Rattle.script_lines.specs.declared.asked.Asked.TheVariants.{Beat, Down, Command, Message}
+use Rattle.rndis_msg.specs.declared.rndis.Rndis.TheVariants.{Reset}
 use Rattle.script_lines.specs.declared.offering.Offering.{Offering}
-use Rattle.script_lines.specs.declared.offering.Offering.TheVariants.{Beat as OfBeat, Down as OfDown, Disk as OfDisk}
+use Rattle.script_lines.specs.declared.offering.Offering.TheVariants.{Beat as OfBeat, Down as OfDown, Disk as OfDisk, Net as OfNet}
 use Rattle.script_lines.specs.declared.said.Said.{Said}
-use Rattle.script_lines.specs.declared.said.Said.TheVariants.{Nothing, Contact, Offer, Bad, Ring, Window, Beat, Down, Command, Rescind, Close, Phase}
+use Rattle.script_lines.specs.declared.said.Said.TheVariants.{Nothing, Contact, Offer, Bad, Ring, Window, Request, Rescind, Close, Phase}
 use Rattle.script_text.specs.Forms.{within}
 use Rattle.script_lines.specs.Requests.{request_of}
 use Rattle.script_lines.specs.Rows.{said_in}
@@ -29,6 +33,14 @@ abbrev pub spec_of : Offering → DeviceSpec
 spec_of OfBeat = IsBeat
 spec_of OfDown = IsDown
 spec_of (OfDisk blocks subs) = IsDisk (unwrap_or blocks 0) (unwrap_or (within 0 3 subs) 0)
+spec_of (OfNet mac station) = IsNet mac station
+
+-- the request that a line makes, with 0 where a number is out of range, and a reset where a message is
+abbrev pub ask_of : Asked → Ask
+ask_of (Beat seq) = Ic (AskBeat (unwrap_or seq 0))
+ask_of (Down flags) = Ic (AskDown 0 0 (unwrap_or flags 0))
+ask_of (Command ask) = AskDisk (request_of ask)
+ask_of (Message message) = AskNet (unwrap_or message Reset)
 
 -- what a line that speaks of this device becomes; one that is passed over becomes none
 abbrev pub what_of : Option ℕ → Said → Option What
@@ -38,9 +50,7 @@ what_of device (Offer name offering) = Some (IsOffer name (spec_of offering))
 what_of device (Bad name lba) = Some (IsBad (unwrap_or device 0) (unwrap_or lba 0))
 what_of device (Ring name pages) = Some (IsRingSize (unwrap_or device 0) (unwrap_or pages 0))
 what_of device (Window name size) = Some (IsWindow (unwrap_or device 0) (unwrap_or size 0))
-what_of device (Beat name seq) = Some (IsAsk (unwrap_or device 0) (Ic (AskBeat (unwrap_or seq 0))))
-what_of device (Down name flags) = Some (IsAsk (unwrap_or device 0) (Ic (AskDown 0 0 (unwrap_or flags 0))))
-what_of device (Command name ask) = Some (IsAsk (unwrap_or device 0) (AskDisk (request_of ask)))
+what_of device (Request name asked) = Some (IsAsk (unwrap_or device 0) (ask_of asked))
 what_of device (Rescind name after held) = Some (IsRescind (unwrap_or device 0) (unwrap_or after 0) held)
 what_of device (Close name) = Some (IsShut (unwrap_or device 0))
 what_of device Phase = Some IsPhase

@@ -4,15 +4,15 @@ use Rattle.std.specs.List.{flat_map, slice_split, list_any}
 use Rattle.std.specs.Option.{option_map_or}
 use Rattle.std.specs.Str.{bytes_eq}
 use Rattle.contact.specs.declared.kind.Kind.{Kind}
-use Rattle.contact.specs.declared.kind.Kind.TheVariants.{Beat as KindBeat, Down as KindDown, Disk as KindDisk}
+use Rattle.contact.specs.declared.kind.Kind.TheVariants.{Beat as KindBeat, Down as KindDown, Disk as KindDisk, Net as KindNet}
 use Rattle.util_ic.specs.declared.ic.IcAsk.TheVariants.{Beat as AskBeat, Down as AskDown}
 use Rattle.script_lines.specs.declared.line.Line.{Line}
 use Rattle.script_lines.specs.declared.line.What.{What}
 use Rattle.script_lines.specs.declared.line.What.TheVariants.{Contact as IsContact, Offer as IsOffer, Bad as IsBad, RingSize as IsRingSize, Window as IsWindow, Ask as IsAsk, Rescind as IsRescind, Shut as IsShut, Phase as IsPhase}
 use Rattle.script_lines.specs.declared.line.Ask.{Ask}
-use Rattle.script_lines.specs.declared.line.Ask.TheVariants.{Ic, Disk as AskDisk}
+use Rattle.script_lines.specs.declared.line.Ask.TheVariants.{Ic, Disk as AskDisk, Net as AskNet}
 use Rattle.script_lines.specs.declared.line.DeviceSpec.{DeviceSpec}
-use Rattle.script_lines.specs.declared.line.DeviceSpec.TheVariants.{Beat, Down, Disk}
+use Rattle.script_lines.specs.declared.line.DeviceSpec.TheVariants.{Beat, Down, Disk, Net}
 
 -- a line that begins the next phase
 abbrev pub is_phase : What → Bool
@@ -96,18 +96,21 @@ abbrev pub kind_of : DeviceSpec → Kind
 kind_of Beat = KindBeat
 kind_of Down = KindDown
 kind_of (Disk blocks subs) = KindDisk
+kind_of (Net mac station) = KindNet
 
 -- the kind of device that is asked this
 abbrev pub kind_asked : Ask → Kind
 kind_asked (Ic (AskBeat seq)) = KindBeat
 kind_asked (Ic (AskDown reason timeout flags)) = KindDown
 kind_asked (AskDisk request) = KindDisk
+kind_asked (AskNet message) = KindNet
 
 -- the blocks of a device: a disk alone has any
 abbrev pub blocks_of : DeviceSpec → ℕ
 blocks_of Beat = 0
 blocks_of Down = 0
 blocks_of (Disk blocks subs) = blocks
+blocks_of (Net mac station) = 0
 
 -- the blocks of one of these devices
 abbrev pub blocks_at : ℕ → List DeviceSpec → ℕ
@@ -270,6 +273,7 @@ abbrev pub channels_of : DeviceSpec → ℕ
 channels_of Beat = 1
 channels_of Down = 1
 channels_of (Disk blocks subs) = 1 + subs
+channels_of (Net mac station) = 1
 
 -- the channels of all devices
 abbrev pub channels : List Line → ℕ

@@ -1,6 +1,9 @@
--- The requests that lines ask of a disk.
+-- The requests that lines ask of a disk, and of a network.
 use Rattle.std.specs.Prelude.{ℕ, ◌≡◌, ◌≤◌, ◌<◌, ◌*◌, ◌^◌, true, List, [], ◌∷◌, ◌++◌, length, replicate, Option, Some, IsSome, IfSome, unwrap_or}
 use Rattle.std.specs.Int.{to_be_bytes, w16, w32}
+use Rattle.std.specs.List.{AllByRecursion}
+use Rattle.rndis_msg.specs.declared.rndis.Rndis.{Rndis}
+use Rattle.rndis_msg.specs.declared.rndis.Rndis.TheVariants.{Packet, Query, Set, Reset, Keepalive}
 use Rattle.scsi_disk.specs.Commands.{command_of}
 use Rattle.scsi_disk.specs.declared.command.Command.{Command}
 use Rattle.scsi_disk.specs.declared.command.Command.TheVariants.{TestUnitReady, Inquiry as IsInquiry, ReadCapacity, Read as IsRead, Write as IsWrite, SynchronizeCache}
@@ -59,6 +62,16 @@ AskInRange Capacity = Unit {0}
 AskInRange Flush = Unit {0}
 AskInRange (Read lba count) = IfSome lba (λ n. n < 2 ^ 32) × IfSome count (λ n. n ≤ 4)
 AskInRange (Write lba count byte) = IfSome lba (λ n. n < 2 ^ 32) × IfSome count (λ n. n ≤ 4)
+
+-- a message that a line sends to an adapter: a query with no bytes of its own, a set of 1 to 64 bytes, a keepalive and a reset, or a frame of 14 to 1,514
+-- bytes. The packet that carries it gives it its request id
+abbrev pub IsSent : Rndis → Type 0
+IsSent (Query request_id oid body) = (request_id ≡ 0) × (oid < 2 ^ 32) × (body ≡ [])
+IsSent (Set request_id oid body) = (request_id ≡ 0) × (oid < 2 ^ 32) × (1 ≤ length body) × (length body ≤ 64) × AllByRecursion (λ b. b < 256) body
+IsSent (Keepalive request_id) = request_id ≡ 0
+IsSent Reset = Unit {0}
+IsSent (Packet body) = (14 ≤ length body) × (length body ≤ 1514) × AllByRecursion (λ b. b < 256) body
+IsSent others = ⊥
 
 -- how many bytes a command moves at most, to the disk or back
 abbrev pub most_moved : Option Command → ℕ

@@ -1,15 +1,18 @@
 -- The rows of the table of lines.
-use Rattle.std.specs.Prelude.{ℕ, ◌^◌, ◌-◌, ◌==◌, Bool, true, false, ◌&&◌, nat_le, List, [], ◌∷◌, codes, Option, Some, None, if◌then◌else◌}
+use Rattle.std.specs.Prelude.{ℕ, ◌^◌, ◌-◌, ◌==◌, Bool, true, false, ◌&&◌, nat_le, List, [], ◌∷◌, length, codes, Option, Some, None, if◌then◌else◌}
 use Rattle.std.specs.List.{list_all}
 use Rattle.std.specs.Option.{option_map}
 use Rattle.std.specs.Str.{bytes_eq}
+use Rattle.rndis_msg.specs.declared.rndis.Rndis.{Rndis}
+use Rattle.rndis_msg.specs.declared.rndis.Rndis.TheVariants.{Packet, Query, Set, Reset, Keepalive}
+use Rattle.script_lines.specs.declared.asked.Asked.TheVariants.{Beat, Down, Command, Message}
 use Rattle.script_lines.specs.declared.disk_ask.DiskAsk.{DiskAsk}
 use Rattle.script_lines.specs.declared.disk_ask.DiskAsk.TheVariants.{Ready, Inquiry, Capacity, Flush, Read, Write}
-use Rattle.script_lines.specs.declared.offering.Offering.TheVariants.{Beat as OfBeat, Down as OfDown, Disk as OfDisk}
+use Rattle.script_lines.specs.declared.offering.Offering.TheVariants.{Beat as OfBeat, Down as OfDown, Disk as OfDisk, Net as OfNet}
 use Rattle.script_lines.specs.declared.said.Said.{Said}
-use Rattle.script_lines.specs.declared.said.Said.TheVariants.{Nothing, Contact, Offer, Bad, Ring, Window, Beat, Down, Command, Rescind, Close, Phase}
+use Rattle.script_lines.specs.declared.said.Said.TheVariants.{Nothing, Contact, Offer, Bad, Ring, Window, Request, Rescind, Close, Phase}
 use Rattle.script_text.specs.Words.{words}
-use Rattle.script_text.specs.Forms.{is_name, is_decimal, number_of, in_u64, within, is_byte, byte_of, is_version, version_of}
+use Rattle.script_text.specs.Forms.{is_name, is_decimal, number_of, in_u64, within, is_byte, byte_of, is_version, version_of, are_bytes, bytes_of, is_address, is_oid, oid_of}
 
 -- NAME
 abbrev pub name_alone : List (List ℕ) → Option (List ℕ)
@@ -36,13 +39,20 @@ contact_row others = None
 abbrev pub disk_offer : List (List ℕ) → Option Said
 disk_offer others = option_map (λ p. Offer p.0 (OfDisk (within 1 65536 p.1) p.2)) (name_and_two others)
 
--- hb NAME, shutdown NAME, or disk and what stands behind it, behind offer
+-- NAME MAC STATION, behind offer net
+abbrev pub net_offer : List (List ℕ) → Option Said
+net_offer (name ∷ mac ∷ station ∷ []) =
+    if is_name name && is_address mac && is_address station then Some (Offer name (OfNet (bytes_of mac) (bytes_of station))) else None
+net_offer others = None
+
+-- hb NAME, shutdown NAME, or disk or net and what stands behind it, behind offer
 abbrev pub offer_row : List (List ℕ) → Option Said
 offer_row [] = None
 offer_row (kind ∷ others) =
     if bytes_eq kind (codes "hb") then option_map (λ name. Offer name OfBeat) (name_alone others) else
     if bytes_eq kind (codes "shutdown") then option_map (λ name. Offer name OfDown) (name_alone others) else
-    if bytes_eq kind (codes "disk") then disk_offer others else None
+    if bytes_eq kind (codes "disk") then disk_offer others else
+    if bytes_eq kind (codes "net") then net_offer others else None
 
 -- NAME LBA, behind bad
 abbrev pub bad_row : List (List ℕ) → Option Said
@@ -58,15 +68,15 @@ window_row others = option_map (λ p. Window p.0 (within 1 64 p.1)) (name_and_nu
 
 -- NAME SEQ, behind beat
 abbrev pub beat_row : List (List ℕ) → Option Said
-beat_row others = option_map (λ p. Beat p.0 p.1) (name_and_number others)
+beat_row others = option_map (λ p. Request p.0 (Beat p.1)) (name_and_number others)
 
 -- NAME FLAGS, behind down
 abbrev pub down_row : List (List ℕ) → Option Said
-down_row others = option_map (λ p. Down p.0 (within 0 (2 ^ 32 - 1) p.1)) (name_and_number others)
+down_row others = option_map (λ p. Request p.0 (Down (within 0 (2 ^ 32 - 1) p.1))) (name_and_number others)
 
 -- NAME, behind the key words of a disk that take no more
 abbrev pub plain_command : DiskAsk → List (List ℕ) → Option Said
-plain_command ask others = option_map (λ name. Command name ask) (name_alone others)
+plain_command ask others = option_map (λ name. Request name (Command ask)) (name_alone others)
 
 -- the first block of a command, and how many blocks it moves
 abbrev pub lba_in : Option ℕ → Option ℕ
@@ -77,17 +87,59 @@ count_in number = within 0 4 number
 
 -- NAME LBA COUNT, behind read
 abbrev pub read_row : List (List ℕ) → Option Said
-read_row others = option_map (λ p. Command p.0 (Read (lba_in p.1) (count_in p.2))) (name_and_two others)
+read_row others = option_map (λ p. Request p.0 (Command (Read (lba_in p.1) (count_in p.2)))) (name_and_two others)
 
 -- NAME LBA COUNT HH, behind write
 abbrev pub write_row : List (List ℕ) → Option Said
 write_row (name ∷ lba ∷ count ∷ byte ∷ []) =
     if is_name name && is_decimal lba && is_decimal count && is_byte byte
-    then Some (Command name (Write (lba_in (in_u64 (number_of lba))) (count_in (in_u64 (number_of count))) (byte_of byte)))
+    then Some (Request name (Command (Write (lba_in (in_u64 (number_of lba))) (count_in (in_u64 (number_of count))) (byte_of byte))))
     else None
 write_row others = None
 
--- what stands behind each key word of a disk
+-- bytes, where they are so many
+abbrev pub sized : ℕ → ℕ → List ℕ → Option (List ℕ)
+sized low high bytes = if nat_le low (length bytes) && nat_le (length bytes) high then Some bytes else None
+
+-- the message of a query, of a set of 1 to 64 bytes, and of a frame of 14 to 1,514
+abbrev pub query_said : List ℕ → Rndis
+query_said oid = Query 0 (oid_of oid) []
+
+abbrev pub set_said : List ℕ → List ℕ → Option Rndis
+set_said oid value = option_map (λ body. Set 0 (oid_of oid) body) (sized 1 64 (bytes_of value))
+
+abbrev pub frame_said : List ℕ → Option Rndis
+frame_said frame = option_map (λ body. Packet body) (sized 14 1514 (bytes_of frame))
+
+-- NAME, behind the key words of a network that take no more
+abbrev pub plain_message : Rndis → List (List ℕ) → Option Said
+plain_message message others = option_map (λ name. Request name (Message (Some message))) (name_alone others)
+
+-- NAME OID, behind query
+abbrev pub query_row : List (List ℕ) → Option Said
+query_row (name ∷ oid ∷ []) = if is_name name && is_oid oid then Some (Request name (Message (Some (query_said oid)))) else None
+query_row others = None
+
+-- NAME OID HEX, behind set
+abbrev pub set_row : List (List ℕ) → Option Said
+set_row (name ∷ oid ∷ value ∷ []) = if is_name name && is_oid oid && are_bytes value then Some (Request name (Message (set_said oid value))) else None
+set_row others = None
+
+-- NAME HEX, behind frame
+abbrev pub frame_row : List (List ℕ) → Option Said
+frame_row (name ∷ frame ∷ []) = if is_name name && are_bytes frame then Some (Request name (Message (frame_said frame))) else None
+frame_row others = None
+
+-- what stands behind each key word of a network
+abbrev pub net_row : List ℕ → List (List ℕ) → Option Said
+net_row key others =
+    if bytes_eq key (codes "query") then query_row others else
+    if bytes_eq key (codes "set") then set_row others else
+    if bytes_eq key (codes "keep") then plain_message (Keepalive 0) others else
+    if bytes_eq key (codes "reset") then plain_message Reset others else
+    if bytes_eq key (codes "frame") then frame_row others else None
+
+-- what stands behind each key word of a disk, or of a network
 abbrev pub disk_row : List ℕ → List (List ℕ) → Option Said
 disk_row key others =
     if bytes_eq key (codes "bad") then bad_row others else
@@ -96,7 +148,7 @@ disk_row key others =
     if bytes_eq key (codes "capacity") then plain_command Capacity others else
     if bytes_eq key (codes "flush") then plain_command Flush others else
     if bytes_eq key (codes "read") then read_row others else
-    if bytes_eq key (codes "write") then write_row others else None
+    if bytes_eq key (codes "write") then write_row others else net_row key others
 
 -- nothing, or held
 abbrev pub held_row : List (List ℕ) → Option Bool

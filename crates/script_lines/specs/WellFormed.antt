@@ -1,27 +1,35 @@
 -- What every script has.
-use Rattle.std.specs.Prelude.{ℕ, ◌≡◌, ◌+◌, ◌<◌, ◌≤◌, Bool, true, false, not, Some, None, IfSome, List, [], ◌∷◌, ◌++◌, length, map, All, count_by, slice_get, if◌then◌else◌}
+use Rattle.std.specs.Prelude.{ℕ, ◌≡◌, ◌+◌, ◌<◌, ◌≤◌, ◌⊎◌, Option, Bool, true, false, not, Some, None, IfSome, List, [], ◌∷◌, ◌++◌, length, map, All, count_by, slice_get, if◌then◌else◌}
 use Rattle.std.specs.List.{list_all}
 use Rattle.contact.specs.Versions.{IsVersion}
-use Rattle.contact.specs.declared.kind.Kind.TheVariants.{Disk as KindDisk}
+use Rattle.contact.specs.declared.kind.Kind.{Kind}
+use Rattle.contact.specs.declared.kind.Kind.TheVariants.{Disk as KindDisk, Net as KindNet}
 use Rattle.script_lines.specs.declared.line.Line.{Line}
 use Rattle.script_lines.specs.declared.line.What.{What}
 use Rattle.script_lines.specs.declared.line.What.TheVariants.{Contact as IsContact, Offer as IsOffer, Bad as IsBad, RingSize as IsRingSize, Window as IsWindow, Ask as IsAsk, Rescind as IsRescind, Shut as IsShut, Phase as IsPhase}
 use Rattle.script_lines.specs.declared.line.DeviceSpec.{DeviceSpec}
-use Rattle.script_lines.specs.declared.line.DeviceSpec.TheVariants.{Beat as IsBeat, Down as IsDown, Disk as IsDisk}
+use Rattle.script_lines.specs.declared.line.DeviceSpec.TheVariants.{Beat as IsBeat, Down as IsDown, Disk as IsDisk, Net as IsNet}
 use Rattle.script_lines.specs.declared.line.Ask.{Ask}
-use Rattle.script_lines.specs.declared.line.Ask.TheVariants.{Ic, Disk as AskDisk}
+use Rattle.script_lines.specs.declared.line.Ask.TheVariants.{Ic, Disk as AskDisk, Net as AskNet}
+use Rattle.script_lines.specs.declared.asked.Asked.{Asked}
+use Rattle.script_lines.specs.declared.asked.Asked.TheVariants.{Beat, Down, Command, Message}
 use Rattle.script_lines.specs.declared.offering.Offering.{Offering}
-use Rattle.script_lines.specs.declared.offering.Offering.TheVariants.{Beat as OfBeat, Down as OfDown, Disk as OfDisk}
+use Rattle.script_lines.specs.declared.offering.Offering.TheVariants.{Beat as OfBeat, Down as OfDown, Disk as OfDisk, Net as OfNet}
 use Rattle.script_lines.specs.declared.said.Said.{Said}
-use Rattle.script_lines.specs.declared.said.Said.TheVariants.{Nothing, Contact, Offer, Bad, Ring, Window, Beat, Down, Command, Rescind, Close, Phase}
-use Rattle.script_lines.specs.Requests.{AskInRange, IsCarried}
+use Rattle.script_lines.specs.declared.said.Said.TheVariants.{Nothing, Contact, Offer, Bad, Ring, Window, Request, Rescind, Close, Phase}
+use Rattle.script_lines.specs.Requests.{AskInRange, IsCarried, IsSent}
 use Rattle.script_lines.specs.Parts.{parts, this_part, offered, offered_by, named_by, asks_in, is_ask, is_settings, rescinds, shuts, rescinded_in, closed_in, channels, channels_of, device_of, kind_of, kind_asked, blocks_at, has_bad}
 
--- a disk has 1 to 65,536 blocks, and at most 3 channels beside its first one
+-- a disk has 1 to 65,536 blocks, and at most 3 channels beside its first one; a network has two addresses of 6 bytes
 abbrev pub IsDevice : DeviceSpec → Type 0
 IsDevice IsBeat = Unit {0}
 IsDevice IsDown = Unit {0}
 IsDevice (IsDisk blocks subs) = (1 ≤ blocks) × (blocks ≤ 65536) × (subs ≤ 3)
+IsDevice (IsNet mac station) = (length mac ≡ 6) × (length station ≡ 6)
+
+-- the kind of a device that can be rescinded: a disk or a network
+abbrev pub IsRescindable : Option Kind → Type 0
+IsRescindable kind = (kind ≡ Some KindDisk) ⊎ (kind ≡ Some KindNet)
 
 -- a line that speaks of a device speaks of one that is offered, and a request of one of its kind; a bad block is one of its disk, and numbers are in their ranges
 abbrev pub IsRight : List DeviceSpec → What → Type 0
@@ -31,7 +39,7 @@ IsRight kinds (IsBad device lba) = lba < blocks_at device kinds
 IsRight kinds (IsRingSize device pages) = (device < length kinds) × (1 ≤ pages) × (pages ≤ 16)
 IsRight kinds (IsWindow device size) = (device < length kinds) × (1 ≤ size) × (size ≤ 64)
 IsRight kinds (IsAsk device ask) = slice_get (map kind_of kinds) device ≡ Some (kind_asked ask)
-IsRight kinds (IsRescind device after held) = (slice_get (map kind_of kinds) device ≡ Some KindDisk) × (after ≤ 4096) × (held ≡ true → 1 ≤ after)
+IsRight kinds (IsRescind device after held) = IsRescindable (slice_get (map kind_of kinds) device) × (after ≤ 4096) × (held ≡ true → 1 ≤ after)
 IsRight kinds (IsShut device) = device < length kinds
 IsRight kinds IsPhase = Unit {0}
 
@@ -39,6 +47,7 @@ IsRight kinds IsPhase = Unit {0}
 abbrev pub CanGo : Ask → Type 0
 CanGo (Ic ask) = Unit {0}
 CanGo (AskDisk request) = IsCarried request
+CanGo (AskNet message) = IsSent message
 
 abbrev pub AskGoes : What → Type 0
 AskGoes (IsContact guest host) = Unit {0}
@@ -96,11 +105,19 @@ pub record IsScript (lines : List Line) : Type 0 where
   pub rescinded : (device : ℕ) → count_by (λ l. rescinds device l.what) lines ≤ 1
   pub closed : (device : ℕ) → count_by (λ l. shuts device l.what) lines ≤ 1
 
--- a disk's blocks are in their range, where there are any
+-- a disk's blocks are in their range, where there are any, and a network's addresses have 6 bytes
 abbrev pub OfferInRange : Offering → Type 0
 OfferInRange OfBeat = Unit {0}
 OfferInRange OfDown = Unit {0}
 OfferInRange (OfDisk blocks subs) = IfSome blocks (λ n. (1 ≤ n) × (n ≤ 65536))
+OfferInRange (OfNet mac station) = (length mac ≡ 6) × (length station ≡ 6)
+
+-- what a line asks is in its ranges, where its values are
+abbrev pub AskedInRange : Asked → Type 0
+AskedInRange (Beat seq) = Unit {0}
+AskedInRange (Down flags) = Unit {0}
+AskedInRange (Command ask) = AskInRange ask
+AskedInRange (Message message) = IfSome message IsSent
 
 -- the values that a line says are in their ranges, where it says any
 abbrev pub InRange : Said → Type 0
@@ -110,9 +127,7 @@ InRange (Offer name offering) = OfferInRange offering
 InRange (Bad name lba) = Unit {0}
 InRange (Ring name pages) = IfSome pages (λ n. (1 ≤ n) × (n ≤ 16))
 InRange (Window name size) = IfSome size (λ n. (1 ≤ n) × (n ≤ 64))
-InRange (Beat name seq) = Unit {0}
-InRange (Down name flags) = Unit {0}
-InRange (Command name ask) = AskInRange ask
+InRange (Request name asked) = AskedInRange asked
 InRange (Rescind name after held) = IfSome after (λ n. (n ≤ 4096) × (held ≡ true → 1 ≤ n))
 InRange (Close name) = Unit {0}
 InRange Phase = Unit {0}

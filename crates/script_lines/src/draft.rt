@@ -365,7 +365,7 @@ pub fn channels_of(spec: DeviceSpec) -> u32
     ensures most { result ≤ 16 }
 {
     match spec {
-        DeviceSpec::Beat | DeviceSpec::Down => 1,
+        DeviceSpec::Beat | DeviceSpec::Down | DeviceSpec::Net { .. } => 1,
         DeviceSpec::Disk { blocks: _, subs } => 1 + subs,
     }
 }

@@ -1,11 +1,13 @@
 //! The lines of a script, read from its bytes; the first wrong one, and why it is refused.
 #![tactic(auto)]
 
+mod asked;
 mod bad_place;
 mod disk_ask;
 mod draft;
 mod law;
 mod line;
+mod message;
 mod offering;
 mod reading;
 mod refusal;

@@ -2,6 +2,7 @@
 ghost use Rattle.std.specs.Prelude.{◌≡◌};
 
 use contact::Version;
+use rndis_msg::Rndis;
 use script_text::Name;
 use scsi_disk::DiskRequest;
 use util_ic::IcAsk;
@@ -20,6 +21,13 @@ pub enum DeviceSpec {
         /// How many channels it has beside the first one.
         subs: u32,
     },
+    /// A network: an adapter, and one station beyond it.
+    Net {
+        /// The adapter's address.
+        mac: [u8; 6],
+        /// The station's address.
+        station: [u8; 6],
+    },
 }
 
 /// A request to a device.
@@ -29,6 +37,8 @@ pub enum Ask {
     Ic(IcAsk),
     /// A command for a disk.
     Disk(DiskRequest),
+    /// A message for a network's adapter. One that has a request id has 0 there: the packet that carries it gives it its own.
+    Net(Rndis),
 }
 
 impl Ask {
@@ -42,6 +52,7 @@ impl Ask {
                 cdb: request.cdb,
                 out: request.out.again(),
             }),
+            Ask::Net(message) => Ask::Net(message.again()),
         }
     }
 }

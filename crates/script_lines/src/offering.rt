@@ -14,4 +14,11 @@ pub enum Offering {
         /// How many channels it has beside the first one, where that is a number of 64 bits.
         subs: Option<u64>,
     },
+    /// A network.
+    Net {
+        /// The adapter's address.
+        mac: [u8; 6],
+        /// The station's address.
+        station: [u8; 6],
+    },
 }

@@ -3,10 +3,11 @@ ghost use Rattle.std.specs.Prelude.{◌≡◌, ◌+◌, ◌<◌, ◌≤◌, ◌^
 ghost use Rattle.script_text.specs.declared.fault.ParseFault.TheVariants.{Memory};
 ghost use Rattle.script_lines.specs.Parts.{offered};
 ghost use Rattle.script_lines.specs.Faults.{device_said, row_fault, fault_at};
-ghost use Rattle.script_lines.specs.Grammar.{or_zero, spec_of, numbered, what_of, lines_at, script_of};
-ghost use Rattle.script_lines.specs.WellFormed.{InRange};
+ghost use Rattle.script_lines.specs.Grammar.{or_zero, spec_of, ask_of, numbered, what_of, lines_at, script_of};
+ghost use Rattle.script_lines.specs.WellFormed.{AskedInRange, InRange};
 ghost use Rattle.script_lines.specs.Parse.{Parses, WrongAt};
 
+use crate::asked::Asked;
 use crate::draft::Draft;
 use crate::offering::Offering;
 use crate::refusal::{device_said, row_fault};
@@ -15,6 +16,7 @@ use crate::row::said_in;
 use crate::said::Said;
 use crate::{Ask, DeviceSpec, Script};
 use contact::Version;
+use rndis_msg::Rndis;
 use script_text::{ParseFault, ScriptFault, Why6, first_line, within};
 use std::alloc::Global;
 use util_ic::IcAsk;
@@ -85,9 +87,7 @@ fn push(draft: &mut Draft, number: u32, device: Option<u32>, said: Said) -> Resu
         Said::Bad(_, lba) => draft.push_bad(number, device, lba.unwrap_or(0)),
         Said::Ring(_, pages) => draft.push_ring(number, device, pages.unwrap_or(0)),
         Said::Window(_, size) => draft.push_window(number, device, size.unwrap_or(0)),
-        Said::Beat(_, seq) => draft.push_ask(number, device, beat(seq)),
-        Said::Down(_, flags) => draft.push_ask(number, device, down(flags)),
-        Said::Command(_, ask) => draft.push_ask(number, device, Ask::Disk(request_of(ask))),
+        Said::Request(_, asked) => draft.push_ask(number, device, ask_of(asked)),
         Said::Rescind(_, after, held) => {
             draft.push_rescind(number, device, after.unwrap_or(0), held)
         }
@@ -113,6 +113,20 @@ fn spec_of(offering: Offering) -> DeviceSpec
             blocks: u64::from(blocks.unwrap_or(0)),
             subs: within(0, 3, subs).unwrap_or(0),
         },
+        Offering::Net { mac, station } => DeviceSpec::Net { mac, station },
+    }
+}
+
+/// The request that a line makes.
+fn ask_of(asked: Asked) -> Ask
+    requires { AskedInRange asked }
+    ensures { result ≡ ask_of asked }
+{
+    match asked {
+        Asked::Beat(seq) => beat(seq),
+        Asked::Down(flags) => down(flags),
+        Asked::Command(ask) => Ask::Disk(request_of(ask)),
+        Asked::Message(message) => Ask::Net(message.unwrap_or(Rndis::Reset)),
     }
 }
 

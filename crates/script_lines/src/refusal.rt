@@ -2,9 +2,10 @@
 ghost use Rattle.std.specs.Prelude.{◌≡◌, ◌<◌, ◌≤◌, List, length, Option, Some, None, IfSome, slice_get, option_and_then, false};
 ghost use Rattle.std.specs.Option.{option_map_or};
 ghost use Rattle.script_lines.specs.Parts.{offered, blocks_at, has_ring, has_window};
-ghost use Rattle.script_lines.specs.Faults.{unless, device_said, says_settings, line_limit, ask_limit, has_room, count_limit, is_ended_before, own_order, order_fault, name_fault, is_rescinded_here, is_closed_here, is_bad, repeat_fault, offers_in_range, is_block, asks_in_range, range_fault, row_fault};
+ghost use Rattle.script_lines.specs.Faults.{unless, device_said, says_settings, line_limit, ask_limit, has_room, count_limit, is_ended_before, own_order, order_fault, takes, is_rescindable, name_fault, is_rescinded_here, is_closed_here, is_bad, repeat_fault, offers_in_range, is_block, asks_in_range, asked_in_range, range_fault, row_fault};
 
 use crate::DeviceSpec;
+use crate::asked::Asked;
 use crate::disk_ask::DiskAsk;
 use crate::draft::Draft;
 use crate::offering::Offering;
@@ -27,9 +28,7 @@ pub fn device_said(before: &Draft, said: &Said) -> Option<u32>
         | Said::Bad(name, _)
         | Said::Ring(name, _)
         | Said::Window(name, _)
-        | Said::Beat(name, _)
-        | Said::Down(name, _)
-        | Said::Command(name, _)
+        | Said::Request(name, _)
         | Said::Rescind(name, ..)
         | Said::Close(name) => before.device_of(name),
         Said::Nothing | Said::Contact(..) | Said::Phase => None,
@@ -64,7 +63,7 @@ fn has_room(before: &Draft, offering: Offering) -> bool
     ensures { result ≡ has_room before.now offering }
 {
     match offering {
-        Offering::Beat | Offering::Down => before.channels() < 16,
+        Offering::Beat | Offering::Down | Offering::Net { .. } => before.channels() < 16,
         Offering::Disk {
             blocks: _,
             subs: Some(subs),
@@ -81,7 +80,7 @@ fn count_limit(before: &Draft, said: &Said) -> Option<Why6>
 {
     match said {
         Said::Offer(_, offering) => unless(has_room(before, *offering), Why6::Limit),
-        Said::Beat(..) | Said::Down(..) | Said::Command(..) => ask_limit(before),
+        Said::Request(..) => ask_limit(before),
         _ => None,
     }
 }
@@ -130,6 +129,25 @@ fn spec_of(before: &Draft, device: Option<u32>) -> Option<DeviceSpec>
     }
 }
 
+/// Whether a device is of the kind that is asked this.
+fn takes(asked: &Asked, spec: DeviceSpec) -> bool
+    ensures { result ≡ takes asked.now spec }
+{
+    match asked {
+        Asked::Beat(_) => matches!(spec, DeviceSpec::Beat),
+        Asked::Down(_) => matches!(spec, DeviceSpec::Down),
+        Asked::Command(_) => matches!(spec, DeviceSpec::Disk { .. }),
+        Asked::Message(_) => matches!(spec, DeviceSpec::Net { .. }),
+    }
+}
+
+/// Whether a device can be rescinded: a disk or a network.
+fn is_rescindable(spec: DeviceSpec) -> bool
+    ensures { result ≡ is_rescindable spec }
+{
+    matches!(spec, DeviceSpec::Disk { .. } | DeviceSpec::Net { .. })
+}
+
 fn name_fault(before: &Draft, device: Option<u32>, said: &Said) -> Option<Why6>
     requires { IfSome device (λ d. d < length (offered before.now)) }
     ensures { result ≡ name_fault before.now device said.now }
@@ -138,20 +156,26 @@ fn name_fault(before: &Draft, device: Option<u32>, said: &Said) -> Option<Why6>
         Said::Ring(..) | Said::Window(..) | Said::Close(..) => {
             unless(device.is_some(), Why6::UnknownName)
         }
-        Said::Bad(..) | Said::Command(..) | Said::Rescind(..) => {
+        Said::Bad(..) => {
             let spec = spec_of(before, device);
             unless(
                 matches!(spec, Some(DeviceSpec::Disk { .. })),
                 Why6::UnknownName,
             )
         }
-        Said::Beat(..) => {
-            let spec = spec_of(before, device);
-            unless(matches!(spec, Some(DeviceSpec::Beat)), Why6::UnknownName)
+        Said::Request(_, asked) => {
+            let offered = match spec_of(before, device) {
+                Some(spec) => takes(asked, spec),
+                None => false,
+            };
+            unless(offered, Why6::UnknownName)
         }
-        Said::Down(..) => {
-            let spec = spec_of(before, device);
-            unless(matches!(spec, Some(DeviceSpec::Down)), Why6::UnknownName)
+        Said::Rescind(..) => {
+            let offered = match spec_of(before, device) {
+                Some(spec) => is_rescindable(spec),
+                None => false,
+            };
+            unless(offered, Why6::UnknownName)
         }
         _ => None,
     }
@@ -226,7 +250,7 @@ fn offers_in_range(offering: Offering) -> bool
     ensures { result ≡ offers_in_range offering }
 {
     match offering {
-        Offering::Beat | Offering::Down => true,
+        Offering::Beat | Offering::Down | Offering::Net { .. } => true,
         Offering::Disk { blocks, subs } => blocks.is_some() && within(0, 3, subs).is_some(),
     }
 }
@@ -237,7 +261,7 @@ fn blocks_at(before: &Draft, device: u32) -> u64
     ensures { result ≡ blocks_at device (offered before.now) }
 {
     match before.spec_at(device) {
-        DeviceSpec::Beat | DeviceSpec::Down => 0,
+        DeviceSpec::Beat | DeviceSpec::Down | DeviceSpec::Net { .. } => 0,
         DeviceSpec::Disk { blocks, subs: _ } => blocks,
     }
 }
@@ -266,6 +290,17 @@ fn asks_in_range(ask: DiskAsk) -> bool
     }
 }
 
+fn asked_in_range(asked: &Asked) -> bool
+    ensures { result ≡ asked_in_range asked.now }
+{
+    match asked {
+        Asked::Beat(seq) => seq.is_some(),
+        Asked::Down(flags) => flags.is_some(),
+        Asked::Command(ask) => asks_in_range(*ask),
+        Asked::Message(message) => message.is_some(),
+    }
+}
+
 fn range_fault(before: &Draft, device: Option<u32>, said: &Said) -> Option<Why6>
     requires { IfSome device (λ d. d < length (offered before.now)) }
     ensures { result ≡ range_fault before.now device said.now }
@@ -274,12 +309,10 @@ fn range_fault(before: &Draft, device: Option<u32>, said: &Said) -> Option<Why6>
         Said::Contact(guest, host) => unless(guest.is_some() && host.is_some(), Why6::Range),
         Said::Offer(_, offering) => unless(offers_in_range(*offering), Why6::Range),
         Said::Bad(_, lba) => unless(is_block(before, device, *lba), Why6::Range),
-        Said::Ring(_, number)
-        | Said::Window(_, number)
-        | Said::Down(_, number)
-        | Said::Rescind(_, number, _) => unless(number.is_some(), Why6::Range),
-        Said::Beat(_, seq) => unless(seq.is_some(), Why6::Range),
-        Said::Command(_, ask) => unless(asks_in_range(*ask), Why6::Range),
+        Said::Ring(_, number) | Said::Window(_, number) | Said::Rescind(_, number, _) => {
+            unless(number.is_some(), Why6::Range)
+        }
+        Said::Request(_, asked) => unless(asked_in_range(asked), Why6::Range),
         _ => None,
     }
 }

@@ -4,15 +4,19 @@ ghost use Rattle.std.specs.List.{list_all};
 ghost use Rattle.std.specs.Option.{option_map};
 ghost use Rattle.script_text.specs.Words.{words};
 ghost use Rattle.script_lines.specs.WellFormed.{InRange};
-ghost use Rattle.script_lines.specs.Requests.{AskInRange};
-ghost use Rattle.script_lines.specs.Rows.{is_printable, said_in, said_by, begins_comment, row_of, disk_row, name_alone, name_and_number, name_and_two, contact_row, offer_row, disk_offer, bad_row, plain_command, read_row, write_row, ring_row, window_row, beat_row, down_row, held_row, after_in, rescind_row, close_row, phase_row};
+ghost use Rattle.script_text.specs.Forms.{is_name};
+ghost use Rattle.script_lines.specs.Requests.{AskInRange, IsSent};
+ghost use Rattle.script_lines.specs.Rows.{is_printable, said_in, said_by, begins_comment, row_of, disk_row, net_row, name_alone, name_and_number, name_and_two, contact_row, offer_row, disk_offer, net_offer, bad_row, plain_command, plain_message, query_row, set_row, frame_row, read_row, write_row, ring_row, window_row, beat_row, down_row, held_row, after_in, rescind_row, close_row, phase_row};
 
+use crate::asked::Asked;
 use crate::disk_ask::DiskAsk;
+use crate::message::{frame_of, query_of, set_of};
 use crate::offering::Offering;
 use crate::said::Said;
+use rndis_msg::Rndis;
 use script_text::{
-    Name, byte_of, first_word, is_byte, is_decimal, is_name, is_version, number_of, version_of,
-    within,
+    Name, address_of, are_bytes, byte_of, first_word, is_address, is_byte, is_decimal, is_name,
+    is_oid, is_version, number_of, version_of, within,
 };
 
 /// What a line says, where it has printable bytes alone and its words are a row of the table.
@@ -105,6 +109,25 @@ fn disk_row(key: &[u8], rest: &[u8]) -> Option<Said>
     } else if key == b"write".as_slice() {
         write_row(rest)
     } else {
+        net_row(key, rest)
+    }
+}
+
+fn net_row(key: &[u8], rest: &[u8]) -> Option<Said>
+    ensures said { result ≡ net_row key.now (words rest.now) }
+    ensures range { IfSome result InRange }
+{
+    if key == b"query".as_slice() {
+        query_row(rest)
+    } else if key == b"set".as_slice() {
+        set_row(rest)
+    } else if key == b"keep".as_slice() {
+        plain_message(Rndis::Keepalive { request_id: 0 }, rest)
+    } else if key == b"reset".as_slice() {
+        plain_message(Rndis::Reset, rest)
+    } else if key == b"frame".as_slice() {
+        frame_row(rest)
+    } else {
         None
     }
 }
@@ -181,6 +204,8 @@ fn offer_row(rest: &[u8]) -> Option<Said>
         plain_offer(Offering::Down, rest)
     } else if kind == b"disk".as_slice() {
         disk_offer(rest)
+    } else if kind == b"net".as_slice() {
+        net_offer(rest)
     } else {
         None
     }
@@ -207,6 +232,34 @@ fn disk_offer(rest: &[u8]) -> Option<Said>
             subs,
         },
     ))
+}
+
+fn net_of(name: &[u8], mac: &[u8], station: &[u8]) -> Option<Said>
+    ensures said { result ≡ net_offer (name.now ∷ mac.now ∷ station.now ∷ []) }
+    ensures range { IfSome result InRange }
+{
+    if is_name(name) && is_address(mac) && is_address(station) {
+        let offering = Offering::Net {
+            mac: address_of(mac),
+            station: address_of(station),
+        };
+        Some(Said::Offer(Name::of(name), offering))
+    } else {
+        None
+    }
+}
+
+fn net_offer(rest: &[u8]) -> Option<Said>
+    ensures said { result ≡ net_offer (words rest.now) }
+    ensures range { IfSome result InRange }
+{
+    let (name, rest) = first_word(rest)?;
+    let (mac, rest) = first_word(rest)?;
+    let (station, rest) = first_word(rest)?;
+    match first_word(rest) {
+        None => net_of(name, mac, station),
+        Some(_) => None,
+    }
 }
 
 fn bad_row(rest: &[u8]) -> Option<Said>
@@ -238,7 +291,7 @@ fn beat_row(rest: &[u8]) -> Option<Said>
     ensures range { IfSome result InRange }
 {
     let (name, seq) = name_and_number(rest)?;
-    Some(Said::Beat(name, seq))
+    Some(Said::Request(name, Asked::Beat(seq)))
 }
 
 fn down_row(rest: &[u8]) -> Option<Said>
@@ -246,7 +299,7 @@ fn down_row(rest: &[u8]) -> Option<Said>
     ensures range { IfSome result InRange }
 {
     let (name, flags) = name_and_number(rest)?;
-    Some(Said::Down(name, within(0, u32::MAX, flags)))
+    Some(Said::Request(name, Asked::Down(within(0, u32::MAX, flags))))
 }
 
 fn plain_command(ask: DiskAsk, rest: &[u8]) -> Option<Said>
@@ -255,7 +308,7 @@ fn plain_command(ask: DiskAsk, rest: &[u8]) -> Option<Said>
     ensures range { IfSome result InRange }
 {
     let name = name_alone(rest)?;
-    Some(Said::Command(name, ask))
+    Some(Said::Request(name, Asked::Command(ask)))
 }
 
 fn read_row(rest: &[u8]) -> Option<Said>
@@ -267,7 +320,7 @@ fn read_row(rest: &[u8]) -> Option<Said>
         lba: within(0, u32::MAX, lba),
         count: within(0, 4, count),
     };
-    Some(Said::Command(name, ask))
+    Some(Said::Request(name, Asked::Command(ask)))
 }
 
 fn write_of(name: &[u8], lba: &[u8], count: &[u8], byte: &[u8]) -> Option<Said>
@@ -280,7 +333,7 @@ fn write_of(name: &[u8], lba: &[u8], count: &[u8], byte: &[u8]) -> Option<Said>
             count: within(0, 4, number_of(count)),
             byte: byte_of(byte),
         };
-        Some(Said::Command(Name::of(name), ask))
+        Some(Said::Request(Name::of(name), Asked::Command(ask)))
     } else {
         None
     }
@@ -296,6 +349,66 @@ fn write_row(rest: &[u8]) -> Option<Said>
     let (byte, rest) = first_word(rest)?;
     match first_word(rest) {
         None => write_of(name, lba, count, byte),
+        Some(_) => None,
+    }
+}
+
+fn message(name: &[u8], message: Option<Rndis>) -> Said
+    requires name { is_name name.now ≡ true }
+    requires sent { IfSome message IsSent }
+    ensures said { result ≡ Said.Request name.now (Asked.Message message) }
+    ensures range { InRange result }
+{
+    Said::Request(Name::of(name), Asked::Message(message))
+}
+
+fn plain_message(message: Rndis, rest: &[u8]) -> Option<Said>
+    requires { IsSent message }
+    ensures said { result ≡ plain_message message (words rest.now) }
+    ensures range { IfSome result InRange }
+{
+    let name = name_alone(rest)?;
+    Some(Said::Request(name, Asked::Message(Some(message))))
+}
+
+fn query_row(rest: &[u8]) -> Option<Said>
+    ensures said { result ≡ query_row (words rest.now) }
+    ensures range { IfSome result InRange }
+{
+    let (name, rest) = first_word(rest)?;
+    let (oid, rest) = first_word(rest)?;
+    match first_word(rest) {
+        None if is_name(name) && is_oid(oid) => Some(message(name, Some(query_of(oid)))),
+        None => None,
+        Some(_) => None,
+    }
+}
+
+fn set_row(rest: &[u8]) -> Option<Said>
+    ensures said { result ≡ set_row (words rest.now) }
+    ensures range { IfSome result InRange }
+{
+    let (name, rest) = first_word(rest)?;
+    let (oid, rest) = first_word(rest)?;
+    let (value, rest) = first_word(rest)?;
+    match first_word(rest) {
+        None if is_name(name) && is_oid(oid) && are_bytes(value) => {
+            Some(message(name, set_of(oid, value)))
+        }
+        None => None,
+        Some(_) => None,
+    }
+}
+
+fn frame_row(rest: &[u8]) -> Option<Said>
+    ensures said { result ≡ frame_row (words rest.now) }
+    ensures range { IfSome result InRange }
+{
+    let (name, rest) = first_word(rest)?;
+    let (frame, rest) = first_word(rest)?;
+    match first_word(rest) {
+        None if is_name(name) && are_bytes(frame) => Some(message(name, frame_of(frame))),
+        None => None,
         Some(_) => None,
     }
 }

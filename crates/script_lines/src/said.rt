@@ -1,6 +1,6 @@
 //! What one line says by itself.
 
-use crate::disk_ask::DiskAsk;
+use crate::asked::Asked;
 use crate::offering::Offering;
 use contact::Version;
 use script_text::Name;
@@ -20,12 +20,8 @@ pub enum Said {
     Ring(Name, Option<u32>),
     /// It says how many requests a channel of a device has open at most.
     Window(Name, Option<u32>),
-    /// It asks a heartbeat device, with a sequence number.
-    Beat(Name, Option<u64>),
-    /// It asks a shutdown device, with flags.
-    Down(Name, Option<u32>),
-    /// It gives a disk a command.
-    Command(Name, DiskAsk),
+    /// It asks a device.
+    Request(Name, Asked),
     /// It rescinds a device after so many requests, and the last one's answer is held or not.
     Rescind(Name, Option<u32>, bool),
     /// It closes a device.

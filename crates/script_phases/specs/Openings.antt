@@ -1,7 +1,7 @@
 -- The phases of a script, and the channels that each of them opens.
 use Rattle.std.specs.Prelude.{ℕ, zero, suc, ◌+◌, ◌==◌, Bool, not, ◌&&◌, ◌||◌, is_some, List, [], ◌∷◌, ◌++◌, length, filter, slice_get, if◌then◌else◌}
 use Rattle.script_lines.specs.declared.line.DeviceSpec.{DeviceSpec}
-use Rattle.script_lines.specs.declared.line.DeviceSpec.TheVariants.{Beat, Down, Disk}
+use Rattle.script_lines.specs.declared.line.DeviceSpec.TheVariants.{Beat, Down, Disk, Net}
 use Rattle.script_lines.specs.declared.line.Line.{Line}
 use Rattle.script_lines.specs.Parts.{parts, offered}
 use Rattle.script_phases.specs.Says.{said_to, is_rescinded, is_shut}
@@ -25,6 +25,7 @@ abbrev pub subs_of : DeviceSpec → ℕ
 subs_of Beat = 0
 subs_of Down = 0
 subs_of (Disk blocks subs) = subs
+subs_of (Net mac station) = 0
 
 -- an earlier phase rescinded the device, or closed it
 abbrev pub is_ended : ℕ → List Line → Bool

@@ -8,6 +8,7 @@ use bus_script::{
     Ask, DeviceSpec, LineResult, ParseFault, Reply, Script, ScriptFault, What, Why6, parse, report,
 };
 use contact::Version;
+use rndis_msg::{Rndis, encode};
 use std::alloc::Global;
 use std::process::Abort;
 use util_ic::{IcAnswer, IcAsk};
@@ -136,10 +137,19 @@ fn reads_asks(rt: HostRuntime) {
     check_line(&rt, &script, 6, 9, &asks);
 }
 
+fn same_message(a: &Rndis, b: &Rndis) -> bool {
+    let mut first = [0; 1600];
+    let mut second = [0; 1600];
+    let len = encode(a, &mut first);
+    let other = encode(b, &mut second);
+    first[..len] == second[..other]
+}
+
 fn same_ask(a: &Ask, b: &Ask) -> bool {
     match (a, b) {
         (Ask::Ic(a), Ask::Ic(b)) => a == b,
         (Ask::Disk(a), Ask::Disk(b)) => a.cdb == b.cdb && a.out.bytes() == b.out.bytes(),
+        (Ask::Net(a), Ask::Net(b)) => same_message(a, b),
         _ => false,
     }
 }

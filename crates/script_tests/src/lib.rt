@@ -10,4 +10,6 @@ mod disk_script_tests;
 #[cfg(test)]
 mod load_script_tests;
 #[cfg(test)]
+mod net_script_tests;
+#[cfg(test)]
 mod rescind_script_tests;

@@ -1,5 +1,5 @@
 -- The forms of words.
-use Rattle.std.specs.Prelude.{ℕ, ◌^◌, ◌*◌, ◌-◌, ◌+◌, ◌==◌, Bool, true, false, not, ◌&&◌, ◌||◌, nat_le, nat_lt, List, [], ◌∷◌, length, Option, Some, None, if◌then◌else◌, option_and_then}
+use Rattle.std.specs.Prelude.{ℕ, ◌^◌, ◌*◌, ◌-◌, ◌+◌, ◌%◌, ◌==◌, Bool, true, false, not, ◌&&◌, ◌||◌, nat_le, nat_lt, List, [], ◌∷◌, length, Option, Some, None, if◌then◌else◌, option_and_then}
 use Rattle.std.specs.List.{list_all, list_any, slice_split}
 use Rattle.contact.specs.Versions.{version, versions}
 use Rattle.contact.specs.declared.version.Version.{Version}
@@ -66,6 +66,35 @@ hex_value c = if nat_le c 57 then c - 48 else (if nat_le c 70 then c - 55 else c
 abbrev pub byte_of : List ℕ → ℕ
 byte_of (a ∷ b ∷ []) = 16 * hex_value a + hex_value b
 byte_of others = 0
+
+-- an even number of these digits, 2 at least
+abbrev pub are_bytes : List ℕ → Bool
+are_bytes w = nat_le 2 (length w) && (length w % 2 == 0) && list_all is_hex w
+
+-- the bytes that digits write, two for each
+abbrev pub bytes_of : List ℕ → List ℕ
+bytes_of [] = []
+bytes_of (a ∷ []) = []
+bytes_of (a ∷ b ∷ cs) = byte_of (a ∷ b ∷ []) ∷ bytes_of cs
+
+-- the address of a network card: 12 digits
+abbrev pub is_address : List ℕ → Bool
+is_address w = (length w == 12) && list_all is_hex w
+
+-- the number that digits write after those of n
+abbrev pub hex_after : ℕ → List ℕ → ℕ
+hex_after n [] = n
+hex_after n (d ∷ ds) = hex_after (16 * n + hex_value d) ds
+
+-- 0x and 8 digits
+abbrev pub is_oid : List ℕ → Bool
+is_oid (c ∷ x ∷ ds) = (c == 48) && (x == 120) && (length ds == 8) && list_all is_hex ds
+is_oid others = false
+
+-- the number that they write
+abbrev pub oid_of : List ℕ → ℕ
+oid_of (c ∷ x ∷ ds) = hex_after 0 ds
+oid_of others = 0
 
 -- the one part before a dot and the one behind it
 abbrev pub pair_of : List (List ℕ) → Option (List ℕ × List ℕ)

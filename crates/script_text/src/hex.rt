@@ -1,6 +1,7 @@
 //! Numbers in hexadecimal digits.
-ghost use Rattle.std.specs.Prelude.{◌≡◌, ◌<◌, ◌/◌, ◌%◌, true};
-ghost use Rattle.script_text.specs.Forms.{is_hex, is_byte, hex_value, byte_of};
+ghost use Rattle.std.specs.Prelude.{◌≡◌, ◌<◌, ◌*◌, ◌/◌, ◌%◌, true, length};
+ghost use Rattle.std.specs.List.{list_all};
+ghost use Rattle.script_text.specs.Forms.{is_hex, is_byte, hex_value, byte_of, are_bytes, bytes_of, is_address, hex_after, is_oid, oid_of};
 ghost use Rattle.script_text.specs.Hex.{hex_digit, hex_2, hex_8};
 
 use crate::number::is_digit;
@@ -81,6 +82,98 @@ pub fn byte_of(word: &[u8]) -> u8
 {
     match word {
         [high, low] => 16 * hex_value(*high) + hex_value(*low),
+        _ => 0,
+    }
+}
+
+fn are_hex(word: &[u8]) -> bool
+    ensures { result ≡ list_all is_hex word.now }
+{
+    word.iter().all(|c| is_hex(*c))
+}
+
+/// Whether a word is an even number of digits of either case, 2 at least.
+pub fn are_bytes(word: &[u8]) -> bool
+    ensures { result ≡ are_bytes word.now }
+{
+    word.len() >= 2 && word.len() % 2 == 0 && are_hex(word)
+}
+
+/// How many bytes such a word writes.
+pub fn count_bytes(word: &[u8]) -> usize
+    requires { are_bytes word.now ≡ true }
+    ensures count { result ≡ length (bytes_of word.now) }
+    ensures half { length word.now ≡ 2 * result }
+{
+    word.len() / 2
+}
+
+/// Writes the bytes of digits, two for each, into as many places.
+pub fn put_bytes(word: &[u8], out: &mut [u8])
+    requires digits { list_all is_hex word.now ≡ true }
+    requires places { length word.now ≡ 2 * length out.old }
+    ensures { out.new ≡ bytes_of word.now }
+{
+    let mut rest = word;
+    let mut at = 0;
+    while let [high, low, after @ ..] = rest {
+        out[at] = 16 * hex_value(*high) + hex_value(*low);
+        at += 1;
+        rest = after;
+    }
+}
+
+/// Whether a word is the address of a network card: 12 digits of either case.
+pub fn is_address(word: &[u8]) -> bool
+    ensures { result ≡ is_address word.now }
+{
+    word.len() == 12 && are_hex(word)
+}
+
+/// The address that a word writes.
+pub fn address_of(word: &[u8]) -> [u8; 6]
+    requires { is_address word.now ≡ true }
+    ensures { result ≡ bytes_of word.now }
+{
+    let mut address = [0; 6];
+    put_bytes(word, &mut address);
+    address
+}
+
+/// The number of 32 bits that 8 digits write.
+fn hex_number(digits: &[u8]) -> u32
+    requires count { length digits.now ≡ 8 }
+    requires digits { list_all is_hex digits.now ≡ true }
+    ensures { result ≡ hex_after 0 digits.now }
+{
+    let mut n: u32 = 0;
+    let mut rest = digits;
+    while let [digit, after @ ..] = rest {
+        n = 16 * n + u32::from(hex_value(*digit));
+        rest = after;
+    }
+    n
+}
+
+/// Whether a word is the number of an object of a network card: `0x` and 8 digits of either case.
+pub fn is_oid(word: &[u8]) -> bool
+    ensures { result ≡ is_oid word.now }
+{
+    match word {
+        [zero, x, digits @ ..] => {
+            *zero == b'0' && *x == b'x' && digits.len() == 8 && are_hex(digits)
+        }
+        _ => false,
+    }
+}
+
+/// The number of the object.
+pub fn oid_of(word: &[u8]) -> u32
+    requires { is_oid word.now ≡ true }
+    ensures { result ≡ oid_of word.now }
+{
+    match word {
+        [_, _, digits @ ..] => hex_number(digits),
         _ => 0,
     }
 }

@@ -12,7 +12,10 @@ mod version;
 
 pub use cut::{first_line, first_word};
 pub use fault::{ParseFault, ScriptFault, Why6};
-pub use hex::{byte_of, hex_2, hex_8, is_byte};
+pub use hex::{
+    address_of, are_bytes, byte_of, count_bytes, hex_2, hex_8, is_address, is_byte, is_oid, oid_of,
+    put_bytes,
+};
 pub use name::{Name, is_name};
 pub use number::{is_decimal, number_of, within};
 pub use text::{push_decimal, push_runs};

@@ -28,7 +28,8 @@ use Rattle.work_model.proofs.Serving.{server_took, server_served, server_passed,
 use Rattle.channel_port.specs.Line.{SleepsFor}
 use Rattle.channel_port.specs.Owed.{is_nil, need_of, MetFull}
 use Rattle.channel_port.specs.Rooms.{ServedWithin, AskedOver, ServeLacksFor, OnlyWith, is_asked}
-use Rattle.server.specs.Serving.{Desk, Serving, IsServing, Rests, HasServed, HasToWait, Closes, ServesPacket, Orders, EndsAll, BreaksOff, CallsEach, AnswersAll, LetsGo, LacksPlace, LeftOff, EndsBy, LeavesOff, LacksRoom, ServesOn, HasNone, IsFull, own_in, has_done, has_served, lacks_call, marked_by}
+use Rattle.txn_table.specs.Open.{HasNone}
+use Rattle.server.specs.Serving.{Desk, Serving, IsServing, Rests, HasServed, HasToWait, Closes, ServesPacket, Orders, EndsAll, BreaksOff, CallsEach, AnswersAll, LetsGo, LacksPlace, LeftOff, EndsBy, LeavesOff, LacksRoom, ServesOn, IsFull, own_in, has_done, has_served, lacks_call, marked_by}
 use Rattle.server.proofs.OwnLaws.{own_within, full_open, none_full, table_empty}
 use Rattle.channel_port.specs.declared.ended.Ended.{Ended}
 use Rattle.channel_port.specs.declared.ended.Ended.TheVariants.{Marked as EndedMarked, PeerMarked, Room}

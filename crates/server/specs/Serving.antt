@@ -8,7 +8,7 @@ use Rattle.io_edge.specs.declared.side.Side.{Side}
 use Rattle.ring_core.specs.Seen.{Seen}
 use Rattle.ring_seat.specs.Settling.{IsSameEnd}
 use Rattle.ring_seat.specs.declared.table_seat.TableSeat.{TableSeat}
-use Rattle.txn_table.specs.Open.{request_of}
+use Rattle.txn_table.specs.Open.{HasNone, request_of}
 use Rattle.work_model.specs.Speech.{Speech}
 use Rattle.work_model.specs.Acks.{is_in, OwnFrom, AllOwnOpen}
 use Rattle.work_model.specs.Amounts.{room_of}
@@ -72,10 +72,6 @@ own_in rs id = is_some (request_of rs id)
 -- each place of the table is taken
 abbrev pub IsFull : List (Option ℕ) → Type 0
 IsFull rs = All IsSome rs
-
--- the table is empty
-abbrev pub HasNone : List (Option ℕ) → Type 0
-HasNone rs = (id : ℕ) → request_of rs id ≡ None
 
 -- the seat, or a list with room, has the calls that are left
 abbrev pub HasCalls : Option ℕ → ℕ → Type 0

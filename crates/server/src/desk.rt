@@ -1,11 +1,13 @@
 //! Where the serving end serves one packet after another.
-ghost use Rattle.std.specs.Prelude.{◌≡◌, ◌<◌, ◌≤◌, ◌+◌, ◌-◌, if◌then◌else◌, [], ◌∷◌, ◌++◌, drop, length, Some, None, true, false, IfOk, map, filter, count_by, is_some, replicate, ◌&&◌, ◌==◌, ℕ, suc};
+ghost use Rattle.std.specs.Prelude.{◌≡◌, ◌<◌, ◌≤◌, ◌+◌, ◌-◌, if◌then◌else◌, [], ◌∷◌, ◌++◌, drop, length, Some, None, true, false, IfOk, map, filter, count_by, is_some, vec_len, vec_capacity, replicate, ◌&&◌, ◌==◌, ℕ, suc};
 ghost use Rattle.ring_machine.specs.States.{IsPacket};
 ghost use Rattle.channel_port.specs.Owed.{is_nil, need_of, IsNeed};
 ghost use Rattle.channel_port.specs.Rooms.{is_asked};
-ghost use Rattle.server.specs.Serving.{Closes, HasNone, IsFull, ServesPacket, has_served, own_in};
+ghost use Rattle.server.specs.Serving.{Closes, IsFull, ServesPacket, has_served, own_in};
+ghost use Rattle.txn_table.specs.Open.{HasNone};
 ghost use Rattle.work_model.specs.Workers.{Owes};
 
+use crate::lists::{Lists, OWN};
 use crate::owed::Owed;
 use crate::own::{close_own, open_own};
 use chan_talk::{Seat, Talk};
@@ -14,9 +16,6 @@ use std::alloc::{AllocError, Global};
 use std::marker::Model;
 use std::sync::Wait;
 use txn_table::TxnTable;
-
-// How many messages of its own an end has open at most.
-const OWN: u32 = 64;
 
 /// The talk, the place at the device, the messages of its own that are open or owed, and what is owed for the packet that was served last.
 #[derive(Drop)]
@@ -61,11 +60,42 @@ impl<T: Talk, S: Seat<T>> Desk<T, S> {
         requires calls { serve ≤ S.left seat }
         ensures { IfOk result (λ d. d ≡ record { talk = talk; seat = seat; before = S.calls seat; calls = []; table = replicate 64 None; owed = []; left = Some serve; held = held; serials = []; side = side; relid = relid }) }
     {
-        let serials = Vec::with_capacity(alloc, serve as usize)?;
-        let owed = Owed::make(alloc)?;
-        let table = TxnTable::make(alloc, OWN)?;
-        let rescinded = Vec::with_capacity(alloc, OWN as usize)?;
-        Ok(Desk {
+        match Lists::make(alloc, serve) {
+            Ok(lists) => Ok(Desk::over(talk, seat, lists, side, relid, serve, held)),
+            Err(refused) => {
+                drop(talk);
+                drop(seat);
+                Err(refused)
+            }
+        }
+    }
+
+    // A desk that has served nothing, over empty lists.
+    fn over(
+        talk: T,
+        seat: S,
+        lists: Lists,
+        side: Side,
+        relid: u32,
+        serve: u32,
+        held: bool,
+    ) -> Desk<T, S>
+        requires serves { S.serves seat talk }
+        requires calls { serve ≤ S.left seat }
+        requires table { lists.table ≡ replicate 64 None }
+        requires rescinded { (vec_len lists.rescinded ≡ 0) × (64 ≤ vec_capacity lists.rescinded) }
+        requires owed { lists.owed ≡ [] }
+        requires none { lists.serials.items ≡ [] }
+        requires serials { (vec_len lists.serials ≡ 0) × (serve ≤ vec_capacity lists.serials) }
+        ensures { result ≡ record { talk = talk; seat = seat; before = S.calls seat; calls = []; table = replicate 64 None; owed = []; left = Some serve; held = held; serials = []; side = side; relid = relid } }
+    {
+        let Lists {
+            table,
+            rescinded,
+            owed,
+            serials,
+        } = lists;
+        Desk {
             talk,
             seat,
             table,
@@ -77,7 +107,7 @@ impl<T: Talk, S: Seat<T>> Desk<T, S> {
             side,
             relid,
             number: 0,
-        })
+        }
     }
 
     pub(crate) fn is_clear(&self) -> bool

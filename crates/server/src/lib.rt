@@ -2,6 +2,7 @@
 #![tactic(auto)]
 
 mod desk;
+mod lists;
 mod owed;
 mod own;
 mod put;

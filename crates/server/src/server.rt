@@ -18,7 +18,7 @@ use crate::put::Given;
 use chan_talk::{Seat, Talk};
 use channel_port::{Ended, Looked, Port, Turn, room_of};
 use io_edge::{Gate, Side};
-use ring_core::{End, Room};
+use ring_core::End;
 use ring_seat::TableSeat;
 use std::alloc::{AllocError, Global};
 use std::marker::{Model, PhantomData};
@@ -403,32 +403,33 @@ impl<T: Talk, S: Seat<T>> Server<T, S> {
         ensures orders { IfOk result (λ w. (w.serve ≡ serve) × (w.desk.held ≡ held) × (w.stops ≡ stops) × (w.starts ≡ starts) × (w.come ≡ come)) }
         ensures end { IfOk result (λ w. (w.end.state ≡ end.state) × (w.end.seat ≡ end.seat)) }
     {
-        let mut port = Port::over(end);
         let packets = room_of(talk.besides(), starts as u64 + come as u64);
-        let cells = port.cells() as u64;
-        port.reserve(
-            Room {
-                packets,
-                words: 384 * packets,
-            },
-            Room {
-                packets: packets + 1,
-                words: 384 * packets + cells,
-            },
-        )?;
-        let desk = Desk::make(alloc, talk, seat, side, relid, serve, held)?;
-        Ok(Server {
-            desk,
-            port,
-            serve,
-            stops,
-            starts,
-            come,
-            missing: starts,
-            served: 0,
-            seen: false,
-            want: None,
-        })
+        let port = match Port::with_room(end, packets) {
+            Ok(port) => port,
+            Err(refused) => {
+                drop(talk);
+                drop(seat);
+                return Err(refused);
+            }
+        };
+        match Desk::make(alloc, talk, seat, side, relid, serve, held) {
+            Ok(desk) => Ok(Server {
+                desk,
+                port,
+                serve,
+                stops,
+                starts,
+                come,
+                missing: starts,
+                served: 0,
+                seen: false,
+                want: None,
+            }),
+            Err(refused) => {
+                drop(port);
+                Err(refused)
+            }
+        }
     }
 
     /// A turn: an end that is asleep polls its signal. Otherwise the worker sends what it owes, serves what came, takes a packet, ends, or rests.

@@ -3,6 +3,7 @@
 
 mod atomic_words;
 mod driver;
+mod lending;
 mod pages;
 mod requests;
 mod rescind;
@@ -16,6 +17,7 @@ mod words;
 
 pub use atomic_words::AtomicWords;
 pub use driver::{is_free, pass_one};
+pub use lending::lend_word;
 pub use pages::{share, take_piece};
 pub use requests::settle;
 pub use rescind::release;

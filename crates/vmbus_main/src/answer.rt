@@ -25,7 +25,7 @@ pub struct Answer {
     pub text: Vec<u8>,
 }
 
-/// Answers an input.
+/// Answers an input of at most a megabyte.
 pub fn answer_input<R: Threads + Wait + Sync, G: Gate>(
     rt: &R,
     gate: &G,
@@ -33,6 +33,7 @@ pub fn answer_input<R: Threads + Wait + Sync, G: Gate>(
     command: InputCommand,
     input: &[u8],
 ) -> Result<Answer, ParseFault>
+    requires size { length input.now ≤ 1048576 }
     ensures { IsAnswered command input.now result }
 {
     match command {
@@ -47,6 +48,7 @@ fn run_input<R: Threads + Wait + Sync, G: Gate>(
     alloc: Global,
     input: &[u8],
 ) -> Result<Answer, ParseFault>
+    requires { length input.now ≤ 1048576 }
     ensures { IsAnswered Run input.now result }
 {
     let script = parse(alloc, input)?;

@@ -33,6 +33,7 @@ fn guest_of(rt: &(impl Abort + AllocGlobal), end: GuestEnd) -> GuestWorker
         window: 1,
         count: 2,
         disk: Vec::new(alloc),
+        net: Vec::new(alloc),
     };
     GuestWorker::make(alloc, end, GuestSeat::Beat(seat), plan).expect(rt, "memory")
 }
@@ -71,6 +72,7 @@ fn seq_of(reply: &Reply) -> Option<u64> {
     match reply {
         Reply::Ic(answer) => Some(answer.seq),
         Reply::Disk(_) => None,
+        Reply::Net { .. } => None,
     }
 }
 

@@ -180,6 +180,7 @@ fn ic(rt: &impl Abort, reply: &Reply) -> (u32, u64) {
     match reply {
         Reply::Ic(answer) => (answer.status, answer.seq),
         Reply::Disk(_) => panic!(rt; "a disk replied"),
+        Reply::Net { .. } => panic!(rt; "a network replied"),
     }
 }
 

@@ -1,4 +1,4 @@
-use Rattle.std.proofs.Common.{ℕ, zero, suc, refl, arith}
+use Rattle.std.proofs.Common.{zero, suc, refl, arith}
 use Rattle.stor_proto.specs.Fields.{with_number}
 use Rattle.wire_table.specs.Little.{number_of, bytes_of}
 use Rattle.bus_speech.proofs.laws.asks_for_sub_channels.Goals as goal

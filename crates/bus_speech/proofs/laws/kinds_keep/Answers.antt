@@ -1,4 +1,5 @@
 use Rattle.bus_speech.proofs.KindLaws as laws
+use Rattle.bus_speech.proofs.NetLaws as nets
 use Rattle.bus_speech.proofs.laws.kinds_keep.Goals as goal
 
 pub returns-clause-service : goal.returns-clause-service
@@ -6,3 +7,6 @@ returns-clause-service c = laws.service_keeps
 
 pub returns-clause-disk : goal.returns-clause-disk
 returns-clause-disk c = laws.disk_keeps
+
+pub returns-clause-net : goal.returns-clause-net
+returns-clause-net c = nets.net_keeps

@@ -31,17 +31,17 @@ pair_with-requires-clause-size c = c.requires.host_size
 
 pub pair_with-requires-clause-pairs : goal.pair_with-requires-clause-pairs
 pair_with-requires-clause-pairs c host made at =
-    pair_of c.args.guest_end c.args.host_end c.args.guest_end.state.machine.cells c.args.host_end.state.machine.cells c.in_ok-guest.guest host c.requires.channel c.requires.guest_fresh c.requires.host_fresh
-    c.in_ok-guest.ensures.end at (c.requires.roles c.in_ok-guest.guest host c.in_ok-guest.ensures.made made)
+    pair_of c.args.guest_end c.args.host_end c.args.guest_end.state.machine.cells c.args.host_end.state.machine.cells c.in-Ok.guest host c.requires.channel c.requires.guest_fresh c.requires.host_fresh
+    c.in-Ok.ensures.end at (c.requires.roles c.in-Ok.guest host c.in-Ok.ensures.made made)
 
-pub returns-clause-guest : goal.returns-clause-guest
-returns-clause-guest c = guest_if (IsMade (guest_planned c.args.guest_plan) (at_guest c.args.guest_seat)) c.in_ok-guest.guest c.pair_with.result c.in_ok-guest.ensures.made c.pair_with.ensures.guest
+pub returns-in-Ok-clause-guest : goal.returns-in-Ok-clause-guest
+returns-in-Ok-clause-guest c = guest_if (IsMade (guest_planned c.args.guest_plan) (at_guest c.args.guest_seat)) c.in-Ok.guest c.pair_with.result c.in-Ok.ensures.made c.pair_with.ensures.guest
 
-pub returns-clause-host : goal.returns-clause-host
-returns-clause-host c = c.pair_with.ensures.host
+pub returns-in-Ok-clause-host : goal.returns-in-Ok-clause-host
+returns-in-Ok-clause-host c = c.pair_with.ensures.host
 
-pub returns-clause-guest_end : goal.returns-clause-guest_end
-returns-clause-guest_end c = guest_if (λ w. (end_at w).state ≡ c.args.guest_end.state) c.in_ok-guest.guest c.pair_with.result c.in_ok-guest.ensures.end.0 c.pair_with.ensures.guest
+pub returns-in-Ok-clause-guest_end : goal.returns-in-Ok-clause-guest_end
+returns-in-Ok-clause-guest_end c = guest_if (λ w. (end_at w).state ≡ c.args.guest_end.state) c.in-Ok.guest c.pair_with.result c.in-Ok.ensures.end.0 c.pair_with.ensures.guest
 
-pub returns-clause-host_end : goal.returns-clause-host_end
-returns-clause-host_end c = c.pair_with.ensures.end
+pub returns-in-Ok-clause-host_end : goal.returns-in-Ok-clause-host_end
+returns-in-Ok-clause-host_end c = c.pair_with.ensures.end

@@ -17,13 +17,13 @@ pub make-requires-clause-size : goal.make-requires-clause-size
 make-requires-clause-size c = c.requires.size
 
 pub paired-requires : goal.paired-requires
-paired-requires c = c.requires.pairs c.in_ok-host.host c.in_ok-host.ensures.made c.in_ok-host.ensures.end
+paired-requires c = c.requires.pairs c.in-Ok.host c.in-Ok.ensures.made c.in-Ok.ensures.end
 
-pub returns-clause-guest : goal.returns-clause-guest
-returns-clause-guest c = c.paired.ensures.0
+pub returns-in-Ok-clause-guest : goal.returns-in-Ok-clause-guest
+returns-in-Ok-clause-guest c = c.paired.ensures.0
 
-pub returns-clause-host : goal.returns-clause-host
-returns-clause-host c = subst (IsMade (host_planned c.args.host_plan) (at_host c.args.host_seat)) (sym c.paired.ensures.1) c.in_ok-host.ensures.made
+pub returns-in-Ok-clause-host : goal.returns-in-Ok-clause-host
+returns-in-Ok-clause-host c = subst (IsMade (host_planned c.args.host_plan) (at_host c.args.host_seat)) (sym c.paired.ensures.1) c.in-Ok.ensures.made
 
-pub returns-clause-end : goal.returns-clause-end
-returns-clause-end c = ap (λ w. (end_at w).state) c.paired.ensures.1 ∙ c.in_ok-host.ensures.end.0
+pub returns-in-Ok-clause-end : goal.returns-in-Ok-clause-end
+returns-in-Ok-clause-end c = ap (λ w. (end_at w).state) c.paired.ensures.1 ∙ c.in-Ok.ensures.end.0

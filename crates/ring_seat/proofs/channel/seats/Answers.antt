@@ -7,12 +7,12 @@ use Rattle.ring_seat.proofs.Sharing.{opens, split_asks}
 use Rattle.ring_seat.proofs.channel.seats.Goals as goal
 
 pub of_words-requires : goal.of_words-requires
-of_words-requires c = opens c.args.cells c.as_slice.result.now c.requires.0 c.requires.1 (c.as_slice.ensures.value ∙ c.in_ok-words.ensures)
+of_words-requires c = opens c.args.cells c.args.pages c.as_slice.result.now c.requires.cells.0 c.requires.cells.1 (c.as_slice.ensures.value ∙ c.in_ok-words.ensures)
 
 pub split_seat-away-requires : goal.split_seat-away-requires
 split_seat-away-requires c =
     let t = c.in_ok-table.ensures in (
       search rules,
       search rules,
-      split_asks c.deref.result.now.shared.key c.in_ok-table.seat.id c.in_ok-table.seat.me.0 (new_told c.args.cells Guest) (new_told c.args.cells Host) (ap (λ (m : Me (Unit {0}) View). m.0) t.4),
+      split_asks c.deref.result.now.shared.key.cells c.deref.result.now.shared.key.pages c.in_ok-table.seat.id c.in_ok-table.seat.me.0 (new_told c.args.cells c.args.pages Guest) (new_told c.args.cells c.args.pages Host) (ap (λ (m : Me (Unit {0}) View). m.0) t.4),
     )

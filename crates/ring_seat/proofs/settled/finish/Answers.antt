@@ -1,8 +1,10 @@
 use Rattle.std.proofs.Common.{List, ℕ, refl, sym, ap, ◌∙◌, subst}
 use Rattle.chan_run.specs.Runs.{IsFront}
+use Rattle.page_kept.specs.Items.{packets}
+use Rattle.page_kept.specs.declared.item.Item.{Item}
 use Rattle.ring_machine.specs.declared.state.EndState.{EndState}
 use Rattle.ring_seat.specs.Seats.{told_in}
-use Rattle.ring_seat.specs.Settling.{AreSettled}
+use Rattle.ring_seat.specs.Settling.{AreSettled, PagesSettled}
 use Rattle.ring_seat.proofs.settled.finish.Goals as goal
 
 pub settle-requires-clause-guest : goal.settle-requires-clause-guest
@@ -52,3 +54,33 @@ returns-clause-host_past c =
     let h = c.into_parts-host.ensures.told (told_in c.into_parts-host.result.0.seat.me.0) refl in
     let s = subst (λ (z : EndState × EndState). AreSettled z.0 z.1) (λ j. (g j, h j)) c.settle.ensures.ends in
     (c.into_parts-host.ensures.sent ∙ sym s.host_past.0, c.into_parts-host.ensures.got ∙ sym s.host_past.1)
+
+pub returns-clause-guest_pages : goal.returns-clause-guest_pages
+returns-clause-guest_pages c some clear =
+    let g = c.into_parts-guest.ensures.told (told_in c.into_parts-guest.result.0.seat.me.0) refl in
+    let h = c.into_parts-host.ensures.told (told_in c.into_parts-host.result.0.seat.me.0) refl in
+    let s = subst (λ (z : EndState × EndState). PagesSettled z.0 z.1) (λ j. (g j, h j)) c.settle.ensures.pages in
+    let a = c.into_parts-guest.ensures in
+    let b = c.into_parts-host.ensures in
+    let t = s.guest some clear in
+    record {
+      packets_are = ap packets a.items.1 ∙ (t.packets_are ∙ sym a.got);
+      front = subst (λ (z : List Item × List Item). IsFront z.0 z.1) (λ j. (sym a.items.1 j, sym b.items.0 j)) t.front;
+      sent_are = ap packets b.items.0 ∙ (t.sent_are ∙ sym b.sent);
+      drained = λ d. a.items.1 ∙ (t.drained d ∙ sym b.items.0);
+    }
+
+pub returns-clause-host_pages : goal.returns-clause-host_pages
+returns-clause-host_pages c some clear =
+    let g = c.into_parts-guest.ensures.told (told_in c.into_parts-guest.result.0.seat.me.0) refl in
+    let h = c.into_parts-host.ensures.told (told_in c.into_parts-host.result.0.seat.me.0) refl in
+    let s = subst (λ (z : EndState × EndState). PagesSettled z.0 z.1) (λ j. (g j, h j)) c.settle.ensures.pages in
+    let a = c.into_parts-host.ensures in
+    let b = c.into_parts-guest.ensures in
+    let t = s.host some clear in
+    record {
+      packets_are = ap packets a.items.1 ∙ (t.packets_are ∙ sym a.got);
+      front = subst (λ (z : List Item × List Item). IsFront z.0 z.1) (λ j. (sym a.items.1 j, sym b.items.0 j)) t.front;
+      sent_are = ap packets b.items.0 ∙ (t.sent_are ∙ sym b.sent);
+      drained = λ d. a.items.1 ∙ (t.drained d ∙ sym b.items.0);
+    }

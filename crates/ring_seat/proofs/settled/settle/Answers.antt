@@ -11,8 +11,8 @@ join_seat-requires c =
       search rules,
       c.args.host.empty,
       search rules,
-      join_asks c.deref.result.now.shared.key c.args.guest.seat.id c.args.host.seat.id v w (told_in v) (told_in w) (one_is v c.args.guest.one) (one_is w c.args.host.one) c.requires.guest c.requires.host,
+      join_asks c.deref.result.now.shared.key.cells c.deref.result.now.shared.key.pages c.args.guest.seat.id c.args.host.seat.id v w (told_in v) (told_in w) (one_is v c.args.guest.one) (one_is w c.args.host.one) c.requires.guest c.requires.host,
     )
 
 pub load-requires : goal.load-requires
-load-requires c = (search rules, search rules, learns c.deref-2.result.now.shared.key c.deref-2.result.now.shared.table_id.slots c.join_seat.new.seat.id 0 c.join_seat.new.seat.me)
+load-requires c = (search rules, search rules, learns c.deref-2.result.now.shared.key.cells c.deref-2.result.now.shared.key.pages c.deref-2.result.now.shared.table_id.slots c.join_seat.new.seat.id 0 c.join_seat.new.seat.me)

@@ -1,7 +1,7 @@
 use Rattle.std.proofs.Common.{◌≡◌, None, subst}
 use Rattle.script_lines.specs.Faults.{device_said, row_fault}
 use Rattle.script_lines.specs.WellFormed.{InRange}
-use Rattle.script_lines.proofs.Fitting.{fits_offer, fits_bad, fits_ring, fits_window, fits_beat, fits_down, fits_command, fits_rescind, fits_close, fits_phase}
+use Rattle.script_lines.proofs.Fitting.{fits_offer, fits_bad, fits_ring, fits_window, fits_request, fits_rescind, fits_close, fits_phase}
 use Rattle.script_lines.proofs.reading.push.Goals as goal
 
 pub push_ring-requires : goal.push_ring-requires
@@ -16,13 +16,8 @@ push_window-requires c =
 
 pub push_ask-requires : goal.push_ask-requires
 push_ask-requires c =
-    rw (c.unwrap_or-device.ensures, c.beat.ensures) (fits_beat c.args.number c.args.draft.now c.requires.behind c.in-Beat.field-0 c.in-Beat.seq c.args.device
-    (subst (λ s. row_fault c.args.number c.args.draft.now c.args.device s ≡ None) c.in-Beat.is c.requires.right))
-
-pub push_ask-requires-in-Down : goal.push_ask-requires-in-Down
-push_ask-requires-in-Down c =
-    rw (c.unwrap_or-device.ensures, c.down.ensures) (fits_down c.args.number c.args.draft.now c.requires.behind c.in-Down.field-0 c.in-Down.flags c.args.device
-    (subst (λ s. row_fault c.args.number c.args.draft.now c.args.device s ≡ None) c.in-Down.is c.requires.right))
+    rw (c.unwrap_or-device.ensures, c.ask_of.ensures) (fits_request c.args.number c.args.draft.now c.requires.behind c.in-Request.field-0 c.in-Request.asked c.args.device
+    (subst (λ s. row_fault c.args.number c.args.draft.now c.args.device s ≡ None) c.in-Request.is c.requires.right) (subst InRange c.in-Request.is c.requires.range))
 
 pub push_rescind-requires : goal.push_rescind-requires
 push_rescind-requires c =
@@ -48,8 +43,3 @@ pub push_bad-requires : goal.push_bad-requires
 push_bad-requires c =
     rw (c.unwrap_or-device.ensures, c.unwrap_or.ensures) (fits_bad c.args.number c.args.draft.now c.requires.behind c.in-Bad.field-0 c.in-Bad.lba c.args.device
     (subst (λ s. row_fault c.args.number c.args.draft.now c.args.device s ≡ None) c.in-Bad.is c.requires.right))
-
-pub push_ask-requires-in-Command : goal.push_ask-requires-in-Command
-push_ask-requires-in-Command c =
-    rw (c.unwrap_or-device.ensures, c.request_of.ensures.request) (fits_command c.args.number c.args.draft.now c.requires.behind c.in-Command.field-0 c.in-Command.ask c.args.device
-    (subst (λ s. row_fault c.args.number c.args.draft.now c.args.device s ≡ None) c.in-Command.is c.requires.right) (subst InRange c.in-Command.is c.requires.range))

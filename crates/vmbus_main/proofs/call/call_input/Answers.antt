@@ -1,10 +1,13 @@
-use Rattle.std.proofs.Common.{sym, refl, ◌∙◌, subst, arith}
+use Rattle.std.proofs.Common.{refl, ap, length, subst, arith}
 use Rattle.io_edge.specs.Edge.{Grows, GrowsByFront}
 use Rattle.vmbus_main.specs.Answer.{IsAnswer}
 use Rattle.vmbus_main.specs.declared.command.Command.TheVariants.{Input}
 use Rattle.vmbus_main.proofs.Refusing.{told}
 use Rattle.vmbus_main.proofs.call.call_input.Goals as goal
 use Rattle.vmbus_main.proofs.call.call_input.Goals.{in-Ok-write_all, in-Err}
+
+pub answer_input-requires-clause-size : goal.answer_input-requires-clause-size
+answer_input-requires-clause-size g c = omega (arith, ap length c.deref.ensures.value, c.in-Ok.ensures.most)
 
 pub returns-clause-in_part : goal.returns-clause-in_part
 returns-clause-in_part g c four =

@@ -8,14 +8,14 @@ use Rattle.bus_talk.proofs.kind_talk.KindTalkTalk.result.Goals as goal
 pub returns-then-k-count_starts : goal.returns-then-k-count_starts
 returns-then-k-count_starts c a h =
     let t : Talked = record { kind = c.self.inside.kind; sub = c.self.inside.sub; subs = c.self.inside.subs; asks = c.self.inside.asks.items } in
-    let P : Talked → Type 0 = λ x. slice_get (asks_of x) c.args.k ≡ Some a → (speech_of x.kind).result a (packet_in c.args._before.now) c.args.packet.now ≡ None in
+    let P : Talked → Type 0 = λ x. slice_get (asks_of x) c.args.k ≡ Some a → (speech_of x.kind).result a (packet_in c.args.before.now) c.args.packet.now ≡ None in
     let same : t ≡ c.args.self.now = c.self.view_is in
-    sym (subst P same (start_says_nothing t c.self.invariant.0 c.args.k a (packet_in c.args._before.now) c.args.packet.now (omega (arith, c.if-k-count_starts.true, c.count_starts.ensures.value))) h)
+    sym (subst P same (start_says_nothing t c.self.invariant.0 c.args.k a (packet_in c.args.before.now) c.args.packet.now (omega (arith, c.if-k-count_starts.true, c.count_starts.ensures.value))) h)
 
 pub returns : goal.returns
 returns c a h =
     let t : Talked = record { kind = c.self.inside.kind; sub = c.self.inside.sub; subs = c.self.inside.subs; asks = c.self.inside.asks.items } in
-    let P : Talked → Type 0 = λ x. slice_get (asks_of x) c.args.k ≡ Some a → (speech_of x.kind).result a (packet_in c.args._before.now) c.args.packet.now ≡ said_on x.kind c.args.packet.now in
+    let P : Talked → Type 0 = λ x. slice_get (asks_of x) c.args.k ≡ Some a → (speech_of x.kind).result a (packet_in c.args.before.now) c.args.packet.now ≡ said_on x.kind (packet_in c.args.before.now) c.args.packet.now in
     let same : t ≡ c.args.self.now = c.self.view_is in
-    let says = subst P same (script_says t c.self.invariant.0 c.args.k a (packet_in c.args._before.now) c.args.packet.now (omega (arith, c.if-k-count_starts.false, c.count_starts.ensures.value))) h in
-    c.said.ensures ∙ ap (λ (x : Talked). said_on x.kind c.args.packet.now) same ∙ sym says
+    let says = subst P same (script_says t c.self.invariant.0 c.args.k a (packet_in c.args.before.now) c.args.packet.now (omega (arith, c.if-k-count_starts.false, c.count_starts.ensures.value))) h in
+    c.said.ensures ∙ ap (λ (x : Talked). said_on x.kind (packet_in c.args.before.now) c.args.packet.now) same ∙ sym says

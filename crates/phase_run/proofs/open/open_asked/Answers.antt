@@ -1,10 +1,9 @@
-use Rattle.std.proofs.Common.{◌≡◌, ◌∙◌, ◌*◌, ap, refl, sym, subst, length, arith, None}
+use Rattle.std.proofs.Common.{◌≡◌, ◌∙◌, ◌*◌, ap, sym, subst, length, arith, None}
 use Rattle.io_edge.specs.declared.side.Side.TheVariants.{Guest, Host}
-use Rattle.work_model.specs.Roles.{side_that_asks}
 use Rattle.end_work.specs.Plans.{AllCarried, CanPlan, Planned, guest_planned, host_planned, stop_of}
 use Rattle.end_work.specs.Seats.{at_host}
 use Rattle.phase_run.proofs.Making.{ordered, plan_for, host_roles, host_opens, made_opens, on_channel}
-use Rattle.phase_run.proofs.open.open_disk.Goals as goal
+use Rattle.phase_run.proofs.open.open_asked.Goals as goal
 
 pub make_pair-requires-clause-guest : goal.make_pair-requires-clause-guest
 make_pair-requires-clause-guest c = subst (CanPlan Guest) (sym c.guest_plan-guest.ensures) (record {
@@ -12,7 +11,7 @@ make_pair-requires-clause-guest c = subst (CanPlan Guest) (sym c.guest_plan-gues
   few = omega (arith, c.len-count.ensures, c.args.asks.ok.0, c.requires.few);
   subs = c.requires.subs;
   stop = tt;
-  asks = λ side. (omega (arith, ap length c.in_ok-requests.ensures, c.len-count.ensures, c.args.asks.ok.0), subst (AllCarried c.args.kind) (sym c.in_ok-requests.ensures) c.requires.asks);
+  asks = λ side. (omega (arith, ap length c.in-Ok.ensures, c.len-count.ensures, c.args.asks.ok.0), subst (AllCarried c.args.kind) (sym c.in-Ok.ensures) c.requires.asks);
 })
 
 pub make_pair-requires-clause-host : goal.make_pair-requires-clause-host
@@ -21,7 +20,7 @@ make_pair-requires-clause-host c = subst (CanPlan Host) (sym c.host_plan-host.en
   few = omega (arith, c.len-count.ensures, c.args.asks.ok.0, c.requires.few);
   subs = c.requires.subs;
   stop = c.requires.stop;
-  asks = λ side. let no : Host ≡ Guest = side ∙ ap side_that_asks c.requires.disk in absurd (cc);
+  asks = λ side. let no : Host ≡ Guest = side ∙ c.requires.guest in absurd (cc);
 })
 
 pub make_pair-requires-clause-roles : goal.make_pair-requires-clause-roles
@@ -29,19 +28,19 @@ make_pair-requires-clause-roles c guest host asked served =
     let many : c.len-count.result ≡ length c.args.asks.items = omega (arith, c.len-count.ensures, c.args.asks.ok.0) in
     host_roles (ordered c.args.kind c.args.sub c.args.subs c.args.asks.items (stop_of c.args.stop)) (at_host c.args.seat) (guest_planned c.guest_plan-guest.result) (host_planned c.host_plan-host.result) guest host c.requires.seat
     (plan_for c.args.kind c.args.sub c.args.subs c.args.asks.items (stop_of c.args.stop) c.host_plan-host.ensures) (ap (λ (p : Planned). p.count) c.host_plan-host.ensures ∙ many) (ap (λ (p : Planned). p.stop) c.host_plan-host.ensures)
-    (plan_for c.args.kind c.args.sub c.args.subs c.args.asks.items (stop_of c.args.stop) c.guest_plan-guest.ensures) (ap (λ (p : Planned). p.asks) c.guest_plan-guest.ensures ∙ c.in_ok-requests.ensures) served asked
+    (plan_for c.args.kind c.args.sub c.args.subs c.args.asks.items (stop_of c.args.stop) c.guest_plan-guest.ensures) (ap (λ (p : Planned). p.asks) c.guest_plan-guest.ensures ∙ c.in-Ok.ensures) served asked
 
-pub returns-clause-opens : goal.returns-clause-opens
-returns-clause-opens c =
+pub returns-in-Ok-clause-opens : goal.returns-in-Ok-clause-opens
+returns-in-Ok-clause-opens c =
     let many : c.len-count.result ≡ length c.args.asks.items = omega (arith, c.len-count.ensures, c.args.asks.ok.0) in
     made_opens (ordered c.args.kind c.args.sub c.args.subs c.args.asks.items (stop_of c.args.stop)) (at_host c.args.seat) (guest_planned c.guest_plan-guest.result) (host_planned c.host_plan-host.result) None (at_host c.args.seat) c.make_pair.result
-    (λ guest host asked served. host_opens (ordered c.args.kind c.args.sub c.args.subs c.args.asks.items (stop_of c.args.stop)) (at_host c.args.seat) (guest_planned c.guest_plan-guest.result) (host_planned c.host_plan-host.result) guest host (ap side_that_asks c.requires.disk) c.requires.seat
+    (λ guest host asked served. host_opens (ordered c.args.kind c.args.sub c.args.subs c.args.asks.items (stop_of c.args.stop)) (at_host c.args.seat) (guest_planned c.guest_plan-guest.result) (host_planned c.host_plan-host.result) guest host (c.requires.guest) c.requires.seat
     (plan_for c.args.kind c.args.sub c.args.subs c.args.asks.items (stop_of c.args.stop) c.host_plan-host.ensures) (ap (λ (p : Planned). p.count) c.host_plan-host.ensures ∙ many) (ap (λ (p : Planned). p.stop) c.host_plan-host.ensures)
-    (plan_for c.args.kind c.args.sub c.args.subs c.args.asks.items (stop_of c.args.stop) c.guest_plan-guest.ensures) (ap (λ (p : Planned). p.asks) c.guest_plan-guest.ensures ∙ c.in_ok-requests.ensures) served asked)
+    (plan_for c.args.kind c.args.sub c.args.subs c.args.asks.items (stop_of c.args.stop) c.guest_plan-guest.ensures) (ap (λ (p : Planned). p.asks) c.guest_plan-guest.ensures ∙ c.in-Ok.ensures) served asked)
     c.make_pair.ensures.guest c.make_pair.ensures.host
 
-pub returns-clause-channel : goal.returns-clause-channel
-returns-clause-channel c =
+pub returns-in-Ok-clause-channel : goal.returns-in-Ok-clause-channel
+returns-in-Ok-clause-channel c =
     on_channel c.args.relid (512 * c.args.pages) c.args.window (guest_planned c.guest_plan-guest.result) (host_planned c.host_plan-host.result) None (at_host c.args.seat) c.make_pair.result
     (ap (λ (p : Planned). p.relid) c.guest_plan-guest.ensures) (ap (λ (p : Planned). p.relid) c.host_plan-host.ensures)
     (ap (λ (p : Planned). p.window) c.guest_plan-guest.ensures) (ap (λ (p : Planned). p.window) c.host_plan-host.ensures) c.make_pair.ensures.guest c.make_pair.ensures.host c.make_pair.ensures.cells

@@ -10,7 +10,7 @@ use Rattle.scsi_disk.specs.declared.reply.DiskReply.TheVariants.{Good, Check}
 use Rattle.scsi_disk.proofs.OneByteLaws.{IsOneByte, HasPlainBlocks, GoodHas, stays_plain, reply_has}
 use Rattle.bus_script.specs.Report.{disk_runs}
 use Rattle.script_text.specs.Runs.{runs_of}
-use Rattle.bus_model.proofs.RunCounts.{runs_most, runs_of_blocks}
+use Rattle.report_room.proofs.RunCounts.{runs_most, runs_of_blocks}
 
 few_of_good : (r : DiskReply) → GoodHas (λ bytes. length (runs_of bytes) ≤ 36) r → disk_runs r ≤ 36
 few_of_good (Good bytes) has = has

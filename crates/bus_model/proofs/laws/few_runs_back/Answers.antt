@@ -1,8 +1,0 @@
-use Rattle.bus_model.proofs.FewBack.{few_runs_back_lem, report_fits_lem}
-use Rattle.bus_model.proofs.laws.few_runs_back.Goals as goal
-
-pub returns-clause-few : goal.returns-clause-few
-returns-clause-few c = few_runs_back_lem
-
-pub returns-clause-fits : goal.returns-clause-fits
-returns-clause-fits c = report_fits_lem

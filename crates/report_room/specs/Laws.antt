@@ -1,0 +1,52 @@
+-- Laws of the reports of runs.
+use Rattle.std.specs.Prelude.{ℕ, ◌≡◌, ◌≤◌, ◌+◌, ◌*◌, List, [], ◌∷◌, length, Ok}
+use Rattle.rndis_msg.specs.Messages.{body_of}
+use Rattle.script_lines.specs.Grammar.{script_of}
+use Rattle.script_lines.specs.WellFormed.{IsScript}
+use Rattle.script_lines.specs.declared.line.Line.{Line}
+use Rattle.script_lines.specs.declared.line.What.{What}
+use Rattle.script_lines.specs.declared.line.What.TheVariants.{Contact as IsContact, Offer as IsOffer, Bad as IsBad, RingSize as IsRingSize, Window as IsWindow, Ask as IsAsk, Rescind as IsRescind, Shut as IsShut, Phase as IsPhase}
+use Rattle.script_lines.specs.declared.line.Ask.{Ask}
+use Rattle.script_lines.specs.declared.line.Ask.TheVariants.{Ic as AskIc, Disk as AskDisk, Net as AskNet}
+use Rattle.bus_script.specs.declared.outcome.LineResult.{LineResult}
+use Rattle.bus_script.specs.Report.{runs_back}
+use Rattle.bus_model.specs.Run.{IsBusRun}
+use Rattle.bus_model.specs.declared.channel_run.ChannelRun.{ChannelRun}
+use Rattle.bus_model.specs.declared.history.DeviceHistory.{DeviceHistory}
+
+-- how many bytes the buffer of a message for an adapter has
+abbrev pub data_of : Ask → ℕ
+data_of (AskIc ask) = 0
+data_of (AskDisk request) = 0
+data_of (AskNet message) = length (body_of message)
+
+-- and those of what lines ask
+abbrev pub data_in : What → ℕ
+data_in (IsContact guest host) = 0
+data_in (IsOffer name device) = 0
+data_in (IsBad device lba) = 0
+data_in (IsRingSize device pages) = 0
+data_in (IsWindow device size) = 0
+data_in (IsAsk device ask) = data_of ask
+data_in (IsRescind device after held) = 0
+data_in (IsShut device) = 0
+data_in IsPhase = 0
+
+abbrev pub data_by : List Line → ℕ
+data_by [] = 0
+data_by (l ∷ lines) = data_in l.what + data_by lines
+
+-- Few runs come back: each write of a script fills whole blocks with one byte, and a new disk is all zero, so each block of a disk is a run of one byte; a frame comes back as long as it was; no
+-- other reply is longer than 40 bytes
+abbrev pub FewRunsBack : Type 0
+FewRunsBack = (bytes : List ℕ) (lines : List Line) (settled : List ChannelRun) (histories : List DeviceHistory) (results : List LineResult) → script_of bytes ≡ Ok lines → IsScript lines → IsBusRun lines settled histories results
+    → runs_back results ≤ 40 * length results + data_by lines
+
+-- the buffers stand in the script, as two digits for each byte
+abbrev pub DataStands : Type 0
+DataStands = (bytes : List ℕ) (lines : List Line) → script_of bytes ≡ Ok lines → 2 * data_by lines ≤ length bytes
+
+-- so the report of a run has room in 64 megabytes, where the script has at most one
+abbrev pub ReportFits : Type 0
+ReportFits = (bytes : List ℕ) (lines : List Line) (settled : List ChannelRun) (histories : List DeviceHistory) (results : List LineResult) → script_of bytes ≡ Ok lines → length bytes ≤ 1048576 → IsScript lines → IsBusRun lines settled histories results
+    → 12000000 + 24 * runs_back results ≤ 67108864

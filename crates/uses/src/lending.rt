@@ -1,0 +1,29 @@
+//! One end of a channel with data pages, over whatever seat: a word is stored into a page, and a packet lends it.
+ghost use Rattle.std.specs.Prelude.{◌≡◌, OnOk, OnErr, IfSome};
+ghost use Rattle.page_kept.specs.Kept.{pages_sent};
+ghost use Rattle.page_kept.specs.Layouts.{layout};
+ghost use Rattle.page_kept.specs.Stepped.{page_stored};
+
+use ring_core::{End, Seatlike, SendRefusal, Signalled, may_lend};
+
+/// Stores a word into a page that the end has, or holds, and then sends a packet: where the packet lends or brings back that page, the word goes along. It is
+/// none where the end may do neither, or may not send then.
+pub fn lend_word<S: Seatlike>(
+    end: &mut End<S>,
+    page: u32,
+    word: u32,
+    value: u64,
+    p: &[u64],
+) -> Option<Result<Signalled, SendRefusal>>
+    ensures lent { IfSome result (λ r. OnOk r (end.new.state.pages ≡ pages_sent (layout end.old.state.pages.count) (page_stored end.old.state.pages page word value) p.now)) }
+    ensures kept { IfSome result (λ r. OnErr r (end.new.state.pages ≡ page_stored end.old.state.pages page word value)) }
+{
+    if !end.is_ready() || !end.can_store(page, word) {
+        return None;
+    }
+    end.page_store(page, word, value);
+    if !may_lend(end, p) {
+        return None;
+    }
+    Some(end.send(p))
+}
