@@ -7,6 +7,8 @@ room=$(mktemp -d) || exit 70
 trap 'rm -rf "$room"' EXIT
 
 program=$top/crates/vmbus/out/vmbus
+# As ./vmbus sets it.
+export GLIBC_TUNABLES="${GLIBC_TUNABLES-glibc.malloc.mmap_threshold=131072:glibc.malloc.hugetlb=1}"
 [ -x "$program" ] || { echo "bench/run.sh: there is no program: run ./build first" >&2; exit 70; }
 
 # A disk whose blocks are written, and then read, with so many requests open at once.

@@ -1,12 +1,9 @@
 -- The outcomes of the lines of a phase, line by line.
-use Rattle.std.proofs.Common.{◌≡◌, ℕ, ◌+◌, ◌<◌, ◌≤◌, ◌==◌, ◌^◌, Bool, true, false, cond, List, [], ◌∷◌, ◌++◌, length, length-append, append_assoc, take, drop, get_or, refl, ap, sym, ◌∙◌, subst, arith, inl, inr, slice_set, slice_index_or, replicate, Option, Some, None}
+use Rattle.std.proofs.Common.{◌≡◌, ℕ, ◌+◌, ◌<◌, ◌≤◌, ◌==◌, true, cond, List, [], ◌∷◌, ◌++◌, length, length-append, append_assoc, take, drop, get_or, refl, ap, sym, ◌∙◌, subst, arith, slice_index_or, Option, Some, None}
 use Rattle.std.specs.Prelude.{map, is_some}
 use Rattle.std.specs.Option.{IfSome}
 use Rattle.std.specs.List.{flat_map}
-use Rattle.std.proofs.Math.ListN.{length-set}
-use Rattle.std.proofs.lemmas.List.{get_or-set_same, get_or-set_other, get_or-replicate, length-replicate, take_more, take_all, append-nil, map-append}
-use Rattle.std.proofs.lemmas.Grind.{flat_map-append}
-use Rattle.std.proofs.lemmas.Bool.{cases_eq}
+use Rattle.std.proofs.lemmas.List.{take_more, take_all, append-nil, map-append}
 use Rattle.std.proofs.lemmas.Bool.Decides.{nat_tests}
 use Rattle.script_lines.specs.declared.line.Line.{Line}
 use Rattle.script_lines.specs.declared.line.What.{What}
@@ -19,7 +16,6 @@ use Rattle.bus_plan.specs.Endings.{AreEnded, outcome_left}
 use Rattle.bus_plan.specs.Outcomes.{AreTold, AreLeft, HasNext, HasOutcomes, MovesOn, TakesOne, Tells}
 use Rattle.bus_plan.specs.declared.ending.Ending.{Ending}
 use Rattle.bus_plan.specs.declared.ending.Ending.TheVariants.{Rescinded, Closed}
-use Rattle.bus_script.specs.declared.outcome.LineResult.TheVariants.{Gone as LineGone, Closed as LineClosed}
 use Rattle.bus_plan.specs.Heard.{AllBelow}
 use Rattle.bus_plan.proofs.Hearing.{told_taken, told_cut, below_at}
 
@@ -56,51 +52,7 @@ told_asked p channels before ended outcomes outcomes' what device o r old new so
     by_ending (Some Rescinded) is takes = ap (λ x. Some x) (sym takes.0)
     by_ending (Some Closed) is takes = ap (λ x. Some x) (sym takes.0)
 
--- what is left behind a line
-
-asked_one : (b : Bool) (ask : Ask) → length (flat_map asked (cond b (Asks ask ∷ []) [])) ≡ cond b 1 0
-asked_one true ask = refl
-asked_one false ask = refl
-
-heard_asks : (what : What) (device : ℕ) (ask : Ask) (k : ℕ) → said what ≡ Some (device, Asks ask) → length (flat_map asked (heard_by k (said what))) ≡ cond (device == k) 1 0
-heard_asks what device ask k says = ap (λ o. length (flat_map asked (heard_by k o))) says ∙ asked_one (device == k) ask
-
-pub moves_one : (what : What) (ended : List (Option Ending)) (outcomes outcomes' : List (List (List LineResult))) (device : ℕ) (ask : Ask) (o : Option Ending) (r : LineResult) → said what ≡ Some (device, Asks ask) → device < length outcomes → o ≡ slice_index_or ended device None
-    → TakesOne (outcome_left o) device outcomes r outcomes' → MovesOn what ended outcomes outcomes'
-moves_one what ended outcomes outcomes' device ask o r says within ending takes = by_ending o ending takes
-  where
-    stays : (k n : ℕ) → (k ≡ device → ⊥) → nth_of (slice_index_or outcomes k []) n ≡ nth_of (slice_index_or outcomes k []) (length (flat_map asked (heard_by k (said what))) + n)
-    stays k n ne =
-        let other : (device == k) ≡ false = grind (arith, nat_tests) in
-        let none : length (flat_map asked (heard_by k (said what))) ≡ 0 = heard_asks what device ask k says ∙ ap (λ b. cond b 1 0) other in
-        let same : n ≡ length (flat_map asked (heard_by k (said what))) + n = omega (arith, none) in
-        ap (nth_of (slice_index_or outcomes k [])) same
-
-    unknown : (e : Ending) (k : ℕ) → Some e ≡ slice_index_or ended device None → k ≡ device → slice_index_or ended k None ≡ None → ⊥
-    unknown e k is same none = let both : Some e ≡ None = is ∙ (ap (λ j. slice_index_or ended j None) (sym same) ∙ none) in absurd (cc)
-
-    by_known : (e : Ending) (known : LineResult) → Some e ≡ slice_index_or ended device None → TakesOne (Some known) device outcomes r outcomes' → MovesOn what ended outcomes outcomes'
-    by_known e known is takes = record {
-      count = ap length takes.1;
-      each = λ k less none n. ap (λ l. nth_of (slice_index_or l k []) n) takes.1 ∙ stays k n (λ same. unknown e k is same none);
-    }
-
-    by_ending : (o : Option Ending) → o ≡ slice_index_or ended device None → TakesOne (outcome_left o) device outcomes r outcomes' → MovesOn what ended outcomes outcomes'
-    by_ending None is takes = record {
-      count = ap length takes.1 ∙ length-set outcomes device takes.0;
-      each = λ k less none n. elim (cases_eq k device) [
-        | inl e ↦
-            let same : (device == k) ≡ true = grind (arith, nat_tests) in
-            let one : length (flat_map asked (heard_by k (said what))) ≡ 1 = heard_asks what device ask k says ∙ ap (λ b. cond b 1 0) same in
-            let next : n + 1 ≡ length (flat_map asked (heard_by k (said what))) + n = omega (arith, one) in
-            let here : slice_index_or outcomes' k [] ≡ takes.0 = ap (λ l. slice_index_or l k []) takes.1 ∙ (ap (λ j. slice_index_or (slice_set outcomes device takes.0) j []) e ∙ get_or-set_same outcomes device takes.0 [] within) in
-            ap (λ l. nth_of l n) here ∙ (takes.2.later n ∙ (ap (λ j. nth_of (slice_index_or outcomes j []) (n + 1)) (sym e) ∙ ap (nth_of (slice_index_or outcomes k [])) next))
-        | inr ne ↦ ap (λ l. nth_of (slice_index_or l k []) n) takes.1 ∙ (ap (λ l. nth_of l n) (get_or-set_other outcomes device k takes.0 [] ne) ∙ stays k n ne)
-      ];
-    }
-    by_ending (Some Rescinded) is takes = by_known Rescinded LineGone is takes
-    by_ending (Some Closed) is takes = by_known Closed LineClosed is takes
-
+-- what is left behind a line that asks nothing
 pub moves_none : (what : What) (ended : List (Option Ending)) (outcomes : List (List (List LineResult))) → ((k : ℕ) → flat_map asked (heard_by k (said what)) ≡ []) → MovesOn what ended outcomes outcomes
 moves_none what ended outcomes none = record {
   count = refl;

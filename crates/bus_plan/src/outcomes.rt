@@ -1,5 +1,6 @@
 //! The outcomes of the lines of a phase.
-ghost use Rattle.std.specs.Prelude.{◌≡◌, ◌<◌, List, length, map, None, Some, [], true, is_some, OnOk, slice_index_or};
+ghost use Rattle.std.specs.Prelude.{◌≡◌, ◌<◌, ◌++◌, ◌∷◌, List, length, map, None, Some, [], true, is_some, OnOk, slice_index_or};
+ghost use Rattle.bus_script.specs.declared.outcome.LineResult.{LineResult as OneResult};
 ghost use Rattle.script_lines.specs.declared.line.Line.{Line as OneLine};
 ghost use Rattle.script_phases.specs.Openings.{Phase};
 ghost use Rattle.bus_model.specs.Run.{Carried, nth_of, source_of, outcome_at, outcomes_in};
@@ -12,17 +13,23 @@ use bus_script::{Line, LineResult, What};
 use contact::tried;
 use std::alloc::AllocError;
 
-/// The outcome of the next request of a device, which ended so. A device that an earlier phase ended serves none, and its outcomes stay.
-fn next_outcome(ended: Option<Ending>, outcomes: &mut Outcomes, device: usize) -> LineResult
+/// Puts the outcome of the next request of a device, which ended so, behind others. A device that an earlier phase ended serves none, and its outcomes stay.
+fn push_next(
+    ended: Option<Ending>,
+    outcomes: &mut Outcomes,
+    device: usize,
+    results: &mut Vec<LineResult>,
+) -> Result<(), AllocError>
     requires device { device < length outcomes.old }
     requires has { ended ≡ None → is_some (nth_of (slice_index_or outcomes.old device []) 0) ≡ true }
-    ensures { TakesOne (outcome_left ended) device outcomes.old result outcomes.new }
+    ensures { OnOk result ((told : OneResult) × (results.new.items ≡ results.old.items ++ told ∷ []) × TakesOne (outcome_left ended) device outcomes.old told outcomes.new) }
 {
     match ended {
-        Some(Ending::Rescinded) => LineResult::Gone,
-        Some(Ending::Closed) => LineResult::Closed,
-        None => outcomes.take_next(device),
+        Some(Ending::Rescinded) => results.push(LineResult::Gone)?,
+        Some(Ending::Closed) => results.push(LineResult::Closed)?,
+        None => results.push(outcomes.take_next(device))?,
     }
+    Ok(())
 }
 
 /// The outcome of one more line, which is moved out of `outcomes` where it is a request's.
@@ -47,9 +54,7 @@ fn tell_line(
         }
         What::Ask { device, .. } => {
             let at = *device as usize;
-            let outcome = next_outcome(ended[at], outcomes, at);
-            results.push(outcome)?;
-            Ok(())
+            push_next(ended[at], outcomes, at, results)
         }
         _ => Ok(()),
     }

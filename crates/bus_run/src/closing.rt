@@ -29,14 +29,19 @@ use std::alloc::{AllocError, Global};
 use std::mem;
 use std::vec::IntoIter;
 
-/// The outcome of a request that was served: it is done where its reply came back.
-fn outcome_of(serial: u32, reply: Option<Reply>) -> LineResult
-    ensures { result ≡ served_line serial reply }
+/// Puts the outcome of a request that was served behind others: it is done where its reply came back.
+fn push_served(
+    results: &mut Vec<LineResult>,
+    serial: u32,
+    reply: Option<Reply>,
+) -> Result<(), AllocError>
+    ensures { OnOk result (results.new.items ≡ results.old.items ++ served_line serial reply ∷ []) }
 {
     match reply {
-        Some(reply) => LineResult::Done { serial, reply },
-        None => LineResult::RescindedServed { serial },
+        Some(reply) => results.push(LineResult::Done { serial, reply })?,
+        None => results.push(LineResult::RescindedServed { serial })?,
     }
+    Ok(())
 }
 
 /// The outcomes of requests that were served: each has its place in the history, and the first ones have their replies. There is room for so many as were asked.
@@ -51,7 +56,7 @@ fn served_lines(
     let mut results = Vec::with_capacity(alloc, asked)?;
     let mut replies = replies.into_iter();
     for serial in serials {
-        results.push(outcome_of(*serial, replies.next()))?;
+        push_served(&mut results, *serial, replies.next())?;
     }
     Ok(results)
 }

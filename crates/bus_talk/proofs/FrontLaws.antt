@@ -1,24 +1,18 @@
 -- A storage packet is read in the first 64 bytes of a payload.
-use Rattle.std.proofs.Common.{◌≡◌, ℕ, ◌<◌, ◌≤◌, true, false, cond, ◌&&◌, ◌==◌, List, [], length, take, Option, Some, None, refl, sym, ap, ◌∙◌, arith}
+use Rattle.std.proofs.Common.{◌≡◌, ℕ, ◌<◌, ◌≤◌, true, false, cond, List, length, take, Option, Some, None, refl, sym, ap, ◌∙◌, arith}
 use Rattle.std.specs.Prelude.{is_none, nat_lt}
 use Rattle.std.proofs.lemmas.Bool.Decides.{nat_tests}
 use Rattle.std.proofs.lemmas.List.{take_all, length-take-le}
 use Rattle.vm_page.specs.Words.{bytes_in}
 use Rattle.vm_page.proofs.WordLaws.{length-bytes_in}
-use Rattle.pkt_desc.specs.Packets.{id_of, payload_of}
+use Rattle.pkt_desc.specs.Packets.{payload_of}
 use Rattle.stor_proto.specs.Packets.{vstor_bytes, vstor_in, vstor_fault, InForm, IsAllowed, fault_in}
 use Rattle.stor_proto.specs.declared.vstor.Vstor.{Vstor}
 use Rattle.stor_proto.specs.declared.fault.VstorFault.{VstorFault}
 use Rattle.stor_proto.specs.declared.fault.VstorFault.TheVariants.{Short}
 use Rattle.stor_proto.proofs.PacketLaws.{vstor_found, vstor_only}
-use Rattle.stor_proto.specs.Opening.{answer_of}
-use Rattle.stor_proto.specs.Srbs.{request_of, stop_of}
-use Rattle.chan_talk.specs.Listed.{answer_in, listed_packet}
-use Rattle.work_model.specs.Speech.{listed}
-use Rattle.bus_speech.specs.Codecs.{alone, fixed_back}
-use Rattle.bus_speech.specs.Packets.{is_inband, content_of}
-use Rattle.bus_speech.specs.Disks.{has_vstor, vstor_of, data_of, done_packet, disk_waits, disk_asked, disk_read, stopped_by, fixed_vstor, disk_fixed, disk_codec}
-use Rattle.bus_speech.proofs.TalkLaws.{listed_disk}
+use Rattle.bus_speech.specs.Packets.{content_of}
+use Rattle.bus_speech.specs.Disks.{has_vstor, vstor_of}
 use Rattle.bus_speech.proofs.DiskLaws.{by_test}
 use Rattle.bus_speech.proofs.PacketLaws.{content_bytes}
 
@@ -63,22 +57,3 @@ front_lacks p b e long is fault =
     let only = vstor_only (vstor_in (content_of p)) b found.0 found.1 (ap (take 64) is ∙ (again (content_of p) long ∙ found.2)) in
     absurd (let no : true ≡ false = some_none e (vstor_fault b) fault only.0 in cc))
     (λ not. not)
-
--- a storage packet that is no srb asks nothing
-pub other_read : (p : List ℕ) (v : Vstor) → v ≡ vstor_of p → (v.operation == 3) ≡ false → disk_read p ≡ None
-unfolding disk_read disk_asked
-other_read p v is other =
-    let no : ((vstor_of p).operation == 3) ≡ false = ap (λ (x : Vstor). x.operation == 3) (sym is) ∙ other in
-    by_test (disk_waits p) (λ waits. rw (waits, no) refl) (λ not. rw not refl)
-
--- and its answer is the one that goes back
-pub other_fixed : (p : List ℕ) (v w : Vstor) (out : List ℕ) → is_inband p ≡ true → has_vstor p ≡ true → v ≡ vstor_of p → (v.operation == 3) ≡ false → w ≡ answer_of v → out ≡ done_packet (id_of p) w [] → listed_packet out ≡ listed (answer_in (fixed_back disk_codec p))
-unfolding disk_waits disk_fixed fixed_vstor
-other_fixed p v w out inband has is other answers put =
-    let none = other_read p v is other in
-    let waits : (is_inband p && has_vstor p) ≡ true = rw (inband, has) refl in
-    let no : ((vstor_of p).operation == 3) ≡ false = ap (λ (x : Vstor). x.operation == 3) (sym is) ∙ other in
-    let all : (disk_waits p && is_none (disk_read p)) ≡ true = rw (waits, none) refl in
-    let same : out ≡ disk_fixed p =
-    put ∙ (ap (λ x. done_packet (id_of p) x []) (answers ∙ (ap answer_of is ∙ ap (λ t. cond t (stop_of (vstor_of p) (stopped_by (request_of (vstor_of p) (data_of p)))) (answer_of (vstor_of p))) (sym no)))) in
-    ap listed_packet same ∙ (listed_disk p ∙ ap (λ t. listed (answer_in (cond t (Some (alone (disk_fixed p))) None))) (sym all))

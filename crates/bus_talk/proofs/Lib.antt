@@ -1,4 +1,5 @@
 pub mod AskableLaws
 pub mod FrontLaws
+pub mod HeadLaws
 pub mod CameLaws
 pub mod PutLaws

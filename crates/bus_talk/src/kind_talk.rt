@@ -1,5 +1,5 @@
 //! The talk of a channel of any kind.
-ghost use Rattle.std.specs.Prelude.{◌≡◌, ◌≤◌, ◌<◌, ◌^◌, ◌&&◌, ◌==◌, ◌⊎◌, ◌∷◌, [], length, take, true, Some, is_some};
+ghost use Rattle.std.specs.Prelude.{◌≡◌, ◌≤◌, ◌<◌, ◌^◌, ◌&&◌, ◌==◌, ◌⊎◌, ◌∷◌, ◌+◌, ◌++◌, [], length, take, true, false, Some, None, IsSome, MatchOption, is_some, vec_len, vec_capacity};
 ghost use Rattle.std.specs.List.{AllByRecursion};
 ghost use Rattle.ring_machine.specs.States.{IsPacket};
 ghost use Rattle.chan_talk.specs.Listed.{answer_in, has_message_in, listed_packet, message_in, packet_in};
@@ -15,18 +15,21 @@ ghost use Rattle.bus_speech.specs.Wants.{first_steps, start_answered, subs_asked
 ghost use Rattle.bus_speech.specs.Speeches.{besides_on, encode_on, waits_on, read_on, fits_on, answer_on, said_on, speech_of};
 ghost use Rattle.bus_speech.specs.Nets.{message_of};
 ghost use Rattle.bus_speech.specs.Talks.{asks_of};
+ghost use Rattle.bus_talk.specs.Heads.{srb_in, IsHead};
 
+use crate::Head;
 use crate::disks::{
-    is_disk_request, read_disk, read_disk_said, write_disk_answer, write_disk_ask,
+    disk_head, is_disk_request, keep_disk_said, read_disk, write_disk_answer, write_disk_ask,
     write_disk_fixed, write_start,
 };
 use crate::nets::{
-    has_net_message, is_net_request, read_net, read_net_said, write_done, write_net_ask,
+    asks_net, has_net_message, is_net_request, keep_net_said, read_net, write_done, write_net_ask,
     write_net_fixed, write_net_fixed_message, write_net_message, write_net_start,
 };
 use crate::packets::{COMPLETION, INBAND, is_inband};
 use crate::services::{
-    read_said, read_service, write_ask, write_negotiate, write_service_answer, write_service_fixed,
+    asks_service, keep_said as keep_service_said, read_service, write_ask, write_negotiate,
+    write_service_answer, write_service_fixed,
 };
 use bus_script::{Ask, Reply};
 use bus_speech::Want;
@@ -35,6 +38,7 @@ use contact::Kind;
 use rndis_msg::Rndis;
 use scsi_disk::{DiskReply, DiskRequest};
 use std::marker::Model;
+use stor_proto::Vstor;
 use util_ic::IcAsk;
 
 /// The part of an end in the talk of a channel: the kind of the channel, its number among the device's channels, how many are beside the first one, and
@@ -236,24 +240,48 @@ fn waits(kind: Kind, packet: &[u64]) -> bool
     }
 }
 
-/// What a packet asks of the device.
-fn read(kind: Kind, packet: &[u64]) -> Option<Ask>
+/// The head of a packet of which nothing is decoded, if it asks its device.
+fn plain(asks: bool) -> Option<Head>
+    ensures { MatchOption result (asks ≡ false) (λ h. (asks ≡ true) × (srb_in h ≡ None)) }
+{
+    if asks { Some(Head::Plain) } else { None }
+}
+
+/// Decodes a packet that asks the device: of a disk's, its storage packet.
+fn head(kind: Kind, packet: &[u64]) -> Option<Head>
     requires { IsPacket packet.now }
-    ensures { result ≡ read_on kind packet.now }
+    ensures { MatchOption result (read_on kind packet.now ≡ None) (λ h. IsSome (read_on kind packet.now) × IsHead kind packet.now h) }
 {
     match kind {
-        Kind::Beat | Kind::Down => match read_service(kind, packet) {
-            Some(request) => Some(Ask::Ic(request)),
+        Kind::Beat | Kind::Down => plain(asks_service(kind, packet)),
+        Kind::Disk => match disk_head(packet) {
+            Some(v) => Some(Head::Srb(v)),
             None => None,
         },
-        Kind::Disk => match read_disk(packet) {
-            Some(request) => Some(Ask::Disk(request)),
-            None => None,
-        },
-        Kind::Net => match read_net(packet) {
-            Some(message) => Some(Ask::Net(message)),
-            None => None,
-        },
+        Kind::Net => plain(asks_net(packet)),
+    }
+}
+
+/// The storage packet of a disk's head.
+fn srb(head: &Head) -> &Vstor
+    requires { IsSome (srb_in head.now) }
+    ensures { srb_in head.now ≡ Some result.now }
+{
+    let Head::Srb(v) = head else { unreachable!() };
+    v
+}
+
+/// What a packet with this head asks of the device.
+fn read(kind: Kind, packet: &[u64], head: &Head) -> Ask
+    requires packet { IsPacket packet.now }
+    requires head { IsHead kind packet.now head.now }
+    requires asks { IsSome (read_on kind packet.now) }
+    ensures { read_on kind packet.now ≡ Some result }
+{
+    match kind {
+        Kind::Beat | Kind::Down => Ask::Ic(read_service(kind, packet)),
+        Kind::Disk => Ask::Disk(read_disk(packet, srb(head))),
+        Kind::Net => Ask::Net(read_net(packet)),
     }
 }
 
@@ -273,8 +301,9 @@ fn write_fixed_on(kind: Kind, packet: &[u64], out: &mut [u64]) -> usize
 }
 
 /// Writes the answer with the device's reply: its words.
-fn write_answer_on(kind: Kind, packet: &[u64], reply: &Reply, out: &mut [u64]) -> usize
+fn write_answer_on(kind: Kind, packet: &[u64], head: &Head, reply: &Reply, out: &mut [u64]) -> usize
     requires packet { IsPacket packet.now }
+    requires head { IsHead kind packet.now head.now }
     requires fits { (q : OneAsk) × (read_on kind packet.now ≡ Some q) × (fits_on kind q reply.now ≡ true) }
     requires out { length out.old ≡ 384 }
     ensures packet { take result out.new ≡ answer_on kind packet.now reply.now }
@@ -283,7 +312,7 @@ fn write_answer_on(kind: Kind, packet: &[u64], reply: &Reply, out: &mut [u64]) -
 {
     match kind {
         Kind::Beat | Kind::Down => write_service_answer(kind, packet, out),
-        Kind::Disk => write_disk_answer(packet, disk_reply(reply), out),
+        Kind::Disk => write_disk_answer(packet, srb(head), disk_reply(reply), out),
         Kind::Net => write_done(packet[1], net_status(reply), out),
     }
 }
@@ -426,28 +455,19 @@ fn write_message_on(kind: Kind, packet: &[u64], reply: &Reply, own: u64, out: &m
     }
 }
 
-/// What an answer says, with the message that came just before it, where one did.
-fn said(kind: Kind, before: &[u64], packet: &[u64]) -> Option<Reply>
+/// Puts what an answer says at the end of the replies, with the message that came just before it, where one did.
+fn keep_said(kind: Kind, before: &[u64], packet: &[u64], replies: &mut Vec<Reply>)
     requires before { before.now ≡ [] ⊎ IsPacket before.now }
     requires packet { IsPacket packet.now }
-    ensures { result ≡ said_on kind (packet_in before.now) packet.now }
+    requires room { vec_len replies.old < vec_capacity replies.old }
+    ensures told { replies.new.items ≡ replies.old.items ++ listed (said_on kind (packet_in before.now) packet.now) }
+    ensures one { vec_len replies.new ≤ vec_len replies.old + 1 }
+    ensures capacity { vec_capacity replies.new ≡ vec_capacity replies.old }
 {
     match kind {
-        Kind::Beat | Kind::Down => match read_said(kind, packet) {
-            Some(reply) => Some(Reply::Ic(reply)),
-            None => None,
-        },
-        Kind::Disk => match read_disk_said(packet) {
-            Some(reply) => Some(Reply::Disk(reply)),
-            None => None,
-        },
-        Kind::Net => match read_net_said(before, packet) {
-            Some(reply) => Some(Reply::Net {
-                status: reply.status,
-                back: reply.back,
-            }),
-            None => None,
-        },
+        Kind::Beat | Kind::Down => keep_service_said(kind, packet, replies),
+        Kind::Disk => keep_disk_said(packet, replies),
+        Kind::Net => keep_net_said(before, packet, replies),
     }
 }
 
@@ -459,12 +479,17 @@ impl Talk for KindTalk {
     ghost use Rattle.bus_speech.specs.declared.want.Want.TheVariants.{Script};
     ghost use Rattle.bus_speech.proofs.SpeechLaws.{keeps, may_have};
     ghost use Rattle.bus_speech.proofs.TalkLaws.{starts_within};
+    ghost use Rattle.bus_talk.specs.Heads.{IsHead};
 
     type Ask = Want;
 
     type Request = Ask;
 
     type Reply = Reply;
+
+    type Head = Head;
+
+    ghost is_head = { λ s p h. IsHead s.kind p h };
 
     ghost speech = { λ s. speech_of s.kind };
 
@@ -533,8 +558,12 @@ impl Talk for KindTalk {
         write_ack_on(self.kind, packet, out)
     }
 
-    fn read(&self, packet: &[u64]) -> Option<Ask> {
-        read(self.kind, packet)
+    fn head(&self, packet: &[u64]) -> Option<Head> {
+        head(self.kind, packet)
+    }
+
+    fn read(&self, packet: &[u64], head: &Head) -> Ask {
+        read(self.kind, packet, head)
     }
 
     fn has_fixed_message(&self, packet: &[u64]) -> bool {
@@ -557,14 +586,14 @@ impl Talk for KindTalk {
         write_message_on(self.kind, packet, reply, own, out)
     }
 
-    fn write_answer(&self, packet: &[u64], reply: &Reply, out: &mut [u64]) -> usize {
-        write_answer_on(self.kind, packet, reply, out)
+    fn write_answer(&self, packet: &[u64], head: &Head, reply: &Reply, out: &mut [u64]) -> usize {
+        write_answer_on(self.kind, packet, head, reply, out)
     }
 
-    fn result(&self, k: u32, before: &[u64], packet: &[u64]) -> Option<Reply> {
-        if k < count_starts(self.kind, self.sub, self.subs) {
-            return None;
+    /// A request of the start-up asks nothing of the device.
+    fn keep_result(&self, k: u32, before: &[u64], packet: &[u64], replies: &mut Vec<Reply>) {
+        if k >= count_starts(self.kind, self.sub, self.subs) {
+            keep_said(self.kind, before, packet, replies);
         }
-        said(self.kind, before, packet)
     }
 }

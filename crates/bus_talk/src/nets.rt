@@ -3,7 +3,7 @@
 //!
 //! A network message of 40 bytes stands in front, and a Remote NDIS message behind it in the same packet.
 //! Source: Linux 6.12, `drivers/net/hyperv/netvsc.c` and `rndis_filter.c`; that the messages stand in the packets is this project's own.
-ghost use Rattle.std.specs.Prelude.{◌≡◌, ◌≤◌, ◌<◌, ◌^◌, ◌+◌, ◌++◌, ◌%◌, ◌⊎◌, [], length, take, drop, true, false, Some, None, is_some};
+ghost use Rattle.std.specs.Prelude.{◌≡◌, ◌≤◌, ◌<◌, ◌^◌, ◌+◌, ◌++◌, ◌%◌, ◌⊎◌, [], length, take, drop, true, false, Some, None, IsSome, is_some, vec_len, vec_capacity};
 ghost use Rattle.ring_machine.specs.States.{IsPacket};
 ghost use Rattle.rndis_msg.specs.declared.rndis.Rndis.{Rndis as Message};
 ghost use Rattle.net_dev.specs.Station.{initialize_reply};
@@ -11,11 +11,14 @@ ghost use Rattle.net_dev.specs.Nvsp.{nvsp_bytes};
 ghost use Rattle.rndis_msg.specs.Grammar.{rndis_bytes};
 ghost use Rattle.bus_talk.specs.Came.{IsCame, status_in};
 ghost use Rattle.chan_talk.specs.Listed.{answer_in, message_in as fixed_message_in, has_message_in, listed_packet, packet_in};
+ghost use Rattle.work_model.specs.Lift.{mapped};
 ghost use Rattle.work_model.specs.Speech.{listed, under_own};
+ghost use Rattle.bus_speech.specs.Kinds.{nets};
 ghost use Rattle.bus_speech.specs.Nets.{can_ask, least_in, greatest_in, init_answer as answer_to, init_done, message_of, back_in, channel_type as channel_of, is_init as init_of, carries_rndis as carries, rndis_in, net_waits as waits, asked_by, ok_of, net_read, net_fixed, net_done, net_fits, net_gives, net_said, net_start, rndis_packet, with_id, request_id_of};
 
 use crate::packets::{MOST_BYTES, content, is_completion, is_inband};
-use net_dev::{NetReply, Nvsp, decode_nvsp, encode_nvsp};
+use bus_script::Reply;
+use net_dev::{Nvsp, decode_nvsp, encode_nvsp};
 use pkt_desc::{build_comp, build_inband};
 use rndis_msg::{Rndis, RndisFault, decode, encode};
 
@@ -330,9 +333,9 @@ fn asked(message: Result<Rndis, RndisFault>) -> Option<Rndis>
     }
 }
 
-/// What a packet asks of the adapter.
+/// What a packet asks of the adapter, if it asks it.
 #[tactic(auto, unfolding(bus_speech::specs::Nets::net_read))]
-pub(crate) fn read_net(packet: &[u64]) -> Option<Rndis>
+fn asked_in(packet: &[u64]) -> Option<Rndis>
     requires { IsPacket packet.now }
     ensures value { result ≡ net_read packet.now }
 {
@@ -340,6 +343,26 @@ pub(crate) fn read_net(packet: &[u64]) -> Option<Rndis>
         Came::Rndis(message) => asked(message),
         Came::Init { .. } | Came::Other => None,
     }
+}
+
+/// Whether a packet asks the adapter.
+pub(crate) fn asks_net(packet: &[u64]) -> bool
+    requires { IsPacket packet.now }
+    ensures value { result ≡ is_some (net_read packet.now) }
+{
+    asked_in(packet).is_some()
+}
+
+/// What a packet that asks the adapter asks of it.
+pub(crate) fn read_net(packet: &[u64]) -> Rndis
+    requires packet { IsPacket packet.now }
+    requires asks { IsSome (net_read packet.now) }
+    ensures value { net_read packet.now ≡ Some result }
+{
+    let Some(message) = asked_in(packet) else {
+        unreachable!()
+    };
+    message
 }
 
 /// The status of a completion of a packet that carried a message, where a packet is one.
@@ -386,18 +409,20 @@ fn back(before: &[u64]) -> Option<Rndis>
     }
 }
 
-/// What a completion says, with the message that came just before it, where one did.
+/// Puts what a completion says at the end of the replies, with the message that came just before it, where one did.
 #[tactic(auto, using(crate::proofs::CameLaws::said_none, crate::proofs::CameLaws::said_some))]
-pub(crate) fn read_net_said(before: &[u64], packet: &[u64]) -> Option<NetReply>
+pub(crate) fn keep_net_said(before: &[u64], packet: &[u64], replies: &mut Vec<Reply>)
     requires before { before.now ≡ [] ⊎ IsPacket before.now }
     requires packet { IsPacket packet.now }
-    ensures value { result ≡ net_said (packet_in before.now) packet.now }
+    requires room { vec_len replies.old < vec_capacity replies.old }
+    ensures told { replies.new.items ≡ replies.old.items ++ listed (mapped nets.reply (net_said (packet_in before.now) packet.now)) }
+    ensures one { vec_len replies.new ≤ vec_len replies.old + 1 }
+    ensures capacity { vec_capacity replies.new ≡ vec_capacity replies.old }
 {
-    match status(packet) {
-        Some(status) => Some(NetReply {
+    if let Some(status) = status(packet) {
+        replies.push_reserved(Reply::Net {
             status,
             back: back(before),
-        }),
-        None => None,
+        });
     }
 }

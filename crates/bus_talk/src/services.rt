@@ -1,17 +1,20 @@
 //! Packets of a utility channel. The host asks with in-band packets, and the guest answers each with one.
 //!
 //! Source: Linux 6.12, `drivers/hv/hv_util.c` and `drivers/hv/channel_mgmt.c`.
-ghost use Rattle.std.specs.Prelude.{◌≡◌, ◌≤◌, ◌<◌, length, take, true};
+ghost use Rattle.std.specs.Prelude.{◌≡◌, ◌≤◌, ◌<◌, ◌+◌, ◌++◌, length, take, true, Some, IsSome, is_some, vec_len, vec_capacity};
 ghost use Rattle.ring_machine.specs.States.{IsPacket};
 ghost use Rattle.util_ic.specs.Messages.{IsUtility};
 ghost use Rattle.util_ic.specs.Packets.{ask_packet, negotiate_packet, served_packet};
 ghost use Rattle.chan_talk.specs.Listed.{answer_in, listed_packet};
+ghost use Rattle.work_model.specs.Lift.{mapped};
 ghost use Rattle.work_model.specs.Speech.{listed};
+ghost use Rattle.bus_speech.specs.Kinds.{services};
 ghost use Rattle.bus_speech.specs.Codecs.{fixed_back};
 ghost use Rattle.bus_speech.specs.Packets.{is_inband as inband};
 ghost use Rattle.bus_speech.specs.Services.{service_read, service_fixed, service_result, service_codec};
 
 use crate::packets::{MOST_BYTES, content, is_inband};
+use bus_script::Reply;
 use contact::Kind;
 use pkt_desc::build_inband;
 use util_ic::{IcAnswer, IcAsk, ask, negotiate, read_answer, read_ask, serve};
@@ -43,7 +46,7 @@ pub(crate) fn write_negotiate(kind: Kind, id: u64, out: &mut [u64]) -> usize
 
 /// What a packet asks of the service, where it is in-band.
 #[tactic(auto, unfolding(bus_speech::specs::Services::service_read, bus_speech::specs::Packets::is_inband))]
-pub(crate) fn read_service(kind: Kind, packet: &[u64]) -> Option<IcAsk>
+fn asked(kind: Kind, packet: &[u64]) -> Option<IcAsk>
     requires kind { IsUtility kind }
     requires packet { IsPacket packet.now }
     ensures value { result ≡ service_read kind packet.now }
@@ -54,6 +57,28 @@ pub(crate) fn read_service(kind: Kind, packet: &[u64]) -> Option<IcAsk>
     let mut bytes = [0; MOST_BYTES];
     let len = content(packet, &mut bytes);
     read_ask(&bytes[..len], kind)
+}
+
+/// Whether a packet asks the service.
+pub(crate) fn asks_service(kind: Kind, packet: &[u64]) -> bool
+    requires kind { IsUtility kind }
+    requires packet { IsPacket packet.now }
+    ensures value { result ≡ is_some (service_read kind packet.now) }
+{
+    asked(kind, packet).is_some()
+}
+
+/// What a packet that asks the service asks of it.
+pub(crate) fn read_service(kind: Kind, packet: &[u64]) -> IcAsk
+    requires kind { IsUtility kind }
+    requires packet { IsPacket packet.now }
+    requires asks { IsSome (service_read kind packet.now) }
+    ensures value { service_read kind packet.now ≡ Some result }
+{
+    let Some(request) = asked(kind, packet) else {
+        unreachable!()
+    };
+    request
 }
 
 /// Writes the service's answer to a request of these bytes under an id: its words.
@@ -109,7 +134,7 @@ pub(crate) fn write_service_answer(kind: Kind, packet: &[u64], out: &mut [u64]) 
 
 /// What an answer says, where it is in-band.
 #[tactic(auto, unfolding(bus_speech::specs::Services::service_result, bus_speech::specs::Packets::is_inband))]
-pub(crate) fn read_said(kind: Kind, packet: &[u64]) -> Option<IcAnswer>
+fn said(kind: Kind, packet: &[u64]) -> Option<IcAnswer>
     requires kind { IsUtility kind }
     requires packet { IsPacket packet.now }
     ensures value { result ≡ service_result kind packet.now }
@@ -120,4 +145,18 @@ pub(crate) fn read_said(kind: Kind, packet: &[u64]) -> Option<IcAnswer>
     let mut bytes = [0; MOST_BYTES];
     let len = content(packet, &mut bytes);
     Some(read_answer(&bytes[..len], kind))
+}
+
+/// Puts what an answer says at the end of the replies, where it is in-band.
+pub(crate) fn keep_said(kind: Kind, packet: &[u64], replies: &mut Vec<Reply>)
+    requires kind { IsUtility kind }
+    requires packet { IsPacket packet.now }
+    requires room { vec_len replies.old < vec_capacity replies.old }
+    ensures told { replies.new.items ≡ replies.old.items ++ listed (mapped services.reply (service_result kind packet.now)) }
+    ensures one { vec_len replies.new ≤ vec_len replies.old + 1 }
+    ensures capacity { vec_capacity replies.new ≡ vec_capacity replies.old }
+{
+    if let Some(answer) = said(kind, packet) {
+        replies.push_reserved(Reply::Ic(answer));
+    }
 }

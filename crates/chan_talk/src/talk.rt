@@ -4,7 +4,7 @@
 ///
 /// Packets are written into 384 words, as many as a packet of this program has at most. A call that writes no packet answers 0.
 pub trait Talk: Drop {
-    ghost use Rattle.std.specs.Prelude.{◌≡◌, ◌≤◌, ◌<◌, ◌⊎◌, ◌&&◌, ℕ, Bool, true, List, [], length, take, slice_get, Some, is_some};
+    ghost use Rattle.std.specs.Prelude.{◌≡◌, ◌≤◌, ◌<◌, ◌⊎◌, ◌&&◌, ◌+◌, ◌++◌, ℕ, Bool, true, List, [], length, take, slice_get, Some, None, IsSome, MatchOption, is_some, vec_len, vec_capacity};
     ghost use Rattle.ring_machine.specs.States.{IsPacket};
     ghost use Rattle.work_model.specs.Amounts.{MayHaveMessages};
     ghost use Rattle.work_model.specs.Speech.{Speech, Keeps, listed, under_own};
@@ -95,10 +95,23 @@ pub trait Talk: Drop {
         ensures written { (speech self.now).is_message packet.now ≡ true → IsPacket (take result out.new) }
         ensures most { result ≤ 384 };
 
-    /// What a packet asks of the device, or nothing where what goes back is fixed.
-    fn read(&self, packet: &[u64]) -> Option<Self::Request>
+    /// What is decoded of a packet that asks the device, once for all that is done with it.
+    type Head: Drop;
+
+    /// This is decoded of this packet.
+    ghost is_head: { Self → List ℕ → Self.Head → Type 0 };
+
+    /// Decodes a packet that asks the device. Of one that doesn't there is nothing to decode: what goes back for it is fixed.
+    fn head(&self, packet: &[u64]) -> Option<Self::Head>
         requires { IsPacket packet.now }
-        ensures { result ≡ (speech self.now).read packet.now };
+        ensures { MatchOption result ((speech self.now).read packet.now ≡ None) (λ h. IsSome ((speech self.now).read packet.now) × is_head self.now packet.now h) };
+
+    /// What a packet asks of the device.
+    fn read(&self, packet: &[u64], head: &Self::Head) -> Self::Request
+        requires packet { IsPacket packet.now }
+        requires head { is_head self.now packet.now head.now }
+        requires asks { IsSome ((speech self.now).read packet.now) }
+        ensures { (speech self.now).read packet.now ≡ Some result };
 
     /// Whether a message goes back for a packet that asks nothing of the device, besides the answer.
     fn has_fixed_message(&self, packet: &[u64]) -> bool
@@ -137,19 +150,29 @@ pub trait Talk: Drop {
         ensures most { result ≤ 384 };
 
     /// Writes the answer with the device's reply.
-    fn write_answer(&self, packet: &[u64], reply: &Self::Reply, out: &mut [u64]) -> usize
+    fn write_answer(
+        &self,
+        packet: &[u64],
+        head: &Self::Head,
+        reply: &Self::Reply,
+        out: &mut [u64],
+    ) -> usize
         requires packet { IsPacket packet.now }
+        requires head { is_head self.now packet.now head.now }
         requires fits { (q : Self.Request) × ((speech self.now).read packet.now ≡ Some q) × ((speech self.now).fits q reply.now ≡ true) }
         requires out { length out.old ≡ 384 }
         ensures value { take result out.new ≡ ((speech self.now).gives packet.now reply.now).answer }
         ensures packet { IsPacket (take result out.new) }
         ensures most { result ≤ 384 };
 
-    /// What an answer says to the k-th ask, where that asked the device. `before` is the packet that came just before it, where that was no answer, and
-    /// else empty.
-    fn result(&self, k: u32, before: &[u64], packet: &[u64]) -> Option<Self::Reply>
+    /// Puts what an answer says to the k-th ask at the end of the replies, where that asked the device. `before` is the packet that came just before it, where
+    /// that was no answer, and else empty.
+    fn keep_result(&self, k: u32, before: &[u64], packet: &[u64], replies: &mut Vec<Self::Reply>)
         requires which { k < length (asks self.now) }
         requires before { before.now ≡ [] ⊎ IsPacket before.now }
         requires packet { IsPacket packet.now }
-        ensures { (a : Self.Ask) → slice_get (asks self.now) k ≡ Some a → result ≡ (speech self.now).result a (packet_in before.now) packet.now };
+        requires room { vec_len replies.old < vec_capacity replies.old }
+        ensures told { (a : Self.Ask) → slice_get (asks self.now) k ≡ Some a → replies.new.items ≡ replies.old.items ++ listed ((speech self.now).result a (packet_in before.now) packet.now) }
+        ensures one { vec_len replies.new ≤ vec_len replies.old + 1 }
+        ensures capacity { vec_capacity replies.new ≡ vec_capacity replies.old };
 }

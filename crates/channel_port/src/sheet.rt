@@ -118,12 +118,19 @@ impl Sheet {
     }
 
     /// Writes the answer with the device's reply.
-    pub fn write_answer<T: Talk>(&mut self, talk: &T, packet: &[u64], reply: &T::Reply)
+    pub fn write_answer<T: Talk>(
+        &mut self,
+        talk: &T,
+        packet: &[u64],
+        head: &T::Head,
+        reply: &T::Reply,
+    )
         requires packet { IsPacket packet.now }
+        requires head { T.is_head talk.now packet.now head.now }
         requires fits { FitsReply (T.speech talk.now) packet.now reply.now }
         ensures value { self.new ≡ ((T.speech talk.now).gives packet.now reply.now).answer }
         ensures packet { IsPacket self.new }
     {
-        self.len = talk.write_answer(packet, reply, self.words.as_mut_slice());
+        self.len = talk.write_answer(packet, head, reply, self.words.as_mut_slice());
     }
 }

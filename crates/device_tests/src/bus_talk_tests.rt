@@ -3,6 +3,7 @@ ghost use Rattle.std.specs.Prelude.{◌≡◌, ◌≤◌, length, IfOk};
 ghost use Rattle.contact.specs.declared.kind.Kind.TheVariants.{Beat, Down, Disk as DiskKind};
 
 use crate::check::check;
+use crate::said::said;
 use bus_script::{Ask, Reply};
 use bus_talk::{KindTalk, is_askable};
 use chan_talk::Talk;
@@ -46,7 +47,7 @@ const ASKS: u64 = 0x0001_000a_0002_0006;
 const DONE: u64 = 0x000a_0002_000b;
 
 /// The k-th packet of a disk's start-up begins with these bytes, and what comes back with those.
-fn starts(rt: &impl Abort, talk: &KindTalk, k: u32, asked: [u8; 14], back: &[u8])
+fn starts(rt: &impl Abort, alloc: Global, talk: &KindTalk, k: u32, asked: [u8; 14], back: &[u8])
     requires { length back.now ≤ 64 }
 {
     check(rt, talk.count() == talk.starts());
@@ -55,12 +56,12 @@ fn starts(rt: &impl Abort, talk: &KindTalk, k: u32, asked: [u8; 14], back: &[u8]
     let len = talk.encode(k, 40, &mut words);
     let packet = &words[..len];
     is_packet(rt, packet, ASKS, 40, &asked);
-    check(rt, talk.is_waiting(packet) && talk.read(packet).is_none());
+    check(rt, talk.is_waiting(packet) && talk.head(packet).is_none());
     let mut out = [0; 384];
     let len = talk.write_fixed(packet, &mut out);
     check(rt, len > 0);
     is_packet(rt, &out[..len], DONE, 40, back);
-    check(rt, talk.result(k, &[], &out[..len]).is_none());
+    check(rt, said(rt, alloc, talk, k, &[], &out[..len]).is_none());
 }
 
 #[test]
@@ -70,6 +71,7 @@ fn disks_start_up(rt: HostRuntime) -> Result<(), Fail> {
     let t = &talk;
     starts(
         &rt,
+        rt.alloc(),
         t,
         0,
         [7, 0, 0, 0, 1, 0, 0, 0, 0, 0, 0, 0, 0, 0],
@@ -78,6 +80,7 @@ fn disks_start_up(rt: HostRuntime) -> Result<(), Fail> {
     let version = [1, 0, 0, 0, 1, 0, 0, 0, 0, 0, 0, 0, 2, 6];
     starts(
         &rt,
+        rt.alloc(),
         t,
         1,
         [9, 0, 0, 0, 1, 0, 0, 0, 0, 0, 0, 0, 2, 6],
@@ -89,6 +92,7 @@ fn disks_start_up(rt: HostRuntime) -> Result<(), Fail> {
     ];
     starts(
         &rt,
+        rt.alloc(),
         t,
         2,
         [10, 0, 0, 0, 1, 0, 0, 0, 0, 0, 0, 0, 0, 0],
@@ -96,6 +100,7 @@ fn disks_start_up(rt: HostRuntime) -> Result<(), Fail> {
     );
     starts(
         &rt,
+        rt.alloc(),
         t,
         3,
         [8, 0, 0, 0, 1, 0, 0, 0, 0, 0, 0, 0, 0, 0],
@@ -111,6 +116,7 @@ fn disks_ask_for_sub_channels(rt: HostRuntime) -> Result<(), Fail> {
     check(&rt, first.starts() == 5);
     starts(
         &rt,
+        rt.alloc(),
         &first,
         3,
         [8, 0, 0, 0, 1, 0, 0, 0, 0, 0, 0, 0, 0, 0],
@@ -118,6 +124,7 @@ fn disks_ask_for_sub_channels(rt: HostRuntime) -> Result<(), Fail> {
     );
     starts(
         &rt,
+        rt.alloc(),
         &first,
         4,
         [13, 0, 0, 0, 1, 0, 0, 0, 0, 0, 0, 0, 3, 0],
@@ -129,7 +136,13 @@ fn disks_ask_for_sub_channels(rt: HostRuntime) -> Result<(), Fail> {
 }
 
 /// What is asked of a disk under the id 77, and what the guest reads in the answer. The request's packet stays in `words`.
-fn disk_round(rt: &impl Abort, disk: &mut Disk, talk: &KindTalk, words: &mut [u64]) -> Option<Reply>
+fn disk_round(
+    rt: &impl Abort,
+    alloc: Global,
+    disk: &mut Disk,
+    talk: &KindTalk,
+    words: &mut [u64],
+) -> Option<Reply>
     requires kind { talk.now.kind ≡ DiskKind }
     requires words { length words.old ≡ 384 }
 {
@@ -139,17 +152,20 @@ fn disk_round(rt: &impl Abort, disk: &mut Disk, talk: &KindTalk, words: &mut [u6
     let packet = &words[..len];
     check(rt, talk.id(packet) == 77);
     check(rt, talk.is_waiting(packet));
-    let asked = talk.read(packet);
-    let Some(Ask::Disk(request)) = asked else {
-        panic!(rt; "nothing is asked of the disk")
+    let Some(head) = talk.head(packet) else {
+        panic!(rt; "nothing is asked")
+    };
+    let asked = talk.read(packet, &head);
+    let Ask::Disk(request) = asked else {
+        panic!(rt; "no disk is asked")
     };
     let reply = Reply::Disk(disk.apply(&request));
     let mut out = [0; 384];
     check(rt, talk.write_fixed(packet, &mut out) == 0);
-    let back = talk.write_answer(packet, &reply, &mut out);
+    let back = talk.write_answer(packet, &head, &reply, &mut out);
     check(rt, back > 0);
     check(rt, talk.id(&out[..back]) == 77);
-    talk.result(4, &[], &out[..back])
+    said(rt, alloc, talk, 4, &[], &out[..back])
 }
 
 /// A command for a disk with this data.
@@ -176,22 +192,29 @@ fn disk_talk(rt: &impl Abort, alloc: Global, front: [u8; 10], out: &[u8]) -> Kin
 }
 
 /// What the guest reads in the answer is these bytes.
-fn gives(rt: &impl Abort, disk: &mut Disk, talk: &KindTalk, words: &mut [u64], want: &[u8])
+fn gives(
+    rt: &impl Abort,
+    alloc: Global,
+    disk: &mut Disk,
+    talk: &KindTalk,
+    words: &mut [u64],
+    want: &[u8],
+)
     requires kind { talk.now.kind ≡ DiskKind }
     requires words { length words.old ≡ 384 }
 {
-    match disk_round(rt, disk, talk, words) {
+    match disk_round(rt, alloc, disk, talk, words) {
         Some(Reply::Disk(DiskReply::Good(back))) => check(rt, back.bytes() == want),
         _ => panic!(rt; "no good reply"),
     }
 }
 
 /// What the guest reads in the answer is the check of a block that can't be read.
-fn fails(rt: &impl Abort, disk: &mut Disk, talk: &KindTalk)
+fn fails(rt: &impl Abort, alloc: Global, disk: &mut Disk, talk: &KindTalk)
     requires { talk.now.kind ≡ DiskKind }
 {
     let mut words = [0; 384];
-    match disk_round(rt, disk, talk, &mut words) {
+    match disk_round(rt, alloc, disk, talk, &mut words) {
         Some(Reply::Disk(DiskReply::Check { key, asc, ascq })) => {
             check(rt, (key, asc, ascq) == (3, 0x11, 0));
         }
@@ -200,11 +223,11 @@ fn fails(rt: &impl Abort, disk: &mut Disk, talk: &KindTalk)
 }
 
 /// A block is written.
-fn writes(rt: &impl Abort, disk: &mut Disk, talk: &KindTalk)
+fn writes(rt: &impl Abort, alloc: Global, disk: &mut Disk, talk: &KindTalk)
     requires { talk.now.kind ≡ DiskKind }
 {
     let mut words = [0; 384];
-    gives(rt, disk, talk, &mut words, &[]);
+    gives(rt, alloc, disk, talk, &mut words, &[]);
     // 64 bytes and 512 of data are 72 words.
     let front = [
         3, 0, 0, 0, 1, 0, 0, 0, 0, 0, 0, 0, 52, 0, 0, 0, 0, 0, 0, 0, 10, 20, 0, 0, 0, 2, 0, 0,
@@ -216,11 +239,11 @@ fn writes(rt: &impl Abort, disk: &mut Disk, talk: &KindTalk)
 }
 
 /// The block that was written is read.
-fn reads(rt: &impl Abort, disk: &mut Disk, talk: &KindTalk)
+fn reads(rt: &impl Abort, alloc: Global, disk: &mut Disk, talk: &KindTalk)
     requires { talk.now.kind ≡ DiskKind }
 {
     let mut words = [0; 384];
-    gives(rt, disk, talk, &mut words, &[9; 512]);
+    gives(rt, alloc, disk, talk, &mut words, &[9; 512]);
 }
 
 #[test]
@@ -229,13 +252,24 @@ fn disks_write_and_read(rt: HostRuntime) -> Result<(), Fail> {
     let write = [0x2a, 0, 0, 0, 0, 3, 0, 0, 1, 0];
     writes(
         &rt,
+        rt.alloc(),
         &mut disk,
         &disk_talk(&rt, rt.alloc(), write, &[9; 512]),
     );
     let read = [0x28, 0, 0, 0, 0, 3, 0, 0, 1, 0];
-    reads(&rt, &mut disk, &disk_talk(&rt, rt.alloc(), read, &[]));
+    reads(
+        &rt,
+        rt.alloc(),
+        &mut disk,
+        &disk_talk(&rt, rt.alloc(), read, &[]),
+    );
     let bad = [0x28, 0, 0, 0, 0, 5, 0, 0, 1, 0];
-    fails(&rt, &mut disk, &disk_talk(&rt, rt.alloc(), bad, &[]));
+    fails(
+        &rt,
+        rt.alloc(),
+        &mut disk,
+        &disk_talk(&rt, rt.alloc(), bad, &[]),
+    );
     Ok(())
 }
 
@@ -247,17 +281,17 @@ fn some_commands_are_not_asked(rt: HostRuntime) {
 }
 
 /// A channel's start-up is answered, whatever else is asked.
-fn negotiates(rt: &impl Abort, talk: &KindTalk) {
+fn negotiates(rt: &impl Abort, alloc: Global, talk: &KindTalk) {
     check(rt, (talk.count(), talk.starts()) == (2, 1));
     let mut words = [0; 384];
     let len = talk.encode(0, 4, &mut words);
     let packet = &words[..len];
-    check(rt, talk.is_waiting(packet) && talk.read(packet).is_none());
+    check(rt, talk.is_waiting(packet) && talk.head(packet).is_none());
     let mut out = [0; 384];
     let back = talk.write_fixed(packet, &mut out);
     check(rt, back > 0);
     check(rt, talk.id(&out[..back]) == 4);
-    check(rt, talk.result(0, &[], &out[..back]).is_none());
+    check(rt, said(rt, alloc, talk, 0, &[], &out[..back]).is_none());
 }
 
 /// A heartbeat's sequence number comes back one greater.
@@ -269,8 +303,8 @@ fn heartbeats(rt: HostRuntime) -> Result<(), Fail> {
         Kind::Beat,
         Ask::Ic(IcAsk::Beat { seq: 41 }),
     )?;
-    negotiates(&rt, &talk);
-    match beat_round(&rt, &talk) {
+    negotiates(&rt, rt.alloc(), &talk);
+    match beat_round(&rt, rt.alloc(), &talk) {
         Some(Reply::Ic(answer)) => check(&rt, (answer.status, answer.seq) == (0, 42)),
         _ => panic!(rt; "no reply"),
     }
@@ -278,26 +312,26 @@ fn heartbeats(rt: HostRuntime) -> Result<(), Fail> {
 }
 
 /// What is asked of a heartbeat service, and what the host reads in the answer.
-fn beat_round(rt: &impl Abort, talk: &KindTalk) -> Option<Reply>
+fn beat_round(rt: &impl Abort, alloc: Global, talk: &KindTalk) -> Option<Reply>
     requires { talk.now.kind ≡ Beat }
 {
     let mut words = [0; 384];
     check(rt, talk.count() == 2);
     let len = talk.encode(1, 5, &mut words);
     let packet = &words[..len];
-    let asked = talk.read(packet);
-    let Some(one) = asked else {
+    let Some(head) = talk.head(packet) else {
         panic!(rt; "nothing is asked")
     };
-    let Ask::Ic(ask) = one else {
+    let asked = talk.read(packet, &head);
+    let Ask::Ic(ask) = asked else {
         panic!(rt; "a disk is asked")
     };
     let reply = Reply::Ic(BeatMachine::make().apply(&ask));
     let mut out = [0; 384];
-    let back = talk.write_answer(packet, &reply, &mut out);
+    let back = talk.write_answer(packet, &head, &reply, &mut out);
     check(rt, back > 0);
     check(rt, talk.id(&out[..back]) == 5);
-    talk.result(1, &[], &out[..back])
+    said(rt, alloc, talk, 1, &[], &out[..back])
 }
 
 /// A guest refuses to hibernate.
@@ -309,8 +343,8 @@ fn shutdowns(rt: HostRuntime) -> Result<(), Fail> {
         flags: 4,
     });
     let talk = talk_of(&rt, rt.alloc(), Kind::Down, ask)?;
-    negotiates(&rt, &talk);
-    match down_round(&rt, &talk) {
+    negotiates(&rt, rt.alloc(), &talk);
+    match down_round(&rt, rt.alloc(), &talk) {
         Some(Reply::Ic(answer)) => check(&rt, answer.status == 0x8000_4005),
         _ => panic!(rt; "no reply"),
     }
@@ -318,23 +352,23 @@ fn shutdowns(rt: HostRuntime) -> Result<(), Fail> {
 }
 
 /// What is asked of a shutdown service, and what the host reads in the answer.
-fn down_round(rt: &impl Abort, talk: &KindTalk) -> Option<Reply>
+fn down_round(rt: &impl Abort, alloc: Global, talk: &KindTalk) -> Option<Reply>
     requires { talk.now.kind ≡ Down }
 {
     let mut words = [0; 384];
     check(rt, talk.count() == 2);
     let len = talk.encode(1, 5, &mut words);
     let packet = &words[..len];
-    let asked = talk.read(packet);
-    let Some(one) = asked else {
+    let Some(head) = talk.head(packet) else {
         panic!(rt; "nothing is asked")
     };
-    let Ask::Ic(ask) = one else {
+    let asked = talk.read(packet, &head);
+    let Ask::Ic(ask) = asked else {
         panic!(rt; "a disk is asked")
     };
     let reply = Reply::Ic(DownMachine::make().apply(&ask));
     let mut out = [0; 384];
-    let back = talk.write_answer(packet, &reply, &mut out);
+    let back = talk.write_answer(packet, &head, &reply, &mut out);
     check(rt, back > 0);
-    talk.result(1, &[], &out[..back])
+    said(rt, alloc, talk, 1, &[], &out[..back])
 }

@@ -12,6 +12,8 @@ mod hist_lock_tests;
 #[cfg(test)]
 mod net_talk_tests;
 #[cfg(test)]
+mod said;
+#[cfg(test)]
 mod scsi_disk_tests;
 #[cfg(test)]
 mod stor_proto_tests;

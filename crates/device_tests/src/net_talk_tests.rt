@@ -4,6 +4,7 @@ ghost use Rattle.ring_machine.specs.States.{IsPacket};
 ghost use Rattle.contact.specs.declared.kind.Kind.TheVariants.{Net as NetKind};
 
 use crate::check::check;
+use crate::said::said;
 use bus_script::{Ask, Reply};
 use bus_talk::{KindTalk, is_askable};
 use chan_talk::Talk;
@@ -98,7 +99,7 @@ fn starts(rt: &impl Abort, talk: &KindTalk, k: u32, want: &[u64], message: &[u64
     let packet = &words[..len];
     check(rt, packet == want);
     check(rt, talk.is_waiting(packet) == !answer.is_empty());
-    check(rt, talk.read(packet).is_none());
+    check(rt, talk.head(packet).is_none());
     check(rt, talk.has_fixed_message(packet) == !message.is_empty());
     let mut out = [0; 384];
     let len = talk.write_fixed_message(packet, 3, &mut out);
@@ -131,7 +132,12 @@ const QUERY: [u64; 11] = [
 ];
 
 /// What is asked under the id 77, what the adapter's message under the id 3 and the completion are, and what the guest reads in them.
-fn net_round(rt: &impl Abort, station: &mut Station, talk: &KindTalk) -> Option<Reply>
+fn net_round(
+    rt: &impl Abort,
+    alloc: Global,
+    station: &mut Station,
+    talk: &KindTalk,
+) -> Option<Reply>
     requires kind { talk.now.kind ≡ NetKind }
 {
     check(rt, (talk.count(), talk.starts()) == (4, 3));
@@ -139,9 +145,12 @@ fn net_round(rt: &impl Abort, station: &mut Station, talk: &KindTalk) -> Option<
     let len = talk.encode(3, 77, &mut words);
     let packet = &words[..len];
     check(rt, packet == QUERY.as_slice());
-    let asked = talk.read(packet);
-    let Some(Ask::Net(message)) = asked else {
-        panic!(rt; "nothing is asked of the adapter")
+    let Some(head) = talk.head(packet) else {
+        panic!(rt; "nothing is asked")
+    };
+    let asked = talk.read(packet, &head);
+    let Ask::Net(message) = asked else {
+        panic!(rt; "no adapter is asked")
     };
     let answered = station.apply(&Ok(message));
     let reply = Reply::Net {
@@ -153,9 +162,9 @@ fn net_round(rt: &impl Abort, station: &mut Station, talk: &KindTalk) -> Option<
     check(rt, len > 0);
     acknowledged(rt, talk, &before[..len]);
     let mut out = [0; 384];
-    let back = talk.write_answer(packet, &reply, &mut out);
+    let back = talk.write_answer(packet, &head, &reply, &mut out);
     check(rt, &out[..back] == done(77).as_slice());
-    talk.result(3, &before[..len], &out[..back])
+    said(rt, alloc, talk, 3, &before[..len], &out[..back])
 }
 
 /// A message is acknowledged under its id.
@@ -177,7 +186,7 @@ fn networks_are_asked(rt: HostRuntime) {
     };
     let talk = net_talk(&rt, rt.alloc(), Some(query));
     let mut station = Station::make([2, 0, 0, 0, 0, 1], [2, 0, 0, 0, 0, 0xfe]);
-    match net_round(&rt, &mut station, &talk) {
+    match net_round(&rt, rt.alloc(), &mut station, &talk) {
         Some(
             Reply::Net {
                 status: 1,

@@ -5,8 +5,9 @@ use crate::check::check;
 use scsi_disk::{Chunk, Command, DiskReply, DiskRequest};
 use std::process::Abort;
 use stor_proto::{
-    FieldName, Operation, SrbStop, Vstor, VstorFault, answer, decode_vstor, encode_vstor, srb_ask,
-    srb_done, srb_reply, srb_request, srb_stop, start_up,
+    FieldName, Operation, SrbEnd, SrbStop, Vstor, VstorFault, answer, decode_vstor, encode_vstor,
+    srb_ask, srb_asks, srb_command, srb_done, srb_end, srb_reply, srb_request, srb_stop,
+    srb_stopped, start_up,
 };
 
 /// A packet of 64 bytes that begins with these and has zeros behind them.
@@ -235,6 +236,33 @@ fn reads_requests(rt: HostRuntime) {
     stopped(&rt, 4, 1, 0x20);
     stopped(&rt, 5, 1, 0x20);
     stopped(&rt, 6, 17, 4);
+}
+
+/// The srb of a write isn't stopped: its command is told, and what it takes of 600 bytes.
+#[test]
+fn takes_a_request_apart(rt: HostRuntime) {
+    let p = srb(&rt, 3, &WRITE);
+    check(&rt, p.operation == 3);
+    check(
+        &rt,
+        srb_command(&p) == Some(Command::Write { lba: 3, count: 1 }),
+    );
+    match srb_stopped(&p) {
+        Some(stop) => panic!(rt; "{stop}"),
+        None => check(
+            &rt,
+            srb_asks(&p, &[9; 600]).out.bytes() == [9; 512].as_slice(),
+        ),
+    }
+}
+
+/// The srb of a read that was done tells how many bytes moved.
+#[test]
+fn tells_how_it_ended(rt: HostRuntime) {
+    let mut done = READ;
+    done[0] = 1;
+    let end = srb_end(&srb(&rt, 1, &done));
+    check(&rt, end == Some(SrbEnd::Done { moved: 512 }));
 }
 
 /// What comes back of a request with this reply: the answer's srb, and the reply that is read in it.

@@ -9,7 +9,6 @@ use Rattle.bus_speech.specs.Disks.{disk_fits}
 use Rattle.bus_speech.specs.Speeches.{fits_on}
 use Rattle.script_lines.specs.declared.line.Ask.{Ask}
 use Rattle.script_lines.specs.declared.line.Ask.TheVariants.{Ic as AskIc, Disk as AskDisk, Net as AskNet}
-use Rattle.bus_script.specs.declared.outcome.Reply.{Reply}
 use Rattle.bus_script.specs.declared.outcome.Reply.TheVariants.{Ic as ReplyIc, Disk as ReplyDisk, Net as ReplyNet}
 use Rattle.util_ic.specs.Machines.{beat_reply, down_reply}
 use Rattle.contact.specs.declared.kind.Kind.{Kind}
@@ -110,26 +109,18 @@ disk_ok q (Good bs) sized = both _ _ (within (length bs) (most_back (command_of 
 disk_ok q (Check key asc ascq) sized = both (nat_lt key 256 && nat_lt asc 256) (nat_lt ascq 256) (both (nat_lt key 256) (nat_lt asc 256) (below key 256 sized.0) (below asc 256 sized.1)) (below ascq 256 sized.2)
 
 -- what a seat replies fits, where its device is of the kind of the talk
-pub beat_fits : (s : DeviceSeat) (kind : Kind) (q : Ask) (out : ℕ × Reply) (seat : Seat BeatMachine IcAsk IcAnswer) (ask : IcAsk) (n : ℕ) (r : IcAnswer) → s ≡ Beat seat → kind_at s ≡ kind → q ≡ AskIc ask → out ≡ (n, ReplyIc r)
-    → r ≡ beat_reply ask → fits_on kind q out.1 ≡ true
-beat_fits s kind q out seat ask n r is serves asked given fits =
-    subst (λ k. fits_on k q out.1 ≡ true) (sym (ap kind_at is) ∙ serves)
-    (subst (λ x. fits_on KindBeat x out.1 ≡ true) (sym asked) (subst (λ (x : ℕ × Reply). fits_on KindBeat (AskIc ask) x.1 ≡ true) (sym given) (service_ok KindBeat ask r fits)))
+pub beat_fits : (s : DeviceSeat) (kind : Kind) (q : Ask) (seat : Seat BeatMachine IcAsk IcAnswer) (ask : IcAsk) (r : IcAnswer) → s ≡ Beat seat → kind_at s ≡ kind → q ≡ AskIc ask → r ≡ beat_reply ask → fits_on kind q (ReplyIc r) ≡ true
+beat_fits s kind q seat ask r is serves asked fits =
+    subst (λ k. fits_on k q (ReplyIc r) ≡ true) (sym (ap kind_at is) ∙ serves) (subst (λ x. fits_on KindBeat x (ReplyIc r) ≡ true) (sym asked) (service_ok KindBeat ask r fits))
 
-pub down_fits : (s : DeviceSeat) (kind : Kind) (q : Ask) (out : ℕ × Reply) (seat : Seat DownMachine IcAsk IcAnswer) (ask : IcAsk) (n : ℕ) (r : IcAnswer) → s ≡ Down seat → kind_at s ≡ kind → q ≡ AskIc ask → out ≡ (n, ReplyIc r)
-    → r ≡ down_reply ask → fits_on kind q out.1 ≡ true
-down_fits s kind q out seat ask n r is serves asked given fits =
-    subst (λ k. fits_on k q out.1 ≡ true) (sym (ap kind_at is) ∙ serves)
-    (subst (λ x. fits_on KindDown x out.1 ≡ true) (sym asked) (subst (λ (x : ℕ × Reply). fits_on KindDown (AskIc ask) x.1 ≡ true) (sym given) (service_ok KindDown ask r fits)))
+pub down_fits : (s : DeviceSeat) (kind : Kind) (q : Ask) (seat : Seat DownMachine IcAsk IcAnswer) (ask : IcAsk) (r : IcAnswer) → s ≡ Down seat → kind_at s ≡ kind → q ≡ AskIc ask → r ≡ down_reply ask → fits_on kind q (ReplyIc r) ≡ true
+down_fits s kind q seat ask r is serves asked fits =
+    subst (λ k. fits_on k q (ReplyIc r) ≡ true) (sym (ap kind_at is) ∙ serves) (subst (λ x. fits_on KindDown x (ReplyIc r) ≡ true) (sym asked) (service_ok KindDown ask r fits))
 
-pub disk_fits_on : (s : DeviceSeat) (kind : Kind) (q : Ask) (out : ℕ × Reply) (seat : Seat Kept DiskRequest DiskReply) (ask : DiskRequest) (n : ℕ) (r : DiskReply) → s ≡ Disk seat → kind_at s ≡ kind → q ≡ AskDisk ask → out ≡ (n, ReplyDisk r)
-    → IsSized ask r → fits_on kind q out.1 ≡ true
-disk_fits_on s kind q out seat ask n r is serves asked given fits =
-    subst (λ k. fits_on k q out.1 ≡ true) (sym (ap kind_at is) ∙ serves)
-    (subst (λ x. fits_on KindDisk x out.1 ≡ true) (sym asked) (subst (λ (x : ℕ × Reply). fits_on KindDisk (AskDisk ask) x.1 ≡ true) (sym given) (disk_ok ask r fits)))
+pub disk_fits_on : (s : DeviceSeat) (kind : Kind) (q : Ask) (seat : Seat Kept DiskRequest DiskReply) (ask : DiskRequest) (r : DiskReply) → s ≡ Disk seat → kind_at s ≡ kind → q ≡ AskDisk ask → IsSized ask r → fits_on kind q (ReplyDisk r) ≡ true
+disk_fits_on s kind q seat ask r is serves asked fits =
+    subst (λ k. fits_on k q (ReplyDisk r) ≡ true) (sym (ap kind_at is) ∙ serves) (subst (λ x. fits_on KindDisk x (ReplyDisk r) ≡ true) (sym asked) (disk_ok ask r fits))
 
-pub net_fits_on : (s : DeviceSeat) (kind : Kind) (q : Ask) (out : ℕ × Reply) (seat : Seat Station (Result Rndis RndisFault) NetReply) (message : Rndis) (n : ℕ) (r : NetReply) → s ≡ Net seat → kind_at s ≡ kind → q ≡ AskNet message
-    → out ≡ (n, ReplyNet r.status r.back) → StationKeeps (Ok message) r → fits_on kind q out.1 ≡ true
-net_fits_on s kind q out seat message n r is serves asked given fits =
-    subst (λ k. fits_on k q out.1 ≡ true) (sym (ap kind_at is) ∙ serves)
-    (subst (λ x. fits_on KindNet x out.1 ≡ true) (sym asked) (subst (λ (x : ℕ × Reply). fits_on KindNet (AskNet message) x.1 ≡ true) (sym given) (net_reply_fits message r fits)))
+pub net_fits_on : (s : DeviceSeat) (kind : Kind) (q : Ask) (seat : Seat Station (Result Rndis RndisFault) NetReply) (ask : Rndis) (r : NetReply) → s ≡ Net seat → kind_at s ≡ kind → q ≡ AskNet ask → StationKeeps (Ok ask) r → fits_on kind q (ReplyNet r.status r.back) ≡ true
+net_fits_on s kind q seat ask r is serves asked fits =
+    subst (λ k. fits_on k q (ReplyNet r.status r.back) ≡ true) (sym (ap kind_at is) ∙ serves) (subst (λ x. fits_on KindNet x (ReplyNet r.status r.back) ≡ true) (sym asked) (net_reply_fits ask r fits))

@@ -1,12 +1,17 @@
 //! The seat of a device at its channel.
+ghost use Rattle.std.specs.Prelude.{◌≡◌, true, is_some};
+ghost use Rattle.script_lines.specs.declared.line.Ask.TheVariants.{Ic as AskedIc, Disk as AskedDisk, Net as AskedNet};
+ghost use Rattle.bus_speech.specs.Kinds.{ic_request, disk_request, net_request};
+
 use bus_script::{Ask, Reply};
 use bus_talk::KindTalk;
 use chan_talk::Seat;
 use hist_lock::HistSeat;
-use net_dev::Station;
-use scsi_disk::Disk;
+use net_dev::{NetReply, Station};
+use rndis_msg::Rndis;
+use scsi_disk::{Disk, DiskRequest};
 use std::sync::Wait;
-use util_ic::{BeatMachine, DownMachine};
+use util_ic::{BeatMachine, DownMachine, IcAsk};
 
 /// A place at a device's machine, by the kind of the device.
 #[derive(Drop)]
@@ -15,6 +20,39 @@ pub enum DeviceSeat {
     Down(HistSeat<DownMachine>),
     Disk(HistSeat<Disk>),
     Net(HistSeat<Station>),
+}
+
+// The request of a service.
+fn ic_of(request: Ask) -> IcAsk
+    requires { is_some (ic_request request) ≡ true }
+    ensures { request ≡ AskedIc result }
+{
+    let Ask::Ic(ask) = request else {
+        unreachable!()
+    };
+    ask
+}
+
+// The request of a disk.
+fn disk_of(request: Ask) -> DiskRequest
+    requires { is_some (disk_request request) ≡ true }
+    ensures { request ≡ AskedDisk result }
+{
+    let Ask::Disk(command) = request else {
+        unreachable!()
+    };
+    command
+}
+
+// The message for an adapter.
+fn message_of(request: Ask) -> Rndis
+    requires { is_some (net_request request) ≡ true }
+    ensures { request ≡ AskedNet result }
+{
+    let Ask::Net(message) = request else {
+        unreachable!()
+    };
+    message
 }
 
 impl Seat<KindTalk> for DeviceSeat {
@@ -43,40 +81,26 @@ impl Seat<KindTalk> for DeviceSeat {
         }
     }
 
+    // Each arm returns by itself, so that a reply is not moved through the value of the `match`.
     fn call<R: Wait>(&mut self, rt: &R, _talk: &KindTalk, request: Ask) -> (u32, Reply) {
-        match (self, request) {
-            (DeviceSeat::Beat(seat), Ask::Ic(ask)) => {
-                let receipt = seat.with(rt, ask);
-                (receipt.serial, Reply::Ic(receipt.reply))
+        match self {
+            DeviceSeat::Beat(seat) => {
+                let receipt = seat.with(rt, ic_of(request));
+                return (receipt.serial, Reply::Ic(receipt.reply));
             }
-            (DeviceSeat::Down(seat), Ask::Ic(ask)) => {
-                let receipt = seat.with(rt, ask);
-                (receipt.serial, Reply::Ic(receipt.reply))
+            DeviceSeat::Down(seat) => {
+                let receipt = seat.with(rt, ic_of(request));
+                return (receipt.serial, Reply::Ic(receipt.reply));
             }
-            (DeviceSeat::Disk(seat), Ask::Disk(request)) => {
-                let receipt = seat.with(rt, request);
-                (receipt.serial, Reply::Disk(receipt.reply))
+            DeviceSeat::Disk(seat) => {
+                let receipt = seat.with(rt, disk_of(request));
+                return (receipt.serial, Reply::Disk(receipt.reply));
             }
-            (DeviceSeat::Net(seat), Ask::Net(message)) => {
-                let receipt = seat.with(rt, Ok(message));
-                let reply = receipt.reply;
-                let status = reply.status;
-                (
-                    receipt.serial,
-                    Reply::Net {
-                        status,
-                        back: reply.back,
-                    },
-                )
+            DeviceSeat::Net(seat) => {
+                let receipt = seat.with(rt, Ok(message_of(request)));
+                let NetReply { status, back } = receipt.reply;
+                return (receipt.serial, Reply::Net { status, back });
             }
-            (DeviceSeat::Beat(_), Ask::Disk(_)) => unreachable!(),
-            (DeviceSeat::Beat(_), Ask::Net(_)) => unreachable!(),
-            (DeviceSeat::Down(_), Ask::Disk(_)) => unreachable!(),
-            (DeviceSeat::Down(_), Ask::Net(_)) => unreachable!(),
-            (DeviceSeat::Disk(_), Ask::Ic(_)) => unreachable!(),
-            (DeviceSeat::Disk(_), Ask::Net(_)) => unreachable!(),
-            (DeviceSeat::Net(_), Ask::Ic(_)) => unreachable!(),
-            (DeviceSeat::Net(_), Ask::Disk(_)) => unreachable!(),
         }
     }
 }

@@ -3,7 +3,7 @@ ghost use Rattle.std.specs.Prelude.{◌≡◌, ◌+◌, ◌<◌, ◌≤◌, [], 
 ghost use Rattle.hist_lock.specs.Legal.{Replies};
 
 use crate::rule::{LockSeat, LockTable};
-use crate::turn::{answer, draw, give, serve, take, wait_for};
+use crate::turn::{draw, give, note, serve, take, wait_for};
 use crate::{Machine, Receipt};
 use std::alloc::Global;
 use std::marker::Model;
@@ -61,8 +61,8 @@ impl<M: Machine> HistSeat<M> {
         let ticket = draw(shared, &mut self.seat);
         wait_for(rt, shared, &mut self.seat, ticket);
         let mut kept = take(shared, &mut self.seat, ticket);
-        let (entry, reply) = answer(&mut kept.state, self.number, request);
-        kept.entries.push_reserved(entry);
+        let reply = kept.state.apply(&request);
+        note(&mut kept.entries, self.number, request, &reply);
         give(shared, &mut self.seat, kept);
         serve(shared, &mut self.seat, ticket);
         self.left -= 1;

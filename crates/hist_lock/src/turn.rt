@@ -85,19 +85,20 @@ pub fn serve<M: Machine>(shared: &LockShared<M>, seat: &mut LockSeat<M>, ticket:
     shared.wake_all(SERVING);
 }
 
-/// Applies the request. The entry is for the history, and the reply for the caller.
-pub fn answer<M: Machine>(state: &mut M, number: u32, request: M::Request) -> (Entry<M>, M::Reply)
-    ensures state { state.new ≡ M.after state.old request }
-    ensures reply { result.1 ≡ M.reply_to state.old request }
-    ensures fits { M.fits request result.1 }
-    ensures entry { result.0 ≡ record { seat = number; request = request; reply = result.1 } }
+/// Notes a call in the history, behind the entries there, which have room for it. The reply stays the caller's.
+pub fn note<M: Machine>(
+    entries: &mut Vec<Entry<M>>,
+    number: u32,
+    request: M::Request,
+    reply: &M::Reply,
+)
+    requires room { vec_len entries.old < vec_capacity entries.old }
+    ensures items { entries.new.items ≡ entries.old.items ++ record { seat = number; request = request; reply = reply.now } ∷ [] }
+    ensures capacity { vec_capacity entries.new ≡ vec_capacity entries.old }
 {
-    let reply = state.apply(&request);
-    let kept = M::copy(&reply);
-    let entry = Entry {
+    entries.push_reserved(Entry {
         seat: number,
         request,
-        reply: kept,
-    };
-    (entry, reply)
+        reply: M::copy(reply),
+    });
 }

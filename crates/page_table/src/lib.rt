@@ -6,4 +6,4 @@ mod owners;
 mod table;
 
 pub use loan::Loan;
-pub use table::PageTable;
+pub use table::{COMPLETION, PageTable};

@@ -23,7 +23,7 @@ use std::marker::Model;
 const WORDS: usize = 512;
 
 /// The type of a completion. Source: Linux `include/linux/hyperv.h`, `VM_PKT_COMP`.
-const COMPLETION: u64 = 11;
+pub const COMPLETION: u64 = 11;
 
 /// What an end has to do with each page of its channel, and its copy of their words, 512 a page.
 #[derive(Drop)]
@@ -93,6 +93,13 @@ impl PageTable {
         let owners = self.owners.as_slice();
         let loan = self.named(packet)?;
         Some(had(owners[loan.page as usize]))
+    }
+
+    /// Whatever is lent or held is 1 to 512 words. The call does nothing: its contract is a law.
+    pub fn lends_in_bounds(&self)
+        ensures fit { (q : ℕ) → Fits (slice_index_or self.now.owners q Away) }
+    {
+        let _owners = self.owners.as_slice();
     }
 
     /// The first words of a page, as this end knows them.

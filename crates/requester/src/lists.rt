@@ -15,7 +15,7 @@ pub(crate) struct Lists<R> {
 }
 
 impl<R: Drop> Lists<R> {
-    // Empty lists for so many replies, and as many open requests as the window has.
+    /// Empty lists for so many replies, and as many open requests as the window has.
     pub fn make(alloc: Global, replies: u32, window: u32) -> Result<Lists<R>, AllocError>
         requires { (1 ≤ window) × (window ≤ 64) }
         ensures table { IfOk result (λ l. l.table ≡ replicate window None) }

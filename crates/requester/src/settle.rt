@@ -31,7 +31,5 @@ pub(crate) fn settle<T: Talk>(
     let Ok(k) = table.complete(id) else {
         return;
     };
-    if let Some(reply) = talk.result(k, before, packet) {
-        replies.push_reserved(reply);
-    }
+    talk.keep_result(k, before, packet, replies);
 }

@@ -1,4 +1,5 @@
-//! Times a send, a take and a commit: by two ends in turn over one memory, by two ends in turn on atomic words, and by two ends on atomic words in two threads. It writes nothing on standard output, and its figures on standard error.
+//! Times a send, a take and a commit: by two ends in turn over one memory, by two ends in turn on atomic words, and by two ends on atomic words in two threads.
+//! And a data page's way out and back, by two ends in turn. It writes nothing on standard output, and its figures on standard error.
 #![tactic(auto)]
 
 ghost use Rattle.std.specs.Prelude.{◌≤◌, length};
@@ -6,6 +7,7 @@ ghost use Rattle.ring_machine.specs.States.{IsPacket};
 
 mod memory;
 mod packet;
+mod pages;
 mod words;
 
 use packet::{MOST, words};
@@ -18,6 +20,9 @@ use std::thread::Threads;
 
 // How often each size is timed. The quickest round is told.
 const ROUNDS: u32 = 15;
+
+// How often the page goes out and comes back in a round.
+const TRIPS: u64 = 400;
 
 // How the ends of a channel stand.
 #[derive(Clone, Copy)]
@@ -50,6 +55,11 @@ fn quickest<R: Runtime + Threads + Wait + Sync>(
     Ok(best)
 }
 
+// The picoseconds a byte, of so many nanoseconds for so many bytes.
+fn a_byte(time: u128, bytes: u128) -> u128 {
+    time.wrapping_mul(1000) / bytes.max(1)
+}
+
 // Tells the times of such packets.
 fn tell<R: Runtime + Threads + Wait + Sync>(
     rt: &R,
@@ -64,8 +74,21 @@ fn tell<R: Runtime + Threads + Wait + Sync>(
     let words = quickest(rt, alloc, Over::AtomicWords, p, count)?;
     let threads = quickest(rt, alloc, Over::Threads, p, count)?;
     let bytes = 8 * p.len();
+    let byte = a_byte(words, bytes as u128);
     eprintln!(rt;
-        "{bytes} bytes: {memory} ns a packet over one memory, {words} on atomic words, {threads} in two threads"
+        "{bytes} bytes: {memory} ns a packet over one memory, {words} on atomic words, {threads} in two threads; {byte} ps a byte on atomic words"
+    )
+}
+
+// Tells the time of a page's way out and back.
+fn tell_page<R: Runtime>(rt: &R, alloc: Global) -> io::Result<()> {
+    let mut best = u128::MAX;
+    for _ in 0..ROUNDS {
+        best = best.min(pages::round(rt, alloc, TRIPS)?);
+    }
+    let byte = a_byte(best, 4096);
+    eprintln!(rt;
+        "a page of 4096 bytes, sent, loaded, completed and loaded again: {best} ns on atomic words; {byte} ps a byte"
     )
 }
 
@@ -78,5 +101,5 @@ fn main(rt: HostRuntime) -> io::Result<()> {
         }
         tell(&rt, rt.alloc(), p, count)?;
     }
-    Ok(())
+    tell_page(&rt, rt.alloc())
 }

@@ -57,11 +57,24 @@ fn timed<R: Runtime>(
     a_packet(start.elapsed(rt)?.as_nanos(), took, count)
 }
 
+// The nanoseconds a packet of one round, from this end.
+fn round_from<R: Runtime>(
+    rt: &R,
+    alloc: Global,
+    g: &mut End<SoloMem>,
+    p: &[u64],
+    count: u64,
+) -> io::Result<u128>
+    requires { IsPacket p.now }
+{
+    let mut h = end(alloc, Side::Host)?;
+    timed(rt, g, &mut h, p, count)
+}
+
 // The nanoseconds a packet of one round. It is an error where a packet didn't arrive.
 pub(crate) fn round<R: Runtime>(rt: &R, alloc: Global, p: &[u64], count: u64) -> io::Result<u128>
     requires { IsPacket p.now }
 {
     let mut g = end(alloc, Side::Guest)?;
-    let mut h = end(alloc, Side::Host)?;
-    timed(rt, &mut g, &mut h, p, count)
+    round_from(rt, alloc, &mut g, p, count)
 }

@@ -2,7 +2,7 @@
 ghost use Rattle.std.specs.Prelude.{◌≡◌};
 ghost use Rattle.ring_machine.specs.States.{IsPacket};
 
-use ring_core::{End, Room, Seatlike, may_take};
+use ring_core::{End, Room, Seatlike, may_lend, may_take};
 use std::io;
 
 // The longest packet, in words.
@@ -15,30 +15,33 @@ pub(crate) fn words(n: u64) -> [u64; MOST] {
     words
 }
 
-// Sends, where that may be done: whether the packet was sent.
+// Sends, where that may be done: whether the packet was sent. In a channel with data pages it takes along the words of the page that it lends or gives back.
 pub(crate) fn send<S: Seatlike>(e: &mut End<S>, p: &[u64]) -> bool
     requires { IsPacket p.now }
     ensures { e.new.state.machine.cells ≡ e.old.state.machine.cells }
 {
     let room = e.spare_sent();
     let len = p.len() as u64;
-    if e.pages() != 0
-        || !e.is_ready()
-        || len + 1 >= e.cells() as u64
-        || room.packets == 0
-        || room.words < len
-    {
+    let is_plain = e.pages() == 0
+        && e.is_ready()
+        && len + 1 < e.cells() as u64
+        && room.packets > 0
+        && len <= room.words;
+    if !is_plain && !may_lend(e, p) {
         return false;
     }
     e.send(p).is_ok()
 }
 
-// Takes and gives the cells back, where that may be done: whether there was a packet.
+// Takes, loads the words that come with the packet, and gives the cells back, where that may be done: whether there was a packet.
 pub(crate) fn take<S: Seatlike>(e: &mut End<S>) -> bool {
     if !may_take(e) {
         return false;
     }
-    let took = e.take().is_ok();
+    let took = e.take_in().is_ok();
+    if e.is_due() && e.is_ready() && e.spare_got().words >= 512 {
+        e.load_in();
+    }
     if e.is_ready() && !e.is_due() {
         e.commit();
     }

@@ -129,7 +129,11 @@ pub(crate) fn threads_round<R: Runtime + Threads + Wait + Sync>(
     requires few { length p.now ≤ 384 }
 {
     let (mut guest, mut host) = ChannelMem::make(alloc, 1, 0)?;
-    reserve(&mut guest, &mut host, p, count)?;
+    if let Err(refused) = reserve(&mut guest, &mut host, p, count) {
+        drop(guest);
+        drop(host);
+        return Err(refused.into());
+    }
     let start = Instant::now(rt);
     let (sent, took) = join(
         rt,

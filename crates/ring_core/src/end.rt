@@ -156,7 +156,8 @@ impl<S: Seatlike> End<S> {
 
     /// Whether a packet may be sent, as far as the data pages go: nothing is to be loaded; the end has the page that a request names, and all earlier requests
     /// of its id are completed; a completion answers a request that was taken and isn't completed. At most 512 page words go along. Between two questions for
-    /// one id only the packets that came since are looked at.
+    /// one id only the packets that came since are looked at: for that the first question takes memory for tallies, about 4 KB a list. Where there is none, each
+    /// question looks at all packets, and the answer is the same.
     pub fn can_lend(&mut self, p: &[u64]) -> bool
         requires packet { IsPacket p.now }
         ensures may { IsTrue result → MayLend self.old.state p.now }

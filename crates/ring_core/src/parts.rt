@@ -28,9 +28,8 @@ ghost use Rattle.chan_run.specs.declared.event.Event.TheVariants.{Sent as SentEv
 use crate::driver::{Driver, page_step};
 use crate::packets::Packets;
 use crate::seat::Seatlike;
-use crate::tally::COMPLETION;
 use chan_run::Past;
-use page_table::{Loan, PageTable};
+use page_table::{COMPLETION, Loan, PageTable};
 use ring_machine::{EndCore, Ending};
 
 /// The machine, its seat, a buffer for one packet, the lists of the packets that were sent and got, what the end did, and its pages.
@@ -69,7 +68,9 @@ fn words_in(table: &PageTable, part: Option<Loan>) -> &[u64]
 }
 
 impl<S: Seatlike> Parts<S> {
-    // Keeps a packet that was sent, in a channel with pages: the words that it lends or brings back go along.
+    // Keeps a packet that was sent, in a channel with pages: the words that it lends or brings back go along. It stands apart, and is marked as the rarer way:
+    // else the compiler takes the way of a plain packet for that, and makes a call of it.
+    #[cold]
     #[inline(never)]
     fn keep_along(&mut self, packet: &[u64])
         requires some { self.old.core.pages.count ≢ 0 }
@@ -103,7 +104,8 @@ impl<S: Seatlike> Parts<S> {
         }
     }
 
-    // Keeps the packet that was taken, in a channel with pages: where a part of a page comes with it, that is to be loaded.
+    // Keeps the packet that was taken, in a channel with pages: where a part of a page comes with it, that is to be loaded. It stands apart, as `keep_along`.
+    #[cold]
     #[inline(never)]
     fn keep_due(&mut self)
         requires some { self.old.core.pages.count ≢ 0 }
@@ -165,8 +167,7 @@ impl<S: Seatlike> Parts<S> {
         ensures count { self.new.core.pages.count ≡ self.old.core.pages.count }
     {
         match self.core.machine.ended {
-            Ending::SentQuiet => self.keep_sent(packet),
-            Ending::SentRaised => self.keep_sent(packet),
+            Ending::SentQuiet | Ending::SentRaised => self.keep_sent(packet),
             Ending::Took => self.keep_got(),
             Ending::Empty => self.past = self.past.empty(),
             Ending::FoundWork => {
@@ -236,12 +237,12 @@ impl<S: Seatlike> Parts<S> {
         ensures along { along (kept_of self.old.core.pages self.old.sent self.old.got self.old.table) packet.now ≤ 512 }
         ensures kept { (self.new.core ≡ self.old.core) × (self.new.sent ≡ self.old.sent) × (self.new.got ≡ self.old.got) × (self.new.past ≡ self.old.past) × (self.new.table ≡ self.old.table) × (self.new.seat ≡ self.old.seat) }
     {
+        self.table.lends_in_bounds();
         let tid = packet[1];
-        let had = self.table.has_named(packet);
         if packet[0] % 65536 == COMPLETION {
             return self.sent.tally(tid).dones < self.got.tally(tid).asks;
         }
-        match had {
+        match self.table.has_named(packet) {
             Some(had) => had && self.sent.tally(tid).asks <= self.got.tally(tid).dones,
             None => true,
         }

@@ -119,6 +119,7 @@ impl Rows {
     }
 
     /// Adds a row at the end, into room that is reserved.
+    #[inline]
     pub(crate) fn push(&mut self, packet: &[u64])
         requires packets { 0 < self.old.room.packets }
         requires words { length packet.now ≤ self.old.room.words }

@@ -6,6 +6,7 @@ use crate::lends::{completion, request, sends, stores, takes};
 use ring_core::{Armed, End, Room};
 use ring_seat::{ChannelMem, GuestEnd, HostEnd, Settled, Sleeper, TableSeat, finish};
 use std::alloc::AllocGlobal;
+use std::hint;
 use std::process::Abort;
 use std::sync::Wait;
 use std::thread::join;
@@ -15,6 +16,9 @@ const LENDS: u64 = 10_000;
 
 // How often each end looks for work at most, so that the test ends.
 const TURNS: u64 = 30 * LENDS;
+
+// How often an end looks for a packet before it rests: a sleep and a wake for each lend take long on a busy machine.
+const LOOKS: u32 = 1_000;
 
 // The words of each lend.
 const WORDS: u32 = 3;
@@ -68,13 +72,17 @@ fn lends(e: &mut GuestEnd, page: u32, lend: u64) -> bool
         && sends(e, &request(page, WORDS))
 }
 
-// Takes what has come, or rests.
+// Takes what has come, or rests where nothing comes for a while.
 fn waits<R: Wait>(rt: &R, e: &mut End<TableSeat>)
     ensures { IsSameEnd e.old e.new }
 {
-    if !takes(e) {
-        rest(rt, e);
+    for _ in 0..LOOKS {
+        if takes(e) {
+            return;
+        }
+        hint::spin_loop();
     }
+    rest(rt, e);
 }
 
 // Lends each page again as soon as it has come back, until all lends are done and both pages are at home.

@@ -83,24 +83,47 @@ fn lends(g: &mut End<SoloMem>, h: &mut End<SoloMem>, page: u32, words: u32, v: u
     crosses(g, h, page, words, v) && returns(g, h, page, words, v ^ 1)
 }
 
+// Whether the guest has both pages, and neither end any other.
+fn are_at_home(g: &End<SoloMem>, h: &End<SoloMem>) -> bool {
+    g.owns(0) && g.owns(1) && !g.owns(2) && !h.owns(0) && !h.owns(2)
+}
+
+// Lends each page so often.
+fn lends_all(g: &mut End<SoloMem>, h: &mut End<SoloMem>) -> bool {
+    for v in 0..LENDS {
+        if !lends(g, h, 0, 3, v) || !lends(g, h, 1, 1, v) {
+            return false;
+        }
+    }
+    true
+}
+
+// Whether this packet came with so many words.
+fn has_words(lent: Option<&[u64]>, words: usize) -> bool {
+    match lent {
+        Some(lent) => lent.len() == words,
+        None => false,
+    }
+}
+
+// Whether so many packets were sent and got, the first of them with three words.
+fn kept_all(g: End<SoloMem>, count: usize) -> bool {
+    let (memory, sent, got) = g.into_parts();
+    drop(memory);
+    sent.len() == count
+        && got.len() == count
+        && has_words(sent.lent(0), 3)
+        && got.lent(count).is_none()
+}
+
 #[test]
 fn pages_go_out_and_come_back(rt: HostRuntime) {
     let mut g = end(&rt, Side::Guest);
     let mut h = end(&rt, Side::Host);
-    check(
-        &rt,
-        g.owns(0) && g.owns(1) && !g.owns(2) && !h.owns(0) && !h.owns(2),
-    );
-    for v in 0..LENDS {
-        check(&rt, lends(&mut g, &mut h, 0, 3, v));
-        check(&rt, lends(&mut g, &mut h, 1, 1, v));
-    }
-    let (_, sent, got) = g.into_parts();
-    check(&rt, sent.len() == 100 && got.len() == 100);
-    check(
-        &rt,
-        sent.lent(0).expect(&rt, "a packet").len() == 3 && got.lent(100).is_none(),
-    );
+    let home = are_at_home(&g, &h);
+    let lent = lends_all(&mut g, &mut h);
+    let kept = kept_all(g, 100);
+    check(&rt, home && lent && kept);
 }
 
 // Whether an end takes a packet, and the words that come with it are these.
@@ -123,17 +146,17 @@ fn a_load_lends_the_words_that_were_stored(rt: HostRuntime) {
     check(&rt, loads(&mut h, &[11, 0, 13]));
 }
 
+// The host sends a request for a page that the channel hasn't, and none for a page that it hasn't itself. The guest gets it without words.
+fn lends_nothing(g: &mut End<SoloMem>, h: &mut End<SoloMem>) -> bool {
+    let sent = sends(h, &request(5, 2)) && !sends(h, &request(0, 2));
+    sent && hands(h, g) && takes(g) && has_words(g.got().lent(0), 0)
+}
+
 // A packet that names a page that this end can't hold lends nothing: a page that the channel hasn't, and a page of its own.
 #[test]
 fn a_page_that_cannot_be_held_lends_nothing(rt: HostRuntime) {
     let mut g = end(&rt, Side::Guest);
     let mut h = end(&rt, Side::Host);
-    check(
-        &rt,
-        sends(&mut h, &request(5, 2)) && !sends(&mut h, &request(0, 2)),
-    );
-    check(&rt, hands(&mut h, &mut g) && takes(&mut g));
-    check(&rt, g.owns(0) && !g.owns(5));
-    let got = g.got();
-    check(&rt, got.lent(0).expect(&rt, "a packet").is_empty());
+    let nothing = lends_nothing(&mut g, &mut h);
+    check(&rt, nothing && g.owns(0) && !g.owns(5));
 }

@@ -273,18 +273,35 @@ fn room_is_made_and_used(rt: HostRuntime) {
     check(&rt, is_less(before, e.spare_sent(), 1, 3));
 }
 
+// Whether the guest sends two packets.
+fn goes_out(g: &mut End<SoloMem>) -> bool {
+    sends(g, &[FIRST, 7, 9], Signalled::Quiet) && sends(g, &[FIRST, 8, 10], Signalled::Quiet)
+}
+
+// Whether the host takes both, gives them back and sends one.
+fn comes_in(h: &mut End<SoloMem>) -> bool {
+    let taken = takes(h, &[FIRST, 7, 9]) && takes(h, &[FIRST, 8, 10]);
+    let empty = refuses_take(h, TakeRefusal::Empty { at: 64 });
+    taken && empty && commits(h, Signalled::Quiet) && sends(h, &[FIRST, 1, 2], Signalled::Quiet)
+}
+
 // The guest sends two packets, the host takes both, gives them back and sends one, and the guest takes that.
 fn crosses(rt: &impl Abort, g: &mut End<SoloMem>, h: &mut End<SoloMem>) {
-    check(rt, sends(g, &[FIRST, 7, 9], Signalled::Quiet));
-    check(rt, sends(g, &[FIRST, 8, 10], Signalled::Quiet));
+    check(rt, goes_out(g));
     swap(rt, g, h);
-    check(rt, takes(h, &[FIRST, 7, 9]));
-    check(rt, takes(h, &[FIRST, 8, 10]));
-    check(rt, refuses_take(h, TakeRefusal::Empty { at: 64 }));
-    check(rt, commits(h, Signalled::Quiet));
-    check(rt, sends(h, &[FIRST, 1, 2], Signalled::Quiet));
+    check(rt, comes_in(h));
     swap(rt, g, h);
     check(rt, takes(g, &[FIRST, 1, 2]));
+}
+
+// Whether the guest has sent both packets, and got one.
+fn has_both(g: End<SoloMem>) -> bool {
+    let (memory, sent, got) = g.into_parts();
+    drop(memory);
+    sent.len() == 2
+        && got.len() == 1
+        && sent.get(1) == Some(&[FIRST, 8, 10])
+        && got.get(0) == Some(&[FIRST, 1, 2])
 }
 
 #[test]
@@ -296,10 +313,7 @@ fn packets_go_across_both_ways(rt: HostRuntime) {
     let mut g = solo_end(&rt, Side::Guest, room);
     let mut h = solo_end(&rt, Side::Host, room);
     crosses(&rt, &mut g, &mut h);
-    let (_, sent, got) = g.into_parts();
-    check(&rt, sent.len() == 2 && got.len() == 1);
-    check(&rt, sent.get(1) == Some(&[FIRST, 8, 10]));
-    check(&rt, got.get(0) == Some(&[FIRST, 1, 2]));
+    check(&rt, has_both(g));
 }
 
 // Whether the signal of the host is up.

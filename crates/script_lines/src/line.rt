@@ -46,13 +46,20 @@ impl Ask {
     pub fn again(&self) -> Ask
         ensures { result ≡ self.now }
     {
+        // Each arm returns by itself, so that no request is moved through the value of the `match`.
         match self {
-            Ask::Ic(ask) => Ask::Ic(*ask),
-            Ask::Disk(request) => Ask::Disk(DiskRequest {
-                cdb: request.cdb,
-                out: request.out.again(),
-            }),
-            Ask::Net(message) => Ask::Net(message.again()),
+            Ask::Ic(ask) => {
+                return Ask::Ic(*ask);
+            }
+            Ask::Disk(request) => {
+                return Ask::Disk(DiskRequest {
+                    cdb: request.cdb,
+                    out: request.out.again(),
+                });
+            }
+            Ask::Net(message) => {
+                return Ask::Net(message.again());
+            }
         }
     }
 }

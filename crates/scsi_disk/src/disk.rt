@@ -154,17 +154,26 @@ impl Disk {
         ensures kept { self.new
             ≡ with_written self.old (written_after self.old (Some command) out.now) }
     {
+        // Each arm returns by itself, so that no chunk is moved through the value of the `match`.
         match command {
-            Command::TestUnitReady | Command::SynchronizeCache => Chunk::empty(),
+            Command::TestUnitReady | Command::SynchronizeCache => {
+                return Chunk::empty();
+            }
             Command::Inquiry {
                 standard: _,
                 allocation,
-            } => inquiry(allocation),
-            Command::ReadCapacity => self.capacity(),
-            Command::Read { lba, count } => self.store.read(lba, count),
+            } => {
+                return inquiry(allocation);
+            }
+            Command::ReadCapacity => {
+                return self.capacity();
+            }
+            Command::Read { lba, count } => {
+                return self.store.read(lba, count);
+            }
             Command::Write { lba, count } => {
                 self.store.write(lba, count, out);
-                Chunk::empty()
+                return Chunk::empty();
             }
         }
     }
@@ -198,10 +207,10 @@ impl Machine for Disk {
             return Refusal::InvalidCode.check();
         };
         let out = request.out.bytes();
-        match self.refusal(&command, out) {
-            Some(refusal) => refusal.check(),
-            None => DiskReply::good(self.serve(command, out)),
+        if let Some(refusal) = self.refusal(&command, out) {
+            return refusal.check();
         }
+        DiskReply::good(self.serve(command, out))
     }
 
     fn copy(reply: &DiskReply) -> DiskReply {

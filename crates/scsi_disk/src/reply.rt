@@ -36,13 +36,18 @@ impl DiskReply {
     pub fn again(&self) -> DiskReply
         ensures { result ≡ self.now }
     {
+        // Each arm returns by itself, so that no chunk is moved through the value of the `match`.
         match self {
-            DiskReply::Good(chunk) => DiskReply::Good(chunk.again()),
-            DiskReply::Check { key, asc, ascq } => DiskReply::Check {
-                key: *key,
-                asc: *asc,
-                ascq: *ascq,
-            },
+            DiskReply::Good(chunk) => {
+                return DiskReply::Good(chunk.again());
+            }
+            DiskReply::Check { key, asc, ascq } => {
+                return DiskReply::Check {
+                    key: *key,
+                    asc: *asc,
+                    ascq: *ascq,
+                };
+            }
         }
     }
 }

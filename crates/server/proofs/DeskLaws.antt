@@ -1,6 +1,6 @@
 -- How one packet is served.
 use Rattle.std.proofs.Common.{◌≡◌, ℕ, suc, ◌+◌, ◌-◌, ◌≤◌, List, [], ◌∷◌, ◌++◌, length, length-append, take, drop, refl, sym, ap, ◌∙◌, subst, arith, Option, Some, None, is_some, Bool, true, false}
-use Rattle.std.specs.Prelude.{◌<◌, ◌^◌, ◌&&◌, ◌==◌, if◌then◌else◌}
+use Rattle.std.specs.Prelude.{IsSome, ◌<◌, ◌^◌, ◌&&◌, ◌==◌, if◌then◌else◌}
 use Rattle.std.proofs.lemmas.List.{append-nil, drop-append-le, drop_all, take-append-drop, take-append-le, take_all}
 use Rattle.std.proofs.Math.Seq.{take-append_seam, drop-append_seam}
 use Rattle.hist_lock.specs.Seat.{Call}
@@ -11,6 +11,11 @@ use Rattle.work_model.proofs.Opens.{by_test}
 use Rattle.chan_talk.specs.Listed.{has_message_in}
 use Rattle.work_model.specs.Server.{Serves, ServesOne, ServesAsk, IsCall, left_one}
 use Rattle.server.specs.Serving.{ServesPacket, calls_behind, first_calls, last_calls, own_in}
+
+-- what there is
+pub value_of : {X : Type 0} (o : Option X) → IsSome o → (x : X) × (o ≡ Some x)
+value_of None some = cc
+value_of (Some x) some = (x, refl)
 
 -- of a seat's calls, those that were made at the desk, and those before
 pub calls_push : {Q R : Type 0} (calls : List (Call Q R)) (c : Call Q R) (n : ℕ) → n ≤ length calls → last_calls (calls ++ c ∷ []) (n + 1) ≡ last_calls calls n ++ c ∷ []

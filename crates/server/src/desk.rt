@@ -1,5 +1,5 @@
 //! Where the serving end serves one packet after another.
-ghost use Rattle.std.specs.Prelude.{◌≡◌, ◌<◌, ◌≤◌, ◌+◌, ◌-◌, if◌then◌else◌, [], ◌∷◌, ◌++◌, drop, length, Some, None, true, false, IfOk, map, filter, count_by, is_some, vec_len, vec_capacity, replicate, ◌&&◌, ◌==◌, ℕ, suc};
+ghost use Rattle.std.specs.Prelude.{◌≡◌, ◌<◌, ◌≤◌, ◌+◌, ◌-◌, if◌then◌else◌, [], ◌∷◌, ◌++◌, drop, length, Some, None, true, false, IfOk, map, filter, count_by, is_some, IsSome, vec_len, vec_capacity, replicate, ◌&&◌, ◌==◌, ℕ, suc};
 ghost use Rattle.ring_machine.specs.States.{IsPacket};
 ghost use Rattle.channel_port.specs.Owed.{is_nil, need_of, IsNeed};
 ghost use Rattle.channel_port.specs.Rooms.{is_asked};
@@ -143,7 +143,7 @@ impl<T: Talk, S: Seat<T>> Desk<T, S> {
         requires { IsPacket packet.now }
         ensures { result ≡ is_asked (T.speech self.now.talk) packet.now }
     {
-        self.talk.read(packet).is_some()
+        self.talk.head(packet).is_some()
     }
 
     // Whether each place of its own table is taken: then a message that goes back waits for an acknowledgement.
@@ -231,9 +231,9 @@ impl<T: Talk, S: Seat<T>> Desk<T, S> {
         let Some(count) = self.left else {
             return;
         };
-        match self.talk.read(packet) {
+        match self.talk.head(packet) {
             None => self.serve_fixed(count, packet),
-            Some(request) => self.serve_request(rt, gate, count, packet, request),
+            Some(head) => self.serve_request(rt, gate, count, packet, &head),
         }
     }
 
@@ -264,12 +264,13 @@ impl<T: Talk, S: Seat<T>> Desk<T, S> {
         gate: &G,
         count: u32,
         packet: &[u64],
-        request: T::Request,
+        head: &T::Head,
     )
         requires owed { self.old.owed ≡ [] }
         requires packet { IsPacket packet.now }
         requires count { self.old.left ≡ Some count }
-        requires reads { (T.speech self.old.talk).read packet.now ≡ Some request }
+        requires head { T.is_head self.old.talk packet.now head.now }
+        requires reads { IsSome ((T.speech self.old.talk).read packet.now) }
         requires room { count_by is_some self.old.table < length self.old.table }
         ensures serves { ServesPacket (T.speech self.new.talk) self.new.held packet.now (Some count) self.old.calls self.new.calls self.new.owed self.new.left }
         ensures owes { Owes (T.speech self.new.talk) self.new.owed (own_in self.old.table) (own_in self.new.table) }
@@ -285,6 +286,7 @@ impl<T: Talk, S: Seat<T>> Desk<T, S> {
         }
         self.number = self.number.wrapping_add(1);
         gate.pass(self.side, self.relid, self.number);
+        let request = self.talk.read(packet, head);
         let (serial, reply) = self.seat.call(rt, &self.talk, request);
         self.serials.push_reserved(serial);
         if is_held_back(self.held, count) {
@@ -292,7 +294,7 @@ impl<T: Talk, S: Seat<T>> Desk<T, S> {
         } else {
             let besides = self.talk.has_message(packet, &reply);
             let own = open_own(&mut self.table, besides);
-            self.owed.owe_reply(&self.talk, packet, &reply, own);
+            self.owed.owe_reply(&self.talk, packet, head, &reply, own);
             self.left = Some(count - 1);
         }
     }

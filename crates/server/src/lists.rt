@@ -18,7 +18,7 @@ pub(crate) struct Lists {
 }
 
 impl Lists {
-    // Empty lists, for so many calls.
+    /// Empty lists, for so many calls.
     pub fn make(alloc: Global, calls: u32) -> Result<Lists, AllocError>
         ensures table { IfOk result (λ l. l.table ≡ replicate 64 None) }
         ensures rescinded { IfOk result (λ l. (vec_len l.rescinded ≡ 0) × (64 ≤ vec_capacity l.rescinded)) }

@@ -90,16 +90,18 @@ impl Owed {
         &mut self,
         talk: &T,
         packet: &[u64],
+        head: &T::Head,
         reply: &T::Reply,
         own: u64,
     )
         requires packet { IsPacket packet.now }
+        requires head { T.is_head talk.now packet.now head.now }
         requires fits { FitsReply (T.speech talk.now) packet.now reply.now }
         ensures value { self.new ≡ packets_of own ((T.speech talk.now).gives packet.now reply.now) }
         ensures few { length self.new ≤ 2 }
     {
         self.message.write_message(talk, packet, reply, own);
-        self.answer.write_answer(talk, packet, reply);
+        self.answer.write_answer(talk, packet, head, reply);
     }
 }
 

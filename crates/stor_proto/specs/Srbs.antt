@@ -11,6 +11,8 @@ use Rattle.scsi_disk.specs.declared.reply.DiskReply.{DiskReply}
 use Rattle.scsi_disk.specs.declared.reply.DiskReply.TheVariants.{Good, Check}
 use Rattle.stor_proto.specs.Fields.{number_at, with_bytes, with_number}
 use Rattle.stor_proto.specs.declared.vstor.Vstor.{Vstor}
+use Rattle.stor_proto.specs.declared.end.SrbEnd.{SrbEnd}
+use Rattle.stor_proto.specs.declared.end.SrbEnd.TheVariants.{Done, Refused}
 use Rattle.stor_proto.specs.declared.stop.SrbStop.{SrbStop}
 
 -- the command in an srb
@@ -107,6 +109,12 @@ done_of p back =
     if status == 1 then Some (Good (take (min (number_at 12 4 p.rest) 4096) back))
     else (if status == 0x84 then Some (Check (slice_index p.rest 18) (slice_index p.rest 28) (slice_index p.rest 29))
     else None)
+
+-- the reply of an srb that ended so, with the bytes that came back
+abbrev pub reply_at : Option SrbEnd → List ℕ → Option DiskReply
+reply_at (Some (Done moved)) back = Some (Good (take (min moved 4096) back))
+reply_at (Some (Refused key asc ascq)) back = Some (Check key asc ascq)
+reply_at None back = None
 
 -- the guest reads the same reply in a completion: a check whatever came back, and bytes where as many moved at least
 abbrev pub IsReadBack : Vstor → DiskReply → Vstor → Type 0

@@ -1,13 +1,13 @@
 //! The guest's side of an srb: the packet of a disk's request, and the reply in its completion.
-ghost use Rattle.std.specs.Prelude.{◌≡◌, ◌≤◌, ◌<◌, ◌^◌, IsSome, Ok, Some, length};
+ghost use Rattle.std.specs.Prelude.{◌≡◌, ◌≤◌, ◌<◌, ◌^◌, List, ℕ, IsSome, Ok, Some, length};
 ghost use Rattle.scsi_disk.specs.Commands.{command_of};
 ghost use Rattle.stor_proto.specs.Srbs.{bytes_moved, cdb_length, data_in};
-ghost use Rattle.stor_proto.specs.Srbs.{HasItsData, ask_of, done_of, request_of};
+ghost use Rattle.stor_proto.specs.Srbs.{HasItsData, ask_of, done_of, reply_at, request_of};
 
-use crate::Vstor;
 use crate::srb::{
     self, CDB, CDB_LENGTH, DATA_IN, DATA_TRANSFER_LENGTH, LENGTH, SENSE_INFO_LENGTH, SRB_STATUS,
 };
+use crate::{SrbEnd, Vstor};
 use scsi_disk::{Chunk, Command, DiskReply, DiskRequest};
 
 /// The packet of a disk's request: operation 3, flags 1, and 0 where nothing else is said. A command
@@ -58,12 +58,26 @@ fn packet(r: &DiskRequest) -> Vstor
 pub fn srb_done(p: &Vstor, back: &[u8]) -> Option<DiskReply>
     ensures { result ≡ done_of p.now back.now }
 {
-    match srb::get(&p.rest, SRB_STATUS) {
-        1 => {
-            let most = srb::get(&p.rest, DATA_TRANSFER_LENGTH).min(4096) as usize;
+    match srb_end(p) {
+        Some(SrbEnd::Done { moved }) => {
+            let most = moved.min(4096) as usize;
             Some(DiskReply::Good(Chunk::of(&back[..most.min(back.len())])))
         }
-        0x84 => Some(DiskReply::Check {
+        Some(SrbEnd::Refused { key, asc, ascq }) => Some(DiskReply::Check { key, asc, ascq }),
+        None => None,
+    }
+}
+
+/// How a completion says that its srb ended, whatever bytes came back. `None` where srb_status is
+/// neither 1 nor 0x84.
+pub fn srb_end(p: &Vstor) -> Option<SrbEnd>
+    ensures { (back : List ℕ) → done_of p.now back ≡ reply_at result back }
+{
+    match srb::get(&p.rest, SRB_STATUS) {
+        1 => Some(SrbEnd::Done {
+            moved: srb::get(&p.rest, DATA_TRANSFER_LENGTH),
+        }),
+        0x84 => Some(SrbEnd::Refused {
             key: p.rest[18],
             asc: p.rest[28],
             ascq: p.rest[29],

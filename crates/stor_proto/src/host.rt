@@ -1,7 +1,8 @@
 //! The host's side of an srb: the disk's request in it, and the answer.
-ghost use Rattle.std.specs.Prelude.{◌≡◌, ◌<◌, ◌^◌, length, take};
+ghost use Rattle.std.specs.Prelude.{◌≡◌, ◌<◌, ◌≤◌, ◌^◌, List, ℕ, IsOk, MatchOption, length, take};
 ghost use Rattle.scsi_disk.specs.Commands.{command_of};
-ghost use Rattle.stor_proto.specs.Srbs.{cdb_in, names_disk, request_of, moved_by, sense_of};
+ghost use Rattle.stor_proto.specs.Fields.{number_at};
+ghost use Rattle.stor_proto.specs.Srbs.{cdb_in, data_for, names_disk, request_of, moved_by, sense_of};
 ghost use Rattle.stor_proto.specs.Srbs.{good_srb, check_srb, reply_of, stop_of, completed, IsReadBack};
 
 use crate::srb::{
@@ -19,18 +20,47 @@ pub fn srb_request(p: &Vstor, out: Chunk) -> Result<DiskRequest, SrbStop>
     requires { p.now.operation ≡ 3 }
     ensures { result ≡ request_of p.now out }
 {
+    match srb_stopped(p) {
+        Some(stop) => Err(stop),
+        None => Ok(srb_asks(p, out.bytes())),
+    }
+}
+
+/// Why an srb doesn't reach the disk, if it doesn't: with 0x20 for another device, and else with 4
+/// for a command above 16 bytes. It is the same whatever bytes come with it.
+pub fn srb_stopped(p: &Vstor) -> Option<SrbStop>
+    requires { p.now.operation ≡ 3 }
+    ensures { MatchOption result ((out : List ℕ) → IsOk (request_of p.now out))
+        (λ stop. (out : List ℕ) → request_of p.now out ≡ Err stop) }
+{
     if !is_for_disk(p) {
-        return Err(SrbStop { status: 0x20 });
+        return Some(SrbStop { status: 0x20 });
     }
     if srb::get(&p.rest, CDB_LENGTH) > 16 {
-        return Err(SrbStop { status: 4 });
+        return Some(SrbStop { status: 4 });
     }
-    let cdb = cdb(p);
-    let out = match Command::of(&cdb) {
-        Some(Command::Write { .. }) => first_bytes(out, srb::get(&p.rest, DATA_TRANSFER_LENGTH)),
-        _ => Chunk::empty(),
-    };
-    Ok(DiskRequest { cdb, out })
+    None
+}
+
+/// The disk's request in an srb that isn't stopped, with the bytes that came.
+pub fn srb_asks(p: &Vstor, out: &[u8]) -> DiskRequest
+    requires srb { p.now.operation ≡ 3 }
+    requires few { length out.now ≤ 4096 }
+    requires reaches { IsOk (request_of p.now out.now) }
+    ensures { request_of p.now out.now ≡ Ok result }
+{
+    DiskRequest {
+        cdb: cdb(p),
+        out: Chunk::of(data(p, out)),
+    }
+}
+
+/// The command in an srb, or `None` where it isn't built.
+pub fn srb_command(p: &Vstor) -> Option<Command>
+    requires { p.now.operation ≡ 3 }
+    ensures { result ≡ command_of (cdb_in p.now) }
+{
+    Command::of(&cdb(p))
 }
 
 /// The answer that carries the disk's reply. data_transfer_length is how many bytes moved: those
@@ -72,15 +102,27 @@ fn cdb(p: &Vstor) -> [u8; 16]
     array_at(&p.rest, CDB)
 }
 
-/// The first bytes of a chunk, at most so many.
-fn first_bytes(chunk: Chunk, most: u64) -> Chunk
-    ensures { result ≡ take most chunk }
+/// What an srb's command takes of the bytes that came.
+fn data<'a>(p: &Vstor, out: &'a [u8]) -> &'a [u8]
+    requires { p.now.operation ≡ 3 }
+    ensures value { result.now ≡ data_for (command_of (cdb_in p.now)) (number_at 12 4 p.now.rest) out.now }
+    ensures few { length result.now ≤ length out.now }
 {
-    let bytes = chunk.bytes();
+    match srb_command(p) {
+        Some(Command::Write { .. }) => first(out, srb::get(&p.rest, DATA_TRANSFER_LENGTH)),
+        _ => &[],
+    }
+}
+
+/// The first bytes, at most so many.
+fn first(bytes: &[u8], most: u64) -> &[u8]
+    ensures value { result.now ≡ take most bytes.now }
+    ensures few { length result.now ≤ length bytes.now }
+{
     if most < bytes.len() as u64 {
-        Chunk::of(&bytes[..most as usize])
+        &bytes[..most as usize]
     } else {
-        chunk
+        bytes
     }
 }
 

@@ -5,6 +5,7 @@
 #![tactic(auto)]
 
 mod codec;
+mod end;
 mod fault;
 mod field_name;
 mod guest;
@@ -16,10 +17,11 @@ mod stop;
 mod vstor;
 
 pub use codec::{decode_vstor, encode_vstor};
+pub use end::SrbEnd;
 pub use fault::VstorFault;
 pub use field_name::FieldName;
-pub use guest::{srb_ask, srb_done};
-pub use host::{srb_reply, srb_request, srb_stop};
+pub use guest::{srb_ask, srb_done, srb_end};
+pub use host::{srb_asks, srb_command, srb_reply, srb_request, srb_stop, srb_stopped};
 pub use opening::{answer, start_up};
 pub use operation::Operation;
 pub use stop::SrbStop;

@@ -45,6 +45,8 @@ impl Talk for RegisterTalk {
 
     type Reply = u64;
 
+    type Head = ();
+
     ghost speech = { λ s. register_speech };
 
     ghost keeps = { λ s. register_keeps };
@@ -58,6 +60,8 @@ impl Talk for RegisterTalk {
     ghost starts = { λ s. s.starts };
 
     ghost within = { λ s. s.within };
+
+    ghost is_head = { λ s p h. Unit {0} };
 
     fn count(&self) -> u32 {
         self.values.len() as u32
@@ -103,8 +107,12 @@ impl Talk for RegisterTalk {
         0
     }
 
-    fn read(&self, packet: &[u64]) -> Option<u64> {
-        Some(word(packet, 2))
+    fn head(&self, _packet: &[u64]) -> Option<()> {
+        Some(())
+    }
+
+    fn read(&self, packet: &[u64], _head: &()) -> u64 {
+        word(packet, 2)
     }
 
     fn has_fixed_message(&self, _packet: &[u64]) -> bool {
@@ -127,11 +135,11 @@ impl Talk for RegisterTalk {
         0
     }
 
-    fn write_answer(&self, packet: &[u64], reply: &u64, out: &mut [u64]) -> usize {
+    fn write_answer(&self, packet: &[u64], _head: &(), reply: &u64, out: &mut [u64]) -> usize {
         write(out, word(packet, 1), *reply)
     }
 
-    fn result(&self, _k: u32, _before: &[u64], packet: &[u64]) -> Option<u64> {
-        Some(word(packet, 2))
+    fn keep_result(&self, _k: u32, _before: &[u64], packet: &[u64], replies: &mut Vec<u64>) {
+        replies.push_reserved(word(packet, 2));
     }
 }

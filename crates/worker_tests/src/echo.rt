@@ -48,6 +48,8 @@ impl Talk for Echo {
 
     type Reply = u64;
 
+    type Head = ();
+
     ghost speech = { λ s. echo_speech };
 
     ghost keeps = { λ s. echo_keeps };
@@ -61,6 +63,8 @@ impl Talk for Echo {
     ghost starts = { λ s. s.starts };
 
     ghost within = { λ s. s.within };
+
+    ghost is_head = { λ s p h. Unit {0} };
 
     fn count(&self) -> u32 {
         self.asks.len() as u32
@@ -106,12 +110,16 @@ impl Talk for Echo {
         write(out, COMPLETION, word(packet, 1), 1)
     }
 
-    fn read(&self, packet: &[u64]) -> Option<u64> {
+    fn head(&self, packet: &[u64]) -> Option<()> {
         if word(packet, 0) == INBAND {
-            Some(word(packet, 2))
+            Some(())
         } else {
             None
         }
+    }
+
+    fn read(&self, packet: &[u64], _head: &()) -> u64 {
+        word(packet, 2)
     }
 
     fn has_fixed_message(&self, _packet: &[u64]) -> bool {
@@ -137,15 +145,17 @@ impl Talk for Echo {
         write(out, INBAND, own, *reply)
     }
 
-    fn write_answer(&self, packet: &[u64], _reply: &u64, out: &mut [u64]) -> usize {
+    fn write_answer(&self, packet: &[u64], _head: &(), _reply: &u64, out: &mut [u64]) -> usize {
         write(out, COMPLETION, word(packet, 1), 1)
     }
 
-    fn result(&self, _k: u32, before: &[u64], _packet: &[u64]) -> Option<u64> {
-        if before.is_empty() {
-            return Some(0);
-        }
-        Some(word(before, 2))
+    fn keep_result(&self, _k: u32, before: &[u64], _packet: &[u64], replies: &mut Vec<u64>) {
+        let reply = if before.is_empty() {
+            0
+        } else {
+            word(before, 2)
+        };
+        replies.push_reserved(reply);
     }
 }
 

@@ -11,7 +11,7 @@ returns-clause-bytes c =
     let later = post_of 0 64 c.args.bytes.now in
     let second = c.copy_from_slice-2.new.self in
     let n = length c.args.more.now in
-    let is : front ≡ vstor_bytes c.args.v.now = c.copy_from_slice.ensures.after ∙ c.encode_vstor.ensures in
+    let is : front ≡ vstor_bytes c.args.v.now = c.copy_from_slice.ensures.after ∙ c.spelled.ensures in
     let len : length front ≡ 64 = omega arith in
     let more : second ≡ c.args.more.now = c.copy_from_slice-2.ensures.after in
     take-put_mid 64 (64 + n - 64) (front ++ later) second (64 + n) (omega (arith, ap length more)) (omega (arith, length-append front later, len))

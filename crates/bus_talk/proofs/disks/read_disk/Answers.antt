@@ -1,9 +1,12 @@
-use Rattle.std.proofs.Common.{◌≡◌, ◌==◌, false, sym, arith}
-use Rattle.std.proofs.lemmas.Bool.Decides.{nat_tests}
-use Rattle.bus_talk.proofs.FrontLaws.{other_read}
+use Rattle.std.proofs.Common.{[], sym}
+use Rattle.bus_talk.proofs.HeadLaws.{reads}
 use Rattle.bus_talk.proofs.disks.read_disk.Goals as goal
 
-pub returns-then-v-ne3 : goal.returns-then-v-ne3
-returns-then-v-ne3 c =
-    let other : (c.in-Some.v.operation == 3) ≡ false = grind (arith, nat_tests, c.if-v-ne3.true) in
-    record { value = sym (other_read c.args.packet.now c.in-Some.v c.in-Some.ensures.1 other) }
+pub srb_asks-requires-clause-srb : goal.srb_asks-requires-clause-srb
+srb_asks-requires-clause-srb c = (reads c.args.packet.now c.args.v.now [] c.requires.head (sym (c.has_no_data.ensures c.if-has_no_data.true)) c.requires.asks).srb
+
+pub srb_asks-requires-clause-reaches : goal.srb_asks-requires-clause-reaches
+srb_asks-requires-clause-reaches c = (reads c.args.packet.now c.args.v.now [] c.requires.head (sym (c.has_no_data.ensures c.if-has_no_data.true)) c.requires.asks).reaches
+
+pub returns-then-has_no_data : goal.returns-then-has_no_data
+returns-then-has_no_data c = (reads c.args.packet.now c.args.v.now [] c.requires.head (sym (c.has_no_data.ensures c.if-has_no_data.true)) c.requires.asks).is c.srb_asks.result c.srb_asks.ensures

@@ -1,10 +1,20 @@
-use Rattle.std.proofs.Common.{◌≡◌, ◌==◌, false, sym, ◌∙◌, arith}
-use Rattle.std.proofs.lemmas.Bool.Decides.{nat_tests}
-use Rattle.bus_talk.proofs.FrontLaws.{other_fixed}
+use Rattle.std.proofs.Common.{sym, ◌∙◌}
+use Rattle.bus_speech.specs.Disks.{data_of}
+use Rattle.bus_talk.proofs.HeadLaws.{fixed_is, fixed_none}
 use Rattle.bus_talk.proofs.disks.write_disk_fixed.Goals as goal
 
-pub returns-then-v-ne3-clause-value : goal.returns-then-v-ne3-clause-value
-returns-then-v-ne3-clause-value c =
-    let other : (c.in-Some.v.operation == 3) ≡ false = grind (arith, nat_tests, c.if-v-ne3.true) in
+pub write_done-requires-clause-allowed : goal.write_done-requires-clause-allowed
+write_done-requires-clause-allowed c = c.in-Some-fixed.ensures.0
+
+pub returns-in-Some-fixed-clause-value : goal.returns-in-Some-fixed-clause-value
+returns-in-Some-fixed-clause-value c =
+    let p = c.args.packet.now in
     let seen = c.in-Some.ensures in
-    other_fixed c.args.packet.now c.in-Some.v c.answer.result _ (sym c.is_inband.ensures.value ∙ c.if-not-is_inband.false) seen.0 seen.1 other c.answer.ensures c.write_done.ensures.packet
+    let goes = c.in-Some-fixed.ensures.1 (data_of p) in
+    fixed_is p c.in-Some.v c.in-Some-fixed.answer _ (sym c.is_inband.ensures.value ∙ c.if-not-is_inband.false) seen.0 seen.1 goes.0 goes.1 c.write_done.ensures.packet
+
+pub returns-in-None-clause-value : goal.returns-in-None-clause-value
+returns-in-None-clause-value c =
+    let p = c.args.packet.now in
+    let seen = c.in-Some.ensures in
+    fixed_none p c.in-Some.v (sym c.is_inband.ensures.value ∙ c.if-not-is_inband.false) seen.0 seen.1 (c.in-None.ensures (data_of p))

@@ -1,11 +1,14 @@
 use Rattle.end_work.proofs.SeatLaws.{beat_fits, down_fits, disk_fits_on, net_fits_on}
-use Rattle.end_work.proofs.device_seat.DeviceSeatSeatKindTalk.call.Goals.{in-Beat-Ic, in-Down-Ic, in-Disk-Disk, in-Net-Net}
 use Rattle.end_work.proofs.device_seat.DeviceSeatSeatKindTalk.call.Goals as goal
 
-pub returns-clause-fits : goal.returns-clause-fits
-returns-clause-fits g c = elim c.match-self.branch [
-  | in-Beat-Ic w ↦ beat_fits c.args.self.now c.args._talk.now.kind c.args.request c.match-self.result w.in-Beat-Ic.seat w.in-Beat-Ic.ask w.with-receipt.result.serial w.with-receipt.result.reply w.in-Beat-Ic.is-0 c.requires.serves w.in-Beat-Ic.is-1 w.result-is w.with-receipt.ensures.fits
-  | in-Down-Ic w ↦ down_fits c.args.self.now c.args._talk.now.kind c.args.request c.match-self.result w.in-Down-Ic.seat w.in-Down-Ic.ask w.with-receipt-in-Down-Ic.result.serial w.with-receipt-in-Down-Ic.result.reply w.in-Down-Ic.is-0 c.requires.serves w.in-Down-Ic.is-1 w.result-is w.with-receipt-in-Down-Ic.ensures.fits
-  | in-Disk-Disk w ↦ disk_fits_on c.args.self.now c.args._talk.now.kind c.args.request c.match-self.result w.in-Disk-Disk.seat w.in-Disk-Disk.request w.with-receipt-in-Disk-Disk.result.serial w.with-receipt-in-Disk-Disk.result.reply w.in-Disk-Disk.is-0 c.requires.serves w.in-Disk-Disk.is-1 w.result-is w.with-receipt-in-Disk-Disk.ensures.fits
-  | in-Net-Net w ↦ net_fits_on c.args.self.now c.args._talk.now.kind c.args.request c.match-self.result w.in-Net-Net.seat w.in-Net-Net.message w.with-receipt-in-Net-Net.result.serial w.with-receipt-in-Net-Net.result.reply w.in-Net-Net.is-0 c.requires.serves w.in-Net-Net.is-1 w.result-is w.with-receipt-in-Net-Net.ensures.fits
-]
+pub returns-in-Beat-clause-fits : goal.returns-in-Beat-clause-fits
+returns-in-Beat-clause-fits g c = beat_fits c.args.self.now c.args._talk.now.kind c.args.request c.in-Beat.seat c.ic_of.result c.with-receipt.result.reply c.in-Beat.is c.requires.serves c.ic_of.ensures c.with-receipt.ensures.fits
+
+pub returns-in-Down-clause-fits : goal.returns-in-Down-clause-fits
+returns-in-Down-clause-fits g c = down_fits c.args.self.now c.args._talk.now.kind c.args.request c.in-Down.seat c.ic_of-in-Down.result c.with-receipt-in-Down.result.reply c.in-Down.is c.requires.serves c.ic_of-in-Down.ensures c.with-receipt-in-Down.ensures.fits
+
+pub returns-in-Disk-clause-fits : goal.returns-in-Disk-clause-fits
+returns-in-Disk-clause-fits g c = disk_fits_on c.args.self.now c.args._talk.now.kind c.args.request c.in-Disk.seat c.disk_of.result c.with-receipt-in-Disk.result.reply c.in-Disk.is c.requires.serves c.disk_of.ensures c.with-receipt-in-Disk.ensures.fits
+
+pub returns-in-Net-clause-fits : goal.returns-in-Net-clause-fits
+returns-in-Net-clause-fits g c = net_fits_on c.args.self.now c.args._talk.now.kind c.args.request c.in-Net.seat c.message_of.result c.with-receipt-in-Net.result.reply c.in-Net.is c.requires.serves c.message_of.ensures c.with-receipt-in-Net.ensures.fits

@@ -5,8 +5,8 @@ use Rattle.scsi_disk.specs.declared.command.Command.{Command}
 use Rattle.scsi_disk.proofs.ModelLaws.{stands_for-kept_after}
 use Rattle.scsi_disk.proofs.disk.DiskMachine.apply.Goals as goal
 
-pub returns-in-None-clause-model : goal.returns-in-None-clause-model
-returns-in-None-clause-model c =
+pub returns-clause-model : goal.returns-clause-model
+returns-clause-model c =
     let k = c.args.self.now in
     let q = c.args.request.now in
     let F : Option Command → List ℕ → Kept = λ command out. with_written k (written_after k command out) in

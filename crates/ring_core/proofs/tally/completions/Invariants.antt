@@ -1,6 +1,0 @@
-use Rattle.std.proofs.Common.{◌≡◌, take}
-use Rattle.page_kept.specs.Counts.{count, is_done}
-use Rattle.ring_core.proofs.tally.completions.Given as goal
-
-abbrev pub invariant-loop-i : goal.invariant-loop-i
-invariant-loop-i l = l.n ≡ count (is_done l.tid) (take l.i l.rows.list)
