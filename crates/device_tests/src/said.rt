@@ -10,7 +10,7 @@ use std::alloc::Global;
 use std::process::Abort;
 
 /// What an answer says to the k-th ask, with the packet that came before it, if it says something.
-pub fn said(
+pub(crate) fn said(
     rt: &impl Abort,
     alloc: Global,
     talk: &KindTalk,
