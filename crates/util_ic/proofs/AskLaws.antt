@@ -1,13 +1,13 @@
 -- Requests are read back from their bytes.
 use Rattle.std.proofs.Common.{◌≡◌, ℕ, ◌^◌, ◌<◌, ◌≤◌, true, false, nat_lt, nat_le, List, [], ◌∷◌, ◌++◌, length, Some, refl, ap, ◌∙◌, arith}
 use Rattle.std.proofs.lemmas.Bool.Decides.{nat_tests}
-use Rattle.wire_table.specs.Rows.{Row, num, raw, Kind, nums, raws, AllHave, nth_number}
+use Rattle.wire_table.specs.Rows.{Row, Kind, nums, raws, AllHave, nth_number}
 use Rattle.wire_table.proofs.RowLaws.{front_again}
 use Rattle.contact.specs.declared.kind.Kind.TheVariants.{Beat as KindBeat, Down as KindDown}
 use Rattle.util_ic.specs.declared.ic.IcAsk.{IcAsk}
 use Rattle.util_ic.specs.declared.ic.IcAsk.TheVariants.{Beat, Down}
 use Rattle.util_ic.specs.declared.row.AnswerRow.TheVariants.{Heartbeat, Shutdown}
-use Rattle.util_ic.specs.Messages.{request_rows, beat_bytes, down_bytes, ask_bytes, zeros, type_of, seq_of, reason_of, timeout_of, down_flags_of}
+use Rattle.util_ic.specs.Messages.{request_rows, beat_content, down_content, beat_bytes, down_bytes, ask_bytes, type_of, seq_of, reason_of, timeout_of, down_flags_of}
 use Rattle.util_ic.specs.Answers.{row_of}
 use Rattle.util_ic.specs.Asks.{ask_of, asked_by, kind_for}
 use Rattle.util_ic.proofs.ByteLaws.{length-zeros, zeros_all}
@@ -28,21 +28,21 @@ abbrev pub down_kinds : List Kind
 down_kinds = header_kinds (nums 4 ∷ nums 4 ∷ nums 4 ∷ raws 2048 ∷ [])
 
 abbrev pub beat_rows : ℕ → List Row
-beat_rows seq = request_rows 3 1 40 (num 8 seq ∷ raw (zeros 32) ∷ [])
+beat_rows seq = request_rows 3 1 40 (beat_content seq)
 
 abbrev pub down_rows : ℕ → ℕ → ℕ → List Row
-down_rows reason timeout flags = request_rows 3 3 2060 (num 4 reason ∷ num 4 timeout ∷ num 4 flags ∷ raw (zeros 2048) ∷ [])
+down_rows reason timeout flags = request_rows 3 3 2060 (down_content reason timeout flags)
 
 pub heads : (type size : ℕ) (kinds : List Kind) (rows : List Row) → type < 65536 → size < 65536 → AllHave kinds rows → AllHave (header_kinds kinds) (request_rows 3 type size rows)
 heads type size kinds rows t s h =
     ((refl, omega arith), ((refl, omega arith), ((refl, omega arith), ((refl, omega arith), ((refl, omega arith), ((refl, omega arith), ((refl, omega arith), ((refl, omega arith), ((refl, omega arith), ((refl, omega arith), ((refl, omega arith), ((refl, omega arith), h))))))))))))
 
 pub beat_has : (seq : ℕ) → seq < 2 ^ 64 → AllHave beat_kinds (beat_rows seq)
-beat_has seq fits = heads 1 40 (nums 8 ∷ raws 32 ∷ []) (num 8 seq ∷ raw (zeros 32) ∷ []) (omega arith) (omega arith) ((refl, fits), ((length-zeros 32, zeros_all 32), tt))
+beat_has seq fits = heads 1 40 (nums 8 ∷ raws 32 ∷ []) (beat_content seq) (omega arith) (omega arith) ((refl, fits), ((length-zeros 32, zeros_all 32), tt))
 
 pub down_has : (reason timeout flags : ℕ) → reason < 2 ^ 32 → timeout < 2 ^ 32 → flags < 2 ^ 32 → AllHave down_kinds (down_rows reason timeout flags)
 down_has reason timeout flags r t f =
-    heads 3 2060 (nums 4 ∷ nums 4 ∷ nums 4 ∷ raws 2048 ∷ []) (num 4 reason ∷ num 4 timeout ∷ num 4 flags ∷ raw (zeros 2048) ∷ []) (omega arith) (omega arith)
+    heads 3 2060 (nums 4 ∷ nums 4 ∷ nums 4 ∷ raws 2048 ∷ []) (down_content reason timeout flags) (omega arith) (omega arith)
     ((refl, r), ((refl, t), ((refl, f), ((length-zeros 2048, zeros_all 2048), tt))))
 
 -- a heartbeat of 36 bytes or more on a heartbeat channel

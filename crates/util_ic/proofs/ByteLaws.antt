@@ -1,9 +1,12 @@
 -- Bytes of messages: zeros, numbers that are put, and fronts that are written.
-use Rattle.std.proofs.Common.{◌≡◌, ℕ, zero, suc, ◌+◌, ◌-◌, ◌^◌, ◌<◌, ◌≤◌, ◌⊎◌, List, [], ◌++◌, length, take, drop, length-append, length-drop, sym, ap, ◌∙◌, arith}
+use Rattle.std.proofs.Common.{◌≡◌, ℕ, zero, suc, ◌+◌, ◌-◌, ◌^◌, ◌<◌, ◌≤◌, ◌⊎◌, List, [], ◌++◌, length, take, drop, append_assoc, length-append, length-drop, refl, sym, ap, ◌∙◌, arith}
 use Rattle.std.specs.List.{AllByRecursion}
-use Rattle.std.proofs.lemmas.List.{take_at, drop_at, drop_all, append-nil, length-replicate, length-take-le, drop-append-le, take-append-le}
+use Rattle.std.proofs.Math.Seq.{take-add}
+use Rattle.std.proofs.lemmas.List.{take_all, drop-drop, take_at, drop_at, drop_all, append-nil, length-replicate, length-take-le, drop-append-le, take-append-le, take-append-drop}
 use borrow.Rule.Slice.PartMut.{put_mid}
 use Rattle.wire_table.specs.Little.{number_of, bytes_of}
+use Rattle.wire_table.specs.Rows.{Row, spelled_after}
+use Rattle.wire_table.proofs.RowLaws.{spelled, spelled_after_is}
 use Rattle.wire_table.proofs.LittleLemmas.{length-bytes_of}
 use Rattle.wire_table.proofs.PutLaws.{put_value, put_other}
 use Rattle.util_ic.specs.Messages.{number_at, put, zeros}
@@ -17,11 +20,31 @@ unfolding zeros
 zeros_all zero = tt
 zeros_all (suc n) = (omega arith, zeros_all n)
 
--- the end of a message is cleared
-pub cleared_end : (old new : List ℕ) (at k n : ℕ) → at + n ≡ length old → k ≡ length old - at → new ≡ zeros n → put_mid at k old new ≡ take at old ++ zeros n
-cleared_end old new at k n is len zero_bytes =
+-- the end of a message is written
+pub end_written : (old new bytes : List ℕ) (at k : ℕ) → length old ≤ at + k → new ≡ bytes → put_mid at k old new ≡ take at old ++ bytes
+end_written old new bytes at k le is =
     let past : drop k (drop at old) ≡ [] = drop_all k (drop at old) (omega (arith, length-drop at old)) in
-    ap (λ l. take at old ++ l) (rw past (append-nil new ∙ zero_bytes))
+    ap (λ l. take at old ++ l) (rw past (append-nil new ∙ is))
+
+-- the content of a message is written behind its headers
+pub content_written : (headers content : List Row) (old new : List ℕ) (at k : ℕ) → length old ≤ at + k → take at old ≡ spelled_after [] headers → new ≡ spelled_after [] content
+    → put_mid at k old new ≡ spelled_after (spelled_after [] headers) content
+content_written headers content old new at k le front is =
+    end_written old new (spelled content) at k le (is ∙ spelled_after_is [] content) ∙ (ap (λ l. l ++ spelled content) front ∙ sym (spelled_after_is (spelled_after [] headers) content))
+
+-- a number is put behind a place
+pub put_behind : (start at w v k : ℕ) (b new : List ℕ) → length b ≤ start + k → take (at + w) new ≡ take at (take k (drop start b)) ++ bytes_of w v → drop (at + w) new ≡ drop (at + w) (take k (drop start b))
+    → put_mid start k b new ≡ put (start + at) w v b
+put_behind start at w v k b new le front rest =
+    let part = drop start b in
+    let all : take k part ≡ part = take_all k part (omega (arith, length-drop start b)) in
+    let is : new ≡ put at w v part = sym (take-append-drop (at + w) new) ∙ (ap (λ l. l ++ drop (at + w) new) front ∙ (ap (λ l. (take at (take k part) ++ bytes_of w v) ++ l) rest ∙ ap (λ p. put at w v p) all)) in
+    let before : take start b ++ take at part ≡ take (start + at) b = sym (take-add start at b) in
+    let after : drop (at + w) part ≡ drop (start + at + w) b = drop-drop (at + w) start b ∙ ap (λ n. drop n b) (omega arith) in
+    end_written b new (put at w v part) start k le is
+    ∙ (sym (append_assoc (take start b) (take at part ++ bytes_of w v) (drop (at + w) part))
+    ∙ (ap (λ l. l ++ drop (at + w) part) (sym (append_assoc (take start b) (take at part) (bytes_of w v)))
+    ∙ rw (before, after) refl))
 
 -- the front of a buffer is written
 pub front_written : (out new bytes : List ℕ) (n : ℕ) → n ≤ length out → length new ≡ length (take n out) → new ≡ bytes → (n ≡ length bytes) × (take n (new ++ drop n out) ≡ bytes) × (drop n (new ++ drop n out) ≡ drop n out)

@@ -9,7 +9,7 @@ use Rattle.pkt_desc.specs.Packets.{inband_packet, Carries}
 use Rattle.pkt_desc.proofs.PacketLaws.{plain_carries}
 use Rattle.util_ic.specs.declared.ic.IcAsk.{IcAsk}
 use Rattle.util_ic.specs.declared.ic.IcAsk.TheVariants.{Beat, Down}
-use Rattle.util_ic.specs.Messages.{ask_bytes, negotiate_bytes, request_rows, version_rows}
+use Rattle.util_ic.specs.Messages.{ask_bytes, negotiate_bytes, request_rows, offer_content}
 use Rattle.util_ic.specs.Answers.{utility_answer}
 use Rattle.util_ic.specs.Packets.{ask_packet, negotiate_packet, served_packet}
 use Rattle.util_ic.proofs.AskLaws.{FitsAsk, beat_kinds, beat_rows, beat_has, down_kinds, down_rows, down_has}
@@ -54,7 +54,7 @@ abbrev offer_kinds : List RowKind
 offer_kinds = nums 4 ∷ nums 4 ∷ nums 2 ∷ nums 2 ∷ nums 2 ∷ nums 2 ∷ nums 2 ∷ nums 2 ∷ nums 4 ∷ nums 1 ∷ nums 1 ∷ nums 2 ∷ nums 2 ∷ nums 2 ∷ nums 4 ∷ nums 2 ∷ nums 2 ∷ nums 2 ∷ nums 2 ∷ nums 2 ∷ nums 2 ∷ nums 2 ∷ nums 2 ∷ []
 
 abbrev offer_rows : List Row
-offer_rows = request_rows 0 0 24 (num 2 2 ∷ num 2 2 ∷ num 4 0 ∷ version_rows 3 0 (version_rows 1 0 (version_rows 3 0 (version_rows 1 0 []))))
+offer_rows = request_rows 0 0 24 offer_content
 
 offers_have : AllHave offer_kinds offer_rows
 offers_have = ((refl, omega arith), ((refl, omega arith), ((refl, omega arith), ((refl, omega arith), ((refl, omega arith), ((refl, omega arith), ((refl, omega arith), ((refl, omega arith), ((refl, omega arith), ((refl, omega arith), ((refl, omega arith), ((refl, omega arith), ((refl, omega arith), ((refl, omega arith), ((refl, omega arith), ((refl, omega arith), ((refl, omega arith), ((refl, omega arith), ((refl, omega arith), ((refl, omega arith), ((refl, omega arith), ((refl, omega arith), ((refl, omega arith), tt)))))))))))))))))))))))

@@ -81,13 +81,21 @@ request_rows major type size content =
     ∷ num 2 major ∷ num 2 0 ∷ num 2 type ∷ num 2 major ∷ num 2 0 ∷ num 2 size ∷ num 4 0 ∷ num 1 0 ∷ num 1 3 ∷ num 2 0
     ∷ content
 
--- a heartbeat with its sequence number and 32 reserved bytes
-abbrev pub beat_bytes : ℕ → List ℕ
-beat_bytes seq = spelled_after [] (request_rows 3 1 40 (num 8 seq ∷ raw (zeros 32) ∷ []))
+-- the content of a heartbeat: its sequence number and 32 reserved bytes
+abbrev pub beat_content : ℕ → List Row
+beat_content seq = num 8 seq ∷ raw (zeros 32) ∷ []
 
--- a shutdown with 2,048 bytes of text
+-- a heartbeat
+abbrev pub beat_bytes : ℕ → List ℕ
+beat_bytes seq = spelled_after [] (request_rows 3 1 40 (beat_content seq))
+
+-- the content of a shutdown, with 2,048 bytes of text
+abbrev pub down_content : ℕ → ℕ → ℕ → List Row
+down_content reason timeout flags = num 4 reason ∷ num 4 timeout ∷ num 4 flags ∷ raw (zeros 2048) ∷ []
+
+-- a shutdown
 abbrev pub down_bytes : ℕ → ℕ → ℕ → List ℕ
-down_bytes reason timeout flags = spelled_after [] (request_rows 3 3 2060 (num 4 reason ∷ num 4 timeout ∷ num 4 flags ∷ raw (zeros 2048) ∷ []))
+down_bytes reason timeout flags = spelled_after [] (request_rows 3 3 2060 (down_content reason timeout flags))
 
 -- a request
 abbrev pub ask_bytes : IcAsk → List ℕ
@@ -98,6 +106,10 @@ ask_bytes (AskDown reason timeout flags) = down_bytes reason timeout flags
 abbrev pub version_rows : ℕ → ℕ → List Row → List Row
 version_rows major minor later = num 2 major ∷ num 2 minor ∷ later
 
--- the negotiate message: frame versions 3.0 and 1.0, message versions 3.0 and 1.0
+-- the content of the negotiate message: frame versions 3.0 and 1.0, message versions 3.0 and 1.0
+abbrev pub offer_content : List Row
+offer_content = num 2 2 ∷ num 2 2 ∷ num 4 0 ∷ version_rows 3 0 (version_rows 1 0 (version_rows 3 0 (version_rows 1 0 [])))
+
+-- the negotiate message
 abbrev pub negotiate_bytes : List ℕ
-negotiate_bytes = spelled_after [] (request_rows 0 0 24 (num 2 2 ∷ num 2 2 ∷ num 4 0 ∷ version_rows 3 0 (version_rows 1 0 (version_rows 3 0 (version_rows 1 0 [])))))
+negotiate_bytes = spelled_after [] (request_rows 0 0 24 offer_content)

@@ -12,9 +12,9 @@ use crate::down::down_status;
 use crate::request::clear;
 use crate::row::{AnswerRow, first_row};
 use crate::tables::{
-    agreed_table, header_table, heartbeat_table, negotiate_table, set, shutdown_table,
+    CONTENT, VERSIONS, get, header_table, heartbeat_table, negotiate_table, set, shutdown_table,
 };
-use crate::version::Version;
+use crate::version::{Version, put_version};
 use contact::Kind;
 
 const FAIL: u32 = 0x8000_4005;
@@ -25,8 +25,8 @@ fn finish(message: &mut [u8], status: u32)
     ensures { message.new ≡ with_result status message.old }
 {
     let table = header_table();
-    set(&table, message, 8, u64::from(status));
-    set(&table, message, 10, 5);
+    set(&table, message, 0, 8, u64::from(status));
+    set(&table, message, 0, 10, 5);
 }
 
 // The answer to what is no message: its bytes are 0 but for status and flags.
@@ -44,8 +44,8 @@ fn put_counts(message: &mut [u8], count: u16)
     ensures { message.new ≡ with_counts count message.old }
 {
     let table = negotiate_table();
-    set(&table, message, 12, u64::from(count));
-    set(&table, message, 13, u64::from(count));
+    set(&table, message, CONTENT, 0, u64::from(count));
+    set(&table, message, CONTENT, 1, u64::from(count));
 }
 
 // The agreed versions in an answer to a negotiate message.
@@ -53,11 +53,8 @@ fn put_agreed(message: &mut [u8], frame: Version, agreed: Version)
     requires { 44 ≤ length message.old }
     ensures { message.new ≡ with_agreed frame agreed message.old }
 {
-    let table = agreed_table();
-    set(&table, message, 15, u64::from(frame.major));
-    set(&table, message, 16, u64::from(frame.minor));
-    set(&table, message, 17, u64::from(agreed.major));
-    set(&table, message, 18, u64::from(agreed.minor));
+    put_version(message, VERSIONS, frame);
+    put_version(message, VERSIONS + 4, agreed);
 }
 
 // The sequence number of a heartbeat's answer.
@@ -66,8 +63,8 @@ fn raise_seq(message: &mut [u8])
     ensures { message.new ≡ with_seq_risen message.old }
 {
     let table = heartbeat_table();
-    let seq = table.get(message, 12);
-    set(&table, message, 12, seq.wrapping_add(1));
+    let seq = get(&table, message, CONTENT, 0);
+    set(&table, message, CONTENT, 0, seq.wrapping_add(1));
 }
 
 // Changes a copy of a request into its answer, by the row that applies.
@@ -96,7 +93,7 @@ fn answer(message: &mut [u8], row: AnswerRow)
             finish(message, 0);
         }
         AnswerRow::Shutdown => {
-            let flags = shutdown_table().get(message, 14) as u32;
+            let flags = get(&shutdown_table(), message, CONTENT, 2) as u32;
             finish(message, down_status(flags));
         }
     }

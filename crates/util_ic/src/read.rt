@@ -5,7 +5,7 @@ ghost use Rattle.util_ic.specs.Messages.{IsUtility};
 ghost use Rattle.util_ic.specs.Asks.{ask_of, answer_of, whole_or_zero};
 
 use crate::row::{AnswerRow, first_row, is_beat};
-use crate::tables::{heartbeat_table, shutdown_table};
+use crate::tables::{CONTENT, get, heartbeat_table, shutdown_table};
 use crate::{IcAnswer, IcAsk};
 use contact::Kind;
 use wire_table::get_at;
@@ -18,14 +18,14 @@ pub fn read_ask(request: &[u8], kind: Kind) -> Option<IcAsk>
 {
     match first_row(request, kind) {
         AnswerRow::Heartbeat => Some(IcAsk::Beat {
-            seq: heartbeat_table().get(request, 12),
+            seq: get(&heartbeat_table(), request, CONTENT, 0),
         }),
         AnswerRow::Shutdown => {
             let table = shutdown_table();
             Some(IcAsk::Down {
-                reason: table.get(request, 12) as u32,
-                timeout: table.get(request, 13) as u32,
-                flags: table.get(request, 14) as u32,
+                reason: get(&table, request, CONTENT, 0) as u32,
+                timeout: get(&table, request, CONTENT, 1) as u32,
+                flags: get(&table, request, CONTENT, 2) as u32,
             })
         }
         _ => None,

@@ -2,13 +2,14 @@
 
 ghost use Rattle.std.specs.Prelude.{◌≡◌, ℕ, ◌+◌, ◌<◌, ◌≤◌, ◌++◌, [], length, take, drop, List, Some};
 ghost use Rattle.wire_table.specs.Rows.{spelled_after};
-ghost use Rattle.util_ic.specs.Messages.{beat_bytes, down_bytes, ask_bytes, negotiate_bytes, request_rows, zeros};
+ghost use Rattle.util_ic.specs.Messages.{beat_content, down_content, offer_content, beat_bytes, down_bytes, ask_bytes, negotiate_bytes, request_rows, zeros};
 ghost use Rattle.pkt_desc.specs.Packets.{Carries};
 ghost use Rattle.util_ic.specs.Packets.{ask_packet, negotiate_packet};
 ghost use Rattle.util_ic.specs.Asks.{ask_of, kind_for};
 
 use crate::IcAsk;
-use crate::tables::{header_table, heartbeat_table, offered_table, shutdown_table};
+use crate::tables::{CONTENT, header_table, heartbeat_table, negotiate_table, shutdown_table};
+use crate::version::{NEW, OLD, put_version};
 use contact::Kind;
 use wire_table::fields;
 
@@ -36,15 +37,33 @@ fn write_headers(message: &mut [u8], major: u16, kind: u16, len: u16)
     fields!(put table in message: num 0 = 0u32, num 1 = 20 + u32::from(len), num 2 = major, num 3 = 0u16, num 4 = kind, num 5 = major, num 6 = 0u16, num 7 = len, num 8 = 0u32, num 9 = 0u8, num 10 = 3u8, num 11 = 0u16);
 }
 
+// Writes the content of a heartbeat.
+fn put_beat(content: &mut [u8], seq: u64)
+    requires { length content.old ≡ 40 }
+    ensures { content.new ≡ spelled_after [] (beat_content seq) }
+{
+    let table = heartbeat_table();
+    fields!(put table in content: num 0 = seq);
+    put_zeros(content, 8, 32);
+}
+
 // Writes a heartbeat.
 fn write_beat(message: &mut [u8], seq: u64)
     requires { length message.old ≡ 68 }
     ensures { message.new ≡ beat_bytes seq }
 {
     write_headers(message, 3, 1, 40);
-    let table = heartbeat_table();
-    fields!(put table in message: num 12 = seq);
-    put_zeros(message, 36, 32);
+    put_beat(&mut message[CONTENT..], seq);
+}
+
+// Writes the content of a shutdown.
+fn put_down(content: &mut [u8], reason: u32, timeout: u32, flags: u32)
+    requires { length content.old ≡ 2060 }
+    ensures { content.new ≡ spelled_after [] (down_content reason timeout flags) }
+{
+    let table = shutdown_table();
+    fields!(put table in content: num 0 = reason, num 1 = timeout, num 2 = flags);
+    put_zeros(content, 12, 2048);
 }
 
 // Writes a shutdown.
@@ -53,19 +72,29 @@ fn write_down(message: &mut [u8], reason: u32, timeout: u32, flags: u32)
     ensures { message.new ≡ down_bytes reason timeout flags }
 {
     write_headers(message, 3, 3, 2060);
-    let table = shutdown_table();
-    fields!(put table in message: num 12 = reason, num 13 = timeout, num 14 = flags);
-    put_zeros(message, 40, 2048);
+    put_down(&mut message[CONTENT..], reason, timeout, flags);
+}
+
+// Writes the content of the negotiate message: two frame versions and two message versions.
+fn put_offer(content: &mut [u8])
+    requires { length content.old ≡ 24 }
+    ensures { content.new ≡ spelled_after [] offer_content }
+{
+    let table = negotiate_table();
+    fields!(put table in content: num 0 = 2u16, num 1 = 2u16, num 2 = 0u32);
+    put_version(content, 8, NEW);
+    put_version(content, 12, OLD);
+    put_version(content, 16, NEW);
+    put_version(content, 20, OLD);
 }
 
 // Writes the negotiate message.
 fn write_negotiate(message: &mut [u8])
     requires { length message.old ≡ 52 }
-    ensures { take 52 message.new ≡ negotiate_bytes }
+    ensures { message.new ≡ negotiate_bytes }
 {
     write_headers(message, 0, 0, 24);
-    let table = offered_table();
-    fields!(put table in message: num 12 = 2u16, num 13 = 2u16, num 14 = 0u32, num 15 = 3u16, num 16 = 0u16, num 17 = 1u16, num 18 = 0u16, num 19 = 3u16, num 20 = 0u16, num 21 = 1u16, num 22 = 0u16);
+    put_offer(&mut message[CONTENT..]);
 }
 
 /// Writes a request at the front of `out`, and answers its length: 68 bytes for a heartbeat, 2,088 for a shutdown. The rest of

@@ -4,7 +4,7 @@ ghost use Rattle.std.specs.Prelude.{◌≡◌, ◌+◌, ◌*◌, ◌<◌, ◌≤
 ghost use Rattle.util_ic.specs.Messages.{number_at, type_of, on_beat, on_down};
 ghost use Rattle.util_ic.specs.Answers.{row_of, negotiation_of, HasRoom};
 
-use crate::tables::{header_table, negotiate_table};
+use crate::tables::{CONTENT, VERSIONS, get, header_table, negotiate_table};
 use crate::version::{Version, greatest};
 use contact::Kind;
 
@@ -33,16 +33,16 @@ fn negotiation(request: &[u8]) -> AnswerRow
     ensures row { result ≡ negotiation_of request.now }
     ensures room { HasRoom result (length request.now) }
 {
-    if request.len() < 36 {
+    if request.len() < VERSIONS {
         return AnswerRow::Cut;
     }
     let table = negotiate_table();
-    let frames = table.get(request, 12) as usize;
-    let messages = table.get(request, 13) as usize;
-    if request.len() < 36 + 4 * (frames + messages) {
+    let frames = get(&table, request, CONTENT, 0) as usize;
+    let messages = get(&table, request, CONTENT, 1) as usize;
+    if request.len() < VERSIONS + 4 * (frames + messages) {
         return AnswerRow::Cut;
     }
-    let (_, versions) = request.split_at(36);
+    let (_, versions) = request.split_at(VERSIONS);
     let (_, later) = versions.split_at(4 * frames);
     match (greatest(versions, frames), greatest(later, messages)) {
         (Some(frame), Some(message)) => AnswerRow::Agreed { frame, message },

@@ -1,10 +1,12 @@
 //! Versions of frames and messages.
 
-ghost use Rattle.std.specs.Prelude.{◌≡◌, ◌+◌, ◌*◌, ◌/◌, ◌<◌, ◌≤◌, length, drop, Some, None, Option, IsTrue, IfSome};
+ghost use Rattle.std.specs.Prelude.{◌≡◌, ◌+◌, ◌*◌, ◌/◌, ◌<◌, ◌≤◌, ◌++◌, length, take, drop, Some, None, Option, IsTrue, IfSome};
 ghost use Rattle.std.specs.List.{list_any};
+ghost use Rattle.wire_table.specs.Little.{bytes_of};
+ghost use Rattle.util_ic.specs.Answers.{with_version};
 ghost use Rattle.util_ic.specs.Versions.{versions_in, version_at, same as is_same, greatest_known, is_offered};
 
-use wire_table::get_at;
+use crate::tables::{set, version_table};
 
 /// A version of frames or messages.
 #[derive(Clone, Copy, Debug, PartialEq, Eq)]
@@ -15,10 +17,11 @@ pub struct Version {
     pub minor: u16,
 }
 
-// The versions that the guest knows, of frames and of both services' messages.
-const NEW: Version = Version { major: 3, minor: 0 };
+/// The newer of the versions that both ends know, of frames and of both services' messages.
+pub const NEW: Version = Version { major: 3, minor: 0 };
 
-const OLD: Version = Version { major: 1, minor: 0 };
+/// The older one.
+pub const OLD: Version = Version { major: 1, minor: 0 };
 
 // Two versions are the same where both their numbers are.
 fn same(a: Version, b: Version) -> bool
@@ -32,10 +35,22 @@ fn first_version(bytes: &[u8]) -> Version
     requires { 4 ≤ length bytes.now }
     ensures { result ≡ version_at bytes.now }
 {
+    let table = version_table();
     Version {
-        major: get_at(bytes, 0, 2) as u16,
-        minor: get_at(bytes, 2, 2) as u16,
+        major: table.get(bytes, 0) as u16,
+        minor: table.get(bytes, 1) as u16,
     }
+}
+
+/// Writes a version at a place of a message. Everything else stays.
+pub fn put_version(message: &mut [u8], at: usize, version: Version)
+    requires { at + 4 ≤ length message.old }
+    ensures value { message.new ≡ with_version at version message.old }
+    ensures front { take (at + 4) message.new ≡ (take at message.old ++ bytes_of 2 version.major) ++ bytes_of 2 version.minor }
+{
+    let table = version_table();
+    set(&table, message, at, 0, u64::from(version.major));
+    set(&table, message, at, 1, u64::from(version.minor));
 }
 
 // A version is one of these.

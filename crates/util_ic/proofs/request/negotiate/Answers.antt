@@ -1,5 +1,5 @@
-use Rattle.std.proofs.Common.{◌≡◌, length, sym, ◌∙◌, arith}
-use Rattle.std.proofs.lemmas.List.{length-take-le, take_all}
+use Rattle.std.proofs.Common.{sym, arith}
+use Rattle.std.proofs.lemmas.List.{length-take-le}
 use Rattle.util_ic.specs.Messages.{negotiate_bytes}
 use Rattle.util_ic.proofs.ByteLaws.{front_written}
 use Rattle.util_ic.proofs.PacketLaws.{negotiate_carries}
@@ -13,26 +13,17 @@ write_negotiate-requires c = length-take-le 52 c.args.out.now (omega (arith, c.r
 
 pub returns-clause-count : goal.returns-clause-count
 returns-clause-count c =
-    let new = c.write_negotiate.new.message in
-    let size : length new ≡ 52 = c.write_negotiate.auto.message ∙ length-take-le 52 c.args.out.now (omega (arith, c.requires.room)) in
-    let is : new ≡ negotiate_bytes = sym (take_all 52 new (omega (arith, size))) ∙ c.write_negotiate.ensures in
-    let w = front_written c.args.out.now new negotiate_bytes 52 (omega (arith, c.requires.room)) c.write_negotiate.auto.message is in
+    let w = front_written c.args.out.now c.write_negotiate.new.message negotiate_bytes 52 (omega (arith, c.requires.room)) c.write_negotiate.auto.message c.write_negotiate.ensures in
     w.0
 
 pub returns-clause-message : goal.returns-clause-message
 returns-clause-message c =
-    let new = c.write_negotiate.new.message in
-    let size : length new ≡ 52 = c.write_negotiate.auto.message ∙ length-take-le 52 c.args.out.now (omega (arith, c.requires.room)) in
-    let is : new ≡ negotiate_bytes = sym (take_all 52 new (omega (arith, size))) ∙ c.write_negotiate.ensures in
-    let w = front_written c.args.out.now new negotiate_bytes 52 (omega (arith, c.requires.room)) c.write_negotiate.auto.message is in
+    let w = front_written c.args.out.now c.write_negotiate.new.message negotiate_bytes 52 (omega (arith, c.requires.room)) c.write_negotiate.auto.message c.write_negotiate.ensures in
     w.1
 
 pub returns-clause-rest : goal.returns-clause-rest
 returns-clause-rest c =
-    let new = c.write_negotiate.new.message in
-    let size : length new ≡ 52 = c.write_negotiate.auto.message ∙ length-take-le 52 c.args.out.now (omega (arith, c.requires.room)) in
-    let is : new ≡ negotiate_bytes = sym (take_all 52 new (omega (arith, size))) ∙ c.write_negotiate.ensures in
-    let w = front_written c.args.out.now new negotiate_bytes 52 (omega (arith, c.requires.room)) c.write_negotiate.auto.message is in
+    let w = front_written c.args.out.now c.write_negotiate.new.message negotiate_bytes 52 (omega (arith, c.requires.room)) c.write_negotiate.auto.message c.write_negotiate.ensures in
     w.2
 
 pub returns-clause-packet : goal.returns-clause-packet
