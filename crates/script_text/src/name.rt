@@ -8,24 +8,24 @@ ghost use Rattle.std.proofs.Common.{rules};
 ghost use Rattle.script_text.specs.Forms.{is_name, is_name_byte, is_lower};
 
 use crate::number::is_digit;
+use held_list::Held;
 use std::hash::{Hash, Hasher};
 use std::marker::Model;
 
 /// A name of 1 to 16 bytes. Contracts see the list of them.
 #[derive(Drop)]
 pub struct Name {
-    bytes: [u8; 16],
-    len: usize,
+    held: Held<16>,
 }
 
 impl Model for Name {
-    ghost use Rattle.std.specs.Prelude.{List, ℕ, ◌<◌, ◌≤◌, take};
+    ghost use Rattle.std.specs.Prelude.{List, ℕ, ◌<◌, length};
 
     ghost Value = { List ℕ };
 
-    ghost view = { λ n. take n.len n.bytes };
+    ghost view = { λ n. n.held };
 
-    ghost invariant = { λ n. (0 < n.len) × (n.len ≤ 16) };
+    ghost invariant = { λ n. 0 < length n.held };
 }
 
 impl Name {
@@ -35,11 +35,8 @@ impl Name {
         requires short { length word.now ≤ 16 }
         ensures { result ≡ word.now }
     {
-        let mut bytes = [0; 16];
-        bytes[..word.len()].copy_from_slice(word);
         Name {
-            bytes,
-            len: word.len(),
+            held: Held::of(word),
         }
     }
 
@@ -49,14 +46,16 @@ impl Name {
         ensures some { 0 < length result.now }
         ensures short { length result.now ≤ 16 }
     {
-        &self.bytes[..self.len]
+        self.held.bytes()
     }
 
     /// The same name.
     pub fn again(&self) -> Name
         ensures { result ≡ self.now }
     {
-        Name::of(self.bytes())
+        Name {
+            held: self.held.again(),
+        }
     }
 }
 

@@ -9,7 +9,7 @@ returns-in-Some-Done c =
     let h = rw c.in-Some-Done.field-0-is at (c.in-Some-Done.ensures c.args.back.now) in
     let back = c.args.back.now in
     let is : c.of.result ≡ take (min c.in-Some-Done.moved 4096) back =
-    c.of.ensures ∙ (ap (λ (n : ℕ). take n back) (c.min.ensures ∙ ap (λ (n : ℕ). min n (length back)) c.min-most.ensures) ∙ take_min (min c.in-Some-Done.moved 4096) back) in
+    c.of.ensures.value ∙ (ap (λ (n : ℕ). take n back) (c.min.ensures ∙ ap (λ (n : ℕ). min n (length back)) c.min-most.ensures) ∙ take_min (min c.in-Some-Done.moved 4096) back) in
     ap {B = Option DiskReply} (λ (bytes : List ℕ). Some (Good bytes)) is ∙ sym h
 
 pub returns-in-Some-Refused : goal.returns-in-Some-Refused
