@@ -1,5 +1,5 @@
 //! The drivers of a call: the loops that make its steps.
-ghost use Rattle.std.specs.Prelude.{◌≡◌, ◌≢◌, ℕ, ◌<◌, true, false, length, Some, None};
+ghost use Rattle.std.specs.Prelude.{◌≡◌, ◌≢◌, ◌<◌, true, false, length, Some, None};
 ghost use Rattle.ring_machine.specs.Loops.{SendKeeps, TakeKeeps, CommitKeeps};
 ghost use Rattle.ring_machine.specs.States.{stored, Continues};
 ghost use Rattle.ring_machine.specs.Steps.{is_busy_at, is_copying_at, next_of, fed};
@@ -11,6 +11,10 @@ ghost use Rattle.ring_machine.specs.PageCalls.{is_paging, page_op, pages_fed, Co
 
 use crate::parts::Parts;
 use crate::seat::Seatlike;
+use crate::stages::{
+    is_asking, is_copying, is_feature, is_first, is_giving, is_loading, is_masking, is_pending,
+    is_seeking, is_storing, is_writing,
+};
 use ring_machine::EndCore;
 
 // Copies a word into the buffer where the step loaded one of a packet.
@@ -49,7 +53,7 @@ pub fn step<S: Seatlike>(
     ensures pages { core.new.pages ≡ core.old.pages }
 {
     let v = seat.perform(core, packet);
-    let copies = core.is_copying();
+    let copies = is_copying(core.machine.stage);
     store_where(copies, buf, core.machine.done as usize, v);
     core.feed(v);
     v
@@ -191,16 +195,16 @@ impl<S: Seatlike> Driver<S> for SendLoops {
     #[inline(always)]
     fn drive(parts: &mut Parts<S>, packet: &[u64]) {
         let mut core = parts.core;
-        while core.is_asking() {
+        while is_asking(core.machine.stage) {
             step(&mut parts.seat, &mut core, &mut parts.buf, packet);
         }
-        while core.is_storing() {
+        while is_storing(core.machine.stage) {
             step(&mut parts.seat, &mut core, &mut parts.buf, packet);
         }
-        while core.is_writing() {
+        while is_writing(core.machine.stage) {
             step(&mut parts.seat, &mut core, &mut parts.buf, packet);
         }
-        while core.is_masking() {
+        while is_masking(core.machine.stage) {
             step(&mut parts.seat, &mut core, &mut parts.buf, packet);
         }
         send_back(&mut parts.core, &core);
@@ -217,13 +221,13 @@ impl<S: Seatlike> Driver<S> for TakeLoops {
     #[inline(always)]
     fn drive(parts: &mut Parts<S>, packet: &[u64]) {
         let mut core = parts.core;
-        while core.is_seeking() {
+        while is_seeking(core.machine.stage) {
             step(&mut parts.seat, &mut core, &mut parts.buf, packet);
         }
-        while core.is_first() {
+        while is_first(core.machine.stage) {
             step(&mut parts.seat, &mut core, &mut parts.buf, packet);
         }
-        while core.is_loading() {
+        while is_loading(core.machine.stage) {
             step(&mut parts.seat, &mut core, &mut parts.buf, packet);
         }
         take_back(&mut parts.core, &core);
@@ -240,13 +244,13 @@ impl<S: Seatlike> Driver<S> for CommitLoops {
     #[inline(always)]
     fn drive(parts: &mut Parts<S>, packet: &[u64]) {
         let mut core = parts.core;
-        while core.is_giving() {
+        while is_giving(core.machine.stage) {
             step(&mut parts.seat, &mut core, &mut parts.buf, packet);
         }
-        while core.is_feature() {
+        while is_feature(core.machine.stage) {
             step(&mut parts.seat, &mut core, &mut parts.buf, packet);
         }
-        while core.is_pending() {
+        while is_pending(core.machine.stage) {
             step(&mut parts.seat, &mut core, &mut parts.buf, packet);
         }
         commit_back(&mut parts.core, &core);

@@ -11,6 +11,7 @@ mod room;
 mod rows;
 mod seat;
 mod solo_mem;
+mod stages;
 mod taken;
 mod tally;
 mod told;

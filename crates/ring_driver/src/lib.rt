@@ -3,5 +3,6 @@
 
 mod driver_end;
 mod parts;
+mod stages;
 
 pub use driver_end::DriverEnd;

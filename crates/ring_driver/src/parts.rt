@@ -11,6 +11,7 @@ ghost use Rattle.ring_core.specs.Told.{Left};
 ghost use Rattle.ring_machine.specs.declared.machine.Stage.TheVariants.{Stopped};
 ghost use Rattle.ring_core.specs.declared.told.Told.{Told};
 
+use crate::stages::{is_asking, is_first, is_loading, is_seeking, is_storing};
 use chan_run::Past;
 use ring_core::{EndCore, Ending, Seatlike, step};
 
@@ -52,19 +53,19 @@ fn drive<S: Seatlike>(parts: &mut Parts<S>, packet: &[u64])
     ensures honest { (u : Told) → S.told parts.new.seat ≡ Some u → parts.new.core.machine.stage ≢ Stopped }
 {
     let mut core = parts.core;
-    while core.is_asking() {
+    while is_asking(core.machine.stage) {
         step(&mut parts.seat, &mut core, &mut parts.buf, packet);
     }
-    while core.is_storing() {
+    while is_storing(core.machine.stage) {
         step(&mut parts.seat, &mut core, &mut parts.buf, packet);
     }
-    while core.is_seeking() {
+    while is_seeking(core.machine.stage) {
         step(&mut parts.seat, &mut core, &mut parts.buf, packet);
     }
-    while core.is_first() {
+    while is_first(core.machine.stage) {
         step(&mut parts.seat, &mut core, &mut parts.buf, packet);
     }
-    while core.is_loading() {
+    while is_loading(core.machine.stage) {
         step(&mut parts.seat, &mut core, &mut parts.buf, packet);
     }
     parts.core = core;

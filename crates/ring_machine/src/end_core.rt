@@ -1,9 +1,8 @@
 //! One end as a pure machine: it names its next step, and is fed what the step gave.
-ghost use Rattle.std.specs.Prelude.{◌≡◌, ◌≢◌, ℕ, ◌+◌, ◌/◌, ◌<◌, ◌≤◌, true, false, cond, Some, None};
+ghost use Rattle.std.specs.Prelude.{◌≡◌, ◌≢◌, ◌+◌, ◌/◌, ◌<◌, ◌≤◌, true, false, cond, Some, None};
 ghost use Rattle.ring_machine.specs.Places.{IsRingSize};
-ghost use Rattle.ring_machine.specs.Steps.{IsSound, machine_new, is_busy_at, is_copying_at, is_took, next_of, fed};
+ghost use Rattle.ring_machine.specs.Steps.{IsSound, machine_new, is_busy_at, is_took, next_of, fed};
 ghost use Rattle.ring_machine.specs.Steps.{send_begun, take_begun, commit_begun, arm_begun, poll_begun, mark_begun, peer_mark_begun};
-ghost use Rattle.ring_machine.specs.Loops.{is_storing_at, is_writing_at, is_masking_at, is_first_at, is_loading_at, is_asking_at, is_seeking_at, is_giving_at, is_feature_at, is_pending_at};
 ghost use Rattle.ring_machine.specs.Endings.{last_of, why_of, mode_of, indices_of, want_of, IsWant, free_bytes, need_bytes, bad_by, send_answer, take_refusal, commit_answer, is_asleep, peer_mark_answer};
 ghost use Rattle.ring_machine.specs.declared.machine.Stage.TheVariants.{Idle, Stopped};
 ghost use Rattle.ring_machine.specs.Endings.{refused};
@@ -400,128 +399,6 @@ impl EndCore {
             Stage::Idle => false,
             Stage::Stopped => false,
             _ => true,
-        }
-    }
-
-    /// The next step loads a word of a packet.
-    #[inline(always)]
-    pub fn is_copying(&self) -> bool
-        ensures { result ≡ is_copying_at self.now.machine.stage }
-    {
-        match self.machine.stage {
-            Stage::TakeFirst => true,
-            Stage::TakeCell => true,
-            _ => false,
-        }
-    }
-
-    /// A send loads read next.
-    #[inline(always)]
-    pub fn is_asking(&self) -> bool
-        ensures { result ≡ is_asking_at self.now.machine.stage }
-    {
-        match self.machine.stage {
-            Stage::SendRead => true,
-            _ => false,
-        }
-    }
-
-    /// A take loads write next.
-    #[inline(always)]
-    pub fn is_seeking(&self) -> bool
-        ensures { result ≡ is_seeking_at self.now.machine.stage }
-    {
-        match self.machine.stage {
-            Stage::TakeWrite => true,
-            _ => false,
-        }
-    }
-
-    /// A commit stores read next.
-    #[inline(always)]
-    pub fn is_giving(&self) -> bool
-        ensures { result ≡ is_giving_at self.now.machine.stage }
-    {
-        match self.machine.stage {
-            Stage::CommitRead => true,
-            _ => false,
-        }
-    }
-
-    /// A commit loads feature next.
-    #[inline(always)]
-    pub fn is_feature(&self) -> bool
-        ensures { result ≡ is_feature_at self.now.machine.stage }
-    {
-        match self.machine.stage {
-            Stage::CommitFeature => true,
-            _ => false,
-        }
-    }
-
-    /// A commit loads pending next.
-    #[inline(always)]
-    pub fn is_pending(&self) -> bool
-        ensures { result ≡ is_pending_at self.now.machine.stage }
-    {
-        match self.machine.stage {
-            Stage::CommitPending => true,
-            _ => false,
-        }
-    }
-
-    /// A take loads the first cell of a packet next.
-    #[inline(always)]
-    pub fn is_first(&self) -> bool
-        ensures { result ≡ is_first_at self.now.machine.stage }
-    {
-        match self.machine.stage {
-            Stage::TakeFirst => true,
-            _ => false,
-        }
-    }
-
-    /// A take loads a further cell next.
-    #[inline(always)]
-    pub fn is_loading(&self) -> bool
-        ensures { result ≡ is_loading_at self.now.machine.stage }
-    {
-        match self.machine.stage {
-            Stage::TakeCell => true,
-            _ => false,
-        }
-    }
-
-    /// A send stores a cell next.
-    #[inline(always)]
-    pub fn is_storing(&self) -> bool
-        ensures { result ≡ is_storing_at self.now.machine.stage }
-    {
-        match self.machine.stage {
-            Stage::SendCell => true,
-            _ => false,
-        }
-    }
-
-    /// A send stores write next.
-    #[inline(always)]
-    pub fn is_writing(&self) -> bool
-        ensures { result ≡ is_writing_at self.now.machine.stage }
-    {
-        match self.machine.stage {
-            Stage::SendWrite => true,
-            _ => false,
-        }
-    }
-
-    /// A send loads mask next.
-    #[inline(always)]
-    pub fn is_masking(&self) -> bool
-        ensures { result ≡ is_masking_at self.now.machine.stage }
-    {
-        match self.machine.stage {
-            Stage::SendMask => true,
-            _ => false,
         }
     }
 }
