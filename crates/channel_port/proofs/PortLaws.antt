@@ -17,6 +17,7 @@ use Rattle.ring_machine.specs.declared.machine.Stage.TheVariants.{Idle, Stopped,
 use Rattle.ring_machine.specs.declared.state.EndState.{EndState}
 use Rattle.ring_machine.specs.Places.{low, free, is_index, cell_of}
 use Rattle.ring_machine.specs.States.{afters, entered}
+use Rattle.ring_machine.specs.EndCalls.{Arm, Poll}
 use Rattle.ring_machine.specs.Steps.{arm_begun, call_by, fed_at, finds_room, mark_begun, poll_begun, send_begun}
 use Rattle.ring_machine.proofs.Sound.{at_cond}
 use Rattle.ring_core.specs.declared.told.Told.{Told}
@@ -45,21 +46,21 @@ last_is (x ∷ xs) p q zero e h = absurd (omega (arith, e, length-append xs (p �
 last_is (x ∷ xs) p q (suc i) e h = last_is xs p q i (omega (arith, e)) h
 
 -- how an arm ended, by what it found
-pub arm_ended : (how : Ending) (found : Armed) (saw : Bool) → call_by how ≡ 4 → is_asleep found ≡ is_dozed how → how ≡ armed_by (look_of found saw)
+pub arm_ended : (how : Ending) (found : Armed) (saw : Bool) → call_by how ≡ Arm → is_asleep found ≡ is_dozed how → how ≡ armed_by (look_of found saw)
 arm_ended FellAsleep Asleep saw call is = refl
 arm_ended FellAsleep Work saw call is = absurd (cc)
 arm_ended FoundWork Asleep saw call is = absurd (cc)
 arm_ended FoundWork Work true call is = refl
 arm_ended FoundWork Work false call is = refl
-arm_ended _ found saw call is = absurd (omega (arith, call))
+arm_ended _ found saw call is = absurd (cc)
 
 -- how an exchange of the signal ended, by its answer
-pub poll_ended : (how : Ending) (up : Bool) → call_by how ≡ 5 → up ≡ not (is_dozed how) → how ≡ polled_by up
+pub poll_ended : (how : Ending) (up : Bool) → call_by how ≡ Poll → up ≡ not (is_dozed how) → how ≡ polled_by up
 poll_ended NoSignal true call is = absurd (cc)
 poll_ended NoSignal false call is = refl
 poll_ended Woke true call is = refl
 poll_ended Woke false call is = absurd (cc)
-poll_ended _ up call is = absurd (omega (arith, call))
+poll_ended _ up call is = absurd (cc)
 
 -- an arm under way that waits for n bytes, or one that has ended: where it fell asleep it waits for them still. And an exchange of the signal
 abbrev Waits : ℕ → Stage → Bool → ℕ → Type 0

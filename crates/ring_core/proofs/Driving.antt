@@ -18,6 +18,7 @@ use Rattle.ring_core.specs.Seen.{Listed}
 use Rattle.ring_core.specs.Pages.{ArePages}
 use Rattle.page_kept.specs.declared.due.Due.TheVariants.{Clear}
 use Rattle.page_kept.specs.declared.page_call.PageCall.TheVariants.{Off}
+use Rattle.ring_machine.specs.EndCalls.{EndCall, Send, Take, Commit, Arm, Poll, Mark}
 use Rattle.ring_machine.specs.Places.{ahead, len8_of, offset8_of}
 use Rattle.ring_machine.specs.Steps.{IsSound, fed, next_of, is_busy_at, is_copying_at, is_sent, is_took, is_broken, call_at, call_by, made_at, send_begun, take_begun, commit_begun, arm_begun, poll_begun, mark_begun, peer_mark_begun}
 use Rattle.ring_machine.specs.Loops.{is_storing_at, is_writing_at, is_masking_at, is_first_at, is_loading_at, is_asking_at, is_seeking_at, is_giving_at, is_feature_at, is_pending_at, is_polling_at, is_opening_at, Starts}
@@ -189,7 +190,7 @@ module _ (base : EndState) (told told' told'' : Option Told) (memory memory' mem
       let one : Lists (call_at m.stage) base.sent base.got base.past p (fed m v) buf' (sent_after m.stage (sent_while m.stage base.sent p) p) (got_after m.stage m base.got (copied_at m.stage (take m.done buf)) v) (past_after m.stage m (past_while m.stage m base.past p) p (copied_at m.stage (take m.done buf)) v) =
       lists_by base.sent base.got base.past p m buf v s it.wide it.moves.unseen m.stage refl b in
       let two : Lists (call_at base.machine.stage) base.sent base.got base.past p (fed m v) buf' (sent_after m.stage (sent_while m.stage base.sent p) p) (got_after m.stage m base.got (copied_at m.stage (take m.done buf)) v) (past_after m.stage m (past_while m.stage m base.past p) p (copied_at m.stage (take m.done buf)) v) =
-      subst (λ (n : ℕ). Lists n base.sent base.got base.past p (fed m v) buf' (sent_after m.stage (sent_while m.stage base.sent p) p) (got_after m.stage m base.got (copied_at m.stage (take m.done buf)) v) (past_after m.stage m (past_while m.stage m base.past p) p (copied_at m.stage (take m.done buf)) v)) (it.lists.busy b).0 one in
+      subst (λ (call : EndCall). Lists call base.sent base.got base.past p (fed m v) buf' (sent_after m.stage (sent_while m.stage base.sent p) p) (got_after m.stage m base.got (copied_at m.stage (take m.done buf)) v) (past_after m.stage m (past_while m.stage m base.past p) p (copied_at m.stage (take m.done buf)) v)) (it.lists.busy b).0 one in
       let three : Lists (call_at base.machine.stage) base.sent base.got base.past p (fed m v) buf' (after it.state v).sent (got_after m.stage m base.got (copied_at m.stage (take m.done buf)) v) (past_after m.stage m (past_while m.stage m base.past p) p (copied_at m.stage (take m.done buf)) v) =
       subst (λ (x : List (List ℕ)). Lists (call_at base.machine.stage) base.sent base.got base.past p (fed m v) buf' x (got_after m.stage m base.got (copied_at m.stage (take m.done buf)) v) (past_after m.stage m (past_while m.stage m base.past p) p (copied_at m.stage (take m.done buf)) v)) next_sent two in
       let four : Lists (call_at base.machine.stage) base.sent base.got base.past p (fed m v) buf' (after it.state v).sent (after it.state v).got (past_after m.stage m (past_while m.stage m base.past p) p (copied_at m.stage (take m.done buf)) v) =
@@ -417,52 +418,52 @@ masking_busy SendMask e = refl
 masking_busy _ e = absurd (cc)
 
 -- only a send sends, and only a take takes
-pub sent_calls : (how : Ending) → is_sent how ≡ true → call_by how ≡ 1
+pub sent_calls : (how : Ending) → is_sent how ≡ true → call_by how ≡ Send
 sent_calls SentQuiet h = refl
 sent_calls SentRaised h = refl
 sent_calls _ h = absurd (cc)
 
-pub took_calls : (how : Ending) → is_took how ≡ true → call_by how ≡ 2
+pub took_calls : (how : Ending) → is_took how ≡ true → call_by how ≡ Take
 took_calls Took h = refl
 took_calls _ h = absurd (cc)
 
 -- which calls end how
 record Called (how : Ending) : Type 0 where
-  sent : is_sent how ≡ true → call_by how ≡ 1
-  took : is_took how ≡ true → call_by how ≡ 2
-  committed : is_committed how ≡ true → call_by how ≡ 3
-  commits : call_by how ≡ 3 → is_committed how ≡ true
-  dozed : is_dozed how ≡ true → (call_by how ≡ 4 → ⊥) → (call_by how ≡ 5 → ⊥) → ⊥
-  marked : is_marked how ≡ true → call_by how ≡ 6
-  marks : call_by how ≡ 6 → is_marked how ≡ true
-  broken : is_broken how ≡ true → (call_by how ≡ 1 → ⊥) → (call_by how ≡ 2 → ⊥) → ⊥
+  sent : is_sent how ≡ true → call_by how ≡ Send
+  took : is_took how ≡ true → call_by how ≡ Take
+  committed : is_committed how ≡ true → call_by how ≡ Commit
+  commits : call_by how ≡ Commit → is_committed how ≡ true
+  dozed : is_dozed how ≡ true → (call_by how ≡ Arm → ⊥) → (call_by how ≡ Poll → ⊥) → ⊥
+  marked : is_marked how ≡ true → call_by how ≡ Mark
+  marks : call_by how ≡ Mark → is_marked how ≡ true
+  broken : is_broken how ≡ true → (call_by how ≡ Send → ⊥) → (call_by how ≡ Take → ⊥) → ⊥
 
 called : (how : Ending) → Called how
-called Fresh = record { sent = λ h. absurd (cc); took = λ h. absurd (cc); committed = λ h. absurd (cc); commits = λ h. absurd (omega (arith, h)); dozed = λ h x y. absurd (cc); marked = λ h. absurd (cc); marks = λ h. absurd (omega (arith, h)); broken = λ h x y. absurd (cc) }
-called SentQuiet = record { sent = λ h. refl; took = λ h. absurd (cc); committed = λ h. absurd (cc); commits = λ h. absurd (omega (arith, h)); dozed = λ h x y. absurd (cc); marked = λ h. absurd (cc); marks = λ h. absurd (omega (arith, h)); broken = λ h x y. absurd (cc) }
-called SentRaised = record { sent = λ h. refl; took = λ h. absurd (cc); committed = λ h. absurd (cc); commits = λ h. absurd (omega (arith, h)); dozed = λ h x y. absurd (cc); marked = λ h. absurd (cc); marks = λ h. absurd (omega (arith, h)); broken = λ h x y. absurd (cc) }
-called Full = record { sent = λ h. absurd (cc); took = λ h. absurd (cc); committed = λ h. absurd (cc); commits = λ h. absurd (omega (arith, h)); dozed = λ h x y. absurd (cc); marked = λ h. absurd (cc); marks = λ h. absurd (omega (arith, h)); broken = λ h x y. absurd (cc) }
-called BadPeer = record { sent = λ h. absurd (cc); took = λ h. absurd (cc); committed = λ h. absurd (cc); commits = λ h. absurd (omega (arith, h)); dozed = λ h x y. absurd (cc); marked = λ h. absurd (cc); marks = λ h. absurd (omega (arith, h)); broken = λ h x y. x refl }
-called Took = record { sent = λ h. absurd (cc); took = λ h. refl; committed = λ h. absurd (cc); commits = λ h. absurd (omega (arith, h)); dozed = λ h x y. absurd (cc); marked = λ h. absurd (cc); marks = λ h. absurd (omega (arith, h)); broken = λ h x y. absurd (cc) }
-called Empty = record { sent = λ h. absurd (cc); took = λ h. absurd (cc); committed = λ h. absurd (cc); commits = λ h. absurd (omega (arith, h)); dozed = λ h x y. absurd (cc); marked = λ h. absurd (cc); marks = λ h. absurd (omega (arith, h)); broken = λ h x y. absurd (cc) }
-called BadIndex = record { sent = λ h. absurd (cc); took = λ h. absurd (cc); committed = λ h. absurd (cc); commits = λ h. absurd (omega (arith, h)); dozed = λ h x y. absurd (cc); marked = λ h. absurd (cc); marks = λ h. absurd (omega (arith, h)); broken = λ h x y. y refl }
-called BadLength = record { sent = λ h. absurd (cc); took = λ h. absurd (cc); committed = λ h. absurd (cc); commits = λ h. absurd (omega (arith, h)); dozed = λ h x y. absurd (cc); marked = λ h. absurd (cc); marks = λ h. absurd (omega (arith, h)); broken = λ h x y. y refl }
-called BadOffset = record { sent = λ h. absurd (cc); took = λ h. absurd (cc); committed = λ h. absurd (cc); commits = λ h. absurd (omega (arith, h)); dozed = λ h x y. absurd (cc); marked = λ h. absurd (cc); marks = λ h. absurd (omega (arith, h)); broken = λ h x y. y refl }
-called CommittedQuiet = record { sent = λ h. absurd (cc); took = λ h. absurd (cc); committed = λ h. refl; commits = λ h. refl; dozed = λ h x y. absurd (cc); marked = λ h. absurd (cc); marks = λ h. absurd (omega (arith, h)); broken = λ h x y. absurd (cc) }
-called CommittedRaised = record { sent = λ h. absurd (cc); took = λ h. absurd (cc); committed = λ h. refl; commits = λ h. refl; dozed = λ h x y. absurd (cc); marked = λ h. absurd (cc); marks = λ h. absurd (omega (arith, h)); broken = λ h x y. absurd (cc) }
-called FellAsleep = record { sent = λ h. absurd (cc); took = λ h. absurd (cc); committed = λ h. absurd (cc); commits = λ h. absurd (omega (arith, h)); dozed = λ h x y. x refl; marked = λ h. absurd (cc); marks = λ h. absurd (omega (arith, h)); broken = λ h x y. absurd (cc) }
-called FoundWork = record { sent = λ h. absurd (cc); took = λ h. absurd (cc); committed = λ h. absurd (cc); commits = λ h. absurd (omega (arith, h)); dozed = λ h x y. absurd (cc); marked = λ h. absurd (cc); marks = λ h. absurd (omega (arith, h)); broken = λ h x y. absurd (cc) }
-called NoSignal = record { sent = λ h. absurd (cc); took = λ h. absurd (cc); committed = λ h. absurd (cc); commits = λ h. absurd (omega (arith, h)); dozed = λ h x y. y refl; marked = λ h. absurd (cc); marks = λ h. absurd (omega (arith, h)); broken = λ h x y. absurd (cc) }
-called Woke = record { sent = λ h. absurd (cc); took = λ h. absurd (cc); committed = λ h. absurd (cc); commits = λ h. absurd (omega (arith, h)); dozed = λ h x y. absurd (cc); marked = λ h. absurd (cc); marks = λ h. absurd (omega (arith, h)); broken = λ h x y. absurd (cc) }
-called Marked = record { sent = λ h. absurd (cc); took = λ h. absurd (cc); committed = λ h. absurd (cc); commits = λ h. absurd (omega (arith, h)); dozed = λ h x y. absurd (cc); marked = λ h. refl; marks = λ h. refl; broken = λ h x y. absurd (cc) }
-called PeerMarkDown = record { sent = λ h. absurd (cc); took = λ h. absurd (cc); committed = λ h. absurd (cc); commits = λ h. absurd (omega (arith, h)); dozed = λ h x y. absurd (cc); marked = λ h. absurd (cc); marks = λ h. absurd (omega (arith, h)); broken = λ h x y. absurd (cc) }
-called PeerMarkUp = record { sent = λ h. absurd (cc); took = λ h. absurd (cc); committed = λ h. absurd (cc); commits = λ h. absurd (omega (arith, h)); dozed = λ h x y. absurd (cc); marked = λ h. absurd (cc); marks = λ h. absurd (omega (arith, h)); broken = λ h x y. absurd (cc) }
+called Fresh = record { sent = λ h. absurd (cc); took = λ h. absurd (cc); committed = λ h. absurd (cc); commits = λ h. absurd (cc); dozed = λ h x y. absurd (cc); marked = λ h. absurd (cc); marks = λ h. absurd (cc); broken = λ h x y. absurd (cc) }
+called SentQuiet = record { sent = λ h. refl; took = λ h. absurd (cc); committed = λ h. absurd (cc); commits = λ h. absurd (cc); dozed = λ h x y. absurd (cc); marked = λ h. absurd (cc); marks = λ h. absurd (cc); broken = λ h x y. absurd (cc) }
+called SentRaised = record { sent = λ h. refl; took = λ h. absurd (cc); committed = λ h. absurd (cc); commits = λ h. absurd (cc); dozed = λ h x y. absurd (cc); marked = λ h. absurd (cc); marks = λ h. absurd (cc); broken = λ h x y. absurd (cc) }
+called Full = record { sent = λ h. absurd (cc); took = λ h. absurd (cc); committed = λ h. absurd (cc); commits = λ h. absurd (cc); dozed = λ h x y. absurd (cc); marked = λ h. absurd (cc); marks = λ h. absurd (cc); broken = λ h x y. absurd (cc) }
+called BadPeer = record { sent = λ h. absurd (cc); took = λ h. absurd (cc); committed = λ h. absurd (cc); commits = λ h. absurd (cc); dozed = λ h x y. absurd (cc); marked = λ h. absurd (cc); marks = λ h. absurd (cc); broken = λ h x y. x refl }
+called Took = record { sent = λ h. absurd (cc); took = λ h. refl; committed = λ h. absurd (cc); commits = λ h. absurd (cc); dozed = λ h x y. absurd (cc); marked = λ h. absurd (cc); marks = λ h. absurd (cc); broken = λ h x y. absurd (cc) }
+called Empty = record { sent = λ h. absurd (cc); took = λ h. absurd (cc); committed = λ h. absurd (cc); commits = λ h. absurd (cc); dozed = λ h x y. absurd (cc); marked = λ h. absurd (cc); marks = λ h. absurd (cc); broken = λ h x y. absurd (cc) }
+called BadIndex = record { sent = λ h. absurd (cc); took = λ h. absurd (cc); committed = λ h. absurd (cc); commits = λ h. absurd (cc); dozed = λ h x y. absurd (cc); marked = λ h. absurd (cc); marks = λ h. absurd (cc); broken = λ h x y. y refl }
+called BadLength = record { sent = λ h. absurd (cc); took = λ h. absurd (cc); committed = λ h. absurd (cc); commits = λ h. absurd (cc); dozed = λ h x y. absurd (cc); marked = λ h. absurd (cc); marks = λ h. absurd (cc); broken = λ h x y. y refl }
+called BadOffset = record { sent = λ h. absurd (cc); took = λ h. absurd (cc); committed = λ h. absurd (cc); commits = λ h. absurd (cc); dozed = λ h x y. absurd (cc); marked = λ h. absurd (cc); marks = λ h. absurd (cc); broken = λ h x y. y refl }
+called CommittedQuiet = record { sent = λ h. absurd (cc); took = λ h. absurd (cc); committed = λ h. refl; commits = λ h. refl; dozed = λ h x y. absurd (cc); marked = λ h. absurd (cc); marks = λ h. absurd (cc); broken = λ h x y. absurd (cc) }
+called CommittedRaised = record { sent = λ h. absurd (cc); took = λ h. absurd (cc); committed = λ h. refl; commits = λ h. refl; dozed = λ h x y. absurd (cc); marked = λ h. absurd (cc); marks = λ h. absurd (cc); broken = λ h x y. absurd (cc) }
+called FellAsleep = record { sent = λ h. absurd (cc); took = λ h. absurd (cc); committed = λ h. absurd (cc); commits = λ h. absurd (cc); dozed = λ h x y. x refl; marked = λ h. absurd (cc); marks = λ h. absurd (cc); broken = λ h x y. absurd (cc) }
+called FoundWork = record { sent = λ h. absurd (cc); took = λ h. absurd (cc); committed = λ h. absurd (cc); commits = λ h. absurd (cc); dozed = λ h x y. absurd (cc); marked = λ h. absurd (cc); marks = λ h. absurd (cc); broken = λ h x y. absurd (cc) }
+called NoSignal = record { sent = λ h. absurd (cc); took = λ h. absurd (cc); committed = λ h. absurd (cc); commits = λ h. absurd (cc); dozed = λ h x y. y refl; marked = λ h. absurd (cc); marks = λ h. absurd (cc); broken = λ h x y. absurd (cc) }
+called Woke = record { sent = λ h. absurd (cc); took = λ h. absurd (cc); committed = λ h. absurd (cc); commits = λ h. absurd (cc); dozed = λ h x y. absurd (cc); marked = λ h. absurd (cc); marks = λ h. absurd (cc); broken = λ h x y. absurd (cc) }
+called Marked = record { sent = λ h. absurd (cc); took = λ h. absurd (cc); committed = λ h. absurd (cc); commits = λ h. absurd (cc); dozed = λ h x y. absurd (cc); marked = λ h. refl; marks = λ h. refl; broken = λ h x y. absurd (cc) }
+called PeerMarkDown = record { sent = λ h. absurd (cc); took = λ h. absurd (cc); committed = λ h. absurd (cc); commits = λ h. absurd (cc); dozed = λ h x y. absurd (cc); marked = λ h. absurd (cc); marks = λ h. absurd (cc); broken = λ h x y. absurd (cc) }
+called PeerMarkUp = record { sent = λ h. absurd (cc); took = λ h. absurd (cc); committed = λ h. absurd (cc); commits = λ h. absurd (cc); dozed = λ h x y. absurd (cc); marked = λ h. absurd (cc); marks = λ h. absurd (cc); broken = λ h x y. absurd (cc) }
 
-module _ (b m : Machine) (h : Leaves b m) (n : ℕ) (call : call_by m.ended ≡ n) where
+module _ (b m : Machine) (h : Leaves b m) (n : EndCall) (call : call_by m.ended ≡ n) where
   all : Called m.ended
   all = called m.ended
 
-  by_call : {k : ℕ} → call_by m.ended ≡ k → n ≡ k
+  by_call : {k : EndCall} → call_by m.ended ≡ k → n ≡ k
   by_call e = sym call ∙ e
 
   pub leaves_by : IsSound m → LeavesBy n b m
@@ -475,7 +476,7 @@ module _ (b m : Machine) (h : Leaves b m) (n : ℕ) (call : call_by m.ended ≡ 
     read = λ x. h.read ∙ ap (λ (t : Bool). cond t (ahead b.cells b.read (m.len + 1)) b.read) (unbroken (is_took m.ended) (λ d. x (by_call (all.took d))));
     start = λ x. h.start ∙ ap (λ (t : Bool). cond t b.read b.start) (unbroken (is_committed m.ended) (λ d. x (by_call (all.committed d))));
     committed = λ e.
-        let no_take : is_took m.ended ≡ false = unbroken (is_took m.ended) (λ d. let z : 3 ≡ 2 = sym (call ∙ e) ∙ all.took d in absurd (omega (arith, z))) in
+        let no_take : is_took m.ended ≡ false = unbroken (is_took m.ended) (λ d. let z : Commit ≡ Take = sym (call ∙ e) ∙ all.took d in absurd (cc)) in
         h.start ∙ (ap (λ (t : Bool). cond t b.read b.start) (all.commits (call ∙ e)) ∙ sym (h.read ∙ ap (λ (t : Bool). cond t (ahead b.cells b.read (m.len + 1)) b.read) no_take));
     untaken = λ x. unbroken (is_took m.ended) (λ d. x (by_call (all.took d)));
     whole = λ e. unbroken (is_broken m.ended) (λ d. let z : Idle ≡ Stopped = sym e ∙ s.broken d in cc);
@@ -572,15 +573,15 @@ lent n got got' past past' w g e =
     )
 
 -- a send that breaks nothing is answered as an honest peer has it
-pub honest_send : (how : Ending) (m : Machine) → call_by how ≡ 1 → is_broken how ≡ false → is_honest_send (send_answer how m) ≡ true
+pub honest_send : (how : Ending) (m : Machine) → call_by how ≡ Send → is_broken how ≡ false → is_honest_send (send_answer how m) ≡ true
 honest_send SentQuiet m call whole = refl
 honest_send SentRaised m call whole = refl
 honest_send Full m call whole = refl
 honest_send BadPeer m call whole = absurd (cc)
-honest_send _ m call whole = absurd (omega (arith, call))
+honest_send _ m call whole = absurd (cc)
 
 -- a call leaves to the machine before it what it leaves to the machine that has begun it
-pub rebased : (n : ℕ) (m b new : Machine) → b.write ≡ m.write → b.read ≡ m.read → b.start ≡ m.start → LeavesBy n b new → LeavesBy n m new
+pub rebased : (n : EndCall) (m b new : Machine) → b.write ≡ m.write → b.read ≡ m.read → b.start ≡ m.start → LeavesBy n b new → LeavesBy n m new
 rebased n m b new write read start h = record {
   awake = h.awake;
   unmarked = h.unmarked;
@@ -595,13 +596,13 @@ rebased n m b new write read start h = record {
 }
 
 -- a take that breaks nothing is answered as an honest peer has it
-pub honest_take : (how : Ending) (m : Machine) → call_by how ≡ 2 → is_broken how ≡ false → is_honest_take (cond (is_took how) None (Some (take_refusal how m))) ≡ true
+pub honest_take : (how : Ending) (m : Machine) → call_by how ≡ Take → is_broken how ≡ false → is_honest_take (cond (is_took how) None (Some (take_refusal how m))) ≡ true
 honest_take Took m call whole = refl
 honest_take Empty m call whole = refl
 honest_take BadIndex m call whole = absurd (cc)
 honest_take BadLength m call whole = absurd (cc)
 honest_take BadOffset m call whole = absurd (cc)
-honest_take _ m call whole = absurd (omega (arith, call))
+honest_take _ m call whole = absurd (cc)
 
 -- what a take leaves to the machine that has begun it, it leaves to the one before it
 pub take_leaves : (m new : Machine) → Leaves (take_begun m) new → Leaves m new

@@ -4,6 +4,7 @@ use Rattle.ring_machine.specs.declared.last.TakeRefusal.{TakeRefusal}
 use Rattle.ring_machine.specs.declared.last.TakeRefusal.TheVariants.{Stopped as StoppedTake}
 use Rattle.ring_machine.specs.declared.machine.Stage.TheVariants.{Idle, Stopped}
 use Rattle.ring_core.specs.declared.told.Told.{Told}
+use Rattle.ring_machine.specs.EndCalls.{Take}
 use Rattle.ring_machine.specs.Steps.{is_took, call_by, take_begun}
 use Rattle.ring_machine.specs.States.{Gets, entered, past_of}
 use Rattle.ring_machine.specs.Endings.{Leaves, LeavesBy, why_of, take_refusal, is_empty_refusal}
@@ -19,9 +20,9 @@ is_honest_take (Some r) = is_empty_refusal r
 pub record TakesIdle (S : Type 0) (told : S → Option Told) (memory : S → Option Memory) (old new : Seen S) (refusal : Option TakeRefusal) : Type 0 where
   pub ran : Ran (entered old.state (take_begun old.state.machine) []) new.state (told old.seat) (told new.seat) (memory old.seat) (memory new.seat)
   pub answer : refusal ≡ cond (is_took new.state.machine.ended) None (Some (take_refusal new.state.machine.ended new.state.machine))
-  pub call : call_by new.state.machine.ended ≡ 2
+  pub call : call_by new.state.machine.ended ≡ Take
   pub leaves : Leaves old.state.machine new.state.machine
-  pub after : LeavesBy 2 old.state.machine new.state.machine
+  pub after : LeavesBy Take old.state.machine new.state.machine
   pub took : is_took new.state.machine.ended ≡ true → Gets new.state.machine.len old.state.got new.state.got old.state.past new.state.past
   pub refused : is_took new.state.machine.ended ≡ false → (new.state.got ≡ old.state.got) × (new.state.past ≡ past_of new.state.machine.ended new.state.machine.saw [] old.state.past) × (new.spare_got ≡ old.spare_got)
 

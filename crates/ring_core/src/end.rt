@@ -1,6 +1,7 @@
 //! One end of a channel: it makes the steps of its calls by its seat, and keeps the lists of what it sent and got.
-ghost use Rattle.std.specs.Prelude.{◌≡◌, ◌≢◌, ℕ, ◌+◌, ◌*◌, ◌/◌, ◌<◌, ◌≤◌, ◌++◌, ◌∷◌, cond, true, false, not, [], length, Option, Some, None, Result, Ok, Err, IfOk, OnOk, IsTrue, ◌↔◌, take, ◌-◌};
+ghost use Rattle.std.specs.Prelude.{◌≡◌, ◌≢◌, ◌+◌, ◌*◌, ◌/◌, ◌<◌, ◌≤◌, ◌++◌, ◌∷◌, cond, true, false, not, [], length, Option, Some, None, Result, Ok, Err, IfOk, OnOk, IsTrue, ◌↔◌, take, ◌-◌};
 ghost use Rattle.ring_machine.specs.Endings.{Leaves, LeavesBy, why_of, send_answer, commit_answer, is_asleep, peer_mark_answer, is_honest_send, want_of, IsWant};
+ghost use Rattle.ring_machine.specs.EndCalls.{Send, Commit, Arm, Poll, Mark, PeerMark};
 ghost use Rattle.ring_machine.specs.Places.{IsRingSize};
 ghost use Rattle.page_kept.specs.Kept.{pages_sent, pages_took};
 ghost use Rattle.page_kept.specs.Keepers.{MayStore};
@@ -257,9 +258,9 @@ impl<S: Seatlike> End<S> {
         requires lends { MayLend self.old.state p.now }
         requires room { (0 < self.old.spare_sent.packets) × (length p.now + along self.old.state.pages p.now ≤ self.old.spare_sent.words) }
         ensures ran { self.old.state.machine.stage ≡ Idle → Ran (entered self.old.state (send_begun self.old.state.machine (length p.now)) p.now) self.new.state (S.told self.old.seat) (S.told self.new.seat) (S.memory self.old.seat) (S.memory self.new.seat) }
-        ensures answer { self.old.state.machine.stage ≡ Idle → (result ≡ send_answer self.new.state.machine.ended self.new.state.machine) × (call_by self.new.state.machine.ended ≡ 1) }
+        ensures answer { self.old.state.machine.stage ≡ Idle → (result ≡ send_answer self.new.state.machine.ended self.new.state.machine) × (call_by self.new.state.machine.ended ≡ Send) }
         ensures leaves { self.old.state.machine.stage ≡ Idle → Leaves self.old.state.machine self.new.state.machine }
-        ensures after { self.old.state.machine.stage ≡ Idle → LeavesBy 1 self.old.state.machine self.new.state.machine }
+        ensures after { self.old.state.machine.stage ≡ Idle → LeavesBy Send self.old.state.machine self.new.state.machine }
         ensures len { self.old.state.machine.stage ≡ Idle → self.new.state.machine.len ≡ length p.now }
         ensures awake { (self.new.state.machine.asleep ≡ false) × (self.new.state.machine.marked ≡ false) }
         ensures lists { self.old.state.machine.stage ≡ Idle → (self.new.state.sent ≡ sent_by self.new.state.machine self.old.state.sent p.now) × (self.new.state.past ≡ past_of self.new.state.machine.ended self.new.state.machine.saw p.now self.old.state.past) }
@@ -289,9 +290,9 @@ impl<S: Seatlike> End<S> {
         requires unmarked { self.old.state.machine.marked ≡ false }
         requires clear { IsClear self.old.state.pages }
         ensures ran { Ran (entered self.old.state (commit_begun self.old.state.machine) []) self.new.state (S.told self.old.seat) (S.told self.new.seat) (S.memory self.old.seat) (S.memory self.new.seat) }
-        ensures answer { (result ≡ commit_answer self.new.state.machine.ended) × (call_by self.new.state.machine.ended ≡ 3) }
+        ensures answer { (result ≡ commit_answer self.new.state.machine.ended) × (call_by self.new.state.machine.ended ≡ Commit) }
         ensures leaves { Leaves self.old.state.machine self.new.state.machine }
-        ensures after { LeavesBy 3 self.old.state.machine self.new.state.machine }
+        ensures after { LeavesBy Commit self.old.state.machine self.new.state.machine }
         ensures past { self.new.state.past ≡ past_of self.new.state.machine.ended self.new.state.machine.saw [] self.old.state.past }
         ensures same { S.same self.old.seat self.new.seat }
         ensures kept { Kept self.old self.new }
@@ -311,9 +312,9 @@ impl<S: Seatlike> End<S> {
         requires want { IsWant self.old.state.machine.cells want }
         requires clear { IsClear self.old.state.pages }
         ensures ran { Ran (entered self.old.state (arm_begun self.old.state.machine (want_of want)) []) self.new.state (S.told self.old.seat) (S.told self.new.seat) (S.memory self.old.seat) (S.memory self.new.seat) }
-        ensures answer { (is_asleep result ≡ self.new.state.machine.asleep) × (call_by self.new.state.machine.ended ≡ 4) }
+        ensures answer { (is_asleep result ≡ self.new.state.machine.asleep) × (call_by self.new.state.machine.ended ≡ Arm) }
         ensures leaves { Leaves self.old.state.machine self.new.state.machine }
-        ensures after { LeavesBy 4 self.old.state.machine self.new.state.machine }
+        ensures after { LeavesBy Arm self.old.state.machine self.new.state.machine }
         ensures past { self.new.state.past ≡ past_of self.new.state.machine.ended self.new.state.machine.saw [] self.old.state.past }
         ensures same { S.same self.old.seat self.new.seat }
         ensures kept { Kept self.old self.new }
@@ -328,9 +329,9 @@ impl<S: Seatlike> End<S> {
         requires idle { self.old.state.machine.stage ≡ Idle }
         requires asleep { self.old.state.machine.asleep ≡ true }
         ensures ran { Ran (entered self.old.state (poll_begun self.old.state.machine) []) self.new.state (S.told self.old.seat) (S.told self.new.seat) (S.memory self.old.seat) (S.memory self.new.seat) }
-        ensures answer { (result ≡ not self.new.state.machine.asleep) × (call_by self.new.state.machine.ended ≡ 5) }
+        ensures answer { (result ≡ not self.new.state.machine.asleep) × (call_by self.new.state.machine.ended ≡ Poll) }
         ensures leaves { Leaves self.old.state.machine self.new.state.machine }
-        ensures after { LeavesBy 5 self.old.state.machine self.new.state.machine }
+        ensures after { LeavesBy Poll self.old.state.machine self.new.state.machine }
         ensures past { self.new.state.past ≡ past_of self.new.state.machine.ended self.new.state.machine.saw [] self.old.state.past }
         ensures same { S.same self.old.seat self.new.seat }
         ensures kept { Kept self.old self.new }
@@ -347,9 +348,9 @@ impl<S: Seatlike> End<S> {
         requires unmarked { self.old.state.machine.marked ≡ false }
         requires clear { IsClear self.old.state.pages }
         ensures ran { Ran (entered self.old.state (mark_begun self.old.state.machine) []) self.new.state (S.told self.old.seat) (S.told self.new.seat) (S.memory self.old.seat) (S.memory self.new.seat) }
-        ensures call { call_by self.new.state.machine.ended ≡ 6 }
+        ensures call { call_by self.new.state.machine.ended ≡ Mark }
         ensures leaves { Leaves self.old.state.machine self.new.state.machine }
-        ensures after { LeavesBy 6 self.old.state.machine self.new.state.machine }
+        ensures after { LeavesBy Mark self.old.state.machine self.new.state.machine }
         ensures past { self.new.state.past ≡ past_of self.new.state.machine.ended self.new.state.machine.saw [] self.old.state.past }
         ensures same { S.same self.old.seat self.new.seat }
         ensures kept { Kept self.old self.new }
@@ -364,9 +365,9 @@ impl<S: Seatlike> End<S> {
         requires awake { self.old.state.machine.asleep ≡ false }
         requires unmarked { self.old.state.machine.marked ≡ false }
         ensures ran { Ran (entered self.old.state (peer_mark_begun self.old.state.machine) []) self.new.state (S.told self.old.seat) (S.told self.new.seat) (S.memory self.old.seat) (S.memory self.new.seat) }
-        ensures answer { (result ≡ peer_mark_answer self.new.state.machine.ended) × (call_by self.new.state.machine.ended ≡ 7) }
+        ensures answer { (result ≡ peer_mark_answer self.new.state.machine.ended) × (call_by self.new.state.machine.ended ≡ PeerMark) }
         ensures leaves { Leaves self.old.state.machine self.new.state.machine }
-        ensures after { LeavesBy 7 self.old.state.machine self.new.state.machine }
+        ensures after { LeavesBy PeerMark self.old.state.machine self.new.state.machine }
         ensures past { self.new.state.past ≡ past_of self.new.state.machine.ended self.new.state.machine.saw [] self.old.state.past }
         ensures same { S.same self.old.seat self.new.seat }
         ensures kept { Kept self.old self.new }

@@ -1,6 +1,5 @@
 //! What a call works on, and the call as a whole.
-ghost use Rattle.std.specs.Prelude.{◌≡◌, ◌≢◌, ℕ, ◌+◌, ◌<◌, ◌≤◌, cond, true, false, List, [], ◌∷◌, ◌++◌, length, take, Option, Some, None, IfSome, IsTrue, ◌↔◌};
-ghost use Rattle.chan_run.specs.declared.event.Event.{Event};
+ghost use Rattle.std.specs.Prelude.{◌≡◌, ◌≢◌, ◌+◌, ◌<◌, ◌≤◌, cond, true, false, [], ◌∷◌, ◌++◌, length, take, Option, Some, None, IfSome, IsTrue, ◌↔◌};
 ghost use Rattle.page_kept.specs.Kept.{pages_sent, pages_took};
 ghost use Rattle.page_kept.specs.Items.{values};
 ghost use Rattle.page_kept.specs.Keepers.{MayStore};
@@ -14,14 +13,14 @@ ghost use Rattle.ring_core.specs.Lending.{Answers, Asks};
 ghost use Rattle.ring_core.specs.PageRuns.{RanPages};
 ghost use Rattle.ring_core.specs.Pages.{ArePages, kept_of, resting_in, along, part_words, part_len};
 ghost use Rattle.ring_machine.specs.Endings.{Leaves, LeavesBy};
+ghost use Rattle.ring_machine.specs.EndCalls.{Send, Take};
 ghost use Rattle.ring_machine.specs.PageCalls.{newest};
 ghost use Rattle.ring_core.specs.Seen.{SentRoom};
 ghost use Rattle.ring_machine.specs.Loops.{Starts};
-ghost use Rattle.ring_machine.specs.States.{IsPacket, Gets, past_of, after, entered, shown, stored, sent_by, got_by, past_by, pages_by, Continues};
-ghost use Rattle.ring_machine.specs.Steps.{is_busy_at, is_copying_at, next_of, fed, is_sent, is_took, call_at, call_by};
-ghost use Rattle.ring_core.specs.Told.{Left, Memory, memory_after, answer_of};
+ghost use Rattle.ring_machine.specs.States.{IsPacket, Gets, past_of, after, entered, shown, sent_by, got_by, past_by, pages_by, Continues};
+ghost use Rattle.ring_machine.specs.Steps.{is_busy_at, is_sent, is_took, call_at, call_by};
+ghost use Rattle.ring_core.specs.Told.{Left};
 ghost use Rattle.ring_machine.specs.declared.machine.Stage.TheVariants.{Idle, Stopped};
-ghost use Rattle.ring_machine.specs.declared.place.Op.{Op};
 ghost use Rattle.ring_core.specs.declared.told.Told.{Told};
 ghost use Rattle.chan_run.specs.declared.event.Event.TheVariants.{Sent as SentEvent, Got as GotEvent};
 
@@ -199,10 +198,10 @@ impl<S: Seatlike> Parts<S> {
         requires fits { S.cells self.old.seat ≡ self.old.core.machine.cells }
         requires pages { S.pages self.old.seat ≡ self.old.core.pages.count }
         requires goes_on { (u : Told) → S.told self.old.seat ≡ Some u → Continues u.state self.old.core.machine packet.now × (entered u.state self.old.core.machine packet.now ≡ shown self.old.core.machine packet.now self.old.buf.items self.old.sent.list self.old.got.list self.old.past.events (kept_of self.old.core.pages self.old.sent self.old.got self.old.table)) }
-        requires packet { call_at self.old.core.machine.stage ≡ 1 → IsPacket packet.now }
-        requires clear { call_at self.old.core.machine.stage ≡ 2 → self.old.core.pages.due ≡ Clear }
-        requires sent_room { call_at self.old.core.machine.stage ≡ 1 → (0 < self.old.sent.room.packets) × (length packet.now + along (kept_of self.old.core.pages self.old.sent self.old.got self.old.table) packet.now ≤ self.old.sent.room.words) }
-        requires got_room { call_at self.old.core.machine.stage ≡ 2 → (0 < self.old.got.room.packets) × (self.old.core.machine.cells ≤ self.old.got.room.words) }
+        requires packet { call_at self.old.core.machine.stage ≡ Send → IsPacket packet.now }
+        requires clear { call_at self.old.core.machine.stage ≡ Take → self.old.core.pages.due ≡ Clear }
+        requires sent_room { call_at self.old.core.machine.stage ≡ Send → (0 < self.old.sent.room.packets) × (length packet.now + along (kept_of self.old.core.pages self.old.sent self.old.got self.old.table) packet.now ≤ self.old.sent.room.words) }
+        requires got_room { call_at self.old.core.machine.stage ≡ Take → (0 < self.old.got.room.packets) × (self.old.core.machine.cells ≤ self.old.got.room.words) }
         ensures call { call_by self.new.core.machine.ended ≡ call_at self.old.core.machine.stage }
         ensures leaves { Leaves self.old.core.machine self.new.core.machine }
         ensures after { LeavesBy (call_at self.old.core.machine.stage) self.old.core.machine self.new.core.machine }
@@ -210,14 +209,14 @@ impl<S: Seatlike> Parts<S> {
         ensures past { is_took self.new.core.machine.ended ≡ false → self.new.past.events ≡ past_of self.new.core.machine.ended self.new.core.machine.saw packet.now self.old.past.events }
         ensures left { Left (shown self.old.core.machine packet.now self.old.buf.items self.old.sent.list self.old.got.list self.old.past.events (kept_of self.old.core.pages self.old.sent self.old.got self.old.table)) (S.told self.old.seat) (S.told self.new.seat) (S.memory self.old.seat) (S.memory self.new.seat) self.new.core.machine self.new.sent.list self.new.got.list self.new.past.events (kept_of self.new.core.pages self.new.sent self.new.got self.new.table) }
         ensures count { self.new.core.pages.count ≡ self.old.core.pages.count }
-        ensures pages_sent { call_at self.old.core.machine.stage ≡ 1 → kept_of self.new.core.pages self.new.sent self.new.got self.new.table ≡ cond (is_sent self.new.core.machine.ended) (pages_sent (layout self.old.core.pages.count) (kept_of self.old.core.pages self.old.sent self.old.got self.old.table) packet.now) (kept_of self.old.core.pages self.old.sent self.old.got self.old.table) }
-        ensures pages_took { call_at self.old.core.machine.stage ≡ 2 → kept_of self.new.core.pages self.new.sent self.new.got self.new.table ≡ cond (is_took self.new.core.machine.ended) (pages_took (layout self.old.core.pages.count) (kept_of self.old.core.pages self.old.sent self.old.got self.old.table) (newest self.new.got.list)) (kept_of self.old.core.pages self.old.sent self.old.got self.old.table) }
-        ensures pages_kept { (call_at self.old.core.machine.stage ≡ 1 → ⊥) → (call_at self.old.core.machine.stage ≡ 2 → ⊥) → kept_of self.new.core.pages self.new.sent self.new.got self.new.table ≡ kept_of self.old.core.pages self.old.sent self.old.got self.old.table }
+        ensures pages_sent { call_at self.old.core.machine.stage ≡ Send → kept_of self.new.core.pages self.new.sent self.new.got self.new.table ≡ cond (is_sent self.new.core.machine.ended) (pages_sent (layout self.old.core.pages.count) (kept_of self.old.core.pages self.old.sent self.old.got self.old.table) packet.now) (kept_of self.old.core.pages self.old.sent self.old.got self.old.table) }
+        ensures pages_took { call_at self.old.core.machine.stage ≡ Take → kept_of self.new.core.pages self.new.sent self.new.got self.new.table ≡ cond (is_took self.new.core.machine.ended) (pages_took (layout self.old.core.pages.count) (kept_of self.old.core.pages self.old.sent self.old.got self.old.table) (newest self.new.got.list)) (kept_of self.old.core.pages self.old.sent self.old.got self.old.table) }
+        ensures pages_kept { (call_at self.old.core.machine.stage ≡ Send → ⊥) → (call_at self.old.core.machine.stage ≡ Take → ⊥) → kept_of self.new.core.pages self.new.sent self.new.got self.new.table ≡ kept_of self.old.core.pages self.old.sent self.old.got self.old.table }
         ensures idle { is_busy_at self.new.core.machine.stage ≡ false }
         ensures sent { self.new.sent.list ≡ sent_by self.new.core.machine self.old.sent.list packet.now }
         ensures sent_room { SentRoom self.new.core.machine.ended (length packet.now + along (kept_of self.old.core.pages self.old.sent self.old.got self.old.table) packet.now) self.old.sent.room self.new.sent.room }
         ensures got_room { (self.old.got.room.packets ≤ self.new.got.room.packets + 1) × (self.old.got.room.words ≤ self.new.got.room.words + self.new.core.machine.len) }
-        ensures sent_kept { (call_at self.old.core.machine.stage ≡ 1 → ⊥) → self.new.sent ≡ self.old.sent }
+        ensures sent_kept { (call_at self.old.core.machine.stage ≡ Send → ⊥) → self.new.sent ≡ self.old.sent }
         ensures got_kept { is_took self.new.core.machine.ended ≡ false → self.new.got ≡ self.old.got }
         ensures same { S.same self.old.seat self.new.seat }
         ensures cells { S.cells self.new.seat ≡ self.new.core.machine.cells }

@@ -1,5 +1,5 @@
 -- What the calls of a driver's end leave, by how they ended.
-use Rattle.std.proofs.Common.{◌≡◌, ◌≢◌, ◌≤◌, ◌+◌, ◌*◌, ℕ, List, [], ◌∷◌, ◌++◌, length, take, Option, Some, None, Bool, true, false, cond, eqb, leb, ltb, refl, sym, ap, ◌∙◌, subst, arith, ◌==◌}
+use Rattle.std.proofs.Common.{◌≡◌, ◌≢◌, ◌≤◌, ◌+◌, ◌*◌, ℕ, List, [], ◌∷◌, ◌++◌, take, Option, Some, None, Bool, true, false, cond, eqb, leb, ltb, refl, sym, ap, ◌∙◌, subst, arith, ◌==◌}
 use Rattle.std.proofs.lemmas.Bool.Decides.{nat_tests}
 use Rattle.chan_run.specs.Runs.{sent_of, got_of}
 use Rattle.chan_run.specs.declared.event.Event.{Event}
@@ -7,10 +7,11 @@ use Rattle.ring_machine.specs.declared.machine.Ending.{Ending}
 use Rattle.ring_machine.specs.declared.machine.Ending.TheVariants.{Fresh, SentQuiet, SentRaised, Full, BadPeer, Took, Empty, BadIndex, BadLength, BadOffset, CommittedQuiet, CommittedRaised, FellAsleep, FoundWork, NoSignal, Woke, Marked, PeerMarkDown, PeerMarkUp}
 use Rattle.ring_machine.specs.declared.machine.Machine.{Machine}
 use Rattle.ring_machine.specs.declared.machine.Stage.{Stage}
-use Rattle.ring_machine.specs.declared.machine.Stage.TheVariants.{Idle, Stopped, SendRead, SendCell, SendWrite, SendMask, SendLook, SendRaise, TakeFirst, TakeCell, ArmMask, ArmPending}
+use Rattle.ring_machine.specs.declared.machine.Stage.TheVariants.{Idle, Stopped, SendRead, SendCell, SendWrite, SendMask, SendLook, SendRaise, TakeFirst, TakeCell}
 use Rattle.ring_machine.specs.declared.last.TakeRefusal.{TakeRefusal}
 use Rattle.ring_machine.specs.declared.last.Why.{Why}
 use Rattle.ring_machine.specs.declared.state.EndState.{EndState}
+use Rattle.ring_machine.specs.EndCalls.{EndCall, Send, Take, Arm}
 use Rattle.ring_machine.specs.Endings.{send_answer, take_refusal, why_by, why_of}
 use Rattle.ring_machine.specs.Places.{low, free, is_index, cell_of}
 use Rattle.page_kept.specs.declared.kept.Kept.{Kept}
@@ -70,7 +71,7 @@ notes_got PeerMarkDown m past p buf = refl
 notes_got PeerMarkUp m past p buf = refl
 
 -- only a send sends, and only a take takes
-pub unsent : (how : Ending) → (call_by how ≡ 1 → ⊥) → is_sent how ≡ false
+pub unsent : (how : Ending) → (call_by how ≡ Send → ⊥) → is_sent how ≡ false
 unsent Fresh n = refl
 unsent SentQuiet n = absurd (n refl)
 unsent SentRaised n = absurd (n refl)
@@ -91,7 +92,7 @@ unsent Marked n = refl
 unsent PeerMarkDown n = refl
 unsent PeerMarkUp n = refl
 
-pub untook : (how : Ending) → (call_by how ≡ 2 → ⊥) → is_took how ≡ false
+pub untook : (how : Ending) → (call_by how ≡ Take → ⊥) → is_took how ≡ false
 untook Fresh n = refl
 untook SentQuiet n = refl
 untook SentRaised n = refl
@@ -113,12 +114,12 @@ untook PeerMarkDown n = refl
 untook PeerMarkUp n = refl
 
 -- only a take copies words into the buffer
-pub uncopied : (st : Stage) → (call_at st ≡ 2 → ⊥) → is_copying_at st ≡ false
+pub uncopied : (st : Stage) → (call_at st ≡ Take → ⊥) → is_copying_at st ≡ false
 uncopied TakeFirst n = absurd (n refl)
 uncopied TakeCell n = absurd (n refl)
 uncopied _ n = refl
 
-pub kept_on : (st : Stage) (call : ℕ) (buf from : List ℕ) (buf' : List ℕ) (i v : ℕ) → call_at st ≡ call → (call ≡ 2 → ⊥) → buf ≡ from → buf' ≡ stored (is_copying_at st) buf i v → buf' ≡ from
+pub kept_on : (st : Stage) (call : EndCall) (buf from : List ℕ) (buf' : List ℕ) (i v : ℕ) → call_at st ≡ call → (call ≡ Take → ⊥) → buf ≡ from → buf' ≡ stored (is_copying_at st) buf i v → buf' ≡ from
 kept_on st call buf from buf' i v same n kept is = is ∙ (ap (λ (b : Bool). stored b buf i v) (uncopied st (λ e. n (sym same ∙ e))) ∙ kept)
 
 -- what a send answers
@@ -164,26 +165,26 @@ sends_whole Marked m = refl
 sends_whole PeerMarkDown m = refl
 sends_whole PeerMarkUp m = refl
 
-pub sends_broken : (how : Ending) (m : Machine) → call_by how ≡ 1 → cond (is_broken how) (Some (why_by how m)) None ≡ left_by_send (send_answer how m)
-sends_broken Fresh m h = absurd (omega (arith, h))
+pub sends_broken : (how : Ending) (m : Machine) → call_by how ≡ Send → cond (is_broken how) (Some (why_by how m)) None ≡ left_by_send (send_answer how m)
+sends_broken Fresh m h = absurd (cc)
 sends_broken SentQuiet m h = refl
 sends_broken SentRaised m h = refl
 sends_broken Full m h = refl
 sends_broken BadPeer m h = refl
-sends_broken Took m h = absurd (omega (arith, h))
-sends_broken Empty m h = absurd (omega (arith, h))
-sends_broken BadIndex m h = absurd (omega (arith, h))
-sends_broken BadLength m h = absurd (omega (arith, h))
-sends_broken BadOffset m h = absurd (omega (arith, h))
-sends_broken CommittedQuiet m h = absurd (omega (arith, h))
-sends_broken CommittedRaised m h = absurd (omega (arith, h))
-sends_broken FellAsleep m h = absurd (omega (arith, h))
-sends_broken FoundWork m h = absurd (omega (arith, h))
-sends_broken NoSignal m h = absurd (omega (arith, h))
-sends_broken Woke m h = absurd (omega (arith, h))
-sends_broken Marked m h = absurd (omega (arith, h))
-sends_broken PeerMarkDown m h = absurd (omega (arith, h))
-sends_broken PeerMarkUp m h = absurd (omega (arith, h))
+sends_broken Took m h = absurd (cc)
+sends_broken Empty m h = absurd (cc)
+sends_broken BadIndex m h = absurd (cc)
+sends_broken BadLength m h = absurd (cc)
+sends_broken BadOffset m h = absurd (cc)
+sends_broken CommittedQuiet m h = absurd (cc)
+sends_broken CommittedRaised m h = absurd (cc)
+sends_broken FellAsleep m h = absurd (cc)
+sends_broken FoundWork m h = absurd (cc)
+sends_broken NoSignal m h = absurd (cc)
+sends_broken Woke m h = absurd (cc)
+sends_broken Marked m h = absurd (cc)
+sends_broken PeerMarkDown m h = absurd (cc)
+sends_broken PeerMarkUp m h = absurd (cc)
 
 pub sends_lacking : (how : Ending) (m : Machine) (n : ℕ) → (how ≡ Full → (m.room ≤ n + 1) × (m.words ≡ n)) → LacksRoom n (send_answer how m)
 sends_lacking Full m n found = let f = found refl in (omega (arith, f.1), omega (arith, f.0, f.1))
@@ -232,26 +233,26 @@ takes_whole Marked m = refl
 takes_whole PeerMarkDown m = refl
 takes_whole PeerMarkUp m = refl
 
-pub takes_broken : (how : Ending) (m : Machine) → call_by how ≡ 2 → cond (is_broken how) (Some (why_by how m)) None ≡ left_by_take (cond (is_took how) None (Some (take_refusal how m)))
-takes_broken Fresh m h = absurd (omega (arith, h))
-takes_broken SentQuiet m h = absurd (omega (arith, h))
-takes_broken SentRaised m h = absurd (omega (arith, h))
-takes_broken Full m h = absurd (omega (arith, h))
-takes_broken BadPeer m h = absurd (omega (arith, h))
+pub takes_broken : (how : Ending) (m : Machine) → call_by how ≡ Take → cond (is_broken how) (Some (why_by how m)) None ≡ left_by_take (cond (is_took how) None (Some (take_refusal how m)))
+takes_broken Fresh m h = absurd (cc)
+takes_broken SentQuiet m h = absurd (cc)
+takes_broken SentRaised m h = absurd (cc)
+takes_broken Full m h = absurd (cc)
+takes_broken BadPeer m h = absurd (cc)
 takes_broken Took m h = refl
 takes_broken Empty m h = refl
 takes_broken BadIndex m h = refl
 takes_broken BadLength m h = refl
 takes_broken BadOffset m h = refl
-takes_broken CommittedQuiet m h = absurd (omega (arith, h))
-takes_broken CommittedRaised m h = absurd (omega (arith, h))
-takes_broken FellAsleep m h = absurd (omega (arith, h))
-takes_broken FoundWork m h = absurd (omega (arith, h))
-takes_broken NoSignal m h = absurd (omega (arith, h))
-takes_broken Woke m h = absurd (omega (arith, h))
-takes_broken Marked m h = absurd (omega (arith, h))
-takes_broken PeerMarkDown m h = absurd (omega (arith, h))
-takes_broken PeerMarkUp m h = absurd (omega (arith, h))
+takes_broken CommittedQuiet m h = absurd (cc)
+takes_broken CommittedRaised m h = absurd (cc)
+takes_broken FellAsleep m h = absurd (cc)
+takes_broken FoundWork m h = absurd (cc)
+takes_broken NoSignal m h = absurd (cc)
+takes_broken Woke m h = absurd (cc)
+takes_broken Marked m h = absurd (cc)
+takes_broken PeerMarkDown m h = absurd (cc)
+takes_broken PeerMarkUp m h = absurd (cc)
 
 -- an end is broken exactly where it is stopped
 unbroken : (x : Bool) → (x ≡ true → ⊥) → x ≡ false
@@ -276,8 +277,8 @@ idle_is m s n w = by m.stage refl n
     by _ e b = absurd (cc)
 
 -- an arm is an arm, whether it wants room or not
-pub arm_calls : (m : Machine) (want : ℕ) → call_at (arm_begun m want).stage ≡ 4
-arm_calls m want = at_cond (λ (st : Stage). call_at st ≡ 4) (want == 0) _ _ (λ _. refl) (λ _. refl)
+pub arm_calls : (m : Machine) (want : ℕ) → call_at (arm_begun m want).stage ≡ Arm
+arm_calls m want = at_cond (λ (st : Stage). call_at st ≡ Arm) (want == 0) _ _ (λ _. refl) (λ _. refl)
 
 -- what a send of so many words found that had too little room
 abbrev Found : ℕ → Machine → Type 0

@@ -1,12 +1,13 @@
 //! What a call works on, and the call as a whole.
 ghost use Rattle.std.specs.Prelude.{◌≡◌, ◌≢◌, ◌≤◌, true, false, length, take, Some};
 ghost use Rattle.chan_run.specs.Runs.{sent_of, got_of};
+ghost use Rattle.ring_machine.specs.EndCalls.{Send, Take};
 ghost use Rattle.ring_machine.specs.Endings.{Leaves, LeavesBy};
 ghost use Rattle.ring_machine.specs.Loops.{Starts};
-ghost use Rattle.ring_machine.specs.States.{IsPacket, past_of, entered, shown, sent_by, got_by, past_by, Continues};
+ghost use Rattle.ring_machine.specs.States.{IsPacket, entered, shown, sent_by, got_by, past_by, Continues};
 ghost use Rattle.page_kept.specs.Kept.{no_pages};
 ghost use Rattle.ring_machine.specs.PageCalls.{core_pages};
-ghost use Rattle.ring_machine.specs.Steps.{is_busy_at, is_sent, is_took, call_at, call_by};
+ghost use Rattle.ring_machine.specs.Steps.{is_busy_at, is_took, call_at, call_by};
 ghost use Rattle.ring_core.specs.Told.{Left};
 ghost use Rattle.ring_machine.specs.declared.machine.Stage.TheVariants.{Stopped};
 ghost use Rattle.ring_core.specs.declared.told.Told.{Told};
@@ -47,7 +48,7 @@ fn drive<S: Seatlike>(parts: &mut Parts<S>, packet: &[u64])
     ensures left { Left (shown parts.old.core.machine packet.now parts.old.buf.items (sent_of parts.old.past.events) (got_of parts.old.past.events) parts.old.past.events no_pages) (S.told parts.old.seat) (S.told parts.new.seat) (S.memory parts.old.seat) (S.memory parts.new.seat) parts.new.core.machine (sent_by parts.new.core.machine (sent_of parts.old.past.events) packet.now) (got_by parts.new.core.machine (got_of parts.old.past.events) parts.new.buf.items) (past_by parts.new.core.machine parts.old.past.events packet.now parts.new.buf.items) no_pages }
     ensures idle { is_busy_at parts.new.core.machine.stage ≡ false }
     ensures past { parts.new.past ≡ parts.old.past }
-    ensures buf { (call_at parts.old.core.machine.stage ≡ 2 → ⊥) → parts.new.buf.items ≡ parts.old.buf.items }
+    ensures buf { (call_at parts.old.core.machine.stage ≡ Take → ⊥) → parts.new.buf.items ≡ parts.old.buf.items }
     ensures same { S.same parts.old.seat parts.new.seat }
     ensures cells { S.cells parts.new.seat ≡ parts.new.core.machine.cells }
     ensures honest { (u : Told) → S.told parts.new.seat ≡ Some u → parts.new.core.machine.stage ≢ Stopped }
@@ -125,8 +126,8 @@ impl<S: Seatlike> Parts<S> {
         ensures idle { is_busy_at self.new.core.machine.stage ≡ false }
         ensures sent { sent_of self.new.past.events ≡ sent_by self.new.core.machine (sent_of self.old.past.events) packet.now }
         ensures got { got_of self.new.past.events ≡ got_by self.new.core.machine (got_of self.old.past.events) self.new.buf.items }
-        ensures sent_kept { (call_at self.old.core.machine.stage ≡ 1 → ⊥) → sent_of self.new.past.events ≡ sent_of self.old.past.events }
-        ensures got_kept { (call_at self.old.core.machine.stage ≡ 2 → ⊥) → (got_of self.new.past.events ≡ got_of self.old.past.events) × (self.new.buf.items ≡ self.old.buf.items) }
+        ensures sent_kept { (call_at self.old.core.machine.stage ≡ Send → ⊥) → sent_of self.new.past.events ≡ sent_of self.old.past.events }
+        ensures got_kept { (call_at self.old.core.machine.stage ≡ Take → ⊥) → (got_of self.new.past.events ≡ got_of self.old.past.events) × (self.new.buf.items ≡ self.old.buf.items) }
         ensures same { S.same self.old.seat self.new.seat }
         ensures cells { S.cells self.new.seat ≡ self.new.core.machine.cells }
         ensures honest { (u : Told) → S.told self.new.seat ≡ Some u → self.new.core.machine.stage ≢ Stopped }

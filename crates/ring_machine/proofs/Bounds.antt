@@ -9,6 +9,7 @@ use Rattle.page_kept.specs.declared.page_call.PageCall.{PageCall}
 use Rattle.page_kept.specs.declared.page_call.PageCall.TheVariants.{Off, StoreWord, LoadWords}
 use Rattle.ring_machine.specs.declared.page_core.PageCore.{PageCore}
 use Rattle.ring_machine.specs.declared.place.Op.{Op}
+use Rattle.ring_machine.specs.EndCalls.{EndCall, StorePage, LoadLent}
 use Rattle.ring_machine.specs.Inside.{IsInside, ChangesOnly, call_in}
 use Rattle.ring_machine.specs.PageCalls.{is_paging, page_op, or_else, next_in, is_call_of, PagesFit}
 use Rattle.ring_machine.specs.Places.{free, used, ahead}
@@ -90,7 +91,7 @@ changes_at m p MarkStore = (refl, refl)
 changes_at m p MarkRaise = (inr (inr refl), refl)
 changes_at m p _ = tt
 
-or_changes : (call : ℕ) (x : Side) (a b : Option Op) → ChangesOnly call x a → ChangesOnly call x b → ChangesOnly call x (or_else a b)
+or_changes : (call : EndCall) (x : Side) (a b : Option Op) → ChangesOnly call x a → ChangesOnly call x b → ChangesOnly call x (or_else a b)
 or_changes call x None b f g = g
 or_changes call x (Some op) b f g = f
 
@@ -98,13 +99,13 @@ or_changes call x (Some op) b f g = f
 idle_none : (m : Machine) (p : List ℕ) → m.stage ≡ Idle → next_of m p ≡ None
 idle_none m p e = ap (λ (st : Stage). next_at st m p) e
 
-only_page : (n : ℕ) (m : Machine) (c : PageCall) (p : List ℕ) → m.stage ≡ Idle → ChangesOnly n m.side (page_op c) → ChangesOnly n m.side (next_in m c p)
-only_page n m c p e h = subst (λ (a : Option Op). ChangesOnly n m.side (or_else a (page_op c))) (sym (idle_none m p e)) h
+only_page : (call : EndCall) (m : Machine) (c : PageCall) (p : List ℕ) → m.stage ≡ Idle → ChangesOnly call m.side (page_op c) → ChangesOnly call m.side (next_in m c p)
+only_page call m c p e h = subst (λ (a : Option Op). ChangesOnly call m.side (or_else a (page_op c))) (sym (idle_none m p e)) h
 
 pub changes_in : (m : Machine) (c : PageCall) (p : List ℕ) → (is_paging c ≡ true → m.stage ≡ Idle) → ChangesOnly (call_in m.stage c) m.side (next_in m c p)
 changes_in m Off p f = or_changes (call_at m.stage) m.side (next_of m p) None (changes_at m p m.stage) tt
-changes_in m (StoreWord q w v) p f = only_page 8 m (StoreWord q w v) p (f refl) refl
-changes_in m (LoadWords q n j) p f = only_page 9 m (LoadWords q n j) p (f refl) tt
+changes_in m (StoreWord q w v) p f = only_page StorePage m (StoreWord q w v) p (f refl) refl
+changes_in m (LoadWords q n j) p f = only_page LoadLent m (LoadWords q n j) p (f refl) tt
 
 -- a machine with no call under way names no step
 pub rests_none : (m : Machine) (p : List ℕ) (st : Stage) → is_busy_at st ≡ false → next_at st m p ≡ None

@@ -11,6 +11,7 @@ use Rattle.ring_machine.specs.declared.machine.Ending.{Ending}
 use Rattle.ring_machine.specs.declared.machine.Ending.TheVariants.{Took}
 use Rattle.ring_machine.specs.declared.machine.Machine.{Machine}
 use Rattle.ring_machine.specs.declared.place.Op.{Op}
+use Rattle.ring_machine.specs.EndCalls.{EndCall, Send, Take, Commit, Arm, Poll, Mark as MarkCall, PeerMark as PeerMarkCall}
 use Rattle.ring_machine.specs.Places.{ahead, used, free, low, is_index, cell_of, len8_of, offset8_of}
 use Rattle.ring_machine.specs.Steps.{IsSound, fed_at, next_at, ends, is_busy_at, is_copying_at, is_sent, is_took, call_at, call_by, makes_room, finds_room}
 use Rattle.ring_machine.specs.Loops.{is_unseen_at, is_polling_at, is_given_at}
@@ -152,16 +153,16 @@ busy_next m p MarkRaise b = (_, refl)
 busy_next m p PeerMark b = (_, refl)
 
 -- the lists and the past, while a call is under way and after it
-pub record Lists (call : ℕ) (sent got : List (List ℕ)) (past : List (Event (List ℕ))) (p : List ℕ) (m : Machine) (buf : List ℕ) (sent' got' : List (List ℕ)) (past' : List (Event (List ℕ))) : Type 0 where
+pub record Lists (call : EndCall) (sent got : List (List ℕ)) (past : List (Event (List ℕ))) (p : List ℕ) (m : Machine) (buf : List ℕ) (sent' got' : List (List ℕ)) (past' : List (Event (List ℕ))) : Type 0 where
   pub busy : is_busy_at m.stage ≡ true → (call_at m.stage ≡ call) × (sent' ≡ sent_while m.stage sent p) × (got' ≡ got) × (past' ≡ past_while m.stage m past p)
   pub ended : is_busy_at m.stage ≡ false → (call_by m.ended ≡ call) × (sent' ≡ sent_by m sent p) × (got' ≡ got_by m got buf) × (past' ≡ past_by m past p buf)
 
 module _ (sent got : List (List ℕ)) (past : List (Event (List ℕ))) (p : List ℕ) (buf : List ℕ) where
   -- a machine that goes on, and one whose call has ended
-  more : (call : ℕ) (m : Machine) (sent' got' : List (List ℕ)) (past' : List (Event (List ℕ))) → is_busy_at m.stage ≡ true → (call_at m.stage ≡ call) × (sent' ≡ sent_while m.stage sent p) × (got' ≡ got) × (past' ≡ past_while m.stage m past p) → Lists call sent got past p m buf sent' got' past'
+  more : (call : EndCall) (m : Machine) (sent' got' : List (List ℕ)) (past' : List (Event (List ℕ))) → is_busy_at m.stage ≡ true → (call_at m.stage ≡ call) × (sent' ≡ sent_while m.stage sent p) × (got' ≡ got) × (past' ≡ past_while m.stage m past p) → Lists call sent got past p m buf sent' got' past'
   more call m sent' got' past' b x = record { busy = λ _. x; ended = λ n. absurd (no_true n b) }
 
-  over : (call : ℕ) (m : Machine) (sent' got' : List (List ℕ)) (past' : List (Event (List ℕ))) → is_busy_at m.stage ≡ false → (call_by m.ended ≡ call) × (sent' ≡ sent_by m sent p) × (got' ≡ got_by m got buf) × (past' ≡ past_by m past p buf) → Lists call sent got past p m buf sent' got' past'
+  over : (call : EndCall) (m : Machine) (sent' got' : List (List ℕ)) (past' : List (Event (List ℕ))) → is_busy_at m.stage ≡ false → (call_by m.ended ≡ call) × (sent' ≡ sent_by m sent p) × (got' ≡ got_by m got buf) × (past' ≡ past_by m past p buf) → Lists call sent got past p m buf sent' got' past'
   over call m sent' got' past' n x = record { busy = λ b. absurd (no_true n b); ended = λ _. x }
 
 module _ (sent got : List (List ℕ)) (past : List (Event (List ℕ))) (p : List ℕ) (m : Machine) (buf : List ℕ) (v : ℕ) (s : IsSound m) (w : length buf ≡ m.cells) (unseen : is_unseen_at m.stage ≡ true → m.saw ≡ false) where
@@ -169,43 +170,43 @@ module _ (sent got : List (List ℕ)) (past : List (Event (List ℕ))) (p : List
   saw_none st e u = sym (ap (λ (b : Bool). cond b (SawEvent ∷ past) past) (unseen (ap is_unseen_at e ∙ u)))
 
   pub lists_by : (st : Stage) → m.stage ≡ st → is_busy_at st ≡ true → Lists (call_at st) sent got past p (fed_at st m v) (stored (is_copying_at st) buf m.done v) (sent_after st (sent_while st sent p) p) (got_after st m got (copied_at st (take m.done buf)) v) (past_after st m (past_while st m past p) p (copied_at st (take m.done buf)) v)
-  lists_by SendRead e b = at_cond (λ (k : Machine). Lists 1 sent got past p k buf sent got past) (is_index m.cells v) _ _ (λ t. at_cond (λ (k : Machine). Lists 1 sent got past p k buf sent got past) (leb (free m.cells (cell_of v) m.write) (m.len + 1)) _ _ (λ u. over sent got past p buf 1 _ sent got past refl (refl, refl, refl, refl)) (λ u. more sent got past p buf 1 _ sent got past refl (refl, refl, refl, refl))) (λ t. over sent got past p buf 1 _ sent got past refl (refl, refl, refl, refl))
-  lists_by SendCell e b = at_cond (λ (k : Machine). Lists 1 sent got past p k buf sent got past) (ltb m.done m.len) _ _ (λ t. more sent got past p buf 1 _ sent got past (ap is_busy_at e) (ap call_at e, sym (ap (λ (x : Stage). sent_while x sent p) e), refl, sym (ap (λ (x : Stage). past_while x (record m { done = m.done + 1 }) past p) e))) (λ t. more sent got past p buf 1 _ sent got past refl (refl, refl, refl, refl))
-  lists_by SendWrite e b = more sent got past p buf 1 _ (sent ++ p ∷ []) got (SentEvent p ∷ past) refl (refl, refl, refl, refl)
-  lists_by SendMask e b = at_cond (λ (k : Machine). Lists 1 sent got past p k buf (sent ++ p ∷ []) got (SentEvent p ∷ past)) (eqb (low v) 0) _ _ (λ t. more sent got past p buf 1 _ (sent ++ p ∷ []) got (SentEvent p ∷ past) refl (refl, refl, refl, refl)) (λ t. over sent got past p buf 1 _ (sent ++ p ∷ []) got (SentEvent p ∷ past) refl (refl, refl, refl, refl))
-  lists_by SendLook e b = at_cond (λ (k : Machine). Lists 1 sent got past p k buf (sent ++ p ∷ []) got (SentEvent p ∷ past)) (eqb (low v) (8 * m.old)) _ _ (λ t. more sent got past p buf 1 _ (sent ++ p ∷ []) got (SentEvent p ∷ past) refl (refl, refl, refl, refl)) (λ t. over sent got past p buf 1 _ (sent ++ p ∷ []) got (SentEvent p ∷ past) refl (refl, refl, refl, refl))
-  lists_by SendRaise e b = over sent got past p buf 1 _ (sent ++ p ∷ []) got (SentEvent p ∷ past) refl (refl, refl, refl, refl)
-  lists_by TakeWrite e b = at_both (λ (k : Machine) (es : List (Event (List ℕ))). Lists 2 sent got past p k buf sent got es) (is_index m.cells v) _ _ _ _ (λ t. at_both (λ (k : Machine) (es : List (Event (List ℕ))). Lists 2 sent got past p k buf sent got es) (eqb (cell_of v) m.read) _ _ _ _ (λ u. over sent got past p buf 2 _ sent got _ refl (refl, refl, refl, refl)) (λ u. more sent got past p buf 2 _ sent got _ refl (refl, refl, refl, refl))) (λ t. over sent got past p buf 2 _ sent got _ refl (refl, refl, refl, refl))
-  lists_by TakeFirst e b = at_cond (λ (k : Machine). Lists 2 sent got past p k (set buf m.done v) sent got past) (leb 2 (len8_of v) && ltb (len8_of v) (used m.cells m.read m.seen)) _ _ (λ t. at_cond (λ (k : Machine). Lists 2 sent got past p k (set buf m.done v) sent got past) (leb 2 (offset8_of v) && leb (offset8_of v) (len8_of v)) _ _ (λ u. more sent got past p (set buf m.done v) 2 _ sent got past refl (refl, refl, refl, refl)) (λ u. over sent got past p (set buf m.done v) 2 _ sent got past refl (refl, refl, refl, refl))) (λ t. over sent got past p (set buf m.done v) 2 _ sent got past refl (refl, refl, refl, refl))
+  lists_by SendRead e b = at_cond (λ (k : Machine). Lists Send sent got past p k buf sent got past) (is_index m.cells v) _ _ (λ t. at_cond (λ (k : Machine). Lists Send sent got past p k buf sent got past) (leb (free m.cells (cell_of v) m.write) (m.len + 1)) _ _ (λ u. over sent got past p buf Send _ sent got past refl (refl, refl, refl, refl)) (λ u. more sent got past p buf Send _ sent got past refl (refl, refl, refl, refl))) (λ t. over sent got past p buf Send _ sent got past refl (refl, refl, refl, refl))
+  lists_by SendCell e b = at_cond (λ (k : Machine). Lists Send sent got past p k buf sent got past) (ltb m.done m.len) _ _ (λ t. more sent got past p buf Send _ sent got past (ap is_busy_at e) (ap call_at e, sym (ap (λ (x : Stage). sent_while x sent p) e), refl, sym (ap (λ (x : Stage). past_while x (record m { done = m.done + 1 }) past p) e))) (λ t. more sent got past p buf Send _ sent got past refl (refl, refl, refl, refl))
+  lists_by SendWrite e b = more sent got past p buf Send _ (sent ++ p ∷ []) got (SentEvent p ∷ past) refl (refl, refl, refl, refl)
+  lists_by SendMask e b = at_cond (λ (k : Machine). Lists Send sent got past p k buf (sent ++ p ∷ []) got (SentEvent p ∷ past)) (eqb (low v) 0) _ _ (λ t. more sent got past p buf Send _ (sent ++ p ∷ []) got (SentEvent p ∷ past) refl (refl, refl, refl, refl)) (λ t. over sent got past p buf Send _ (sent ++ p ∷ []) got (SentEvent p ∷ past) refl (refl, refl, refl, refl))
+  lists_by SendLook e b = at_cond (λ (k : Machine). Lists Send sent got past p k buf (sent ++ p ∷ []) got (SentEvent p ∷ past)) (eqb (low v) (8 * m.old)) _ _ (λ t. more sent got past p buf Send _ (sent ++ p ∷ []) got (SentEvent p ∷ past) refl (refl, refl, refl, refl)) (λ t. over sent got past p buf Send _ (sent ++ p ∷ []) got (SentEvent p ∷ past) refl (refl, refl, refl, refl))
+  lists_by SendRaise e b = over sent got past p buf Send _ (sent ++ p ∷ []) got (SentEvent p ∷ past) refl (refl, refl, refl, refl)
+  lists_by TakeWrite e b = at_both (λ (k : Machine) (es : List (Event (List ℕ))). Lists Take sent got past p k buf sent got es) (is_index m.cells v) _ _ _ _ (λ t. at_both (λ (k : Machine) (es : List (Event (List ℕ))). Lists Take sent got past p k buf sent got es) (eqb (cell_of v) m.read) _ _ _ _ (λ u. over sent got past p buf Take _ sent got _ refl (refl, refl, refl, refl)) (λ u. more sent got past p buf Take _ sent got _ refl (refl, refl, refl, refl))) (λ t. over sent got past p buf Take _ sent got _ refl (refl, refl, refl, refl))
+  lists_by TakeFirst e b = at_cond (λ (k : Machine). Lists Take sent got past p k (set buf m.done v) sent got past) (leb 2 (len8_of v) && ltb (len8_of v) (used m.cells m.read m.seen)) _ _ (λ t. at_cond (λ (k : Machine). Lists Take sent got past p k (set buf m.done v) sent got past) (leb 2 (offset8_of v) && leb (offset8_of v) (len8_of v)) _ _ (λ u. more sent got past p (set buf m.done v) Take _ sent got past refl (refl, refl, refl, refl)) (λ u. over sent got past p (set buf m.done v) Take _ sent got past refl (refl, refl, refl, refl))) (λ t. over sent got past p (set buf m.done v) Take _ sent got past refl (refl, refl, refl, refl))
   lists_by TakeCell e b = took (ltb (m.done + 1) m.len) refl
     where
       took : (t : Bool) → ltb (m.done + 1) m.len ≡ t
-          → Lists 2 sent got past p (cond t (record m { done = m.done + 1 }) (record (ends m Took) { read = ahead m.cells m.read (m.len + 1); words = m.len })) (set buf m.done v) sent (cond t got (got ++ (take m.done buf ++ v ∷ []) ∷ [])) (cond t past (GotEvent (take m.done buf ++ v ∷ []) ∷ past))
-      took true h = more sent got past p (set buf m.done v) 2 _ sent got past (ap is_busy_at e) (ap call_at e, sym (ap (λ (x : Stage). sent_while x sent p) e), refl, sym (ap (λ (x : Stage). past_while x (record m { done = m.done + 1 }) past p) e))
+          → Lists Take sent got past p (cond t (record m { done = m.done + 1 }) (record (ends m Took) { read = ahead m.cells m.read (m.len + 1); words = m.len })) (set buf m.done v) sent (cond t got (got ++ (take m.done buf ++ v ∷ []) ∷ [])) (cond t past (GotEvent (take m.done buf ++ v ∷ []) ∷ past))
+      took true h = more sent got past p (set buf m.done v) Take _ sent got past (ap is_busy_at e) (ap call_at e, sym (ap (λ (x : Stage). sent_while x sent p) e), refl, sym (ap (λ (x : Stage). past_while x (record m { done = m.done + 1 }) past p) e))
       took false h =
           let room : m.done < length buf = omega (arith, s.len, s.done) in
           let busy : m.done < m.len = (s.copying e).1 in
           let last : m.len ≡ m.done + 1 = grind (arith, nat_tests) in
           let words : take m.done buf ++ v ∷ [] ≡ take m.len (set buf m.done v) = sym (take-suc-set buf m.done v room) ∙ ap (λ (n : ℕ). take n (set buf m.done v)) (sym (last ∙ add-one m.done)) in
-          over sent got past p (set buf m.done v) 2 _ sent _ _ refl (refl, refl, ap (λ (xs : List ℕ). got ++ xs ∷ []) words, ap (λ (xs : List ℕ). GotEvent xs ∷ past) words)
-  lists_by CommitRead e b = more sent got past p buf 3 _ sent got past refl (refl, refl, refl, refl)
-  lists_by CommitFeature e b = at_cond (λ (k : Machine). Lists 3 sent got past p k buf sent got past) (eqb (low v % 2) 1) _ _ (λ t. more sent got past p buf 3 _ sent got past refl (refl, refl, refl, refl)) (λ t. over sent got past p buf 3 _ sent got past refl (refl, refl, refl, refl))
-  lists_by CommitPending e b = at_cond (λ (k : Machine). Lists 3 sent got past p k buf sent got past) (eqb (low v) 0) _ _ (λ t. over sent got past p buf 3 _ sent got past refl (refl, refl, refl, refl)) (λ t. more sent got past p buf 3 _ sent got past refl (refl, refl, refl, refl))
-  lists_by CommitWrite e b = at_cond (λ (k : Machine). Lists 3 sent got past p k buf sent got past) (makes_room m v) _ _ (λ t. more sent got past p buf 3 _ sent got past refl (refl, refl, refl, refl)) (λ t. over sent got past p buf 3 _ sent got past refl (refl, refl, refl, refl))
-  lists_by CommitRaise e b = over sent got past p buf 3 _ sent got past refl (refl, refl, refl, refl)
-  lists_by ArmPending e b = more sent got past p buf 4 _ sent got past refl (refl, refl, refl, refl)
-  lists_by ArmMask e b = more sent got past p buf 4 _ sent got past refl (refl, refl, refl, refl)
-  lists_by ArmWrite e b = at_cond (λ (k : Machine). Lists 4 sent got past p k buf sent got past) (eqb (low v) (8 * m.read)) _ _ (λ t. at_cond (λ (k : Machine). Lists 4 sent got past p k buf sent got past) (eqb m.want 0) _ _ (λ u. more sent got past p buf 4 _ sent got past refl (refl, refl, refl, refl)) (λ u. more sent got past p buf 4 _ sent got past refl (refl, refl, refl, refl))) (λ t. more sent got past p buf 4 _ sent got past refl (refl, refl, refl, saw_none ArmWrite e refl))
-  lists_by ArmRead e b = at_cond (λ (k : Machine). Lists 4 sent got past p k buf sent got past) (finds_room m v) _ _ (λ t. more sent got past p buf 4 _ sent got past refl (refl, refl, refl, saw_none ArmRead e refl)) (λ t. more sent got past p buf 4 _ sent got past refl (refl, refl, refl, refl))
-  lists_by ArmMark e b = at_both (λ (k : Machine) (es : List (Event (List ℕ))). Lists 4 sent got past p k buf sent got es) (eqb v 0) _ _ _ _ (λ t. over sent got past p buf 4 _ sent got _ refl (refl, refl, refl, refl)) (λ t. more sent got past p buf 4 _ sent got _ refl (refl, refl, refl, refl))
-  lists_by ArmUndoMask e b = at_cond (λ (k : Machine). Lists 4 sent got past p k buf sent got (cond m.saw (SawEvent ∷ past) past)) (eqb m.want 0) _ _ (λ t. over sent got past p buf 4 _ sent got (cond m.saw (SawEvent ∷ past) past) refl (refl, refl, refl, refl)) (λ t. more sent got past p buf 4 _ sent got (cond m.saw (SawEvent ∷ past) past) refl (refl, refl, refl, refl))
-  lists_by ArmUndoPending e b = over sent got past p buf 4 _ sent got (cond m.saw (SawEvent ∷ past) past) refl (refl, refl, refl, refl)
-  lists_by PollSignal e b = at_cond (λ (k : Machine). Lists 5 sent got past p k buf sent got past) (eqb v 0) _ _ (λ t. over sent got past p buf 5 _ sent got past refl (refl, refl, refl, refl)) (λ t. more sent got past p buf 5 _ sent got past refl (refl, refl, refl, refl))
-  lists_by PollMask e b = at_cond (λ (k : Machine). Lists 5 sent got past p k buf sent got past) (eqb m.want 0) _ _ (λ t. over sent got past p buf 5 _ sent got past refl (refl, refl, refl, refl)) (λ t. more sent got past p buf 5 _ sent got past refl (refl, refl, refl, refl))
-  lists_by PollPending e b = over sent got past p buf 5 _ sent got past refl (refl, refl, refl, refl)
-  lists_by MarkStore e b = more sent got past p buf 6 _ sent got (MarkedEvent ∷ past) refl (refl, refl, refl, refl)
-  lists_by MarkRaise e b = over sent got past p buf 6 _ sent got (MarkedEvent ∷ past) refl (refl, refl, refl, refl)
-  lists_by PeerMark e b = at_both (λ (k : Machine) (es : List (Event (List ℕ))). Lists 7 sent got past p k buf sent got es) (eqb v 0) _ _ _ _ (λ t. over sent got past p buf 7 _ sent got _ refl (refl, refl, refl, refl)) (λ t. over sent got past p buf 7 _ sent got _ refl (refl, refl, refl, refl))
+          over sent got past p (set buf m.done v) Take _ sent _ _ refl (refl, refl, ap (λ (xs : List ℕ). got ++ xs ∷ []) words, ap (λ (xs : List ℕ). GotEvent xs ∷ past) words)
+  lists_by CommitRead e b = more sent got past p buf Commit _ sent got past refl (refl, refl, refl, refl)
+  lists_by CommitFeature e b = at_cond (λ (k : Machine). Lists Commit sent got past p k buf sent got past) (eqb (low v % 2) 1) _ _ (λ t. more sent got past p buf Commit _ sent got past refl (refl, refl, refl, refl)) (λ t. over sent got past p buf Commit _ sent got past refl (refl, refl, refl, refl))
+  lists_by CommitPending e b = at_cond (λ (k : Machine). Lists Commit sent got past p k buf sent got past) (eqb (low v) 0) _ _ (λ t. over sent got past p buf Commit _ sent got past refl (refl, refl, refl, refl)) (λ t. more sent got past p buf Commit _ sent got past refl (refl, refl, refl, refl))
+  lists_by CommitWrite e b = at_cond (λ (k : Machine). Lists Commit sent got past p k buf sent got past) (makes_room m v) _ _ (λ t. more sent got past p buf Commit _ sent got past refl (refl, refl, refl, refl)) (λ t. over sent got past p buf Commit _ sent got past refl (refl, refl, refl, refl))
+  lists_by CommitRaise e b = over sent got past p buf Commit _ sent got past refl (refl, refl, refl, refl)
+  lists_by ArmPending e b = more sent got past p buf Arm _ sent got past refl (refl, refl, refl, refl)
+  lists_by ArmMask e b = more sent got past p buf Arm _ sent got past refl (refl, refl, refl, refl)
+  lists_by ArmWrite e b = at_cond (λ (k : Machine). Lists Arm sent got past p k buf sent got past) (eqb (low v) (8 * m.read)) _ _ (λ t. at_cond (λ (k : Machine). Lists Arm sent got past p k buf sent got past) (eqb m.want 0) _ _ (λ u. more sent got past p buf Arm _ sent got past refl (refl, refl, refl, refl)) (λ u. more sent got past p buf Arm _ sent got past refl (refl, refl, refl, refl))) (λ t. more sent got past p buf Arm _ sent got past refl (refl, refl, refl, saw_none ArmWrite e refl))
+  lists_by ArmRead e b = at_cond (λ (k : Machine). Lists Arm sent got past p k buf sent got past) (finds_room m v) _ _ (λ t. more sent got past p buf Arm _ sent got past refl (refl, refl, refl, saw_none ArmRead e refl)) (λ t. more sent got past p buf Arm _ sent got past refl (refl, refl, refl, refl))
+  lists_by ArmMark e b = at_both (λ (k : Machine) (es : List (Event (List ℕ))). Lists Arm sent got past p k buf sent got es) (eqb v 0) _ _ _ _ (λ t. over sent got past p buf Arm _ sent got _ refl (refl, refl, refl, refl)) (λ t. more sent got past p buf Arm _ sent got _ refl (refl, refl, refl, refl))
+  lists_by ArmUndoMask e b = at_cond (λ (k : Machine). Lists Arm sent got past p k buf sent got (cond m.saw (SawEvent ∷ past) past)) (eqb m.want 0) _ _ (λ t. over sent got past p buf Arm _ sent got (cond m.saw (SawEvent ∷ past) past) refl (refl, refl, refl, refl)) (λ t. more sent got past p buf Arm _ sent got (cond m.saw (SawEvent ∷ past) past) refl (refl, refl, refl, refl))
+  lists_by ArmUndoPending e b = over sent got past p buf Arm _ sent got (cond m.saw (SawEvent ∷ past) past) refl (refl, refl, refl, refl)
+  lists_by PollSignal e b = at_cond (λ (k : Machine). Lists Poll sent got past p k buf sent got past) (eqb v 0) _ _ (λ t. over sent got past p buf Poll _ sent got past refl (refl, refl, refl, refl)) (λ t. more sent got past p buf Poll _ sent got past refl (refl, refl, refl, refl))
+  lists_by PollMask e b = at_cond (λ (k : Machine). Lists Poll sent got past p k buf sent got past) (eqb m.want 0) _ _ (λ t. over sent got past p buf Poll _ sent got past refl (refl, refl, refl, refl)) (λ t. more sent got past p buf Poll _ sent got past refl (refl, refl, refl, refl))
+  lists_by PollPending e b = over sent got past p buf Poll _ sent got past refl (refl, refl, refl, refl)
+  lists_by MarkStore e b = more sent got past p buf MarkCall _ sent got (MarkedEvent ∷ past) refl (refl, refl, refl, refl)
+  lists_by MarkRaise e b = over sent got past p buf MarkCall _ sent got (MarkedEvent ∷ past) refl (refl, refl, refl, refl)
+  lists_by PeerMark e b = at_both (λ (k : Machine) (es : List (Event (List ℕ))). Lists PeerMarkCall sent got past p k buf sent got es) (eqb v 0) _ _ _ _ (λ t. over sent got past p buf PeerMarkCall _ sent got _ refl (refl, refl, refl, refl)) (λ t. over sent got past p buf PeerMarkCall _ sent got _ refl (refl, refl, refl, refl))
   lists_by Idle e b = absurd (cc)
   lists_by Stopped e b = absurd (cc)
 

@@ -22,6 +22,7 @@ use Rattle.ring_machine.specs.declared.last.SendRefusal.{SendRefusal}
 use Rattle.ring_machine.specs.declared.last.SendRefusal.TheVariants.{Full as SendFull, BadPeer as SendBadPeer}
 use Rattle.ring_machine.specs.declared.last.TakeRefusal.{TakeRefusal}
 use Rattle.ring_machine.specs.declared.last.TakeRefusal.TheVariants.{Empty as TakeEmpty, Malformed as TakeMalformed}
+use Rattle.ring_machine.specs.EndCalls.{EndCall, Send, Take, Commit, Arm, Poll, Mark as MarkCall}
 use Rattle.ring_machine.specs.Places.{used, ahead}
 use Rattle.ring_machine.specs.Steps.{is_sent, is_took, is_broken}
 
@@ -157,17 +158,17 @@ abbrev pub is_empty_refusal : TakeRefusal → Bool
 is_empty_refusal (TakeEmpty _) = true
 is_empty_refusal _ = false
 
--- What each call leaves, by its number: 1 is a send, 2 a take, 3 a commit, 4 an arm, 5 a poll, 6 a mark, 7 a look for the peer's mark
-pub record LeavesBy (call : ℕ) (before after : Machine) : Type 0 where
-  pub awake : (call ≡ 4 → ⊥) → (call ≡ 5 → ⊥) → after.asleep ≡ false
-  pub unmarked : (call ≡ 6 → ⊥) → after.marked ≡ false
-  pub marked : call ≡ 6 → after.marked ≡ true
-  pub idle : (call ≡ 1 → ⊥) → (call ≡ 2 → ⊥) → after.stage ≡ Idle
-  pub write : (call ≡ 1 → ⊥) → after.write ≡ before.write
-  pub read : (call ≡ 2 → ⊥) → after.read ≡ before.read
-  pub start : (call ≡ 3 → ⊥) → after.start ≡ before.start
-  pub committed : call ≡ 3 → after.start ≡ after.read
-  pub untaken : (call ≡ 2 → ⊥) → is_took after.ended ≡ false
+-- What each call leaves
+pub record LeavesBy (call : EndCall) (before after : Machine) : Type 0 where
+  pub awake : (call ≡ Arm → ⊥) → (call ≡ Poll → ⊥) → after.asleep ≡ false
+  pub unmarked : (call ≡ MarkCall → ⊥) → after.marked ≡ false
+  pub marked : call ≡ MarkCall → after.marked ≡ true
+  pub idle : (call ≡ Send → ⊥) → (call ≡ Take → ⊥) → after.stage ≡ Idle
+  pub write : (call ≡ Send → ⊥) → after.write ≡ before.write
+  pub read : (call ≡ Take → ⊥) → after.read ≡ before.read
+  pub start : (call ≡ Commit → ⊥) → after.start ≡ before.start
+  pub committed : call ≡ Commit → after.start ≡ after.read
+  pub untaken : (call ≡ Take → ⊥) → is_took after.ended ≡ false
   pub whole : after.stage ≡ Idle → is_broken after.ended ≡ false
 
 -- the answer of an arm, as a flag

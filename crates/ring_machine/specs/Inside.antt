@@ -8,6 +8,7 @@ use Rattle.ring_machine.specs.declared.place.Op.TheVariants.{Load, Store, Raise,
 use Rattle.page_kept.specs.declared.page_call.PageCall.{PageCall}
 use Rattle.page_kept.specs.declared.page_call.PageCall.TheVariants.{Off, StoreWord, LoadWords}
 use Rattle.ring_machine.specs.declared.machine.Stage.{Stage}
+use Rattle.ring_machine.specs.EndCalls.{EndCall, Send, Commit, Arm, Poll, Mark as MarkCall, StorePage, LoadLent}
 use Rattle.ring_machine.specs.Places.{IsPlaceOf, out_of, in_of, peer_of}
 use Rattle.ring_machine.specs.Steps.{call_at}
 
@@ -23,33 +24,33 @@ abbrev pub IsInside : ℕ → ℕ → Option Op → Type 0
 IsInside n c None = Unit {0}
 IsInside n c (Some op) = IsOpOf n c op
 
--- the call under way: that of the rings, or 8 where a page word is stored, and 9 where lent words are loaded
-abbrev pub call_in : Stage → PageCall → ℕ
+-- the call under way: that of the rings, or the page call
+abbrev pub call_in : Stage → PageCall → EndCall
 call_in st Off = call_at st
-call_in st (StoreWord q w v) = 8
-call_in st (LoadWords q n j) = 9
+call_in st (StoreWord q w v) = StorePage
+call_in st (LoadWords q n j) = LoadLent
 
--- The calls that store to a place, by number: 1 is a send, 3 a commit, 4 an arm, 5 a poll, 8 a store of a page word. A send stores to the cells and the write word of the ring that
+-- The calls that store to a place. A send stores to the cells and the write word of the ring that
 -- its end fills, a commit to the read word of the ring that it empties, an arm and a poll to the mask of the latter and the pending word of the former
-abbrev pub IsStoreAt : ℕ → Side → Place → Type 0
-IsStoreAt call x (Cell r at) = (call ≡ 1) × (r ≡ out_of x)
-IsStoreAt call x (Write r) = (call ≡ 1) × (r ≡ out_of x)
-IsStoreAt call x (Read r) = (call ≡ 3) × (r ≡ in_of x)
-IsStoreAt call x (Mask r) = ((call ≡ 4) ⊎ (call ≡ 5)) × (r ≡ in_of x)
-IsStoreAt call x (Pending r) = ((call ≡ 4) ⊎ (call ≡ 5)) × (r ≡ out_of x)
+abbrev pub IsStoreAt : EndCall → Side → Place → Type 0
+IsStoreAt call x (Cell r at) = (call ≡ Send) × (r ≡ out_of x)
+IsStoreAt call x (Write r) = (call ≡ Send) × (r ≡ out_of x)
+IsStoreAt call x (Read r) = (call ≡ Commit) × (r ≡ in_of x)
+IsStoreAt call x (Mask r) = ((call ≡ Arm) ⊎ (call ≡ Poll)) × (r ≡ in_of x)
+IsStoreAt call x (Pending r) = ((call ≡ Arm) ⊎ (call ≡ Poll)) × (r ≡ out_of x)
 IsStoreAt call x (Feature r) = ⊥
 IsStoreAt call x (Signal y) = ⊥
 IsStoreAt call x (Mark y) = ⊥
-IsStoreAt call x (Page q w) = call ≡ 8
+IsStoreAt call x (Page q w) = call ≡ StorePage
 
--- what a step of a call may change: a send, a commit and a mark (6) raise the peer, a poll takes the end's own signal, and a mark stores its own mark
-abbrev pub IsChangeOf : ℕ → Side → Op → Type 0
+-- what a step of a call may change: a send, a commit and a mark raise the peer, a poll takes the end's own signal, and a mark stores its own mark
+abbrev pub IsChangeOf : EndCall → Side → Op → Type 0
 IsChangeOf call x (Load p) = Unit {0}
 IsChangeOf call x (Store p v) = IsStoreAt call x p
-IsChangeOf call x (Raise y) = ((call ≡ 1) ⊎ ((call ≡ 3) ⊎ (call ≡ 6))) × (y ≡ peer_of x)
-IsChangeOf call x (TakeSignal y) = (call ≡ 5) × (y ≡ x)
-IsChangeOf call x (StoreMark y) = (call ≡ 6) × (y ≡ x)
+IsChangeOf call x (Raise y) = ((call ≡ Send) ⊎ ((call ≡ Commit) ⊎ (call ≡ MarkCall))) × (y ≡ peer_of x)
+IsChangeOf call x (TakeSignal y) = (call ≡ Poll) × (y ≡ x)
+IsChangeOf call x (StoreMark y) = (call ≡ MarkCall) × (y ≡ x)
 
-abbrev pub ChangesOnly : ℕ → Side → Option Op → Type 0
+abbrev pub ChangesOnly : EndCall → Side → Option Op → Type 0
 ChangesOnly call x None = Unit {0}
 ChangesOnly call x (Some op) = IsChangeOf call x op

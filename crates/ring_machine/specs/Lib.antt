@@ -1,3 +1,4 @@
+pub mod EndCalls
 pub mod Places
 pub mod Steps
 pub mod States

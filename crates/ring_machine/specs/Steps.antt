@@ -6,6 +6,7 @@ use Rattle.ring_machine.specs.declared.machine.Stage.TheVariants.{Idle, Stopped,
 use Rattle.ring_machine.specs.declared.machine.Ending.{Ending}
 use Rattle.ring_machine.specs.declared.machine.Ending.TheVariants.{Fresh, SentQuiet, SentRaised, Full, BadPeer, Took, Empty, BadIndex, BadLength, BadOffset, CommittedQuiet, CommittedRaised, FellAsleep, FoundWork, NoSignal, Woke, Marked, PeerMarkDown, PeerMarkUp}
 use Rattle.ring_machine.specs.declared.machine.Machine.{Machine}
+use Rattle.ring_machine.specs.EndCalls.{EndCall, NoCall, Send, Take, Commit, Arm, Poll, Mark as MarkCall, PeerMark as PeerMarkCall}
 use Rattle.io_edge.specs.declared.side.Side.{Side}
 use Rattle.ring_machine.specs.declared.place.Place.TheVariants.{Write, Read, Mask, Pending, Feature, Cell, Mark}
 use Rattle.ring_machine.specs.declared.place.Op.{Op}
@@ -270,59 +271,59 @@ made_at MarkStore m = 0
 made_at MarkRaise m = 1
 made_at PeerMark m = 0
 
--- the call that a step belongs to: 1 is a send, 2 a take, 3 a commit, 4 an arm, 5 a poll, 6 a mark, 7 a look for the peer's mark
-abbrev pub call_at : Stage → ℕ
-call_at Idle = 0
-call_at Stopped = 0
-call_at SendRead = 1
-call_at SendCell = 1
-call_at SendWrite = 1
-call_at SendMask = 1
-call_at SendLook = 1
-call_at SendRaise = 1
-call_at TakeWrite = 2
-call_at TakeFirst = 2
-call_at TakeCell = 2
-call_at CommitRead = 3
-call_at CommitFeature = 3
-call_at CommitPending = 3
-call_at CommitWrite = 3
-call_at CommitRaise = 3
-call_at ArmPending = 4
-call_at ArmMask = 4
-call_at ArmWrite = 4
-call_at ArmRead = 4
-call_at ArmMark = 4
-call_at ArmUndoMask = 4
-call_at ArmUndoPending = 4
-call_at PollSignal = 5
-call_at PollMask = 5
-call_at PollPending = 5
-call_at MarkStore = 6
-call_at MarkRaise = 6
-call_at PeerMark = 7
+-- the call that a step belongs to
+abbrev pub call_at : Stage → EndCall
+call_at Idle = NoCall
+call_at Stopped = NoCall
+call_at SendRead = Send
+call_at SendCell = Send
+call_at SendWrite = Send
+call_at SendMask = Send
+call_at SendLook = Send
+call_at SendRaise = Send
+call_at TakeWrite = Take
+call_at TakeFirst = Take
+call_at TakeCell = Take
+call_at CommitRead = Commit
+call_at CommitFeature = Commit
+call_at CommitPending = Commit
+call_at CommitWrite = Commit
+call_at CommitRaise = Commit
+call_at ArmPending = Arm
+call_at ArmMask = Arm
+call_at ArmWrite = Arm
+call_at ArmRead = Arm
+call_at ArmMark = Arm
+call_at ArmUndoMask = Arm
+call_at ArmUndoPending = Arm
+call_at PollSignal = Poll
+call_at PollMask = Poll
+call_at PollPending = Poll
+call_at MarkStore = MarkCall
+call_at MarkRaise = MarkCall
+call_at PeerMark = PeerMarkCall
 
 -- the call that ends so
-abbrev pub call_by : Ending → ℕ
-call_by Fresh = 0
-call_by SentQuiet = 1
-call_by SentRaised = 1
-call_by Full = 1
-call_by BadPeer = 1
-call_by Took = 2
-call_by Empty = 2
-call_by BadIndex = 2
-call_by BadLength = 2
-call_by BadOffset = 2
-call_by CommittedQuiet = 3
-call_by CommittedRaised = 3
-call_by FellAsleep = 4
-call_by FoundWork = 4
-call_by NoSignal = 5
-call_by Woke = 5
-call_by Marked = 6
-call_by PeerMarkDown = 7
-call_by PeerMarkUp = 7
+abbrev pub call_by : Ending → EndCall
+call_by Fresh = NoCall
+call_by SentQuiet = Send
+call_by SentRaised = Send
+call_by Full = Send
+call_by BadPeer = Send
+call_by Took = Take
+call_by Empty = Take
+call_by BadIndex = Take
+call_by BadLength = Take
+call_by BadOffset = Take
+call_by CommittedQuiet = Commit
+call_by CommittedRaised = Commit
+call_by FellAsleep = Arm
+call_by FoundWork = Arm
+call_by NoSignal = Poll
+call_by Woke = Poll
+call_by Marked = MarkCall
+call_by PeerMarkDown = PeerMarkCall
+call_by PeerMarkUp = PeerMarkCall
 
 abbrev pub is_sent : Ending → Bool
 is_sent SentQuiet = true

@@ -44,16 +44,16 @@ pub after_commit : (s : TwoEnds) (x : Side) (new : Seen Held) (answer : Signalle
 after_commit s x new answer ok awake says =
     let old : Seen Held = end_of (handed s x) x in
     let mine : end_of (called s x new) x ≡ new = lent_is (handed s x) x new in
-    let ends = commit_signals s x ok old new refl answer says.ran (says.after.idle (λ h. absurd (omega arith)) (λ h. absurd (omega arith))) says.answer_is in
+    let ends = commit_signals s x ok old new refl answer says.ran (says.after.idle (λ h. cc) (λ h. cc)) says.answer_is in
     record {
       pair = commit_on s x new ok old refl awake says.ran says.leaves;
       raises = ends.0;
       words = ends.1;
-      committed = ap (λ (y : Seen Held). y.state.machine.start) mine ∙ (says.after.committed refl ∙ (says.after.read (λ h. absurd (omega arith)) ∙ ap (λ (y : EndState). y.machine.read) (handed_state s x)));
+      committed = ap (λ (y : Seen Held). y.state.machine.start) mine ∙ (says.after.committed refl ∙ (says.after.read (λ h. cc) ∙ ap (λ (y : EndState). y.machine.read) (handed_state s x)));
       kept = kept_on s x old new refl says.kept;
       awake = (
-        ap (λ (y : Seen Held). y.state.machine.asleep) mine ∙ says.after.awake (λ h. absurd (omega arith)) (λ h. absurd (omega arith)),
-        ap (λ (y : Seen Held). y.state.machine.marked) mine ∙ says.after.unmarked (λ h. absurd (omega arith)),
+        ap (λ (y : Seen Held). y.state.machine.asleep) mine ∙ says.after.awake (λ h. cc) (λ h. cc),
+        ap (λ (y : Seen Held). y.state.machine.marked) mine ∙ says.after.unmarked (λ h. cc),
       );
       other = stays s x new;
     }

@@ -5,6 +5,7 @@ use Rattle.io_edge.specs.declared.side.Side.TheVariants.{Guest, Host}
 use Rattle.ring_machine.specs.declared.last.TakeRefusal.{TakeRefusal}
 use Rattle.ring_machine.specs.declared.machine.Stage.TheVariants.{Idle}
 use Rattle.ring_machine.specs.declared.state.EndState.{EndState}
+use Rattle.ring_machine.specs.EndCalls.{Send}
 use Rattle.ring_machine.specs.Endings.{LeavesBy}
 use Rattle.ring_core.specs.Seen.{Seen}
 use Rattle.ring_core.specs.Taking.{Takes}
@@ -24,12 +25,12 @@ module _ (s : TwoEnds) (x : Side) (old new : Seen Held) (is : old ≡ end_of (ha
   pub idle : IsPair s → old.state.machine.stage ≡ Idle
   idle ok = ap (λ (e : EndState). e.machine.stage) before ∙ idle_in s x ok
 
-  pub send_keeps : IsPair s → (old.state.machine.stage ≡ Idle → LeavesBy 1 old.state.machine new.state.machine) → SendKeeps (end_of s x) (end_of (with_end (handed s x) x new) x)
+  pub send_keeps : IsPair s → (old.state.machine.stage ≡ Idle → LeavesBy Send old.state.machine new.state.machine) → SendKeeps (end_of s x) (end_of (with_end (handed s x) x new) x)
   send_keeps ok after =
       let l = after (idle ok) in
       subst (SendKeeps (end_of s x)) (sym (lent_is (handed s x) x new)) (record {
-        read = l.read (λ h. absurd (omega arith)) ∙ ap (λ (e : EndState). e.machine.read) before;
-        start = l.start (λ h. absurd (omega arith)) ∙ ap (λ (e : EndState). e.machine.start) before;
+        read = l.read (λ h. cc) ∙ ap (λ (e : EndState). e.machine.read) before;
+        start = l.start (λ h. cc) ∙ ap (λ (e : EndState). e.machine.start) before;
       })
 
   pub take_keeps : {told : Held → Option Told} {memory : Held → Option Memory} {same : Held → Held → Type 0} (refusal : Option TakeRefusal) → IsPair s → Takes Held told memory same old new refusal → TakeKeeps (end_of s x) (end_of (with_end (handed s x) x new) x)
@@ -39,7 +40,7 @@ module _ (s : TwoEnds) (x : Side) (old new : Seen Held) (is : old ≡ end_of (ha
       let got = ap (λ (o : Seen Held). o.spare_got) is ∙ spare.1 in
       subst (TakeKeeps (end_of s x)) (sym (lent_is (handed s x) x new)) (record {
         awake = t.awake;
-        start = l.start (λ h. absurd (omega arith)) ∙ ap (λ (e : EndState). e.machine.start) before;
+        start = l.start (λ h. cc) ∙ ap (λ (e : EndState). e.machine.start) before;
         sent = t.kept.0 ∙ ap (λ (e : EndState). e.sent) before;
         spare_sent = t.kept.1 ∙ (ap (λ (o : Seen Held). o.spare_sent) is ∙ spare.0);
         packets = omega (arith, t.room.0, ap (λ (r : _). r.packets) got);

@@ -14,6 +14,7 @@ use Rattle.ring_machine.specs.declared.last.TakeRefusal.{TakeRefusal}
 use Rattle.ring_machine.specs.declared.last.TakeRefusal.TheVariants.{Empty as TakeEmpty}
 use Rattle.ring_machine.specs.declared.state.EndState.{EndState}
 use Rattle.ring_machine.specs.Places.{peer_of, free}
+use Rattle.ring_machine.specs.EndCalls.{NoCall, Send, Take, Commit, Arm, Poll, Mark, PeerMark}
 use Rattle.ring_machine.specs.Steps.{IsSound, is_copying_at, is_broken, is_sent, is_took, call_by, send_begun, take_begun, commit_begun}
 use Rattle.page_kept.specs.declared.kept.Kept.{Kept as Pages}
 use Rattle.page_kept.specs.declared.due.Due.TheVariants.{Clear}
@@ -140,7 +141,7 @@ call_on s x ok m q new begins ran stage =
     rests false i n = stage ∙ ap (λ (y : Bool). cond y Stopped Idle) i
 
 -- a send of an honest end
-pub send_meets : (n : ℕ) (x : Side) (ws ws' q : List ℕ) (e p t : EndState) → Both n x ws e p → Goes n x q ws' t p → t.machine.stage ≡ Idle → call_by t.machine.ended ≡ 1 → is_broken t.machine.ended ≡ false
+pub send_meets : (n : ℕ) (x : Side) (ws ws' q : List ℕ) (e p t : EndState) → Both n x ws e p → Goes n x q ws' t p → t.machine.stage ≡ Idle → call_by t.machine.ended ≡ Send → is_broken t.machine.ended ≡ false
     → t.sent ≡ sent_by t.machine e.sent q → SendMeets (send_answer t.machine.ended t.machine) q e t p
 send_meets n x ws ws' q e p t b g idle call whole sent = by_ending t.machine.ended refl
   where
@@ -171,24 +172,24 @@ send_meets n x ws ws' q e p t b g idle call whole sent = by_ending t.machine.end
         let f = full_is i in
         ((λ j. SendFull (f.1 j) (8 * f.2 j + 8)), f.0, kept (ap is_sent i), f.3)
     by_ending BadPeer i = let z : is_broken t.machine.ended ≡ true = ap is_broken i in absurd (cc)
-    by_ending Fresh i = let z : call_by t.machine.ended ≡ 0 = ap call_by i in absurd (omega (arith, z, call))
-    by_ending Took i = let z : call_by t.machine.ended ≡ 2 = ap call_by i in absurd (omega (arith, z, call))
-    by_ending Empty i = let z : call_by t.machine.ended ≡ 2 = ap call_by i in absurd (omega (arith, z, call))
-    by_ending BadIndex i = let z : call_by t.machine.ended ≡ 2 = ap call_by i in absurd (omega (arith, z, call))
-    by_ending BadLength i = let z : call_by t.machine.ended ≡ 2 = ap call_by i in absurd (omega (arith, z, call))
-    by_ending BadOffset i = let z : call_by t.machine.ended ≡ 2 = ap call_by i in absurd (omega (arith, z, call))
-    by_ending CommittedQuiet i = let z : call_by t.machine.ended ≡ 3 = ap call_by i in absurd (omega (arith, z, call))
-    by_ending CommittedRaised i = let z : call_by t.machine.ended ≡ 3 = ap call_by i in absurd (omega (arith, z, call))
-    by_ending FellAsleep i = let z : call_by t.machine.ended ≡ 4 = ap call_by i in absurd (omega (arith, z, call))
-    by_ending FoundWork i = let z : call_by t.machine.ended ≡ 4 = ap call_by i in absurd (omega (arith, z, call))
-    by_ending NoSignal i = let z : call_by t.machine.ended ≡ 5 = ap call_by i in absurd (omega (arith, z, call))
-    by_ending Woke i = let z : call_by t.machine.ended ≡ 5 = ap call_by i in absurd (omega (arith, z, call))
-    by_ending Marked i = let z : call_by t.machine.ended ≡ 6 = ap call_by i in absurd (omega (arith, z, call))
-    by_ending PeerMarkDown i = let z : call_by t.machine.ended ≡ 7 = ap call_by i in absurd (omega (arith, z, call))
-    by_ending PeerMarkUp i = let z : call_by t.machine.ended ≡ 7 = ap call_by i in absurd (omega (arith, z, call))
+    by_ending Fresh i = let z : call_by t.machine.ended ≡ NoCall = ap call_by i in absurd (cc)
+    by_ending Took i = let z : call_by t.machine.ended ≡ Take = ap call_by i in absurd (cc)
+    by_ending Empty i = let z : call_by t.machine.ended ≡ Take = ap call_by i in absurd (cc)
+    by_ending BadIndex i = let z : call_by t.machine.ended ≡ Take = ap call_by i in absurd (cc)
+    by_ending BadLength i = let z : call_by t.machine.ended ≡ Take = ap call_by i in absurd (cc)
+    by_ending BadOffset i = let z : call_by t.machine.ended ≡ Take = ap call_by i in absurd (cc)
+    by_ending CommittedQuiet i = let z : call_by t.machine.ended ≡ Commit = ap call_by i in absurd (cc)
+    by_ending CommittedRaised i = let z : call_by t.machine.ended ≡ Commit = ap call_by i in absurd (cc)
+    by_ending FellAsleep i = let z : call_by t.machine.ended ≡ Arm = ap call_by i in absurd (cc)
+    by_ending FoundWork i = let z : call_by t.machine.ended ≡ Arm = ap call_by i in absurd (cc)
+    by_ending NoSignal i = let z : call_by t.machine.ended ≡ Poll = ap call_by i in absurd (cc)
+    by_ending Woke i = let z : call_by t.machine.ended ≡ Poll = ap call_by i in absurd (cc)
+    by_ending Marked i = let z : call_by t.machine.ended ≡ Mark = ap call_by i in absurd (cc)
+    by_ending PeerMarkDown i = let z : call_by t.machine.ended ≡ PeerMark = ap call_by i in absurd (cc)
+    by_ending PeerMarkUp i = let z : call_by t.machine.ended ≡ PeerMark = ap call_by i in absurd (cc)
 
 -- a take of an honest end that gave no packet
-pub take_refused : (n : ℕ) (x : Side) (ws ws' q : List ℕ) (e p t : EndState) → Both n x ws e p → Goes n x q ws' t p → t.machine.stage ≡ Idle → call_by t.machine.ended ≡ 2 → is_broken t.machine.ended ≡ false
+pub take_refused : (n : ℕ) (x : Side) (ws ws' q : List ℕ) (e p t : EndState) → Both n x ws e p → Goes n x q ws' t p → t.machine.stage ≡ Idle → call_by t.machine.ended ≡ Take → is_broken t.machine.ended ≡ false
     → is_took t.machine.ended ≡ false → t.got ≡ e.got → TakeRefused (take_refusal t.machine.ended t.machine) e t p
 take_refused n x ws ws' q e p t b g idle call whole none_took got = by_ending t.machine.ended refl
   where
@@ -201,20 +202,20 @@ take_refused n x ws ws' q e p t b g idle call whole none_took got = by_ending t.
     by_ending BadIndex i = let z : is_broken t.machine.ended ≡ true = ap is_broken i in absurd (cc)
     by_ending BadLength i = let z : is_broken t.machine.ended ≡ true = ap is_broken i in absurd (cc)
     by_ending BadOffset i = let z : is_broken t.machine.ended ≡ true = ap is_broken i in absurd (cc)
-    by_ending Fresh i = let z : call_by t.machine.ended ≡ 0 = ap call_by i in absurd (omega (arith, z, call))
-    by_ending SentQuiet i = let z : call_by t.machine.ended ≡ 1 = ap call_by i in absurd (omega (arith, z, call))
-    by_ending SentRaised i = let z : call_by t.machine.ended ≡ 1 = ap call_by i in absurd (omega (arith, z, call))
-    by_ending Full i = let z : call_by t.machine.ended ≡ 1 = ap call_by i in absurd (omega (arith, z, call))
-    by_ending BadPeer i = let z : call_by t.machine.ended ≡ 1 = ap call_by i in absurd (omega (arith, z, call))
-    by_ending CommittedQuiet i = let z : call_by t.machine.ended ≡ 3 = ap call_by i in absurd (omega (arith, z, call))
-    by_ending CommittedRaised i = let z : call_by t.machine.ended ≡ 3 = ap call_by i in absurd (omega (arith, z, call))
-    by_ending FellAsleep i = let z : call_by t.machine.ended ≡ 4 = ap call_by i in absurd (omega (arith, z, call))
-    by_ending FoundWork i = let z : call_by t.machine.ended ≡ 4 = ap call_by i in absurd (omega (arith, z, call))
-    by_ending NoSignal i = let z : call_by t.machine.ended ≡ 5 = ap call_by i in absurd (omega (arith, z, call))
-    by_ending Woke i = let z : call_by t.machine.ended ≡ 5 = ap call_by i in absurd (omega (arith, z, call))
-    by_ending Marked i = let z : call_by t.machine.ended ≡ 6 = ap call_by i in absurd (omega (arith, z, call))
-    by_ending PeerMarkDown i = let z : call_by t.machine.ended ≡ 7 = ap call_by i in absurd (omega (arith, z, call))
-    by_ending PeerMarkUp i = let z : call_by t.machine.ended ≡ 7 = ap call_by i in absurd (omega (arith, z, call))
+    by_ending Fresh i = let z : call_by t.machine.ended ≡ NoCall = ap call_by i in absurd (cc)
+    by_ending SentQuiet i = let z : call_by t.machine.ended ≡ Send = ap call_by i in absurd (cc)
+    by_ending SentRaised i = let z : call_by t.machine.ended ≡ Send = ap call_by i in absurd (cc)
+    by_ending Full i = let z : call_by t.machine.ended ≡ Send = ap call_by i in absurd (cc)
+    by_ending BadPeer i = let z : call_by t.machine.ended ≡ Send = ap call_by i in absurd (cc)
+    by_ending CommittedQuiet i = let z : call_by t.machine.ended ≡ Commit = ap call_by i in absurd (cc)
+    by_ending CommittedRaised i = let z : call_by t.machine.ended ≡ Commit = ap call_by i in absurd (cc)
+    by_ending FellAsleep i = let z : call_by t.machine.ended ≡ Arm = ap call_by i in absurd (cc)
+    by_ending FoundWork i = let z : call_by t.machine.ended ≡ Arm = ap call_by i in absurd (cc)
+    by_ending NoSignal i = let z : call_by t.machine.ended ≡ Poll = ap call_by i in absurd (cc)
+    by_ending Woke i = let z : call_by t.machine.ended ≡ Poll = ap call_by i in absurd (cc)
+    by_ending Marked i = let z : call_by t.machine.ended ≡ Mark = ap call_by i in absurd (cc)
+    by_ending PeerMarkDown i = let z : call_by t.machine.ended ≡ PeerMark = ap call_by i in absurd (cc)
+    by_ending PeerMarkUp i = let z : call_by t.machine.ended ≡ PeerMark = ap call_by i in absurd (cc)
 
 -- a take of an honest end that gave the packet w
 pub take_gave : (n : ℕ) (x : Side) (ws' q : List ℕ) (e p t : EndState) (w : List ℕ) → Goes n x q ws' t p → t.got ≡ e.got ++ w ∷ [] → waiting_for e p ≡ w ∷ waiting_for t p

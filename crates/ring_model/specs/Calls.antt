@@ -5,6 +5,7 @@ use Rattle.ring_machine.specs.declared.last.Signalled.{Signalled}
 use Rattle.ring_machine.specs.declared.last.SendRefusal.{SendRefusal}
 use Rattle.ring_machine.specs.declared.last.TakeRefusal.{TakeRefusal}
 use Rattle.ring_machine.specs.declared.machine.Stage.TheVariants.{Idle}
+use Rattle.ring_machine.specs.EndCalls.{Send, Commit}
 use Rattle.ring_machine.specs.Places.{peer_of}
 use Rattle.ring_machine.specs.Steps.{call_by, send_begun, commit_begun}
 use Rattle.ring_machine.specs.States.{IsPacket, entered, sent_by}
@@ -19,9 +20,9 @@ use Rattle.ring_model.specs.Signals.{send_raises, commit_raises, signalled, word
 -- what a send of the packet q says: its steps on the end's memory, its answer, and what it leaves of the end. These are clauses of the end's own call
 pub record SendSays (old new : Seen Held) (q : List ℕ) (result : Result Signalled SendRefusal) : Type 0 where
   pub ran : old.state.machine.stage ≡ Idle → Ran (entered old.state (send_begun old.state.machine (length q)) q) new.state None None (Some old.seat.memory) (Some new.seat.memory)
-  pub answer : old.state.machine.stage ≡ Idle → (result ≡ send_answer new.state.machine.ended new.state.machine) × (call_by new.state.machine.ended ≡ 1)
+  pub answer : old.state.machine.stage ≡ Idle → (result ≡ send_answer new.state.machine.ended new.state.machine) × (call_by new.state.machine.ended ≡ Send)
   pub leaves : old.state.machine.stage ≡ Idle → Leaves old.state.machine new.state.machine
-  pub after : old.state.machine.stage ≡ Idle → LeavesBy 1 old.state.machine new.state.machine
+  pub after : old.state.machine.stage ≡ Idle → LeavesBy Send old.state.machine new.state.machine
   pub sent : old.state.machine.stage ≡ Idle → new.state.sent ≡ sent_by new.state.machine old.state.sent q
   pub awake : (new.state.machine.asleep ≡ false) × (new.state.machine.marked ≡ false)
   pub kept : (new.state.got ≡ old.state.got) × (new.spare_got ≡ old.spare_got)
@@ -32,7 +33,7 @@ pub record CommitSays (old new : Seen Held) (answer : Signalled) : Type 0 where
   pub ran : Ran (entered old.state (commit_begun old.state.machine) []) new.state None None (Some old.seat.memory) (Some new.seat.memory)
   pub answer_is : answer ≡ commit_answer new.state.machine.ended
   pub leaves : Leaves old.state.machine new.state.machine
-  pub after : LeavesBy 3 old.state.machine new.state.machine
+  pub after : LeavesBy Commit old.state.machine new.state.machine
   pub kept : Kept old new
 
 -- what a take says, with the words that it lends

@@ -1,8 +1,9 @@
 -- A poll of an end that is asleep.
-use Rattle.std.proofs.Common.{◌≡◌, ℕ, Bool, List, [], refl, ◌∙◌, arith}
+use Rattle.std.proofs.Common.{◌≡◌, ℕ, Bool, List, [], refl, ◌∙◌}
 use Rattle.chan_run.specs.declared.event.Event.{Event}
 use Rattle.ring_machine.specs.declared.machine.Ending.{Ending}
 use Rattle.ring_machine.specs.declared.machine.Ending.TheVariants.{NoSignal, Woke}
+use Rattle.ring_machine.specs.EndCalls.{Poll}
 use Rattle.ring_machine.specs.Steps.{call_by}
 use Rattle.ring_machine.specs.States.{past_of}
 use Rattle.ring_machine.specs.Endings.{Leaves, LeavesBy}
@@ -11,21 +12,21 @@ use Rattle.ring_seat.specs.declared.table_seat.TableSeat.{TableSeat}
 use Rattle.ring_seat.specs.Sleeping.{Sleeps}
 
 -- a poll adds nothing to the past
-poll_past : (how : Ending) (saw : Bool) (w : List ℕ) (past : List (Event (List ℕ))) → call_by how ≡ 5 → past_of how saw w past ≡ past
+poll_past : (how : Ending) (saw : Bool) (w : List ℕ) (past : List (Event (List ℕ))) → call_by how ≡ Poll → past_of how saw w past ≡ past
 poll_past NoSignal saw w past h = refl
 poll_past Woke saw w past h = refl
-poll_past _ saw w past h = absurd (omega (arith, h))
+poll_past _ saw w past h = absurd (cc)
 
-pub polled : (old new : Seen TableSeat) → Leaves old.state.machine new.state.machine → LeavesBy 5 old.state.machine new.state.machine → call_by new.state.machine.ended ≡ 5
+pub polled : (old new : Seen TableSeat) → Leaves old.state.machine new.state.machine → LeavesBy Poll old.state.machine new.state.machine → call_by new.state.machine.ended ≡ Poll
     → new.state.past ≡ past_of new.state.machine.ended new.state.machine.saw [] old.state.past → new.seat.seat.table_id ≡ old.seat.seat.table_id → Kept old new → Sleeps old new
 polled old new l a call past same kept = record {
-  idle = a.idle (λ h. omega arith) (λ h. omega arith);
+  idle = a.idle (λ h. cc) (λ h. cc);
   seat = same;
   side = l.side;
   cells = l.cells;
-  write = a.write (λ h. omega arith);
-  read = a.read (λ h. omega arith);
-  start = a.start (λ h. omega arith);
+  write = a.write (λ h. cc);
+  read = a.read (λ h. cc);
+  start = a.start (λ h. cc);
   past = past ∙ poll_past new.state.machine.ended new.state.machine.saw [] old.state.past call;
   kept = kept;
 }

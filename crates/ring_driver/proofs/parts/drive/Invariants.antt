@@ -1,6 +1,7 @@
 use Rattle.std.proofs.Common.{◌≡◌, List, ℕ}
 use Rattle.chan_run.specs.Runs.{sent_of, got_of}
 use Rattle.page_kept.specs.Kept.{no_pages}
+use Rattle.ring_machine.specs.EndCalls.{Take}
 use Rattle.ring_machine.specs.PageCalls.{core_pages}
 use Rattle.ring_machine.specs.States.{shown}
 use Rattle.ring_machine.specs.Steps.{call_at, steps_left}
@@ -21,7 +22,7 @@ IsOn g from p parts core =
       core : parts.core ≡ from.core;
       same : g.S.Seatlike.same from.seat parts.seat;
       past : parts.past ≡ from.past;
-      kept : (call_at from.core.machine.stage ≡ 2 → ⊥) → parts.buf.items ≡ from.buf.items;
+      kept : (call_at from.core.machine.stage ≡ Take → ⊥) → parts.buf.items ≡ from.buf.items;
     }
 
 -- from : what the call works on when it begins
@@ -34,7 +35,7 @@ GoesOn g from p parts =
       same : g.S.Seatlike.same from.seat parts.seat;
       past : parts.past ≡ from.past;
       pages : parts.core.pages ≡ core_pages 0;
-      kept : (call_at from.core.machine.stage ≡ 2 → ⊥) → parts.buf.items ≡ from.buf.items;
+      kept : (call_at from.core.machine.stage ≡ Take → ⊥) → parts.buf.items ≡ from.buf.items;
     }
 
 abbrev pub invariant-loop-parts : goal.invariant-loop-parts

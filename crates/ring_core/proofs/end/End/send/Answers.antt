@@ -1,8 +1,9 @@
-use Rattle.std.proofs.Common.{◌≡◌, ℕ, ◌+◌, ◌<◌, length, refl, sym, ap, ◌∙◌, subst, arith}
+use Rattle.std.proofs.Common.{◌≡◌, ◌+◌, ◌<◌, length, refl, sym, ap, ◌∙◌, subst, arith}
 use Rattle.page_kept.specs.declared.kept.Kept.{Kept}
 use Rattle.ring_machine.specs.declared.machine.Machine.{Machine}
 use Rattle.ring_machine.specs.declared.page_core.PageCore.{PageCore}
 use Rattle.ring_machine.specs.declared.state.EndState.{EndState}
+use Rattle.ring_machine.specs.EndCalls.{EndCall, Send}
 use Rattle.ring_machine.specs.Endings.{LeavesBy, is_honest_send}
 use Rattle.ring_machine.specs.States.{Continues, MayLend, entered, shown}
 use Rattle.ring_machine.specs.Steps.{call_at, send_begun}
@@ -32,14 +33,14 @@ returns-clause-after g c = λ _.
     let new = c.make_call.new.self.core.machine in
     let m = c.self.inside.parts.core.machine in
     let n = length c.args.p.now in
-    let call : call_at c.begin_send.new.self.machine.stage ≡ 1 = ap (λ (m : Machine). call_at m.stage) c.begin_send.ensures.machine in
+    let call : call_at c.begin_send.new.self.machine.stage ≡ Send = ap (λ (m : Machine). call_at m.stage) c.begin_send.ensures.machine in
     let after = subst (λ (b : Machine). LeavesBy (call_at c.begin_send.new.self.machine.stage) b new) c.begin_send.ensures.machine c.make_call.ensures.after in
-    subst (λ (b : Machine). LeavesBy 1 b new) (ap (λ (x : Seen _). x.state.machine) c.self.view_is) (rebased 1 m (send_begun m n) new refl refl refl (subst (λ (i : ℕ). LeavesBy i (send_begun m n) new) call after))
+    subst (λ (b : Machine). LeavesBy Send b new) (ap (λ (x : Seen _). x.state.machine) c.self.view_is) (rebased Send m (send_begun m n) new refl refl refl (subst (λ (i : EndCall). LeavesBy i (send_begun m n) new) call after))
 
 pub returns-clause-awake : goal.returns-clause-awake
 returns-clause-awake g c =
-    let call : call_at c.begin_send.new.self.machine.stage ≡ 1 = ap (λ (m : Machine). call_at m.stage) c.begin_send.ensures.machine in
-    (c.make_call.ensures.after.awake (λ e. omega (arith, call, e)) (λ e. omega (arith, call, e)), c.make_call.ensures.after.unmarked (λ e. omega (arith, call, e)))
+    let call : call_at c.begin_send.new.self.machine.stage ≡ Send = ap (λ (m : Machine). call_at m.stage) c.begin_send.ensures.machine in
+    (c.make_call.ensures.after.awake (λ e. cc) (λ e. cc), c.make_call.ensures.after.unmarked (λ e. cc))
 
 pub returns-clause-len : goal.returns-clause-len
 returns-clause-len g c _ =
@@ -60,8 +61,8 @@ returns-clause-honest g c = λ u e.
 
 pub returns-clause-kept : goal.returns-clause-kept
 returns-clause-kept g c =
-    let call : call_at c.begin_send.new.self.machine.stage ≡ 1 = ap (λ (m : Machine). call_at m.stage) c.begin_send.ensures.machine in
-    let same = c.make_call.ensures.got_kept (c.make_call.ensures.after.untaken (λ e. omega (arith, call, e))) in (
+    let call : call_at c.begin_send.new.self.machine.stage ≡ Send = ap (λ (m : Machine). call_at m.stage) c.begin_send.ensures.machine in
+    let same = c.make_call.ensures.got_kept (c.make_call.ensures.after.untaken (λ e. cc)) in (
       ap (λ (l : Listed). l.list) same ∙ ap (λ (x : Seen _). x.state.got) c.self.view_is,
       ap (λ (l : Listed). l.room) same ∙ ap (λ (x : Seen _). x.spare_got) c.self.view_is,
     )

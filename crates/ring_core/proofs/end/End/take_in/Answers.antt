@@ -1,7 +1,8 @@
-use Rattle.std.proofs.Common.{◌≡◌, ℕ, [], refl, sym, ap, ◌∙◌, subst, arith}
+use Rattle.std.proofs.Common.{◌≡◌, [], refl, sym, ap, ◌∙◌, subst, arith}
 use Rattle.ring_machine.specs.declared.machine.Machine.{Machine}
 use Rattle.ring_machine.specs.declared.page_core.PageCore.{PageCore}
 use Rattle.ring_machine.specs.declared.state.EndState.{EndState}
+use Rattle.ring_machine.specs.EndCalls.{EndCall, Take}
 use Rattle.ring_machine.specs.Endings.{Leaves, LeavesBy}
 use Rattle.ring_machine.specs.States.{Gets, entered, past_of, shown}
 use Rattle.ring_machine.specs.Steps.{call_at, take_begun}
@@ -22,15 +23,15 @@ returns-clause-takes g c =
     let e = c.make_call.ensures in
     let told = g.S.Seatlike.told in
     let memory = g.S.Seatlike.memory in
-    let call : call_at begun.machine.stage ≡ 2 = ap (λ (x : Machine). call_at x.stage) c.begin_take.ensures.machine in
+    let call : call_at begun.machine.stage ≡ Take = ap (λ (x : Machine). call_at x.stage) c.begin_take.ensures.machine in
     let base : shown begun.machine [] it.buf.items it.sent.list it.got.list it.past.events (kept_of begun.pages it.sent it.got it.table) ≡ entered c.args.self.now.state (take_begun c.args.self.now.state.machine) [] =
     (λ i. shown (c.begin_take.ensures.machine i) [] it.buf.items it.sent.list it.got.list it.past.events (kept_of (c.begin_take.ensures.pages i) it.sent it.got it.table))
     ∙ ap (λ (x : Seen _). entered x.state (take_begun x.state.machine) []) v in
     let end = resting_in new.core.machine new.core.pages new.sent new.got new.past.events new.table in
     let leaves = take_leaves m new.core.machine (subst (λ (x : Machine). Leaves x new.core.machine) c.begin_take.ensures.machine e.leaves) in
-    let after = rebased 2 m (take_begun m) new.core.machine refl refl refl
-    (subst (λ (n : ℕ). LeavesBy n (take_begun m) new.core.machine) call (subst (λ (x : Machine). LeavesBy (call_at begun.machine.stage) x new.core.machine) c.begin_take.ensures.machine e.after)) in
-    let sent = e.sent_kept (λ h. omega (arith, call, h)) in
+    let after = rebased Take m (take_begun m) new.core.machine refl refl refl
+    (subst (λ (n : EndCall). LeavesBy n (take_begun m) new.core.machine) call (subst (λ (x : Machine). LeavesBy (call_at begun.machine.stage) x new.core.machine) c.begin_take.ensures.machine e.after)) in
+    let sent = e.sent_kept (λ h. cc) in
     record {
       idle = λ _. record {
         ran = subst (λ s. Ran (entered c.args.self.now.state (take_begun c.args.self.now.state.machine) []) end (told s) (told new.seat) (memory s) (memory new.seat)) (ap (λ (x : Seen _). x.seat) v)
@@ -38,7 +39,7 @@ returns-clause-takes g c =
         answer = c.take_answered.ensures;
         call = e.call ∙ call;
         leaves = subst (λ (x : Machine). Leaves x new.core.machine) (ap (λ (x : Seen _). x.state.machine) v) leaves;
-        after = subst (λ (x : Machine). LeavesBy 2 x new.core.machine) (ap (λ (x : Seen _). x.state.machine) v) after;
+        after = subst (λ (x : Machine). LeavesBy Take x new.core.machine) (ap (λ (x : Seen _). x.state.machine) v) after;
         took = λ h. subst (λ (x : EndState). Gets new.core.machine.len x.got new.got.list x.past new.past.events) (ap (λ (x : Seen _). x.state) v) (e.took h);
         refused = λ h. (
           ap (λ (l : Listed). l.list) (e.got_kept h) ∙ ap (λ (x : Seen _). x.state.got) v,
@@ -59,7 +60,7 @@ returns-clause-takes g c =
       cells = leaves.cells ∙ ap (λ (x : Seen _). x.state.machine.cells) v;
       side = leaves.side ∙ ap (λ (x : Seen _). x.state.machine.side) v;
       kept = (ap (λ (l : Listed). l.list) sent ∙ ap (λ (x : Seen _). x.state.sent) v, ap (λ (l : Listed). l.room) sent ∙ ap (λ (x : Seen _). x.spare_sent) v);
-      awake = (after.awake (λ h. omega (arith, h)) (λ h. omega (arith, h)), after.unmarked (λ h. omega (arith, h)));
+      awake = (after.awake (λ h. cc) (λ h. cc), after.unmarked (λ h. cc));
       room = (omega (arith, e.got_room.0, ap (λ (x : Seen _). x.spare_got.packets) v), omega (arith, e.got_room.1, ap (λ (x : Seen _). x.spare_got.words) v));
     }
 
