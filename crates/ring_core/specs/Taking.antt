@@ -6,9 +6,9 @@ use Rattle.ring_machine.specs.declared.machine.Stage.TheVariants.{Idle, Stopped}
 use Rattle.ring_core.specs.declared.told.Told.{Told}
 use Rattle.ring_machine.specs.EndCalls.{Take}
 use Rattle.ring_machine.specs.Steps.{is_took, call_by, take_begun}
-use Rattle.ring_machine.specs.States.{Gets, entered, past_of}
+use Rattle.ring_machine.specs.States.{Gets, past_of}
 use Rattle.ring_machine.specs.Endings.{Leaves, LeavesBy, why_of, take_refusal, is_empty_refusal}
-use Rattle.ring_core.specs.Told.{Memory, Ran}
+use Rattle.ring_core.specs.Told.{Memory, MakesSteps}
 use Rattle.ring_core.specs.Seen.{Seen}
 
 -- a refusal that an honest peer can cause, or none
@@ -18,7 +18,7 @@ is_honest_take (Some r) = is_empty_refusal r
 
 -- a take of an end that isn't stopped
 pub record TakesIdle (S : Type 0) (told : S → Option Told) (memory : S → Option Memory) (old new : Seen S) (refusal : Option TakeRefusal) : Type 0 where
-  pub ran : Ran (entered old.state (take_begun old.state.machine) []) new.state (told old.seat) (told new.seat) (memory old.seat) (memory new.seat)
+  pub ran : MakesSteps told memory (take_begun old.state.machine) [] old new
   pub answer : refusal ≡ cond (is_took new.state.machine.ended) None (Some (take_refusal new.state.machine.ended new.state.machine))
   pub call : call_by new.state.machine.ended ≡ Take
   pub leaves : Leaves old.state.machine new.state.machine

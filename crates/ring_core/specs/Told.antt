@@ -4,6 +4,7 @@ use Rattle.chan_run.specs.declared.event.Event.{Event}
 use Rattle.page_kept.specs.declared.kept.Kept.{Kept}
 use Rattle.page_kept.specs.declared.page_call.PageCall.{PageCall}
 use Rattle.ring_machine.specs.PageCalls.{ContinuesPage, after_page, paged}
+use Rattle.ring_core.specs.Seen.{Seen}
 use Rattle.ring_core.specs.declared.told.Told.{Told}
 use Rattle.ring_core.specs.declared.told_mem.Change.{Change}
 use Rattle.ring_machine.specs.declared.place.Op.{Op}
@@ -146,6 +147,10 @@ pub record Ran (s t : EndState) (told told' : Option Told) (memory memory' : Opt
   pub silent : told ≡ None → told' ≡ None
   pub tells : (u : Told) → told ≡ Some u → (told' ≡ Some (told_by s values t u)) × (t.machine.stage ≢ Stopped)
   pub runs : (m : Memory) → memory ≡ Some m → (m' : Memory) × (memory' ≡ Some m') × (run (length values) (pair s m) ≡ pair t m')
+
+-- the call that this machine has begun, with this packet, made its steps: from what a contract saw of the end before it to what it sees after it
+abbrev pub MakesSteps : {S : Type 0} → (S → Option Told) → (S → Option Memory) → Machine → List ℕ → Seen S → Seen S → Type 0
+MakesSteps told memory begun packet old new = Ran (entered old.state begun packet) new.state (told old.seat) (told new.seat) (memory old.seat) (memory new.seat)
 
 -- what a call leaves, where its lists and its pages are as they should be
 pub record Left (base : EndState) (told told' : Option Told) (memory memory' : Option Memory) (m : Machine) (sent got : List (List ℕ)) (past : List (Event (List ℕ))) (k : Kept) : Type 0 where

@@ -15,11 +15,11 @@ ghost use Rattle.ring_core.specs.Pages.{IsClear, along, first_kept, items_of, la
 ghost use Rattle.ring_core.specs.Seen.{SentRoom, Kept, KeptByPages};
 ghost use Rattle.ring_core.specs.Loading.{Loads};
 ghost use Rattle.ring_machine.specs.PageCalls.{newest};
-ghost use Rattle.ring_machine.specs.States.{IsPacket, Gets, MayLend, entered, resting_with, past_of, sent_by};
+ghost use Rattle.ring_machine.specs.States.{IsPacket, Gets, MayLend, resting_with, past_of, sent_by};
 ghost use Rattle.ring_machine.specs.Steps.{machine_new, is_sent, is_took, call_by, send_begun, commit_begun, arm_begun, poll_begun, mark_begun, peer_mark_begun};
 ghost use Rattle.ring_core.specs.Taking.{Takes};
 ghost use Rattle.ring_machine.specs.Endings.{refused};
-ghost use Rattle.ring_core.specs.Told.{Ran};
+ghost use Rattle.ring_core.specs.Told.{MakesSteps};
 ghost use Rattle.ring_machine.specs.declared.last.SendRefusal.TheVariants.{Stopped as StoppedSend};
 ghost use Rattle.ring_machine.specs.declared.machine.Stage.TheVariants.{Idle, Stopped};
 ghost use Rattle.ring_core.specs.declared.told.Told.{Told};
@@ -257,7 +257,7 @@ impl<S: Seatlike> End<S> {
         requires fits { length p.now + 1 < self.old.state.machine.cells }
         requires lends { MayLend self.old.state p.now }
         requires room { (0 < self.old.spare_sent.packets) × (length p.now + along self.old.state.pages p.now ≤ self.old.spare_sent.words) }
-        ensures ran { self.old.state.machine.stage ≡ Idle → Ran (entered self.old.state (send_begun self.old.state.machine (length p.now)) p.now) self.new.state (S.told self.old.seat) (S.told self.new.seat) (S.memory self.old.seat) (S.memory self.new.seat) }
+        ensures ran { self.old.state.machine.stage ≡ Idle → MakesSteps S.told S.memory (send_begun self.old.state.machine (length p.now)) p.now self.old self.new }
         ensures answer { self.old.state.machine.stage ≡ Idle → (result ≡ send_answer self.new.state.machine.ended self.new.state.machine) × (call_by self.new.state.machine.ended ≡ Send) }
         ensures leaves { self.old.state.machine.stage ≡ Idle → Leaves self.old.state.machine self.new.state.machine }
         ensures after { self.old.state.machine.stage ≡ Idle → LeavesBy Send self.old.state.machine self.new.state.machine }
@@ -289,7 +289,7 @@ impl<S: Seatlike> End<S> {
         requires awake { self.old.state.machine.asleep ≡ false }
         requires unmarked { self.old.state.machine.marked ≡ false }
         requires clear { IsClear self.old.state.pages }
-        ensures ran { Ran (entered self.old.state (commit_begun self.old.state.machine) []) self.new.state (S.told self.old.seat) (S.told self.new.seat) (S.memory self.old.seat) (S.memory self.new.seat) }
+        ensures ran { MakesSteps S.told S.memory (commit_begun self.old.state.machine) [] self.old self.new }
         ensures answer { (result ≡ commit_answer self.new.state.machine.ended) × (call_by self.new.state.machine.ended ≡ Commit) }
         ensures leaves { Leaves self.old.state.machine self.new.state.machine }
         ensures after { LeavesBy Commit self.old.state.machine self.new.state.machine }
@@ -311,7 +311,7 @@ impl<S: Seatlike> End<S> {
         requires committed { self.old.state.machine.start ≡ self.old.state.machine.read }
         requires want { IsWant self.old.state.machine.cells want }
         requires clear { IsClear self.old.state.pages }
-        ensures ran { Ran (entered self.old.state (arm_begun self.old.state.machine (want_of want)) []) self.new.state (S.told self.old.seat) (S.told self.new.seat) (S.memory self.old.seat) (S.memory self.new.seat) }
+        ensures ran { MakesSteps S.told S.memory (arm_begun self.old.state.machine (want_of want)) [] self.old self.new }
         ensures answer { (is_asleep result ≡ self.new.state.machine.asleep) × (call_by self.new.state.machine.ended ≡ Arm) }
         ensures leaves { Leaves self.old.state.machine self.new.state.machine }
         ensures after { LeavesBy Arm self.old.state.machine self.new.state.machine }
@@ -328,7 +328,7 @@ impl<S: Seatlike> End<S> {
     pub fn poll_signal(&mut self) -> bool
         requires idle { self.old.state.machine.stage ≡ Idle }
         requires asleep { self.old.state.machine.asleep ≡ true }
-        ensures ran { Ran (entered self.old.state (poll_begun self.old.state.machine) []) self.new.state (S.told self.old.seat) (S.told self.new.seat) (S.memory self.old.seat) (S.memory self.new.seat) }
+        ensures ran { MakesSteps S.told S.memory (poll_begun self.old.state.machine) [] self.old self.new }
         ensures answer { (result ≡ not self.new.state.machine.asleep) × (call_by self.new.state.machine.ended ≡ Poll) }
         ensures leaves { Leaves self.old.state.machine self.new.state.machine }
         ensures after { LeavesBy Poll self.old.state.machine self.new.state.machine }
@@ -347,7 +347,7 @@ impl<S: Seatlike> End<S> {
         requires awake { self.old.state.machine.asleep ≡ false }
         requires unmarked { self.old.state.machine.marked ≡ false }
         requires clear { IsClear self.old.state.pages }
-        ensures ran { Ran (entered self.old.state (mark_begun self.old.state.machine) []) self.new.state (S.told self.old.seat) (S.told self.new.seat) (S.memory self.old.seat) (S.memory self.new.seat) }
+        ensures ran { MakesSteps S.told S.memory (mark_begun self.old.state.machine) [] self.old self.new }
         ensures call { call_by self.new.state.machine.ended ≡ Mark }
         ensures leaves { Leaves self.old.state.machine self.new.state.machine }
         ensures after { LeavesBy Mark self.old.state.machine self.new.state.machine }
@@ -364,7 +364,7 @@ impl<S: Seatlike> End<S> {
         requires idle { self.old.state.machine.stage ≡ Idle }
         requires awake { self.old.state.machine.asleep ≡ false }
         requires unmarked { self.old.state.machine.marked ≡ false }
-        ensures ran { Ran (entered self.old.state (peer_mark_begun self.old.state.machine) []) self.new.state (S.told self.old.seat) (S.told self.new.seat) (S.memory self.old.seat) (S.memory self.new.seat) }
+        ensures ran { MakesSteps S.told S.memory (peer_mark_begun self.old.state.machine) [] self.old self.new }
         ensures answer { (result ≡ peer_mark_answer self.new.state.machine.ended) × (call_by self.new.state.machine.ended ≡ PeerMark) }
         ensures leaves { Leaves self.old.state.machine self.new.state.machine }
         ensures after { LeavesBy PeerMark self.old.state.machine self.new.state.machine }

@@ -1,6 +1,10 @@
 -- What a contract sees of a driver's end, and the words in which its calls speak.
 use Rattle.std.specs.Prelude.{◌≡◌, ℕ, ◌+◌, ◌*◌, ◌≤◌, cond, false, List, [], ◌∷◌, ◌++◌, Option, Some, None, Result, Ok, Err}
+use Rattle.ring_core.specs.declared.told.Told.{Told}
+use Rattle.ring_core.specs.Told.{Memory, Ran}
+use Rattle.ring_machine.specs.declared.machine.Machine.{Machine}
 use Rattle.ring_machine.specs.declared.state.EndState.{EndState}
+use Rattle.ring_machine.specs.States.{entered}
 use Rattle.ring_machine.specs.declared.last.Signalled.{Signalled}
 use Rattle.ring_machine.specs.declared.last.Why.{Why}
 use Rattle.ring_machine.specs.declared.last.Why.TheVariants.{BadPeer as WhyBadPeer, Malformed as WhyMalformed}
@@ -16,6 +20,10 @@ pub record Driven (S : Type 0) : Type 0 where
   pub state : EndState
   pub seat : S
   pub taken : List ℕ
+
+-- the call that this machine has begun, with this packet, made its steps: from what a contract saw of the end before it to what it sees after it
+abbrev pub MakesSteps : {S : Type 0} → (S → Option Told) → (S → Option Memory) → Machine → List ℕ → Driven S → Driven S → Type 0
+MakesSteps told memory begun packet old new = Ran (entered old.state begun packet) new.state (told old.seat) (told new.seat) (memory old.seat) (memory new.seat)
 
 -- why the end is broken, where it is: it refused what it loaded, and makes no step any more
 abbrev pub broken : EndState → Option Why

@@ -1,14 +1,13 @@
 //! One end of a channel that keeps no packet.
-ghost use Rattle.std.specs.Prelude.{◌≡◌, ◌≢◌, ℕ, ◌+◌, ◌*◌, ◌/◌, ◌<◌, ◌≤◌, cond, true, false, not, [], length, Some, None, IfOk, IsTrue, ◌↔◌};
+ghost use Rattle.std.specs.Prelude.{◌≡◌, ◌≢◌, ◌+◌, ◌/◌, ◌<◌, ◌≤◌, cond, true, false, not, [], length, Some, None, IfOk, IsTrue, ◌↔◌};
 ghost use Rattle.chan_run.specs.Runs.{sent_of, got_of};
 ghost use Rattle.ring_machine.specs.Endings.{refused, send_answer, take_refusal, commit_answer, is_asleep, want_of, IsWant};
 ghost use Rattle.ring_machine.specs.Places.{IsRingSize};
-ghost use Rattle.ring_machine.specs.States.{IsPacket, entered, resting};
-ghost use Rattle.ring_machine.specs.Steps.{is_took, machine_new, send_begun, take_begun, commit_begun, arm_begun, poll_begun, mark_begun, peer_mark_begun};
-ghost use Rattle.ring_core.specs.Told.{Ran};
+ghost use Rattle.ring_machine.specs.States.{IsPacket, resting};
+ghost use Rattle.ring_machine.specs.Steps.{is_took, machine_new, send_begun, take_begun, commit_begun, arm_begun, poll_begun, mark_begun};
 ghost use Rattle.ring_machine.specs.declared.last.Why.{Why as WhyOne};
 ghost use Rattle.ring_core.specs.declared.told.Told.{Told};
-ghost use Rattle.ring_driver.specs.Driven.{broken, IsAwakeEnd, sent_by_answer, found_by_send, left_by_send, LacksRoom, got_by_answer, found_by_take, left_by_take};
+ghost use Rattle.ring_driver.specs.Driven.{broken, IsAwakeEnd, MakesSteps, sent_by_answer, found_by_send, left_by_send, LacksRoom, got_by_answer, found_by_take, left_by_take};
 
 use crate::parts::{Parts, front};
 use chan_run::Past;
@@ -117,7 +116,7 @@ impl<S: Seatlike> DriverEnd<S> {
         ensures got { (self.new.state.got ≡ self.old.state.got) × (self.new.taken ≡ self.old.taken) }
         ensures room { LacksRoom (length p.now) result }
         ensures broken { (broken self.old.state ≡ found_by_send result) × (broken self.new.state ≡ left_by_send result) }
-        ensures ran { (broken self.old.state ≡ None → (result ≡ send_answer self.new.state.machine.ended self.new.state.machine) × Ran (entered self.old.state (send_begun self.old.state.machine (length p.now)) p.now) self.new.state (S.told self.old.seat) (S.told self.new.seat) (S.memory self.old.seat) (S.memory self.new.seat)) × ((why : WhyOne) → broken self.old.state ≡ Some why → self.new ≡ self.old) }
+        ensures ran { (broken self.old.state ≡ None → (result ≡ send_answer self.new.state.machine.ended self.new.state.machine) × MakesSteps S.told S.memory (send_begun self.old.state.machine (length p.now)) p.now self.old self.new) × ((why : WhyOne) → broken self.old.state ≡ Some why → self.new ≡ self.old) }
         ensures same { S.same self.old.seat self.new.seat × IsAwakeEnd self.new.state × (self.new.state.machine.cells ≡ self.old.state.machine.cells) × (self.new.state.machine.start ≡ self.old.state.machine.start) × (self.new.state.machine.read ≡ self.old.state.machine.read) }
     {
         if self.parts.core.is_stopped() {
@@ -137,7 +136,7 @@ impl<S: Seatlike> DriverEnd<S> {
         ensures got { (self.new.state.got ≡ got_by_answer (refused result) self.new.taken self.old.state.got) × (refused result ≡ None → IsPacket self.new.taken) }
         ensures sent { self.new.state.sent ≡ self.old.state.sent }
         ensures broken { (broken self.old.state ≡ found_by_take (refused result)) × (broken self.new.state ≡ left_by_take (refused result)) }
-        ensures ran { (broken self.old.state ≡ None → (refused result ≡ cond (is_took self.new.state.machine.ended) None (Some (take_refusal self.new.state.machine.ended self.new.state.machine))) × Ran (entered self.old.state (take_begun self.old.state.machine) []) self.new.state (S.told self.old.seat) (S.told self.new.seat) (S.memory self.old.seat) (S.memory self.new.seat)) × ((why : WhyOne) → broken self.old.state ≡ Some why → self.new ≡ self.old) }
+        ensures ran { (broken self.old.state ≡ None → (refused result ≡ cond (is_took self.new.state.machine.ended) None (Some (take_refusal self.new.state.machine.ended self.new.state.machine))) × MakesSteps S.told S.memory (take_begun self.old.state.machine) [] self.old self.new) × ((why : WhyOne) → broken self.old.state ≡ Some why → self.new ≡ self.old) }
         ensures same { S.same self.old.seat self.new.seat × IsAwakeEnd self.new.state × (self.new.state.machine.cells ≡ self.old.state.machine.cells) }
     {
         if self.parts.core.is_stopped() {
@@ -163,7 +162,7 @@ impl<S: Seatlike> DriverEnd<S> {
         ensures sent { self.new.state.sent ≡ self.old.state.sent }
         ensures got { (self.new.state.got ≡ self.old.state.got) × (self.new.taken ≡ self.old.taken) }
         ensures broken { broken self.new.state ≡ None }
-        ensures ran { (result ≡ commit_answer self.new.state.machine.ended) × Ran (entered self.old.state (commit_begun self.old.state.machine) []) self.new.state (S.told self.old.seat) (S.told self.new.seat) (S.memory self.old.seat) (S.memory self.new.seat) }
+        ensures ran { (result ≡ commit_answer self.new.state.machine.ended) × MakesSteps S.told S.memory (commit_begun self.old.state.machine) [] self.old self.new }
         ensures same { S.same self.old.seat self.new.seat × IsAwakeEnd self.new.state × (self.new.state.machine.cells ≡ self.old.state.machine.cells) }
     {
         self.parts.core.begin_commit();
@@ -182,7 +181,7 @@ impl<S: Seatlike> DriverEnd<S> {
         ensures sent { self.new.state.sent ≡ self.old.state.sent }
         ensures got { (self.new.state.got ≡ self.old.state.got) × (self.new.taken ≡ self.old.taken) }
         ensures broken { broken self.new.state ≡ None }
-        ensures ran { Ran (entered self.old.state (arm_begun self.old.state.machine (want_of want)) []) self.new.state (S.told self.old.seat) (S.told self.new.seat) (S.memory self.old.seat) (S.memory self.new.seat) }
+        ensures ran { MakesSteps S.told S.memory (arm_begun self.old.state.machine (want_of want)) [] self.old self.new }
         ensures same { S.same self.old.seat self.new.seat × (self.new.state.machine.cells ≡ self.old.state.machine.cells) × (self.new.state.machine.start ≡ self.new.state.machine.read) }
     {
         self.parts.core.begin_arm(want);
@@ -198,7 +197,7 @@ impl<S: Seatlike> DriverEnd<S> {
         ensures sent { self.new.state.sent ≡ self.old.state.sent }
         ensures got { (self.new.state.got ≡ self.old.state.got) × (self.new.taken ≡ self.old.taken) }
         ensures broken { broken self.new.state ≡ None }
-        ensures ran { Ran (entered self.old.state (poll_begun self.old.state.machine) []) self.new.state (S.told self.old.seat) (S.told self.new.seat) (S.memory self.old.seat) (S.memory self.new.seat) }
+        ensures ran { MakesSteps S.told S.memory (poll_begun self.old.state.machine) [] self.old self.new }
         ensures same { S.same self.old.seat self.new.seat × (self.new.state.machine.cells ≡ self.old.state.machine.cells) × (self.new.state.machine.start ≡ self.old.state.machine.start) × (self.new.state.machine.read ≡ self.old.state.machine.read) }
     {
         self.parts.core.begin_poll();
@@ -214,7 +213,7 @@ impl<S: Seatlike> DriverEnd<S> {
         ensures sent { self.new.state.sent ≡ self.old.state.sent }
         ensures got { (self.new.state.got ≡ self.old.state.got) × (self.new.taken ≡ self.old.taken) }
         ensures broken { broken self.new.state ≡ None }
-        ensures ran { Ran (entered self.old.state (mark_begun self.old.state.machine) []) self.new.state (S.told self.old.seat) (S.told self.new.seat) (S.memory self.old.seat) (S.memory self.new.seat) }
+        ensures ran { MakesSteps S.told S.memory (mark_begun self.old.state.machine) [] self.old self.new }
         ensures same { S.same self.old.seat self.new.seat × (self.new.state.machine.cells ≡ self.old.state.machine.cells) }
     {
         self.parts.core.begin_mark();

@@ -28,7 +28,7 @@ use Rattle.ring_core.specs.Taking.{TakesIdle}
 use Rattle.ring_machine.specs.Endings.{refused}
 use Rattle.ring_machine.proofs.Sound.{send_sound, take_sound, commit_sound, arm_sound, poll_sound, mark_sound, peer_mark_sound}
 use Rattle.ring_model.specs.Ring.{Resting, AtRest}
-use Rattle.ring_model.specs.Pair.{TwoEnds, Stays, end_of, with_end, handed_from, handed, swapped, memory_of, cells_of, IsPair}
+use Rattle.ring_model.specs.Pair.{TwoEnds, MakesOwnSteps, Stays, end_of, with_end, handed_from, handed, swapped, memory_of, cells_of, IsPair}
 use Rattle.ring_model.specs.Calls.{SendSays}
 use Rattle.ring_model.specs.Results.{waiting_for, room_for, need_of, SendMeets, TakeRefused}
 use Rattle.ring_model.proofs.Keeping.{end_at, Both, Goes, both_of, channel_of, call_keeps}
@@ -107,7 +107,7 @@ pub record Called (s : TwoEnds) (x : Side) (q : List ℕ) (new : Seen Held) : Ty
   pub idle : new.state.machine.stage ≡ Idle
 
 pub call_on : (s : TwoEnds) (x : Side) → IsPair s → (m : Machine) (q : List ℕ) (new : Seen Held) → Begins (end_of (handed s x) x).state m q
-    → Ran (entered (end_of (handed s x) x).state m q) new.state None None (Some (end_of (handed s x) x).seat.memory) (Some new.seat.memory)
+    → MakesOwnSteps m q (end_of (handed s x) x) new
     → new.state.machine.stage ≡ cond (is_broken new.state.machine.ended) Stopped Idle → Called s x q new
 call_on s x ok m q new begins ran stage =
     let g : EndState = s.guest.state in
@@ -362,11 +362,11 @@ kept_on s x old new is k =
 
 -- a commit of an end with the channel's memory
 pub commit_on : (s : TwoEnds) (x : Side) (new : Seen Held) → IsPair s → (old : Seen Held) → old ≡ end_of (handed s x) x → ((end_of s x).state.machine.asleep ≡ false) × ((end_of s x).state.machine.marked ≡ false)
-    → Ran (entered old.state (commit_begun old.state.machine) []) new.state None None (Some old.seat.memory) (Some new.seat.memory) → Leaves old.state.machine new.state.machine → IsPair (with_end (handed s x) x new)
+    → MakesOwnSteps (commit_begun old.state.machine) [] old new → Leaves old.state.machine new.state.machine → IsPair (with_end (handed s x) x new)
 commit_on s x new ok old is awake ran leaves =
-    subst (λ (o : Seen Held). Ran (entered o.state (commit_begun o.state.machine) []) new.state None None (Some o.seat.memory) (Some new.seat.memory) → Leaves o.state.machine new.state.machine → IsPair (with_end (handed s x) x new)) (sym is) on ran leaves
+    subst (λ (o : Seen Held). MakesOwnSteps (commit_begun o.state.machine) [] o new → Leaves o.state.machine new.state.machine → IsPair (with_end (handed s x) x new)) (sym is) on ran leaves
   where
-    on : Ran (entered (end_of (handed s x) x).state (commit_begun (end_of (handed s x) x).state.machine) []) new.state None None (Some (end_of (handed s x) x).seat.memory) (Some new.seat.memory) → Leaves (end_of (handed s x) x).state.machine new.state.machine
+    on : MakesOwnSteps (commit_begun (end_of (handed s x) x).state.machine) [] (end_of (handed s x) x) new → Leaves (end_of (handed s x) x).state.machine new.state.machine
         → IsPair (with_end (handed s x) x new)
     on r l =
         let e : EndState = (end_of (handed s x) x).state in

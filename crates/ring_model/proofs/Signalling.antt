@@ -1,5 +1,5 @@
 -- Where a send and a commit of a pair raise the peer's signal.
-use Rattle.std.proofs.Common.{◌≡◌, ℕ, ◌+◌, List, [], length, get_or, Some, None, Result, IfOk, refl, sym, ap, ◌∙◌, subst}
+use Rattle.std.proofs.Common.{◌≡◌, ℕ, ◌+◌, List, [], length, get_or, Result, IfOk, refl, sym, ap, ◌∙◌, subst}
 use Rattle.io_edge.specs.declared.side.Side.{Side}
 use Rattle.io_edge.specs.declared.side.Side.TheVariants.{Guest, Host}
 use Rattle.ring_machine.specs.declared.last.Signalled.{Signalled}
@@ -11,8 +11,8 @@ use Rattle.ring_machine.specs.States.{entered}
 use Rattle.ring_machine.specs.Steps.{send_begun, commit_begun}
 use Rattle.ring_machine.specs.Endings.{send_answer, commit_answer}
 use Rattle.ring_core.specs.Seen.{Seen}
-use Rattle.ring_core.specs.Told.{Held, Memory, Ran}
-use Rattle.ring_model.specs.Pair.{TwoEnds, IsPair, end_of, with_end, handed, handed_from, memory_of, cells_of}
+use Rattle.ring_core.specs.Told.{Held, Memory}
+use Rattle.ring_model.specs.Pair.{TwoEnds, MakesOwnSteps, IsPair, end_of, with_end, handed, handed_from, memory_of, cells_of}
 use Rattle.ring_model.specs.Signals.{send_raises, commit_raises, signalled, words_committed}
 use Rattle.ring_model.proofs.Pairing.{handed_state, seat_at, own_cells}
 use Rattle.ring_model.proofs.Knowing.{call_knows}
@@ -45,7 +45,7 @@ module _ (s : TwoEnds) (x : Side) (ok : IsPair s) (old new : Seen Held) (is : ol
   alone : old.seat.memory.due ≡ []
   alone = ap (λ (m : Memory). m.due) memory_is ∙ ok.alone
 
-  pub commit_signals : (answer : Signalled) → Ran (entered old.state (commit_begun old.state.machine) []) new.state None None (Some old.seat.memory) (Some new.seat.memory) → new.state.machine.stage ≡ Idle → answer ≡ commit_answer new.state.machine.ended
+  pub commit_signals : (answer : Signalled) → MakesOwnSteps (commit_begun old.state.machine) [] old new → new.state.machine.stage ≡ Idle → answer ≡ commit_answer new.state.machine.ended
       → (answer ≡ signalled (commit_raises (cells_of s) (memory_of s).words x (end_of s x).state.machine.start (end_of s x).state.machine.read))
       × ((memory_of (with_end (handed s x) x new)).words ≡ words_committed (cells_of s) (memory_of s).words x (end_of s x).state.machine.read (commit_raises (cells_of s) (memory_of s).words x (end_of s x).state.machine.start (end_of s x).state.machine.read))
   commit_signals answer ran idle is_answer =
@@ -58,7 +58,7 @@ module _ (s : TwoEnds) (x : Side) (ok : IsPair s) (old new : Seen Held) (is : ol
       let ends = commit_ends n x start read ws new.state.machine new.seat.memory.words idle k in
       (is_answer ∙ ends.0, ap (λ (m : Memory). m.words) (lent_at s s.at x new refl) ∙ ends.1)
 
-  pub send_signals : (q : List ℕ) (result : Result Signalled SendRefusal) → Ran (entered old.state (send_begun old.state.machine (length q)) q) new.state None None (Some old.seat.memory) (Some new.seat.memory) → new.state.machine.stage ≡ Idle
+  pub send_signals : (q : List ℕ) (result : Result Signalled SendRefusal) → MakesOwnSteps (send_begun old.state.machine (length q)) q old new → new.state.machine.stage ≡ Idle
       → result ≡ send_answer new.state.machine.ended new.state.machine → IfOk result (λ r. r ≡ signalled (send_raises (cells_of s) (memory_of s).words x (end_of s x).state.machine.write))
   send_signals q result ran idle is_result =
       let n : ℕ = cells_of s in

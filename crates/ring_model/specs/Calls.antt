@@ -8,18 +8,18 @@ use Rattle.ring_machine.specs.declared.machine.Stage.TheVariants.{Idle}
 use Rattle.ring_machine.specs.EndCalls.{Send, Commit}
 use Rattle.ring_machine.specs.Places.{peer_of}
 use Rattle.ring_machine.specs.Steps.{call_by, send_begun, commit_begun}
-use Rattle.ring_machine.specs.States.{IsPacket, entered, sent_by}
+use Rattle.ring_machine.specs.States.{IsPacket, sent_by}
 use Rattle.ring_machine.specs.Endings.{Leaves, LeavesBy, send_answer, commit_answer, refused}
-use Rattle.ring_core.specs.Told.{Held, Ran}
+use Rattle.ring_core.specs.Told.{Held}
 use Rattle.ring_core.specs.Seen.{Seen, Kept, SentRoom}
 use Rattle.ring_core.specs.Taking.{Takes}
-use Rattle.ring_model.specs.Pair.{TwoEnds, IsPair, Stays, SendKeeps, TakeKeeps, end_of, memory_of, cells_of}
+use Rattle.ring_model.specs.Pair.{TwoEnds, IsPair, MakesOwnSteps, Stays, SendKeeps, TakeKeeps, end_of, memory_of, cells_of}
 use Rattle.ring_model.specs.Results.{SendMeets, TakeRefused, waiting_for}
 use Rattle.ring_model.specs.Signals.{send_raises, commit_raises, signalled, words_committed}
 
 -- what a send of the packet q says: its steps on the end's memory, its answer, and what it leaves of the end. These are clauses of the end's own call
 pub record SendSays (old new : Seen Held) (q : List ℕ) (result : Result Signalled SendRefusal) : Type 0 where
-  pub ran : old.state.machine.stage ≡ Idle → Ran (entered old.state (send_begun old.state.machine (length q)) q) new.state None None (Some old.seat.memory) (Some new.seat.memory)
+  pub ran : old.state.machine.stage ≡ Idle → MakesOwnSteps (send_begun old.state.machine (length q)) q old new
   pub answer : old.state.machine.stage ≡ Idle → (result ≡ send_answer new.state.machine.ended new.state.machine) × (call_by new.state.machine.ended ≡ Send)
   pub leaves : old.state.machine.stage ≡ Idle → Leaves old.state.machine new.state.machine
   pub after : old.state.machine.stage ≡ Idle → LeavesBy Send old.state.machine new.state.machine
@@ -30,7 +30,7 @@ pub record SendSays (old new : Seen Held) (q : List ℕ) (result : Result Signal
 
 -- what a commit says
 pub record CommitSays (old new : Seen Held) (answer : Signalled) : Type 0 where
-  pub ran : Ran (entered old.state (commit_begun old.state.machine) []) new.state None None (Some old.seat.memory) (Some new.seat.memory)
+  pub ran : MakesOwnSteps (commit_begun old.state.machine) [] old new
   pub answer_is : answer ≡ commit_answer new.state.machine.ended
   pub leaves : Leaves old.state.machine new.state.machine
   pub after : LeavesBy Commit old.state.machine new.state.machine

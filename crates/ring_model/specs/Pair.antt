@@ -4,10 +4,14 @@ use Rattle.io_edge.specs.declared.side.Side.{Side}
 use Rattle.io_edge.specs.declared.side.Side.TheVariants.{Guest, Host}
 use Rattle.ring_machine.specs.declared.machine.Machine.{Machine}
 use Rattle.ring_machine.specs.Endings.{Leaves}
-use Rattle.ring_machine.specs.States.{entered, Begins}
-use Rattle.ring_core.specs.Told.{Memory, Held, Ran}
+use Rattle.ring_machine.specs.States.{Begins}
+use Rattle.ring_core.specs.Told.{Memory, Held, MakesSteps}
 use Rattle.ring_core.specs.Seen.{Seen}
 use Rattle.ring_model.specs.Ring.{AtRest}
+
+-- the call that this machine has begun, with this packet, made its steps on the end's own memory
+abbrev pub MakesOwnSteps : Machine → List ℕ → Seen Held → Seen Held → Type 0
+MakesOwnSteps begun packet old new = MakesSteps (λ (_ : Held). None) (λ (k : Held). Some k.memory) begun packet old new
 
 -- what a contract sees of the two ends of a channel, each over a memory that nobody else changes, and the side whose end has the channel's memory. The
 -- other end has a spare one of the same size
@@ -65,7 +69,7 @@ pub record IsPair (s : TwoEnds) : Type 0 where
 -- The end at this side has the channel's memory, begins a call, and runs on that memory to the call's end: that leaves a pair again
 abbrev pub KeepsPair : TwoEnds → Side → Type 0
 KeepsPair s x = (m : Machine) (q : List ℕ) (new : Seen Held) → Begins (end_of (handed s x) x).state m q
-    → Ran (entered (end_of (handed s x) x).state m q) new.state None None (Some (end_of (handed s x) x).seat.memory) (Some new.seat.memory)
+    → MakesOwnSteps m q (end_of (handed s x) x) new
     → Leaves (end_of (handed s x) x).state.machine new.state.machine → IsPair (with_end (handed s x) x new)
 
 -- what a send leaves of its end beside the sent list: the indices of its incoming ring
