@@ -8,3 +8,4 @@ pub mod PageRuns
 pub mod Loading
 pub mod Lending
 pub mod Tallies
+pub mod Drives

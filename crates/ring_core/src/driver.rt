@@ -1,11 +1,11 @@
 //! The drivers of a call: the loops that make its steps.
-ghost use Rattle.std.specs.Prelude.{◌≡◌, ◌≢◌, ◌<◌, true, false, length, Some, None};
+ghost use Rattle.std.specs.Prelude.{◌≡◌, ◌<◌, true, false, length, Some, None};
+ghost use Rattle.ring_core.specs.Drives.{CanStep, StepLeaves};
 ghost use Rattle.ring_machine.specs.Loops.{SendKeeps, TakeKeeps, CommitKeeps};
-ghost use Rattle.ring_machine.specs.States.{stored, Continues};
-ghost use Rattle.ring_machine.specs.Steps.{is_busy_at, is_copying_at, next_of, fed};
-ghost use Rattle.ring_core.specs.Told.{Memory, memory_after, answer_of, told_at, told_next, told_page};
+ghost use Rattle.ring_machine.specs.States.{stored};
+ghost use Rattle.ring_machine.specs.Steps.{is_busy_at};
+ghost use Rattle.ring_core.specs.Told.{Memory, memory_after, answer_of, told_page};
 ghost use Rattle.ring_core.specs.declared.told.Told.{Told};
-ghost use Rattle.ring_machine.specs.declared.machine.Stage.TheVariants.{Stopped};
 ghost use Rattle.ring_machine.specs.declared.place.Op.{Op};
 ghost use Rattle.ring_machine.specs.PageCalls.{is_paging, page_op, pages_fed, ContinuesPage};
 
@@ -38,19 +38,8 @@ pub fn step<S: Seatlike>(
     buf: &mut Vec<u64>,
     packet: &[u64],
 ) -> u64
-    requires busy { is_busy_at core.old.machine.stage ≡ true }
-    requires wide { length buf.old.items ≡ core.old.machine.cells }
-    requires fits { S.cells seat.old ≡ core.old.machine.cells }
-    requires goes_on { (u : Told) → S.told seat.old ≡ Some u → Continues u.state core.old.machine packet.now }
-    ensures fed { core.new.machine ≡ fed core.old.machine result }
-    ensures stored { buf.new.items ≡ stored (is_copying_at core.old.machine.stage) buf.old.items core.old.machine.done result }
-    ensures len { length buf.new.items ≡ length buf.old.items }
-    ensures runs { (m : Memory) (op : Op) → S.memory seat.old ≡ Some m → next_of core.old.machine packet.now ≡ Some op → (S.memory seat.new ≡ Some (memory_after core.old.machine.cells op m)) × (result ≡ answer_of core.old.machine.cells op m) }
-    ensures same { S.same seat.old seat.new }
-    ensures cells { S.cells seat.new ≡ S.cells seat.old }
-    ensures silent { S.told seat.old ≡ None → S.told seat.new ≡ None }
-    ensures tells { (u : Told) → S.told seat.old ≡ Some u → (S.told seat.new ≡ Some (told_next (told_at u core.old.machine packet.now) result)) × ((fed core.old.machine result).stage ≢ Stopped) }
-    ensures pages { core.new.pages ≡ core.old.pages }
+    requires { CanStep S.cells S.told seat.old core.old buf.old.items packet.now }
+    ensures { StepLeaves S.cells S.told S.memory S.same seat.old seat.new core.old core.new buf.old.items buf.new.items packet.now result }
 {
     let v = seat.perform(core, packet);
     let copies = is_copying(core.machine.stage);
@@ -87,19 +76,8 @@ fn step_apart<S: Seatlike>(
     buf: &mut Vec<u64>,
     packet: &[u64],
 ) -> u64
-    requires busy { is_busy_at core.old.machine.stage ≡ true }
-    requires wide { length buf.old.items ≡ core.old.machine.cells }
-    requires fits { S.cells seat.old ≡ core.old.machine.cells }
-    requires goes_on { (u : Told) → S.told seat.old ≡ Some u → Continues u.state core.old.machine packet.now }
-    ensures fed { core.new.machine ≡ fed core.old.machine result }
-    ensures stored { buf.new.items ≡ stored (is_copying_at core.old.machine.stage) buf.old.items core.old.machine.done result }
-    ensures len { length buf.new.items ≡ length buf.old.items }
-    ensures runs { (m : Memory) (op : Op) → S.memory seat.old ≡ Some m → next_of core.old.machine packet.now ≡ Some op → (S.memory seat.new ≡ Some (memory_after core.old.machine.cells op m)) × (result ≡ answer_of core.old.machine.cells op m) }
-    ensures same { S.same seat.old seat.new }
-    ensures cells { S.cells seat.new ≡ S.cells seat.old }
-    ensures silent { S.told seat.old ≡ None → S.told seat.new ≡ None }
-    ensures tells { (u : Told) → S.told seat.old ≡ Some u → (S.told seat.new ≡ Some (told_next (told_at u core.old.machine packet.now) result)) × ((fed core.old.machine result).stage ≢ Stopped) }
-    ensures pages { core.new.pages ≡ core.old.pages }
+    requires { CanStep S.cells S.told seat.old core.old buf.old.items packet.now }
+    ensures { StepLeaves S.cells S.told S.memory S.same seat.old seat.new core.old core.new buf.old.items buf.new.items packet.now result }
 {
     step(seat, core, buf, packet)
 }
@@ -162,30 +140,11 @@ fn commit_back(to: &mut EndCore, from: &EndCore)
 /// call. They differ only in which stages are frequent: those have loops of their own, over a copy of the machine that stays in registers, and in
 /// such a loop the stage is known, so that a step is a few instructions.
 pub(crate) trait Driver<S: Seatlike> {
-    ghost use Rattle.std.specs.Prelude.{◌≡◌, ◌≢◌, true, false, take, Some};
-    ghost use Rattle.ring_machine.specs.Endings.{Leaves};
-    ghost use Rattle.ring_machine.specs.Loops.{Starts};
-    ghost use Rattle.ring_machine.specs.States.{IsPacket, entered, shown, sent_by, got_by, past_by, pages_by, Continues};
-    ghost use Rattle.ring_core.specs.Pages.{kept_of};
-    ghost use Rattle.ring_machine.specs.Steps.{is_busy_at, is_took, call_at, call_by};
-    ghost use Rattle.ring_core.specs.Told.{Left};
-    ghost use Rattle.ring_machine.specs.declared.machine.Stage.TheVariants.{Stopped};
-    ghost use Rattle.ring_core.specs.declared.told.Told.{Told};
+    ghost use Rattle.ring_core.specs.Drives.{CanDrive, DriveLeaves};
 
     fn drive(parts: &mut Parts<S>, packet: &[u64])
-        requires starts { Starts parts.old.core.machine }
-        requires fits { S.cells parts.old.seat ≡ parts.old.core.machine.cells }
-        requires goes_on { (u : Told) → S.told parts.old.seat ≡ Some u → Continues u.state parts.old.core.machine packet.now × (entered u.state parts.old.core.machine packet.now ≡ shown parts.old.core.machine packet.now parts.old.buf.items parts.old.sent.list parts.old.got.list parts.old.past.events (kept_of parts.old.core.pages parts.old.sent parts.old.got parts.old.table)) }
-        ensures call { call_by parts.new.core.machine.ended ≡ call_at parts.old.core.machine.stage }
-        ensures leaves { Leaves parts.old.core.machine parts.new.core.machine }
-        ensures took { is_took parts.new.core.machine.ended ≡ true → IsPacket (take parts.new.core.machine.len parts.new.buf.items) }
-        ensures left { Left (shown parts.old.core.machine packet.now parts.old.buf.items parts.old.sent.list parts.old.got.list parts.old.past.events (kept_of parts.old.core.pages parts.old.sent parts.old.got parts.old.table)) (S.told parts.old.seat) (S.told parts.new.seat) (S.memory parts.old.seat) (S.memory parts.new.seat) parts.new.core.machine (sent_by parts.new.core.machine parts.old.sent.list packet.now) (got_by parts.new.core.machine parts.old.got.list parts.new.buf.items) (past_by parts.new.core.machine parts.old.past.events packet.now parts.new.buf.items) (pages_by parts.new.core.machine (kept_of parts.old.core.pages parts.old.sent parts.old.got parts.old.table) packet.now parts.new.buf.items) }
-        ensures pages { parts.new.core.pages ≡ parts.old.core.pages }
-        ensures idle { is_busy_at parts.new.core.machine.stage ≡ false }
-        ensures lists { (parts.new.sent ≡ parts.old.sent) × (parts.new.got ≡ parts.old.got) × (parts.new.table ≡ parts.old.table) × (parts.new.past ≡ parts.old.past) }
-        ensures same { S.same parts.old.seat parts.new.seat }
-        ensures cells { S.cells parts.new.seat ≡ parts.new.core.machine.cells }
-        ensures honest { (u : Told) → S.told parts.new.seat ≡ Some u → parts.new.core.machine.stage ≢ Stopped };
+        requires { CanDrive S.cells S.told parts.old packet.now }
+        ensures { DriveLeaves S.cells S.told S.memory S.same parts.old parts.new packet.now };
 }
 
 /// For a send.

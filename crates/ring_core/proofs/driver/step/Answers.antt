@@ -1,5 +1,6 @@
-use Rattle.std.proofs.Common.{◌≡◌, true, false, Some, sym, ap, ◌∙◌}
+use Rattle.std.proofs.Common.{◌≡◌, Bool, true, false, Some, sym, ap, ◌∙◌}
 use Rattle.ring_core.specs.declared.told.Told.{Told}
+use Rattle.ring_machine.specs.States.{stored}
 use Rattle.ring_machine.proofs.Fitting.{busy_off}
 use Rattle.ring_core.proofs.Performed.{ring_way, ring_goes, ring_tells, ring_next}
 use Rattle.ring_core.proofs.driver.step.Goals as goal
@@ -13,8 +14,15 @@ perform-v-requires-clause-pages g c = λ h. absurd (let z : true ≡ false = sym
 pub perform-v-requires-clause-goes_on : goal.perform-v-requires-clause-goes_on
 perform-v-requires-clause-goes_on g c = λ u e. ring_goes _ _ _ _ _ c.requires.busy (c.requires.goes_on u e)
 
-pub returns-clause-runs : goal.returns-clause-runs
-returns-clause-runs g c = λ m op e n. c.perform-v.ensures.runs m op e (ring_next _ _ _ _ n)
-
-pub returns-clause-tells : goal.returns-clause-tells
-returns-clause-tells g c = λ u e. let t = c.perform-v.ensures.tells u e in (t.0 ∙ ap (λ (x : Told). Some x) (ring_tells _ u _ _ _ _ c.requires.busy), t.1)
+pub returns : goal.returns
+returns g c = record {
+  machine = c.feed.ensures.next;
+  items = c.store_where.ensures.items ∙ ap (λ (b : Bool). stored b c.args.buf.now.items c.args.core.now.machine.done c.perform-v.result) c.is_copying-copies.ensures;
+  len = c.store_where.ensures.len;
+  runs = λ m op e n. c.perform-v.ensures.runs m op e (ring_next _ _ _ _ n);
+  same = c.perform-v.ensures.same;
+  cells = c.perform-v.ensures.cells;
+  silent = c.perform-v.ensures.silent;
+  tells = λ u e. let t = c.perform-v.ensures.tells u e in (t.0 ∙ ap (λ (x : Told). Some x) (ring_tells _ u _ _ _ _ c.requires.busy), t.1);
+  pages = c.feed.ensures.rings c.requires.busy;
+}

@@ -25,10 +25,10 @@ loop-parts-init g c =
 
 pub loop-parts-preserved : goal.loop-parts-preserved
 loop-parts-preserved g c = record {
-  going = rw (c.step.ensures.fed, c.step.ensures.stored) (going_on _ _ _ _ _ _ _ c.loop-parts.core.machine c.args.packet.now c.loop-parts.parts.buf.items c.step.result c.loop-parts.core.sound (giving_busy _ (sym c.is_giving.ensures ∙ c.loop-parts-test.true)) c.loop-parts.invariant.going c.step.ensures.silent c.step.ensures.tells c.step.ensures.runs);
-  cells = c.step.ensures.cells ∙ (c.loop-parts.invariant.cells ∙ (sym (fed_cells c.loop-parts.core.machine c.step.result c.loop-parts.core.machine.stage) ∙ sym (ap (λ (k : Machine). k.cells) c.step.ensures.fed)));
+  going = rw (c.step.ensures.machine, c.step.ensures.items) (going_on _ _ _ _ _ _ _ c.loop-parts.core.machine c.args.packet.now c.loop-parts.parts.buf.items c.step.result c.loop-parts.core.sound (giving_busy _ (sym c.is_giving.ensures ∙ c.loop-parts-test.true)) c.loop-parts.invariant.going c.step.ensures.silent c.step.ensures.tells c.step.ensures.runs);
+  cells = c.step.ensures.cells ∙ (c.loop-parts.invariant.cells ∙ (sym (fed_cells c.loop-parts.core.machine c.step.result c.loop-parts.core.machine.stage) ∙ sym (ap (λ (k : Machine). k.cells) c.step.ensures.machine)));
   core = c.loop-parts.invariant.core;
-  keeps = commit_kept_on _ _ _ c.loop-parts.invariant.keeps (rw c.step.ensures.fed (giving_keeps c.loop-parts.core.machine c.step.result c.loop-parts.core.machine.stage (sym c.is_giving.ensures ∙ c.loop-parts-test.true)));
+  keeps = commit_kept_on _ _ _ c.loop-parts.invariant.keeps (rw c.step.ensures.machine (giving_keeps c.loop-parts.core.machine c.step.result c.loop-parts.core.machine.stage (sym c.is_giving.ensures ∙ c.loop-parts-test.true)));
   same = g.met.S.Seatlike.same_trans _ _ _ c.loop-parts.invariant.same c.step.ensures.same;
   sent = c.loop-parts.invariant.sent;
   got = c.loop-parts.invariant.got;
@@ -37,20 +37,17 @@ loop-parts-preserved g c = record {
 }
 
 pub loop-parts-smaller : goal.loop-parts-smaller
-loop-parts-smaller g c = rw c.step.ensures.fed (fed_nearer c.loop-parts.core.machine c.step.result c.loop-parts.core.sound (giving_busy _ (sym c.is_giving.ensures ∙ c.loop-parts-test.true)))
+loop-parts-smaller g c = rw c.step.ensures.machine (fed_nearer c.loop-parts.core.machine c.step.result c.loop-parts.core.sound (giving_busy _ (sym c.is_giving.ensures ∙ c.loop-parts-test.true)))
 
-pub step-requires-clause-goes_on : goal.step-requires-clause-goes_on
-step-requires-clause-goes_on g c = going_asks _ _ _ _ _ _ _ _ c.loop-parts.invariant.going (giving_busy _ (sym c.is_giving.ensures ∙ c.loop-parts-test.true))
-
-pub step-requires-clause-busy : goal.step-requires-clause-busy
-step-requires-clause-busy g c = giving_busy _ (sym c.is_giving.ensures ∙ c.loop-parts-test.true)
+pub step-requires : goal.step-requires
+step-requires g c = record { busy = giving_busy _ (sym c.is_giving.ensures ∙ c.loop-parts-test.true); wide = c.loop-parts.invariant.going.wide; fits = c.loop-parts.invariant.cells; goes_on = going_asks _ _ _ _ _ _ _ _ c.loop-parts.invariant.going (giving_busy _ (sym c.is_giving.ensures ∙ c.loop-parts-test.true)) }
 
 pub loop-parts-2-preserved : goal.loop-parts-2-preserved
 loop-parts-2-preserved g c = record {
-  going = rw (c.step-in-loop-parts-2.ensures.fed, c.step-in-loop-parts-2.ensures.stored) (going_on _ _ _ _ _ _ _ c.loop-parts-2.core.machine c.args.packet.now c.loop-parts-2.parts.buf.items c.step-in-loop-parts-2.result c.loop-parts-2.core.sound (feature_busy _ (sym c.is_feature.ensures ∙ c.loop-parts-2-test.true)) c.loop-parts-2.invariant.going c.step-in-loop-parts-2.ensures.silent c.step-in-loop-parts-2.ensures.tells c.step-in-loop-parts-2.ensures.runs);
-  cells = c.step-in-loop-parts-2.ensures.cells ∙ (c.loop-parts-2.invariant.cells ∙ (sym (fed_cells c.loop-parts-2.core.machine c.step-in-loop-parts-2.result c.loop-parts-2.core.machine.stage) ∙ sym (ap (λ (k : Machine). k.cells) c.step-in-loop-parts-2.ensures.fed)));
+  going = rw (c.step-in-loop-parts-2.ensures.machine, c.step-in-loop-parts-2.ensures.items) (going_on _ _ _ _ _ _ _ c.loop-parts-2.core.machine c.args.packet.now c.loop-parts-2.parts.buf.items c.step-in-loop-parts-2.result c.loop-parts-2.core.sound (feature_busy _ (sym c.is_feature.ensures ∙ c.loop-parts-2-test.true)) c.loop-parts-2.invariant.going c.step-in-loop-parts-2.ensures.silent c.step-in-loop-parts-2.ensures.tells c.step-in-loop-parts-2.ensures.runs);
+  cells = c.step-in-loop-parts-2.ensures.cells ∙ (c.loop-parts-2.invariant.cells ∙ (sym (fed_cells c.loop-parts-2.core.machine c.step-in-loop-parts-2.result c.loop-parts-2.core.machine.stage) ∙ sym (ap (λ (k : Machine). k.cells) c.step-in-loop-parts-2.ensures.machine)));
   core = c.loop-parts-2.invariant.core;
-  keeps = commit_kept_on _ _ _ c.loop-parts-2.invariant.keeps (rw c.step-in-loop-parts-2.ensures.fed (feature_keeps c.loop-parts-2.core.machine c.step-in-loop-parts-2.result c.loop-parts-2.core.machine.stage (sym c.is_feature.ensures ∙ c.loop-parts-2-test.true)));
+  keeps = commit_kept_on _ _ _ c.loop-parts-2.invariant.keeps (rw c.step-in-loop-parts-2.ensures.machine (feature_keeps c.loop-parts-2.core.machine c.step-in-loop-parts-2.result c.loop-parts-2.core.machine.stage (sym c.is_feature.ensures ∙ c.loop-parts-2-test.true)));
   same = g.met.S.Seatlike.same_trans _ _ _ c.loop-parts-2.invariant.same c.step-in-loop-parts-2.ensures.same;
   sent = c.loop-parts-2.invariant.sent;
   got = c.loop-parts-2.invariant.got;
@@ -59,20 +56,17 @@ loop-parts-2-preserved g c = record {
 }
 
 pub loop-parts-2-smaller : goal.loop-parts-2-smaller
-loop-parts-2-smaller g c = rw c.step-in-loop-parts-2.ensures.fed (fed_nearer c.loop-parts-2.core.machine c.step-in-loop-parts-2.result c.loop-parts-2.core.sound (feature_busy _ (sym c.is_feature.ensures ∙ c.loop-parts-2-test.true)))
+loop-parts-2-smaller g c = rw c.step-in-loop-parts-2.ensures.machine (fed_nearer c.loop-parts-2.core.machine c.step-in-loop-parts-2.result c.loop-parts-2.core.sound (feature_busy _ (sym c.is_feature.ensures ∙ c.loop-parts-2-test.true)))
 
-pub step-requires-in-loop-parts-2-clause-goes_on : goal.step-requires-in-loop-parts-2-clause-goes_on
-step-requires-in-loop-parts-2-clause-goes_on g c = going_asks _ _ _ _ _ _ _ _ c.loop-parts-2.invariant.going (feature_busy _ (sym c.is_feature.ensures ∙ c.loop-parts-2-test.true))
-
-pub step-requires-in-loop-parts-2-clause-busy : goal.step-requires-in-loop-parts-2-clause-busy
-step-requires-in-loop-parts-2-clause-busy g c = feature_busy _ (sym c.is_feature.ensures ∙ c.loop-parts-2-test.true)
+pub step-requires-in-loop-parts-2 : goal.step-requires-in-loop-parts-2
+step-requires-in-loop-parts-2 g c = record { busy = feature_busy _ (sym c.is_feature.ensures ∙ c.loop-parts-2-test.true); wide = c.loop-parts-2.invariant.going.wide; fits = c.loop-parts-2.invariant.cells; goes_on = going_asks _ _ _ _ _ _ _ _ c.loop-parts-2.invariant.going (feature_busy _ (sym c.is_feature.ensures ∙ c.loop-parts-2-test.true)) }
 
 pub loop-parts-3-preserved : goal.loop-parts-3-preserved
 loop-parts-3-preserved g c = record {
-  going = rw (c.step-in-loop-parts-3.ensures.fed, c.step-in-loop-parts-3.ensures.stored) (going_on _ _ _ _ _ _ _ c.loop-parts-3.core.machine c.args.packet.now c.loop-parts-3.parts.buf.items c.step-in-loop-parts-3.result c.loop-parts-3.core.sound (pending_busy _ (sym c.is_pending.ensures ∙ c.loop-parts-3-test.true)) c.loop-parts-3.invariant.going c.step-in-loop-parts-3.ensures.silent c.step-in-loop-parts-3.ensures.tells c.step-in-loop-parts-3.ensures.runs);
-  cells = c.step-in-loop-parts-3.ensures.cells ∙ (c.loop-parts-3.invariant.cells ∙ (sym (fed_cells c.loop-parts-3.core.machine c.step-in-loop-parts-3.result c.loop-parts-3.core.machine.stage) ∙ sym (ap (λ (k : Machine). k.cells) c.step-in-loop-parts-3.ensures.fed)));
+  going = rw (c.step-in-loop-parts-3.ensures.machine, c.step-in-loop-parts-3.ensures.items) (going_on _ _ _ _ _ _ _ c.loop-parts-3.core.machine c.args.packet.now c.loop-parts-3.parts.buf.items c.step-in-loop-parts-3.result c.loop-parts-3.core.sound (pending_busy _ (sym c.is_pending.ensures ∙ c.loop-parts-3-test.true)) c.loop-parts-3.invariant.going c.step-in-loop-parts-3.ensures.silent c.step-in-loop-parts-3.ensures.tells c.step-in-loop-parts-3.ensures.runs);
+  cells = c.step-in-loop-parts-3.ensures.cells ∙ (c.loop-parts-3.invariant.cells ∙ (sym (fed_cells c.loop-parts-3.core.machine c.step-in-loop-parts-3.result c.loop-parts-3.core.machine.stage) ∙ sym (ap (λ (k : Machine). k.cells) c.step-in-loop-parts-3.ensures.machine)));
   core = c.loop-parts-3.invariant.core;
-  keeps = commit_kept_on _ _ _ c.loop-parts-3.invariant.keeps (rw c.step-in-loop-parts-3.ensures.fed (pending_keeps c.loop-parts-3.core.machine c.step-in-loop-parts-3.result c.loop-parts-3.core.machine.stage (sym c.is_pending.ensures ∙ c.loop-parts-3-test.true)));
+  keeps = commit_kept_on _ _ _ c.loop-parts-3.invariant.keeps (rw c.step-in-loop-parts-3.ensures.machine (pending_keeps c.loop-parts-3.core.machine c.step-in-loop-parts-3.result c.loop-parts-3.core.machine.stage (sym c.is_pending.ensures ∙ c.loop-parts-3-test.true)));
   same = g.met.S.Seatlike.same_trans _ _ _ c.loop-parts-3.invariant.same c.step-in-loop-parts-3.ensures.same;
   sent = c.loop-parts-3.invariant.sent;
   got = c.loop-parts-3.invariant.got;
@@ -81,13 +75,10 @@ loop-parts-3-preserved g c = record {
 }
 
 pub loop-parts-3-smaller : goal.loop-parts-3-smaller
-loop-parts-3-smaller g c = rw c.step-in-loop-parts-3.ensures.fed (fed_nearer c.loop-parts-3.core.machine c.step-in-loop-parts-3.result c.loop-parts-3.core.sound (pending_busy _ (sym c.is_pending.ensures ∙ c.loop-parts-3-test.true)))
+loop-parts-3-smaller g c = rw c.step-in-loop-parts-3.ensures.machine (fed_nearer c.loop-parts-3.core.machine c.step-in-loop-parts-3.result c.loop-parts-3.core.sound (pending_busy _ (sym c.is_pending.ensures ∙ c.loop-parts-3-test.true)))
 
-pub step-requires-in-loop-parts-3-clause-goes_on : goal.step-requires-in-loop-parts-3-clause-goes_on
-step-requires-in-loop-parts-3-clause-goes_on g c = going_asks _ _ _ _ _ _ _ _ c.loop-parts-3.invariant.going (pending_busy _ (sym c.is_pending.ensures ∙ c.loop-parts-3-test.true))
-
-pub step-requires-in-loop-parts-3-clause-busy : goal.step-requires-in-loop-parts-3-clause-busy
-step-requires-in-loop-parts-3-clause-busy g c = pending_busy _ (sym c.is_pending.ensures ∙ c.loop-parts-3-test.true)
+pub step-requires-in-loop-parts-3 : goal.step-requires-in-loop-parts-3
+step-requires-in-loop-parts-3 g c = record { busy = pending_busy _ (sym c.is_pending.ensures ∙ c.loop-parts-3-test.true); wide = c.loop-parts-3.invariant.going.wide; fits = c.loop-parts-3.invariant.cells; goes_on = going_asks _ _ _ _ _ _ _ _ c.loop-parts-3.invariant.going (pending_busy _ (sym c.is_pending.ensures ∙ c.loop-parts-3-test.true)) }
 
 pub commit_back-requires-clause-call : goal.commit_back-requires-clause-call
 commit_back-requires-clause-call g c = ap (λ (k : EndCore). is_paging k.pages.call) c.loop-parts-3.invariant.core ∙ ap is_paging c.args.parts.now.fit.off
@@ -112,8 +103,8 @@ loop-parts-4-init g c = record {
 
 pub loop-parts-4-preserved : goal.loop-parts-4-preserved
 loop-parts-4-preserved g c = record {
-  going = rw (c.step_apart.ensures.fed, c.step_apart.ensures.stored) (going_on _ _ _ _ _ _ _ c.loop-parts-4.parts.core.machine c.args.packet.now c.loop-parts-4.parts.buf.items c.step_apart.result c.loop-parts-4.parts.core.sound (sym c.is_busy.ensures ∙ c.loop-parts-4-test.true) c.loop-parts-4.invariant.going c.step_apart.ensures.silent c.step_apart.ensures.tells c.step_apart.ensures.runs);
-  cells = c.step_apart.ensures.cells ∙ (c.loop-parts-4.invariant.cells ∙ (sym (fed_cells c.loop-parts-4.parts.core.machine c.step_apart.result c.loop-parts-4.parts.core.machine.stage) ∙ sym (ap (λ (k : Machine). k.cells) c.step_apart.ensures.fed)));
+  going = rw (c.step_apart.ensures.machine, c.step_apart.ensures.items) (going_on _ _ _ _ _ _ _ c.loop-parts-4.parts.core.machine c.args.packet.now c.loop-parts-4.parts.buf.items c.step_apart.result c.loop-parts-4.parts.core.sound (sym c.is_busy.ensures ∙ c.loop-parts-4-test.true) c.loop-parts-4.invariant.going c.step_apart.ensures.silent c.step_apart.ensures.tells c.step_apart.ensures.runs);
+  cells = c.step_apart.ensures.cells ∙ (c.loop-parts-4.invariant.cells ∙ (sym (fed_cells c.loop-parts-4.parts.core.machine c.step_apart.result c.loop-parts-4.parts.core.machine.stage) ∙ sym (ap (λ (k : Machine). k.cells) c.step_apart.ensures.machine)));
   same = g.met.S.Seatlike.same_trans _ _ _ c.loop-parts-4.invariant.same c.step_apart.ensures.same;
   sent = c.loop-parts-4.invariant.sent;
   got = c.loop-parts-4.invariant.got;
@@ -123,37 +114,27 @@ loop-parts-4-preserved g c = record {
 }
 
 pub loop-parts-4-smaller : goal.loop-parts-4-smaller
-loop-parts-4-smaller g c = rw c.step_apart.ensures.fed (fed_nearer c.loop-parts-4.parts.core.machine c.step_apart.result c.loop-parts-4.parts.core.sound (sym c.is_busy.ensures ∙ c.loop-parts-4-test.true))
+loop-parts-4-smaller g c = rw c.step_apart.ensures.machine (fed_nearer c.loop-parts-4.parts.core.machine c.step_apart.result c.loop-parts-4.parts.core.sound (sym c.is_busy.ensures ∙ c.loop-parts-4-test.true))
 
-pub step_apart-requires-clause-goes_on : goal.step_apart-requires-clause-goes_on
-step_apart-requires-clause-goes_on g c = going_asks _ _ _ _ _ _ _ _ c.loop-parts-4.invariant.going (sym c.is_busy.ensures ∙ c.loop-parts-4-test.true)
-
-pub step_apart-requires-clause-busy : goal.step_apart-requires-clause-busy
-step_apart-requires-clause-busy g c = sym c.is_busy.ensures ∙ c.loop-parts-4-test.true
-
-pub step_apart-requires-clause-fits : goal.step_apart-requires-clause-fits
-step_apart-requires-clause-fits g c = c.loop-parts-4.invariant.cells
+pub step_apart-requires : goal.step_apart-requires
+step_apart-requires g c = record { busy = sym c.is_busy.ensures ∙ c.loop-parts-4-test.true; wide = c.loop-parts-4.invariant.going.wide; fits = c.loop-parts-4.invariant.cells; goes_on = going_asks _ _ _ _ _ _ _ _ c.loop-parts-4.invariant.going (sym c.is_busy.ensures ∙ c.loop-parts-4-test.true) }
 
 pub invariant_of-parts-in-loop-parts-4 : goal.invariant_of-parts-in-loop-parts-4
 invariant_of-parts-in-loop-parts-4 g c = record {
-  wide = c.step_apart.ensures.len ∙ (c.loop-parts-4.invariant.going.wide ∙ (sym (fed_cells c.loop-parts-4.parts.core.machine c.step_apart.result c.loop-parts-4.parts.core.machine.stage) ∙ sym (ap (λ (k : Machine). k.cells) c.step_apart.ensures.fed)));
+  wide = c.step_apart.ensures.len ∙ (c.loop-parts-4.invariant.going.wide ∙ (sym (fed_cells c.loop-parts-4.parts.core.machine c.step_apart.result c.loop-parts-4.parts.core.machine.stage) ∙ sym (ap (λ (k : Machine). k.cells) c.step_apart.ensures.machine)));
   fit = pages_stay _ _ _ _ _ _ _ _ c.args.parts.now.fit (c.step_apart.ensures.pages ∙ c.loop-parts-4.invariant.pages) c.loop-parts-4.invariant.sent c.loop-parts-4.invariant.got c.loop-parts-4.invariant.table;
 }
 
-pub returns-clause-call : goal.returns-clause-call
-returns-clause-call g c = going_calls _ _ _ _ _ _ _ _ c.loop-parts-4.invariant.going c.loop-parts-4.parts.core.sound (sym c.is_busy.ensures ∙ c.loop-parts-4-test.false)
-
-pub returns-clause-leaves : goal.returns-clause-leaves
-returns-clause-leaves g c = going_leaves _ _ _ _ _ _ _ _ c.loop-parts-4.invariant.going c.loop-parts-4.parts.core.sound (sym c.is_busy.ensures ∙ c.loop-parts-4-test.false)
-
-pub returns-clause-took : goal.returns-clause-took
-returns-clause-took g c = going_took _ _ _ _ _ _ _ _ c.loop-parts-4.invariant.going c.loop-parts-4.parts.core.sound (sym c.is_busy.ensures ∙ c.loop-parts-4-test.false)
-
-pub returns-clause-left : goal.returns-clause-left
-returns-clause-left g c = going_ran _ _ _ _ _ _ _ _ c.loop-parts-4.invariant.going c.loop-parts-4.parts.core.sound (sym c.is_busy.ensures ∙ c.loop-parts-4-test.false)
-
-pub returns-clause-honest : goal.returns-clause-honest
-returns-clause-honest g c = going_honest _ _ _ _ _ _ _ _ c.loop-parts-4.invariant.going (sym c.is_busy.ensures ∙ c.loop-parts-4-test.false)
-
-pub returns-clause-pages : goal.returns-clause-pages
-returns-clause-pages g c = c.loop-parts-4.invariant.pages
+pub returns : goal.returns
+returns g c = record {
+  call = going_calls _ _ _ _ _ _ _ _ c.loop-parts-4.invariant.going c.loop-parts-4.parts.core.sound (sym c.is_busy.ensures ∙ c.loop-parts-4-test.false);
+  leaves = going_leaves _ _ _ _ _ _ _ _ c.loop-parts-4.invariant.going c.loop-parts-4.parts.core.sound (sym c.is_busy.ensures ∙ c.loop-parts-4-test.false);
+  took = going_took _ _ _ _ _ _ _ _ c.loop-parts-4.invariant.going c.loop-parts-4.parts.core.sound (sym c.is_busy.ensures ∙ c.loop-parts-4-test.false);
+  left = going_ran _ _ _ _ _ _ _ _ c.loop-parts-4.invariant.going c.loop-parts-4.parts.core.sound (sym c.is_busy.ensures ∙ c.loop-parts-4-test.false);
+  pages = c.loop-parts-4.invariant.pages;
+  idle = sym c.is_busy.ensures ∙ c.loop-parts-4-test.false;
+  lists = (c.loop-parts-4.invariant.sent, c.loop-parts-4.invariant.got, c.loop-parts-4.invariant.table, c.loop-parts-4.invariant.past);
+  same = c.loop-parts-4.invariant.same;
+  cells = c.loop-parts-4.invariant.cells;
+  honest = going_honest _ _ _ _ _ _ _ _ c.loop-parts-4.invariant.going (sym c.is_busy.ensures ∙ c.loop-parts-4-test.false);
+}

@@ -21,8 +21,8 @@ loop-parts-init g c =
 
 pub loop-parts-preserved : goal.loop-parts-preserved
 loop-parts-preserved g c = record {
-  going = rw (c.step_apart.ensures.fed, c.step_apart.ensures.stored) (going_on _ _ _ _ _ _ _ c.loop-parts.parts.core.machine c.args.packet.now c.loop-parts.parts.buf.items c.step_apart.result c.loop-parts.parts.core.sound (sym c.is_busy.ensures ∙ c.loop-parts-test.true) c.loop-parts.invariant.going c.step_apart.ensures.silent c.step_apart.ensures.tells c.step_apart.ensures.runs);
-  cells = c.step_apart.ensures.cells ∙ (c.loop-parts.invariant.cells ∙ (sym (fed_cells c.loop-parts.parts.core.machine c.step_apart.result c.loop-parts.parts.core.machine.stage) ∙ sym (ap (λ (k : Machine). k.cells) c.step_apart.ensures.fed)));
+  going = rw (c.step_apart.ensures.machine, c.step_apart.ensures.items) (going_on _ _ _ _ _ _ _ c.loop-parts.parts.core.machine c.args.packet.now c.loop-parts.parts.buf.items c.step_apart.result c.loop-parts.parts.core.sound (sym c.is_busy.ensures ∙ c.loop-parts-test.true) c.loop-parts.invariant.going c.step_apart.ensures.silent c.step_apart.ensures.tells c.step_apart.ensures.runs);
+  cells = c.step_apart.ensures.cells ∙ (c.loop-parts.invariant.cells ∙ (sym (fed_cells c.loop-parts.parts.core.machine c.step_apart.result c.loop-parts.parts.core.machine.stage) ∙ sym (ap (λ (k : Machine). k.cells) c.step_apart.ensures.machine)));
   same = g.met.S.Seatlike.same_trans _ _ _ c.loop-parts.invariant.same c.step_apart.ensures.same;
   sent = c.loop-parts.invariant.sent;
   got = c.loop-parts.invariant.got;
@@ -32,37 +32,27 @@ loop-parts-preserved g c = record {
 }
 
 pub loop-parts-smaller : goal.loop-parts-smaller
-loop-parts-smaller g c = rw c.step_apart.ensures.fed (fed_nearer c.loop-parts.parts.core.machine c.step_apart.result c.loop-parts.parts.core.sound (sym c.is_busy.ensures ∙ c.loop-parts-test.true))
+loop-parts-smaller g c = rw c.step_apart.ensures.machine (fed_nearer c.loop-parts.parts.core.machine c.step_apart.result c.loop-parts.parts.core.sound (sym c.is_busy.ensures ∙ c.loop-parts-test.true))
 
-pub step_apart-requires-clause-goes_on : goal.step_apart-requires-clause-goes_on
-step_apart-requires-clause-goes_on g c = going_asks _ _ _ _ _ _ _ _ c.loop-parts.invariant.going (sym c.is_busy.ensures ∙ c.loop-parts-test.true)
-
-pub step_apart-requires-clause-busy : goal.step_apart-requires-clause-busy
-step_apart-requires-clause-busy g c = sym c.is_busy.ensures ∙ c.loop-parts-test.true
-
-pub step_apart-requires-clause-fits : goal.step_apart-requires-clause-fits
-step_apart-requires-clause-fits g c = c.loop-parts.invariant.cells
+pub step_apart-requires : goal.step_apart-requires
+step_apart-requires g c = record { busy = sym c.is_busy.ensures ∙ c.loop-parts-test.true; wide = c.loop-parts.invariant.going.wide; fits = c.loop-parts.invariant.cells; goes_on = going_asks _ _ _ _ _ _ _ _ c.loop-parts.invariant.going (sym c.is_busy.ensures ∙ c.loop-parts-test.true) }
 
 pub invariant_of-parts : goal.invariant_of-parts
 invariant_of-parts g c = record {
-  wide = c.step_apart.ensures.len ∙ (c.loop-parts.invariant.going.wide ∙ (sym (fed_cells c.loop-parts.parts.core.machine c.step_apart.result c.loop-parts.parts.core.machine.stage) ∙ sym (ap (λ (k : Machine). k.cells) c.step_apart.ensures.fed)));
+  wide = c.step_apart.ensures.len ∙ (c.loop-parts.invariant.going.wide ∙ (sym (fed_cells c.loop-parts.parts.core.machine c.step_apart.result c.loop-parts.parts.core.machine.stage) ∙ sym (ap (λ (k : Machine). k.cells) c.step_apart.ensures.machine)));
   fit = pages_stay _ _ _ _ _ _ _ _ c.args.parts.now.fit (c.step_apart.ensures.pages ∙ c.loop-parts.invariant.pages) c.loop-parts.invariant.sent c.loop-parts.invariant.got c.loop-parts.invariant.table;
 }
 
-pub returns-clause-call : goal.returns-clause-call
-returns-clause-call g c = going_calls _ _ _ _ _ _ _ _ c.loop-parts.invariant.going c.loop-parts.parts.core.sound (sym c.is_busy.ensures ∙ c.loop-parts-test.false)
-
-pub returns-clause-leaves : goal.returns-clause-leaves
-returns-clause-leaves g c = going_leaves _ _ _ _ _ _ _ _ c.loop-parts.invariant.going c.loop-parts.parts.core.sound (sym c.is_busy.ensures ∙ c.loop-parts-test.false)
-
-pub returns-clause-took : goal.returns-clause-took
-returns-clause-took g c = going_took _ _ _ _ _ _ _ _ c.loop-parts.invariant.going c.loop-parts.parts.core.sound (sym c.is_busy.ensures ∙ c.loop-parts-test.false)
-
-pub returns-clause-left : goal.returns-clause-left
-returns-clause-left g c = going_ran _ _ _ _ _ _ _ _ c.loop-parts.invariant.going c.loop-parts.parts.core.sound (sym c.is_busy.ensures ∙ c.loop-parts-test.false)
-
-pub returns-clause-honest : goal.returns-clause-honest
-returns-clause-honest g c = going_honest _ _ _ _ _ _ _ _ c.loop-parts.invariant.going (sym c.is_busy.ensures ∙ c.loop-parts-test.false)
-
-pub returns-clause-pages : goal.returns-clause-pages
-returns-clause-pages g c = c.loop-parts.invariant.pages
+pub returns : goal.returns
+returns g c = record {
+  call = going_calls _ _ _ _ _ _ _ _ c.loop-parts.invariant.going c.loop-parts.parts.core.sound (sym c.is_busy.ensures ∙ c.loop-parts-test.false);
+  leaves = going_leaves _ _ _ _ _ _ _ _ c.loop-parts.invariant.going c.loop-parts.parts.core.sound (sym c.is_busy.ensures ∙ c.loop-parts-test.false);
+  took = going_took _ _ _ _ _ _ _ _ c.loop-parts.invariant.going c.loop-parts.parts.core.sound (sym c.is_busy.ensures ∙ c.loop-parts-test.false);
+  left = going_ran _ _ _ _ _ _ _ _ c.loop-parts.invariant.going c.loop-parts.parts.core.sound (sym c.is_busy.ensures ∙ c.loop-parts-test.false);
+  pages = c.loop-parts.invariant.pages;
+  idle = sym c.is_busy.ensures ∙ c.loop-parts-test.false;
+  lists = (c.loop-parts.invariant.sent, c.loop-parts.invariant.got, c.loop-parts.invariant.table, c.loop-parts.invariant.past);
+  same = c.loop-parts.invariant.same;
+  cells = c.loop-parts.invariant.cells;
+  honest = going_honest _ _ _ _ _ _ _ _ c.loop-parts.invariant.going (sym c.is_busy.ensures ∙ c.loop-parts-test.false);
+}

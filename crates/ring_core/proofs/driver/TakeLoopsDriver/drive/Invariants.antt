@@ -1,6 +1,5 @@
 use Rattle.std.proofs.Common.{◌≡◌, List, ℕ}
-use Rattle.ring_core.specs.Pages.{kept_of}
-use Rattle.ring_machine.specs.States.{shown}
+use Rattle.ring_core.specs.Drives.{begun_at}
 use Rattle.ring_machine.specs.Steps.{steps_left}
 use Rattle.ring_machine.specs.Loops.{TakeKeeps}
 use Rattle.ring_core.specs.declared.parts.Parts.{Parts}
@@ -12,7 +11,7 @@ use Rattle.ring_core.proofs.driver.TakeLoopsDriver.drive.Given as goal
 abbrev pub IsOn : (g : goal.Over) → Parts g.row.S.Denot → List ℕ → Parts g.row.S.Denot → EndCore → Type 0
 IsOn g from p parts core =
     record {
-      going : Going (shown from.core.machine p from.buf.items from.sent.list from.got.list from.past.events (kept_of from.core.pages from.sent from.got from.table))
+      going : Going (begun_at from p)
           (g.S.Seatlike.told from.seat) (g.S.Seatlike.told parts.seat) (g.S.Seatlike.memory from.seat) (g.S.Seatlike.memory parts.seat) core.machine p parts.buf.items;
       cells : g.S.Seatlike.cells parts.seat ≡ core.machine.cells;
       keeps : TakeKeeps parts.core.machine core.machine;
@@ -28,7 +27,7 @@ IsOn g from p parts core =
 abbrev pub GoesOn : (g : goal.Over) → Parts g.row.S.Denot → List ℕ → Parts g.row.S.Denot → Type 0
 GoesOn g from p parts =
     record {
-      going : Going (shown from.core.machine p from.buf.items from.sent.list from.got.list from.past.events (kept_of from.core.pages from.sent from.got from.table))
+      going : Going (begun_at from p)
           (g.S.Seatlike.told from.seat) (g.S.Seatlike.told parts.seat) (g.S.Seatlike.memory from.seat) (g.S.Seatlike.memory parts.seat) parts.core.machine p parts.buf.items;
       cells : g.S.Seatlike.cells parts.seat ≡ parts.core.machine.cells;
       same : g.S.Seatlike.same from.seat parts.seat;

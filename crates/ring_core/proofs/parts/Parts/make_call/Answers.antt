@@ -13,6 +13,9 @@ use Rattle.ring_core.proofs.Driving.{leaves_by}
 use Rattle.ring_core.proofs.Paging.{by_send, by_take, by_other}
 use Rattle.ring_core.proofs.parts.Parts.make_call.Goals as goal
 
+pub drive-requires : goal.drive-requires
+drive-requires g c = record { starts = c.requires.starts; fits = c.requires.fits; goes_on = c.requires.goes_on }
+
 pub returns-clause-after : goal.returns-clause-after
 returns-clause-after g c =
     let before = c.args.self.now.core.machine in
