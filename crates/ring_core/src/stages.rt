@@ -1,4 +1,4 @@
-//! The stages that a driver has loops of their own for.
+//! Which step a machine makes next, as its driver asks.
 ghost use Rattle.std.specs.Prelude.{◌≡◌};
 ghost use Rattle.ring_machine.specs.Loops.{is_asking_at, is_storing_at, is_writing_at, is_masking_at, is_seeking_at, is_first_at, is_loading_at, is_giving_at, is_feature_at, is_pending_at};
 ghost use Rattle.ring_machine.specs.Steps.{is_copying_at};

@@ -1,4 +1,4 @@
-//! The stages that a driver has loops of their own for.
+//! Which step a machine makes next, as its driver asks.
 ghost use Rattle.std.specs.Prelude.{◌≡◌};
 ghost use Rattle.ring_machine.specs.Loops.{is_asking_at, is_storing_at, is_seeking_at, is_first_at, is_loading_at};
 
