@@ -13,8 +13,8 @@ use Rattle.end_work.specs.Seats.{served_at, device_place, at_guest, at_host}
 use Rattle.end_work.specs.declared.device_seat.DeviceSeat.{DeviceSeat}
 use Rattle.end_work.specs.declared.done.GuestDone.{GuestDone}
 use Rattle.end_work.specs.declared.done.HostDone.{HostDone}
-use Rattle.end_work.specs.declared.worker.ChannelWorker.{ChannelWorker}
-use Rattle.end_work.specs.declared.worker.ChannelWorker.TheVariants.{Asks, Serves}
+use Rattle.end_work.specs.declared.worker.Worker.{Worker}
+use Rattle.end_work.specs.declared.worker.Worker.TheVariants.{Asks, Serves}
 use Rattle.end_work.specs.declared.worker.WorkerDone.{WorkerDone}
 
 -- the worker that asks has ended so, with these replies; it has no seat and no serials
@@ -40,7 +40,7 @@ pub record LeavesServed (w : Serving Talked DeviceSeat Ask Reply) (d : WorkerDon
   pub room : ServeLacksFor (speech_of w.desk.talk.kind) (besides_on w.desk.talk.kind) (w.starts + w.come) w.serve w.stops d.ended d.end.state.past
   pub replies : d.replies.items ≡ []
 
-abbrev pub Leaves : ChannelWorker → WorkerDone → Type 0
+abbrev pub Leaves : Worker → WorkerDone → Type 0
 Leaves (Asks w) d = LeavesAsked w d
 Leaves (Serves w) d = LeavesServed w d
 

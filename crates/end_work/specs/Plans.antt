@@ -25,8 +25,8 @@ use Rattle.end_work.specs.declared.device_seat.DeviceSeat.{DeviceSeat}
 use Rattle.end_work.specs.declared.guest_plan.GuestPlan.{GuestPlan}
 use Rattle.end_work.specs.declared.host_plan.HostPlan.{HostPlan}
 use Rattle.end_work.specs.declared.making.Order.{Order}
-use Rattle.end_work.specs.declared.worker.ChannelWorker.{ChannelWorker}
-use Rattle.end_work.specs.declared.worker.ChannelWorker.TheVariants.{Asks, Serves}
+use Rattle.end_work.specs.declared.worker.Worker.{Worker}
+use Rattle.end_work.specs.declared.worker.Worker.TheVariants.{Asks, Serves}
 
 -- each request is one for devices of this kind, and its channel carries it
 abbrev pub AllCarried : Kind → List Ask → Type 0
@@ -114,7 +114,7 @@ pub record ServesFor (p : Planned) (seat : DeviceSeat) (w : Serving Talked Devic
   pub come : w.starts + w.come ≡ length (startup p.kind p.sub p.subs) + p.count
 
 -- a worker was made for this plan: without a seat it asks, and with one it serves
-abbrev pub IsMade : Planned → Option DeviceSeat → ChannelWorker → Type 0
+abbrev pub IsMade : Planned → Option DeviceSeat → Worker → Type 0
 IsMade p None (Asks w) = AsksFor p w
 IsMade p None (Serves w) = ⊥
 IsMade p (Some s) (Asks w) = ⊥

@@ -12,52 +12,52 @@ use Rattle.server.specs.Serving.{Turns, ServeEnds, ServesOn}
 use Rattle.channel_port.specs.declared.ended.Turn.{Turn}
 use Rattle.end_work.specs.Seats.{device_place, left_at, IsAt}
 use Rattle.end_work.specs.declared.device_seat.DeviceSeat.{DeviceSeat}
-use Rattle.end_work.specs.declared.worker.ChannelWorker.{ChannelWorker}
-use Rattle.end_work.specs.declared.worker.ChannelWorker.TheVariants.{Asks, Serves}
+use Rattle.end_work.specs.declared.worker.Worker.{Worker}
+use Rattle.end_work.specs.declared.worker.Worker.TheVariants.{Asks, Serves}
 
 -- its end of the channel
-abbrev pub end_at : ChannelWorker → Seen TableSeat
+abbrev pub end_at : Worker → Seen TableSeat
 end_at (Asks w) = w.end
 end_at (Serves w) = w.end
 
 -- the relid of its channel
-abbrev pub relid_at : ChannelWorker → ℕ
+abbrev pub relid_at : Worker → ℕ
 relid_at (Asks w) = w.relid
 relid_at (Serves w) = w.desk.relid
 
 -- its seat, if it serves
-abbrev pub seat_at : ChannelWorker → Option DeviceSeat
+abbrev pub seat_at : Worker → Option DeviceSeat
 seat_at (Asks w) = None
 seat_at (Serves w) = Some w.desk.seat
 
 -- how many requests it can have open, where it asks
-abbrev pub HasWindow : ℕ → ChannelWorker → Type 0
+abbrev pub HasWindow : ℕ → Worker → Type 0
 HasWindow n (Asks w) = length w.table ≡ n
 HasWindow n (Serves w) = Unit {0}
 
 -- it has not ended
-abbrev pub IsLive : ChannelWorker → Type 0
+abbrev pub IsLive : Worker → Type 0
 IsLive w = (end_at w).state.machine.marked ≡ false
 
 -- it has the end of this side, and serves no device of the other side
-pub record IsOfSide (side : Side) (w : ChannelWorker) : Type 0 where
+pub record IsOfSide (side : Side) (w : Worker) : Type 0 where
   pub end : (end_at w).state.machine.side ≡ side
   pub seat : IsAt side (seat_at w)
 
 -- how a turn ends, by what the worker does
-abbrev pub Turned : Turn → ChannelWorker → Type 0
+abbrev pub Turned : Turn → Worker → Type 0
 Turned turn (Asks w) = AskTurns (speech_of w.talk.kind) (besides_on w.talk.kind) (asks_of w.talk) turn w × AskEnds (speech_of w.talk.kind) (besides_on w.talk.kind) w.starts (asks_of w.talk) turn w.end.state.past
 Turned turn (Serves w) = Turns left_at (speech_of w.desk.talk.kind) (besides_on w.desk.talk.kind) turn w × ServeEnds (speech_of w.desk.talk.kind) (besides_on w.desk.talk.kind) turn w
 
 -- why it went so: what the worker did in it
-abbrev pub Caused : Turn → ChannelWorker → ChannelWorker → Type 0
+abbrev pub Caused : Turn → Worker → Worker → Type 0
 Caused turn (Asks v) (Asks w) = AskCause turn v.end w.end
 Caused turn (Asks v) (Serves w) = ⊥
 Caused turn (Serves v) (Asks w) = ⊥
 Caused turn (Serves v) (Serves w) = ServeCause turn v.end w.end
 
 -- the same worker later
-abbrev pub GoesOn : ChannelWorker → ChannelWorker → Type 0
+abbrev pub GoesOn : Worker → Worker → Type 0
 GoesOn (Asks v) (Asks w) = AsksOn v w
 GoesOn (Asks v) (Serves w) = ⊥
 GoesOn (Serves v) (Asks w) = ⊥

@@ -8,7 +8,7 @@ ghost use Rattle.end_work.specs.Seats.{IsAt, at_guest};
 ghost use Rattle.end_work.specs.Workers.{Caused, GoesOn, IsLive, IsOfSide, Turned, end_at};
 
 use crate::making::{Order, guest_asks, make_worker};
-use crate::worker::{ChannelWorker, WorkerDone};
+use crate::worker::{Worker, WorkerDone};
 use crate::{GuestDone, GuestPlan, GuestSeat};
 use channel_port::Turn;
 use io_edge::{Gate, Side};
@@ -20,13 +20,13 @@ use std::sync::Wait;
 /// The worker of the guest's end of a channel. It asks a disk or a network's adapter, and serves heartbeats and shutdowns.
 #[derive(Drop)]
 pub struct GuestWorker {
-    worker: ChannelWorker,
+    worker: Worker,
 }
 
 impl Model for GuestWorker {
     ghost use Rattle.io_edge.specs.declared.side.Side.TheVariants.{Guest as GuestSide};
     ghost use Rattle.end_work.specs.Workers.{IsOfSide};
-    ghost use Rattle.end_work.specs.declared.worker.ChannelWorker.{ChannelWorker as OneWorker};
+    ghost use Rattle.end_work.specs.declared.worker.Worker.{Worker as OneWorker};
 
     ghost Value = { OneWorker };
 
@@ -91,8 +91,8 @@ impl GuestWorker {
         guest_done(self.into_worker().run(rt, gate))
     }
 
-    /// What it does.
-    pub(crate) fn into_worker(self) -> ChannelWorker
+    /// The same, as the worker of an end of either side.
+    pub fn into_worker(self) -> Worker
         ensures same { result ≡ self }
         ensures side { IsOfSide GuestSide result }
     {

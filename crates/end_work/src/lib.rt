@@ -21,4 +21,5 @@ pub use guest_worker::GuestWorker;
 pub use host_plan::HostPlan;
 pub use host_seat::HostSeat;
 pub use host_worker::HostWorker;
-pub use turns::pump;
+pub use turns::{pump, run_both};
+pub use worker::{Worker, WorkerDone};

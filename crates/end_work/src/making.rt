@@ -17,7 +17,7 @@ ghost use Rattle.end_work.specs.Seats.{served_at, kind_at, left_at, IsAt};
 ghost use Rattle.end_work.specs.Workers.{IsOfSide, end_at};
 
 use crate::DeviceSeat;
-use crate::worker::{ChannelRequester, ChannelServer, ChannelWorker};
+use crate::worker::{ChannelRequester, ChannelServer, Worker};
 use bus_script::Ask;
 use bus_talk::KindTalk;
 use chan_state::Stop;
@@ -262,7 +262,7 @@ pub(crate) fn make_worker(
     end: End<TableSeat>,
     seat: Option<DeviceSeat>,
     order: Order,
-) -> Result<ChannelWorker, AllocError>
+) -> Result<Worker, AllocError>
     requires plan { CanPlan side (planned order) }
     requires seat { HasSeat side (planned order) seat }
     requires side { IsAt side seat }
@@ -295,7 +295,7 @@ pub(crate) fn make_worker(
                 window,
                 asks,
             )?;
-            Ok(ChannelWorker::Asks(asker))
+            Ok(Worker::Asks(asker))
         }
         Some(seat) => {
             let server = make_server(
@@ -310,7 +310,7 @@ pub(crate) fn make_worker(
                 count,
                 stop,
             )?;
-            Ok(ChannelWorker::Serves(server))
+            Ok(Worker::Serves(server))
         }
     }
 }

@@ -8,7 +8,7 @@ ghost use Rattle.end_work.specs.Seats.{device_place};
 
 use crate::guest_worker::guest_done;
 use crate::host_worker::host_done;
-use crate::worker::{ChannelRequester, ChannelServer, ChannelWorker, WorkerDone, asked, served};
+use crate::worker::{ChannelRequester, ChannelServer, Worker, WorkerDone, asked, served};
 use crate::{GuestDone, GuestWorker, HostDone, HostWorker};
 use channel_port::{Ended, Turn};
 use io_edge::Gate;
@@ -96,31 +96,29 @@ fn by_turns<R: Wait, G: Gate>(
     unreachable!()
 }
 
-// The guest's worker and the host's.
-fn workers_done<R: Wait, G: Gate>(
+/// Runs the guest's worker and the host's of a channel by turns on this thread, until both have ended.
+pub fn run_both<R: Wait, G: Gate>(
     rt: &R,
     gate: &G,
-    guest: ChannelWorker,
-    host: ChannelWorker,
+    guest: Worker,
+    host: Worker,
 ) -> (WorkerDone, WorkerDone)
     requires { ArePair guest host }
     ensures guest { Leaves guest result.0 }
     ensures host { Leaves host result.1 }
 {
     match (guest, host) {
-        (ChannelWorker::Asks(asker), ChannelWorker::Serves(server)) => {
-            by_turns(rt, gate, asker, server)
-        }
-        (ChannelWorker::Serves(server), ChannelWorker::Asks(asker)) => {
+        (Worker::Asks(asker), Worker::Serves(server)) => { by_turns(rt, gate, asker, server) }
+        (Worker::Serves(server), Worker::Asks(asker)) => {
             let (asked, served) = by_turns(rt, gate, asker, server);
             (served, asked)
         }
-        (ChannelWorker::Asks(_), ChannelWorker::Asks(_)) => unreachable!(),
-        (ChannelWorker::Serves(_), ChannelWorker::Serves(_)) => unreachable!(),
+        (Worker::Asks(_), Worker::Asks(_)) => unreachable!(),
+        (Worker::Serves(_), Worker::Serves(_)) => unreachable!(),
     }
 }
 
-/// Runs both workers of a channel by turns on this thread, until both have ended.
+/// The same, where each worker is known by its side.
 pub fn pump<R: Wait, G: Gate>(
     rt: &R,
     guest: GuestWorker,
@@ -131,6 +129,6 @@ pub fn pump<R: Wait, G: Gate>(
     ensures guest { Leaves guest (of_guest result.0) }
     ensures host { Leaves host (of_host result.1) }
 {
-    let (guest, host) = workers_done(rt, gate, guest.into_worker(), host.into_worker());
+    let (guest, host) = run_both(rt, gate, guest.into_worker(), host.into_worker());
     (guest_done(guest), host_done(host))
 }

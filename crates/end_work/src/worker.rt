@@ -1,4 +1,4 @@
-//! A worker of a channel, which asks or serves.
+//! The worker of one end of a channel, whichever side's. It asks or serves.
 ghost use Rattle.std.specs.Prelude.{◌≡◌, [], None, Some};
 ghost use Rattle.end_work.specs.Leaving.{Leaves};
 ghost use Rattle.end_work.specs.Workers.{Caused, GoesOn, IsLive, Turned};
@@ -20,9 +20,9 @@ pub(crate) type ChannelRequester = Requester<KindTalk>;
 /// The worker of the end that serves.
 pub(crate) type ChannelServer = Server<KindTalk, DeviceSeat>;
 
-/// A worker, by what it does.
+/// The worker of one end of a channel, by what it does there.
 #[derive(Drop)]
-pub enum ChannelWorker {
+pub enum Worker {
     Asks(ChannelRequester),
     Serves(ChannelServer),
 }
@@ -70,7 +70,7 @@ pub(crate) fn served(done: ServerDone<KindTalk, DeviceSeat>) -> WorkerDone
     }
 }
 
-impl ChannelWorker {
+impl Worker {
     /// A turn, by what the worker does.
     pub fn turn<R: Wait, G: Gate>(&mut self, rt: &R, gate: &G) -> Turn
         requires { IsLive self.old }
@@ -79,8 +79,8 @@ impl ChannelWorker {
         ensures on { GoesOn self.old self.new }
     {
         match self {
-            ChannelWorker::Asks(asker) => asker.turn(rt, gate),
-            ChannelWorker::Serves(server) => server.turn(rt, gate),
+            Worker::Asks(asker) => asker.turn(rt, gate),
+            Worker::Serves(server) => server.turn(rt, gate),
         }
     }
 
@@ -90,8 +90,8 @@ impl ChannelWorker {
         ensures { Leaves self result }
     {
         match self {
-            ChannelWorker::Asks(asker) => asked(asker.run(rt, gate)),
-            ChannelWorker::Serves(server) => served(server.run(rt, gate)),
+            Worker::Asks(asker) => asked(asker.run(rt, gate)),
+            Worker::Serves(server) => served(server.run(rt, gate)),
         }
     }
 }

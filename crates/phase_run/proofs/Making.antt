@@ -25,8 +25,8 @@ use Rattle.end_work.specs.Seats.{served_at}
 use Rattle.end_work.specs.Workers.{end_at, relid_at, HasWindow}
 use Rattle.end_work.specs.Plans.{Planned, CanStop, AsksFor, ServesFor, IsMade}
 use Rattle.end_work.specs.declared.device_seat.DeviceSeat.{DeviceSeat}
-use Rattle.end_work.specs.declared.worker.ChannelWorker.{ChannelWorker}
-use Rattle.end_work.specs.declared.worker.ChannelWorker.TheVariants.{Asks, Serves}
+use Rattle.end_work.specs.declared.worker.Worker.{Worker}
+use Rattle.end_work.specs.declared.worker.Worker.TheVariants.{Asks, Serves}
 use Rattle.end_work.proofs.Opening.{asks_length}
 use Rattle.phase_run.specs.Agreeing.{HasCells}
 use Rattle.phase_run.specs.Pairs.{Pairing, AreOnChannel, MadeFor, OpensWith, IsNewSeat}
@@ -102,7 +102,7 @@ made_for order seat g h a s g_for g_asks h_for h_count h_stop fresh asked served
 }
 
 -- a guest that serves, and a host that asks
-pub guest_roles : (order : Order) (seat : Option DeviceSeat) (g h : Planned) (guest host : ChannelWorker) → IsNewSeat order.kind (length order.asks) seat → IsFor order g → g.count ≡ length order.asks → g.stop ≡ order.stop → IsFor order h → h.asks ≡ order.asks
+pub guest_roles : (order : Order) (seat : Option DeviceSeat) (g h : Planned) (guest host : Worker) → IsNewSeat order.kind (length order.asks) seat → IsFor order g → g.count ≡ length order.asks → g.stop ≡ order.stop → IsFor order h → h.asks ≡ order.asks
     → IsMade g seat guest → IsMade h None host → AreRoles guest host
 guest_roles order None g h guest host new g_for g_count g_stop h_for h_asks made asked = absurd new
 guest_roles order (Some seat) g h (Asks a) host new g_for g_count g_stop h_for h_asks made asked = absurd made
@@ -110,7 +110,7 @@ guest_roles order (Some seat) g h (Serves s) (Asks a) new g_for g_count g_stop h
     plans_agree order seat a s (made_for order seat h g a s h_for h_asks g_for g_count g_stop new.1 asked made) (all_for order g (s.starts + s.come) g_for g_count made.come)
 guest_roles order (Some seat) g h (Serves s) (Serves t) new g_for g_count g_stop h_for h_asks made asked = absurd asked
 
-pub guest_opens : (order : Order) (seat : Option DeviceSeat) (g h : Planned) (guest host : ChannelWorker) → side_that_asks order.kind ≡ Host → IsNewSeat order.kind (length order.asks) seat → IsFor order g → g.count ≡ length order.asks → g.stop ≡ order.stop → IsFor order h → h.asks ≡ order.asks
+pub guest_opens : (order : Order) (seat : Option DeviceSeat) (g h : Planned) (guest host : Worker) → side_that_asks order.kind ≡ Host → IsNewSeat order.kind (length order.asks) seat → IsFor order g → g.count ≡ length order.asks → g.stop ≡ order.stop → IsFor order h → h.asks ≡ order.asks
     → IsMade g seat guest → IsMade h None host → OpensWith order seat (record { guest = guest; host = host })
 guest_opens order None g h guest host side new g_for g_count g_stop h_for h_asks made asked = absurd new
 guest_opens order (Some seat) g h (Asks a) host side new g_for g_count g_stop h_for h_asks made asked = absurd made
@@ -118,7 +118,7 @@ guest_opens order (Some seat) g h (Serves s) (Asks a) side new g_for g_count g_s
 guest_opens order (Some seat) g h (Serves s) (Serves t) side new g_for g_count g_stop h_for h_asks made asked = absurd asked
 
 -- a guest that asks, and a host that serves
-pub host_roles : (order : Order) (seat : Option DeviceSeat) (g h : Planned) (guest host : ChannelWorker) → IsNewSeat order.kind (length order.asks) seat → IsFor order h → h.count ≡ length order.asks → h.stop ≡ order.stop → IsFor order g → g.asks ≡ order.asks
+pub host_roles : (order : Order) (seat : Option DeviceSeat) (g h : Planned) (guest host : Worker) → IsNewSeat order.kind (length order.asks) seat → IsFor order h → h.count ≡ length order.asks → h.stop ≡ order.stop → IsFor order g → g.asks ≡ order.asks
     → IsMade h seat host → IsMade g None guest → AreRoles guest host
 host_roles order None g h guest host new h_for h_count h_stop g_for g_asks made asked = absurd new
 host_roles order (Some seat) g h guest (Asks a) new h_for h_count h_stop g_for g_asks made asked = absurd made
@@ -126,7 +126,7 @@ host_roles order (Some seat) g h (Asks a) (Serves s) new h_for h_count h_stop g_
     plans_agree order seat a s (made_for order seat g h a s g_for g_asks h_for h_count h_stop new.1 asked made) (all_for order h (s.starts + s.come) h_for h_count made.come)
 host_roles order (Some seat) g h (Serves t) (Serves s) new h_for h_count h_stop g_for g_asks made asked = absurd asked
 
-pub host_opens : (order : Order) (seat : Option DeviceSeat) (g h : Planned) (guest host : ChannelWorker) → side_that_asks order.kind ≡ Guest → IsNewSeat order.kind (length order.asks) seat → IsFor order h → h.count ≡ length order.asks → h.stop ≡ order.stop → IsFor order g → g.asks ≡ order.asks
+pub host_opens : (order : Order) (seat : Option DeviceSeat) (g h : Planned) (guest host : Worker) → side_that_asks order.kind ≡ Guest → IsNewSeat order.kind (length order.asks) seat → IsFor order h → h.count ≡ length order.asks → h.stop ≡ order.stop → IsFor order g → g.asks ≡ order.asks
     → IsMade h seat host → IsMade g None guest → OpensWith order seat (record { guest = guest; host = host })
 host_opens order None g h guest host side new h_for h_count h_stop g_for g_asks made asked = absurd new
 host_opens order (Some seat) g h guest (Asks a) side new h_for h_count h_stop g_for g_asks made asked = absurd made
@@ -143,7 +143,7 @@ has_size e pages side is within =
     (omega (arith, cells, within.0), omega (arith, cells, within.1))
 
 -- the ends of one channel, which the workers have, and which are new
-pub pair_of : (g h : Seen TableSeat) (cells cells' : ℕ) (guest host : ChannelWorker) → AreOfOneChannel g h → g.state ≡ new_end cells Guest → h.state ≡ new_end cells' Host → ((end_at guest).state ≡ g.state) × ((end_at guest).seat ≡ g.seat)
+pub pair_of : (g h : Seen TableSeat) (cells cells' : ℕ) (guest host : Worker) → AreOfOneChannel g h → g.state ≡ new_end cells Guest → h.state ≡ new_end cells' Host → ((end_at guest).state ≡ g.state) × ((end_at guest).seat ≡ g.seat)
     → ((end_at host).state ≡ h.state) × ((end_at host).seat ≡ h.seat) → AreRoles guest host → ArePair guest host
 pair_of g h cells cells' guest host one g_new h_new at_g at_h roles = record {
   ends = record {
@@ -157,21 +157,21 @@ pair_of g h cells cells' guest host one g_new h_new at_g at_h roles = record {
 }
 
 -- a worker has the relid of its plan
-made_relid : (p : Planned) (seat : Option DeviceSeat) (w : ChannelWorker) → IsMade p seat w → relid_at w ≡ p.relid
+made_relid : (p : Planned) (seat : Option DeviceSeat) (w : Worker) → IsMade p seat w → relid_at w ≡ p.relid
 made_relid p None (Asks w) made = made.relid
 made_relid p None (Serves w) made = absurd made
 made_relid p (Some s) (Asks w) made = absurd made
 made_relid p (Some s) (Serves w) made = made.relid
 
 -- and its window
-made_window : (p : Planned) (seat : Option DeviceSeat) (w : ChannelWorker) → IsMade p seat w → HasWindow p.window w
+made_window : (p : Planned) (seat : Option DeviceSeat) (w : Worker) → IsMade p seat w → HasWindow p.window w
 made_window p None (Asks w) made = made.window
 made_window p None (Serves w) made = absurd made
 made_window p (Some s) (Asks w) made = absurd made
 made_window p (Some s) (Serves w) made = tt
 
 -- the rings have as many cells as both ends of the channel
-has_cells : (cells : ℕ) (g h : Seen TableSeat) (guest host : ChannelWorker) → g.state ≡ new_end cells Guest → h.state ≡ new_end cells Host → (end_at guest).state ≡ g.state → (end_at host).state ≡ h.state → HasCells cells (record { guest = guest; host = host })
+has_cells : (cells : ℕ) (g h : Seen TableSeat) (guest host : Worker) → g.state ≡ new_end cells Guest → h.state ≡ new_end cells Host → (end_at guest).state ≡ g.state → (end_at host).state ≡ h.state → HasCells cells (record { guest = guest; host = host })
 has_cells cells g h guest host g_new h_new at_g at_h = record {
   guest = ap (λ (s : EndState). s.machine.cells) (at_g ∙ g_new);
   host = ap (λ (s : EndState). s.machine.cells) (at_h ∙ h_new);
@@ -183,13 +183,13 @@ cells_if cells g h (Ok w) g_new h_new at_g at_h = has_cells cells g h w.guest w.
 cells_if cells g h (Err e) g_new h_new at_g at_h = tt
 
 -- what holds of the guest's worker holds of it in its pair
-pub guest_if : {E : Type 0} (P : ChannelWorker → Type 0) (guest : ChannelWorker) (pair : Result Pairing E) → P guest → IfOk pair (λ w. w.guest ≡ guest) → IfOk pair (λ w. P w.guest)
+pub guest_if : {E : Type 0} (P : Worker → Type 0) (guest : Worker) (pair : Result Pairing E) → P guest → IfOk pair (λ w. w.guest ≡ guest) → IfOk pair (λ w. P w.guest)
 guest_if P guest (Ok w) holds is = subst P (sym is) holds
 guest_if P guest (Err e) holds is = tt
 
 -- a pair that was made for both plans is opened as any two such workers are
 pub made_opens : {E : Type 0} (order : Order) (seat : Option DeviceSeat) (p q : Planned) (s t : Option DeviceSeat) (pair : Result Pairing E)
-    → ((guest host : ChannelWorker) → IsMade p s guest → IsMade q t host → OpensWith order seat (record { guest = guest; host = host })) → IfOk pair (λ w. IsMade p s w.guest) → IfOk pair (λ w. IsMade q t w.host) → IfOk pair (OpensWith order seat)
+    → ((guest host : Worker) → IsMade p s guest → IsMade q t host → OpensWith order seat (record { guest = guest; host = host })) → IfOk pair (λ w. IsMade p s w.guest) → IfOk pair (λ w. IsMade q t w.host) → IfOk pair (OpensWith order seat)
 made_opens order seat p q s t (Ok w) opens p_made q_made = opens w.guest w.host p_made q_made
 made_opens order seat p q s t (Err e) opens p_made q_made = tt
 

@@ -6,7 +6,7 @@ use Rattle.chan_run.specs.Laws.{AreOfOneRun}
 use Rattle.chan_run.specs.Runs.{sent_of, got_of}
 use Rattle.chan_run.proofs.Steps.{ends_exchanged}
 use Rattle.bus_model.specs.Orders.{Order, plan_of}
-use Rattle.bus_model.specs.Channel.{IsChannelRun, Carries, served_count, is_held, replies_to, sent_by, got_by, other}
+use Rattle.bus_model.specs.Channel.{IsChannelRun, Carries, replies_to, sent_by, got_by, other}
 use Rattle.bus_model.proofs.FromLists.{serves_first_lem}
 use Rattle.bus_model.specs.Served.{Served}
 use Rattle.script_lines.specs.declared.line.Ask.{Ask}
@@ -17,7 +17,6 @@ use Rattle.bus_speech.proofs.SpeechLaws.{keeps, start_is_fixed}
 use Rattle.bus_speech.specs.Talks.{Talked, asks_of}
 use Rattle.bus_speech.specs.declared.want.Want.{Want}
 use Rattle.bus_speech.specs.declared.want.Want.TheVariants.{Script}
-use Rattle.contact.specs.declared.kind.Kind.{Kind}
 use Rattle.io_edge.specs.declared.side.Side.{Side}
 use Rattle.io_edge.specs.declared.side.Side.TheVariants.{Guest, Host}
 use Rattle.ring_core.specs.Seen.{Seen}
@@ -36,8 +35,8 @@ use Rattle.end_work.specs.Leaving.{Leaves, LeavesAsked, LeavesServed}
 use Rattle.end_work.specs.Pairs.{ArePair, PlansAgree}
 use Rattle.end_work.specs.Seats.{served_at, device_place, IsSameSeat, at_guest, at_host}
 use Rattle.end_work.specs.declared.device_seat.DeviceSeat.{DeviceSeat}
-use Rattle.end_work.specs.declared.worker.ChannelWorker.{ChannelWorker}
-use Rattle.end_work.specs.declared.worker.ChannelWorker.TheVariants.{Asks, Serves}
+use Rattle.end_work.specs.declared.worker.Worker.{Worker}
+use Rattle.end_work.specs.declared.worker.Worker.TheVariants.{Asks, Serves}
 use Rattle.end_work.specs.declared.worker.WorkerDone.{WorkerDone}
 use Rattle.end_work.proofs.SeatLaws.{same_place}
 use Rattle.phase_run.specs.Pairs.{MadeFor, RunsPair, ComesBack, first_of, is_whole}
@@ -155,7 +154,7 @@ comes_back s served seat is leaves = record {
 }
 
 -- what a channel comes to is put together from what both workers leave
-pub record Closes (g h : ChannelWorker) (guest host : WorkerDone) (done : PairDone) : Type 0 where
+pub record Closes (g h : Worker) (guest host : WorkerDone) (done : PairDone) : Type 0 where
   pub pair : ArePair g h
   pub guest_leaves : Leaves g guest
   pub host_leaves : Leaves h host
@@ -193,7 +192,7 @@ host_asks a s guest host done closes = record {
   joins = record { one = ends_exchanged _ _ closes.run; asker_sent = closes.host_sent; asker_got = closes.host_got; server_sent = closes.guest_sent; server_got = closes.guest_got };
 }
 
-pub runs_pair : (g h : ChannelWorker) (guest host : WorkerDone) (done : PairDone) → Closes g h guest host done → RunsPair (record { guest = g; host = h }) done
+pub runs_pair : (g h : Worker) (guest host : WorkerDone) (done : PairDone) → Closes g h guest host done → RunsPair (record { guest = g; host = h }) done
 unfolding guest_asks host_asks
 runs_pair (Asks a) (Asks b) guest host done closes = absurd closes.pair.roles
 runs_pair (Asks a) (Serves s) guest host done closes =

@@ -6,16 +6,16 @@ use Rattle.end_work.specs.Pairs.{AreRoles, ArePair}
 use Rattle.end_work.specs.Plans.{Planned, IsMade}
 use Rattle.end_work.specs.Workers.{end_at}
 use Rattle.end_work.specs.declared.device_seat.DeviceSeat.{DeviceSeat}
-use Rattle.end_work.specs.declared.worker.ChannelWorker.{ChannelWorker}
+use Rattle.end_work.specs.declared.worker.Worker.{Worker}
 use Rattle.phase_run.specs.Pairs.{Pairing}
 
 -- whichever workers are made for the plans, one asks, and the other makes room for all that it asks and has a call for each request
 abbrev pub Agree : Planned → Option DeviceSeat → Planned → Option DeviceSeat → Type 0
-Agree p s q t = (guest host : ChannelWorker) → IsMade p s guest → IsMade q t host → AreRoles guest host
+Agree p s q t = (guest host : Worker) → IsMade p s guest → IsMade q t host → AreRoles guest host
 
 -- whichever host's worker is made for the plan over this end, it and the guest's are a pair
-abbrev pub PairsWith : ChannelWorker → Planned → Option DeviceSeat → Seen TableSeat → Type 0
-PairsWith guest q t e = (host : ChannelWorker) → IsMade q t host → ((end_at host).state ≡ e.state) × ((end_at host).seat ≡ e.seat) → ArePair guest host
+abbrev pub PairsWith : Worker → Planned → Option DeviceSeat → Seen TableSeat → Type 0
+PairsWith guest q t e = (host : Worker) → IsMade q t host → ((end_at host).state ≡ e.state) × ((end_at host).seat ≡ e.seat) → ArePair guest host
 
 -- the rings of the workers' channel have so many cells
 pub record HasCells (cells : ℕ) (p : Pairing) : Type 0 where

@@ -10,12 +10,13 @@ use Rattle.bus_speech.specs.Talks.{Talked}
 use Rattle.bus_speech.specs.Wants.{IsAskable}
 use Rattle.contact.specs.declared.kind.Kind.{Kind}
 use Rattle.end_work.specs.Seats.{served_at, kind_at, left_at, IsSameSeat, at_guest, at_host}
-use Rattle.end_work.specs.Workers.{end_at, relid_at, HasWindow}
+use Rattle.end_work.specs.Pairs.{ArePair}
+use Rattle.end_work.specs.Workers.{end_at, relid_at, HasWindow, IsOfSide}
 use Rattle.end_work.specs.declared.device_seat.DeviceSeat.{DeviceSeat}
 use Rattle.end_work.specs.declared.guest_seat.GuestSeat.{GuestSeat}
 use Rattle.end_work.specs.declared.host_seat.HostSeat.{HostSeat}
-use Rattle.end_work.specs.declared.worker.ChannelWorker.{ChannelWorker}
-use Rattle.end_work.specs.declared.worker.ChannelWorker.TheVariants.{Asks, Serves}
+use Rattle.end_work.specs.declared.worker.Worker.{Worker}
+use Rattle.end_work.specs.declared.worker.Worker.TheVariants.{Asks, Serves}
 use Rattle.io_edge.specs.declared.side.Side.TheVariants.{Guest, Host}
 use Rattle.work_model.specs.Roles.{side_that_asks}
 use Rattle.requester.specs.Asking.{Asking}
@@ -26,8 +27,14 @@ use Rattle.phase_run.specs.declared.pair.PairDone.{PairDone}
 
 -- the guest's worker and the host's
 pub record Pairing : Type 0 where
-  pub guest : ChannelWorker
-  pub host : ChannelWorker
+  pub guest : Worker
+  pub host : Worker
+
+-- they are of one channel, each of its side
+pub record IsPaired (p : Pairing) : Type 0 where
+  pub pair : ArePair p.guest p.host
+  pub guest : IsOfSide Guest p.guest
+  pub host : IsOfSide Host p.host
 
 -- The workers were made for this order of a channel, whose device has this seat: the one asks what is ordered, and the other serves as many
 -- requests, holds the answer to the last one where the order says so, and stops where the order does
@@ -43,7 +50,7 @@ pub record MadeFor (order : Order) (seat : DeviceSeat) (asker : Asking Talked Re
   pub starts : server.starts ≡ length (filter (has_answer_on order.kind) (startup_of order))
 
 -- and the one that asks is at the side that asks such a device
-abbrev pub OpensAt : Order → DeviceSeat → ChannelWorker → ChannelWorker → Type 0
+abbrev pub OpensAt : Order → DeviceSeat → Worker → Worker → Type 0
 OpensAt order seat (Asks a) (Asks b) = ⊥
 OpensAt order seat (Asks a) (Serves s) = (side_that_asks order.kind ≡ Guest) × MadeFor order seat a s
 OpensAt order seat (Serves s) (Asks a) = (side_that_asks order.kind ≡ Host) × MadeFor order seat a s
@@ -102,7 +109,7 @@ pub record ComesBack (seat : DeviceSeat) (back : Option DeviceSeat) : Type 0 whe
   pub place : IsSameSeat seat same
 
 -- the seats are the workers': the one that asks has none
-abbrev pub KeepsSeats : ChannelWorker → ChannelWorker → Option DeviceSeat → Option DeviceSeat → Type 0
+abbrev pub KeepsSeats : Worker → Worker → Option DeviceSeat → Option DeviceSeat → Type 0
 KeepsSeats (Asks a) (Asks b) guest host = ⊥
 KeepsSeats (Asks a) (Serves s) guest host = (guest ≡ None) × ComesBack s.desk.seat host
 KeepsSeats (Serves s) (Asks a) guest host = ComesBack s.desk.seat guest × (host ≡ None)

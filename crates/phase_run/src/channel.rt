@@ -1,17 +1,16 @@
 //! The two workers of a channel, from the start of the first to the end of both.
 ghost use Rattle.std.specs.Prelude.{◌≡◌};
-ghost use Rattle.end_work.specs.Leaving.{Leaves, of_guest, of_host};
-ghost use Rattle.end_work.specs.Pairs.{ArePair};
-ghost use Rattle.phase_run.specs.Pairs.{RunsPair};
-ghost use Rattle.phase_run.specs.Starting.{GuestComes, HostComes, GuestBegins};
+ghost use Rattle.end_work.specs.Leaving.{Leaves};
+ghost use Rattle.end_work.specs.Workers.{IsLive};
+ghost use Rattle.end_work.specs.declared.worker.Worker.{Worker as OneWorker};
+ghost use Rattle.phase_run.specs.Pairs.{IsPaired, RunsPair};
+ghost use Rattle.phase_run.specs.Starting.{Comes, IsStarted};
 ghost use Rattle.phase_run.specs.Beginning.{Begins};
 
 use crate::close::close;
-use crate::start::{
-    GuestBegun, GuestStart, HostBegun, HostPromise, HostStart, start_guest, start_host,
-};
+use crate::start::{Start, StartPromise, Started, start_worker};
 use crate::{Pair, PairDone};
-use end_work::{GuestDone, GuestWorker, HostDone, pump};
+use end_work::{Worker, WorkerDone, run_both};
 use io_edge::Gate;
 use std::marker::Model;
 use std::snapshot::Snapshot;
@@ -41,13 +40,13 @@ impl Words {
 pub(crate) enum Workers {
     /// The host's has a thread, and the guest's was started.
     Threads {
-        guest: GuestBegun,
-        host: PromisedHandle<HostStart, HostPromise>,
+        guest: Started,
+        host: PromisedHandle<Start, StartPromise>,
     },
     /// The host's came back, and the guest's was not started.
     Here {
-        guest: GuestWorker,
-        host: HostStart,
+        guest: Worker,
+        host: Start,
     },
 }
 
@@ -55,21 +54,20 @@ pub(crate) enum Workers {
 #[derive(Drop)]
 pub(crate) struct Hosted {
     whole: Snapshot<Pair>,
-    guest: GuestWorker,
-    host: HostBegun,
+    guest: Worker,
+    host: Started,
 }
 
 impl Model for Hosted {
     ghost use Rattle.std.specs.Prelude.{◌≡◌};
-    ghost use Rattle.end_work.specs.Pairs.{ArePair};
-    ghost use Rattle.phase_run.specs.Pairs.{Pairing};
-    ghost use Rattle.phase_run.specs.Starting.{HostBegins};
+    ghost use Rattle.phase_run.specs.Pairs.{IsPaired, Pairing};
+    ghost use Rattle.phase_run.specs.Starting.{IsStarted};
 
     ghost Value = { Pairing };
 
     ghost view = { λ h. h.whole.value };
 
-    ghost invariant = { λ h. ArePair h.whole.value.guest h.whole.value.host × (h.guest ≡ h.whole.value.guest) × HostBegins h.whole.value.host h.host };
+    ghost invariant = { λ h. IsPaired h.whole.value × (h.guest ≡ h.whole.value.guest) × IsStarted h.whole.value.host h.host };
 }
 
 /// A channel whose starts are over. A contract sees the pair.
@@ -102,8 +100,8 @@ impl Hosted {
         ensures { result ≡ pair }
     {
         let whole = Snapshot::of(&pair);
-        let Pair { guest, host } = pair;
-        let host = start_host(rt, gate, scope, &words.host, host);
+        let (guest, host) = pair.into_workers();
+        let host = start_worker(rt, gate, scope, &words.host, host);
         Hosted { whole, guest, host }
     }
 
@@ -119,11 +117,11 @@ impl Hosted {
     {
         let Hosted { whole, guest, host } = self;
         let workers = match host {
-            HostBegun::Thread(host) => Workers::Threads {
-                guest: start_guest(rt, gate, scope, &words.guest, guest),
+            Started::Thread(host) => Workers::Threads {
+                guest: start_worker(rt, gate, scope, &words.guest, guest),
                 host,
             },
-            HostBegun::Here(host) => Workers::Here { guest, host },
+            Started::Here(host) => Workers::Here { guest, host },
         };
         Begun { whole, workers }
     }
@@ -135,100 +133,70 @@ impl Begun {
         ensures { RunsPair self result }
     {
         let Begun { whole, workers } = self;
-        end_workers(rt, gate, &whole, workers)
+        let (guest, host) = end_workers(rt, gate, &whole, workers);
+        close(&whole, guest, host)
     }
 }
 
-// A guest's worker that came back runs here.
-fn guest_here<R: Wait, G: Gate>(
-    rt: &R,
-    gate: &G,
-    pair: &Snapshot<Pair>,
-    start: GuestStart,
-) -> GuestDone
-    requires pair { ArePair pair.now.value.guest pair.now.value.host }
-    requires comes { GuestComes pair.now.value.guest start }
-    ensures { Leaves pair.now.value.guest (of_guest result) }
+// A worker that came back runs here.
+fn here<R: Wait, G: Gate>(rt: &R, gate: &G, start: Start) -> WorkerDone
+    requires { (w : OneWorker) × IsLive w × Comes w start }
+    ensures { (w : OneWorker) → Comes w start → Leaves w result }
 {
     match start {
-        GuestStart::Ran(done) => done,
-        GuestStart::Back(guest) => guest.run(rt, gate),
+        Start::Ran(done) => done,
+        Start::Back(worker) => worker.run(rt, gate),
     }
 }
 
-// And a host's.
-fn host_here<R: Wait, G: Gate>(
-    rt: &R,
-    gate: &G,
-    pair: &Snapshot<Pair>,
-    start: HostStart,
-) -> HostDone
-    requires pair { ArePair pair.now.value.guest pair.now.value.host }
-    requires comes { HostComes pair.now.value.host start }
-    ensures { Leaves pair.now.value.host (of_host result) }
+// What a worker leaves: one that has a thread is waited for.
+fn left<R: Threads + Wait, G: Gate>(rt: &R, gate: &G, started: Started) -> WorkerDone
+    requires { (w : OneWorker) × IsLive w × IsStarted w started }
+    ensures { (w : OneWorker) → IsStarted w started → Leaves w result }
 {
-    match start {
-        HostStart::Ran(done) => done,
-        HostStart::Back(host) => host.run(rt, gate),
+    match started {
+        Started::Thread(handle) => here(rt, gate, handle.join(rt)),
+        Started::Here(start) => here(rt, gate, start),
     }
 }
 
-// Both workers run here, where the host's came back.
+// What both leave, where the host's came back: they run by turns here.
 fn both_here<R: Wait, G: Gate>(
     rt: &R,
     gate: &G,
     pair: &Snapshot<Pair>,
-    guest: GuestWorker,
-    start: HostStart,
-) -> (GuestDone, HostDone)
-    requires pair { ArePair pair.now.value.guest pair.now.value.host }
+    guest: Worker,
+    start: Start,
+) -> (WorkerDone, WorkerDone)
+    requires pair { IsPaired pair.now.value }
     requires guest { guest ≡ pair.now.value.guest }
-    requires comes { HostComes pair.now.value.host start }
-    ensures guest { Leaves pair.now.value.guest (of_guest result.0) }
-    ensures host { Leaves pair.now.value.host (of_host result.1) }
+    requires comes { Comes pair.now.value.host start }
+    ensures guest { Leaves pair.now.value.guest result.0 }
+    ensures host { Leaves pair.now.value.host result.1 }
 {
     match start {
-        HostStart::Ran(done) => (guest.run(rt, gate), done),
-        HostStart::Back(host) => pump(rt, guest, host, gate),
+        Start::Ran(done) => (guest.run(rt, gate), done),
+        Start::Back(host) => run_both(rt, gate, guest, host),
     }
 }
 
-// What a guest's worker leaves: one that has a thread is waited for.
-fn guest_left<R: Threads + Wait, G: Gate>(
-    rt: &R,
-    gate: &G,
-    pair: &Snapshot<Pair>,
-    begun: GuestBegun,
-) -> GuestDone
-    requires pair { ArePair pair.now.value.guest pair.now.value.host }
-    requires begins { GuestBegins pair.now.value.guest begun }
-    ensures { Leaves pair.now.value.guest (of_guest result) }
-{
-    match begun {
-        GuestBegun::Thread(handle) => guest_here(rt, gate, pair, handle.join(rt)),
-        GuestBegun::Here(start) => guest_here(rt, gate, pair, start),
-    }
-}
-
-// What a channel comes to: a guest's worker without a thread runs here, two are pumped where the host's came back, and the others are waited for.
+// What both workers of a channel leave.
 fn end_workers<R: Threads + Wait, G: Gate>(
     rt: &R,
     gate: &G,
     pair: &Snapshot<Pair>,
     workers: Workers,
-) -> PairDone
+) -> (WorkerDone, WorkerDone)
     requires { Begins pair.now.value workers }
-    ensures { RunsPair pair.now.value result }
+    ensures pair { IsPaired pair.now.value }
+    ensures guest { Leaves pair.now.value.guest result.0 }
+    ensures host { Leaves pair.now.value.host result.1 }
 {
     match workers {
         Workers::Threads { guest, host } => {
-            let guest = guest_left(rt, gate, pair, guest);
-            let host = host_here(rt, gate, pair, host.join(rt));
-            close(pair, guest, host)
+            let guest = left(rt, gate, guest);
+            (guest, here(rt, gate, host.join(rt)))
         }
-        Workers::Here { guest, host } => {
-            let (guest, host) = both_here(rt, gate, pair, guest, host);
-            close(pair, guest, host)
-        }
+        Workers::Here { guest, host } => both_here(rt, gate, pair, guest, host),
     }
 }

@@ -1,11 +1,10 @@
 //! What a channel comes to.
 ghost use Rattle.std.specs.Prelude.{◌≡◌, ◌++◌, ◌⊎◌, []};
-ghost use Rattle.end_work.specs.Leaving.{Leaves, of_guest, of_host};
-ghost use Rattle.end_work.specs.Pairs.{ArePair};
-ghost use Rattle.phase_run.specs.Pairs.{RunsPair};
+ghost use Rattle.end_work.specs.Leaving.{Leaves};
+ghost use Rattle.phase_run.specs.Pairs.{IsPaired, RunsPair};
 
 use crate::{Pair, PairDone};
-use end_work::{GuestDone, HostDone};
+use end_work::{GuestSeat, HostSeat, WorkerDone};
 use ring_seat::finish;
 use std::snapshot::Snapshot;
 
@@ -19,16 +18,16 @@ fn either<T: Drop>(first: Vec<T>, second: Vec<T>) -> Vec<T>
 
 /// What a channel comes to, once both of its workers have ended. Neither ended for want of room: the one that asks sent no more packets than it has asks,
 /// the one that serves made room for as many and sent no more than it got, and each lacks room only where more came than it made room for.
-pub(crate) fn close(pair: &Snapshot<Pair>, guest: GuestDone, host: HostDone) -> PairDone
-    requires pair { ArePair pair.now.value.guest pair.now.value.host }
-    requires guest { Leaves pair.now.value.guest (of_guest guest) }
-    requires host { Leaves pair.now.value.host (of_host host) }
+pub(crate) fn close(pair: &Snapshot<Pair>, guest: WorkerDone, host: WorkerDone) -> PairDone
+    requires pair { IsPaired pair.now.value }
+    requires guest { Leaves pair.now.value.guest guest }
+    requires host { Leaves pair.now.value.host host }
     ensures { RunsPair pair.now.value result }
 {
     PairDone {
         settled: finish(guest.end, host.end),
-        guest_seat: guest.seat,
-        host_seat: host.seat,
+        guest_seat: GuestSeat::of_device(guest.seat),
+        host_seat: HostSeat::of_device(host.seat),
         guest: guest.ended,
         host: host.ended,
         serials: either(guest.serials, host.serials),

@@ -1,11 +1,11 @@
 //! The two workers of a channel.
 ghost use Rattle.std.specs.Prelude.{◌≡◌};
-ghost use Rattle.phase_run.specs.Pairs.{RunsPair, serving_of};
+ghost use Rattle.phase_run.specs.Pairs.{IsPaired, RunsPair, serving_of};
 
 use crate::close::close;
 use bus_script::Reply;
 use channel_port::Ended;
-use end_work::{DeviceSeat, GuestSeat, GuestWorker, HostSeat, HostWorker, pump};
+use end_work::{DeviceSeat, GuestSeat, GuestWorker, HostSeat, HostWorker, Worker, run_both};
 use io_edge::Gate;
 use ring_seat::Settled;
 use std::marker::Model;
@@ -29,6 +29,17 @@ impl Model for Pair {
     ghost view = { λ p. record { guest = p.guest; host = p.host } };
 
     ghost invariant = { λ p. ArePair p.guest p.host };
+}
+
+impl Pair {
+    /// Both, as workers of either side.
+    pub(crate) fn into_workers(self) -> (Worker, Worker)
+        ensures pair { IsPaired self }
+        ensures same { (result.0 ≡ self.guest) × (result.1 ≡ self.host) }
+    {
+        let Pair { guest, host } = self;
+        (guest.into_worker(), host.into_worker())
+    }
 }
 
 /// What the two workers of a channel leave: what both ends sent and got, their seats, how they ended, and the serials and replies of the script's
@@ -59,7 +70,7 @@ pub fn run_pair<R: Wait, G: Gate>(rt: &R, gate: &G, pair: Pair) -> PairDone
     ensures { RunsPair pair result }
 {
     let whole = Snapshot::of(&pair);
-    let Pair { guest, host } = pair;
-    let (guest, host) = pump(rt, guest, host, gate);
+    let (guest, host) = pair.into_workers();
+    let (guest, host) = run_both(rt, gate, guest, host);
     close(&whole, guest, host)
 }
