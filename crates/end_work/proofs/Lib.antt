@@ -2,3 +2,4 @@ pub mod SeatLaws
 pub mod Opening
 pub mod Going
 pub mod NewEnds
+pub mod Roles

@@ -1,11 +1,17 @@
 -- The two workers of a channel.
-use Rattle.std.specs.Prelude.{◌≡◌, ◌≤◌, ◌+◌, false, length}
+use Rattle.std.specs.Prelude.{ℕ, ◌≡◌, ◌≤◌, ◌+◌, false, length, None, Some}
+use Rattle.io_edge.specs.declared.side.Side.{Side}
+use Rattle.io_edge.specs.declared.side.Side.TheVariants.{Guest, Host}
+use Rattle.ring_core.specs.Seen.{Seen}
+use Rattle.ring_seat.specs.Seats.{new_end}
+use Rattle.ring_seat.specs.declared.table_seat.TableSeat.{TableSeat}
 use Rattle.script_lines.specs.declared.line.Ask.{Ask}
 use Rattle.bus_script.specs.declared.outcome.Reply.{Reply}
 use Rattle.bus_speech.specs.Talks.{Talked, asks_of}
 use Rattle.ring_seat.specs.Settling.{AreOfOneChannel}
 use Rattle.requester.specs.Asking.{Asking}
 use Rattle.server.specs.Serving.{Serving}
+use Rattle.end_work.specs.Plans.{Planned, IsMade}
 use Rattle.end_work.specs.Workers.{end_at, IsLive}
 use Rattle.end_work.specs.declared.device_seat.DeviceSeat.{DeviceSeat}
 use Rattle.end_work.specs.declared.worker.Worker.{Worker}
@@ -30,3 +36,12 @@ pub record ArePair (guest host : Worker) : Type 0 where
   pub guest_live : IsLive guest
   pub host_live : IsLive host
   pub roles : AreRoles guest host
+
+-- both were made for one plan: the one at the side that asks, and the other one with this seat
+abbrev pub AreMadeAt : Side → Planned → DeviceSeat → Worker → Worker → Type 0
+AreMadeAt Guest p seat guest host = IsMade p None guest × IsMade p (Some seat) host
+AreMadeAt Host p seat guest host = IsMade p (Some seat) guest × IsMade p None host
+
+-- a new end of this side, of rings of 1 to 16 pages
+abbrev pub IsNewEnd : Side → Seen TableSeat → Type 0
+IsNewEnd side e = (cells : ℕ) × (512 ≤ cells) × (cells ≤ 8192) × (e.state ≡ new_end cells side)

@@ -20,11 +20,11 @@ use Rattle.work_model.specs.Channel.{count_of, held_of}
 use Rattle.work_model.specs.Roles.{side_that_asks}
 use Rattle.requester.specs.Asking.{Asking}
 use Rattle.server.specs.Serving.{Serving}
+use Rattle.end_work.specs.declared.channel_plan.ChannelPlan.{ChannelPlan}
 use Rattle.end_work.specs.Seats.{served_at, kind_at, left_at}
 use Rattle.end_work.specs.declared.device_seat.DeviceSeat.{DeviceSeat}
 use Rattle.end_work.specs.declared.guest_plan.GuestPlan.{GuestPlan}
 use Rattle.end_work.specs.declared.host_plan.HostPlan.{HostPlan}
-use Rattle.end_work.specs.declared.making.Order.{Order}
 use Rattle.end_work.specs.declared.worker.Worker.{Worker}
 use Rattle.end_work.specs.declared.worker.Worker.TheVariants.{Asks, Serves}
 
@@ -63,8 +63,8 @@ guest_planned p = record { relid = p.relid; kind = p.kind; sub = p.sub; subs = p
 abbrev pub host_planned : HostPlan → Planned
 host_planned p = record { relid = p.relid; kind = p.kind; sub = p.sub; subs = p.subs; window = p.window; count = p.count; stop = stop_of p.stop; asks = map AskIc p.asks.items }
 
-abbrev pub planned : Order → Planned
-planned p = record { relid = p.relid; kind = p.kind; sub = p.sub; subs = p.subs; window = p.window; count = p.count; stop = stop_of p.stop; asks = p.asks.items }
+abbrev pub planned : ChannelPlan → List Ask → Planned
+planned p asks = record { relid = p.relid; kind = p.kind; sub = p.sub; subs = p.subs; window = p.window; count = p.count; stop = stop_of p.stop; asks = asks }
 
 -- a host stops where the guest asks, and holds the last answer where there is one
 abbrev pub CanStop : Kind → Option (ℕ × Bool) → Type 0

@@ -7,9 +7,9 @@ ghost use Rattle.end_work.specs.Plans.{CanPlan, HasSeat, IsMade, guest_planned};
 ghost use Rattle.end_work.specs.Seats.{IsAt, at_guest};
 ghost use Rattle.end_work.specs.Workers.{Caused, GoesOn, IsLive, IsOfSide, Turned, end_at};
 
-use crate::making::{Order, guest_asks, make_worker};
+use crate::making::{guest_asks, make_worker};
 use crate::worker::{Worker, WorkerDone};
-use crate::{GuestDone, GuestPlan, GuestSeat};
+use crate::{ChannelPlan, GuestDone, GuestPlan, GuestSeat};
 use channel_port::Turn;
 use io_edge::{Gate, Side};
 use ring_seat::GuestEnd;
@@ -50,27 +50,19 @@ impl GuestWorker {
         ensures made { IfOk result (IsMade (guest_planned plan) (at_guest seat)) }
         ensures end { IfOk result (λ w. ((end_at w).state ≡ end.state) × ((end_at w).seat ≡ end.seat)) }
     {
-        match guest_asks(alloc, plan.kind, plan.disk, plan.net) {
-            Ok(asks) => {
-                let order = Order {
-                    relid: plan.relid,
-                    kind: plan.kind,
-                    sub: plan.sub,
-                    subs: plan.subs,
-                    window: plan.window,
-                    count: plan.count,
-                    stop: None,
-                    asks,
-                };
-                let worker = make_worker(alloc, Side::Guest, end, seat.into_device(), order)?;
-                Ok(GuestWorker { worker })
-            }
-            Err(refused) => {
-                drop(end);
-                drop(seat);
-                Err(refused)
-            }
-        }
+        let asks = guest_asks(alloc, plan.kind, plan.disk, plan.net)?;
+        let channel = ChannelPlan {
+            relid: plan.relid,
+            kind: plan.kind,
+            sub: plan.sub,
+            subs: plan.subs,
+            window: plan.window,
+            count: plan.count,
+            stop: None,
+        };
+        let seat = seat.into_device();
+        let worker = make_worker(alloc, Side::Guest, end, seat, channel, asks)?;
+        Ok(GuestWorker::over(worker))
     }
 
     /// A turn. An end that is asleep polls its signal. Otherwise the worker takes a packet, sends one, serves one, ends, or falls asleep.
@@ -89,6 +81,14 @@ impl GuestWorker {
         ensures { Leaves self (of_guest result) }
     {
         guest_done(self.into_worker().run(rt, gate))
+    }
+
+    /// A worker of the guest's side, as one.
+    pub(crate) fn over(worker: Worker) -> GuestWorker
+        requires { IsOfSide GuestSide worker }
+        ensures { result ≡ worker }
+    {
+        GuestWorker { worker }
     }
 
     /// The same, as the worker of an end of either side.

@@ -7,9 +7,9 @@ ghost use Rattle.end_work.specs.Plans.{CanPlan, HasSeat, IsMade, host_planned};
 ghost use Rattle.end_work.specs.Seats.{IsAt, at_host};
 ghost use Rattle.end_work.specs.Workers.{Caused, GoesOn, IsLive, IsOfSide, Turned, end_at};
 
-use crate::making::{Order, ic_asks, make_worker};
+use crate::making::{ic_asks, make_worker};
 use crate::worker::{Worker, WorkerDone};
-use crate::{HostDone, HostPlan, HostSeat};
+use crate::{ChannelPlan, HostDone, HostPlan, HostSeat};
 use channel_port::Turn;
 use io_edge::{Gate, Side};
 use ring_seat::HostEnd;
@@ -50,27 +50,19 @@ impl HostWorker {
         ensures made { IfOk result (IsMade (host_planned plan) (at_host seat)) }
         ensures end { IfOk result (λ w. ((end_at w).state ≡ end.state) × ((end_at w).seat ≡ end.seat)) }
     {
-        match ic_asks(alloc, plan.asks) {
-            Ok(asks) => {
-                let order = Order {
-                    relid: plan.relid,
-                    kind: plan.kind,
-                    sub: plan.sub,
-                    subs: plan.subs,
-                    window: plan.window,
-                    count: plan.count,
-                    stop: plan.stop,
-                    asks,
-                };
-                let worker = make_worker(alloc, Side::Host, end, seat.into_device(), order)?;
-                Ok(HostWorker { worker })
-            }
-            Err(refused) => {
-                drop(end);
-                drop(seat);
-                Err(refused)
-            }
-        }
+        let asks = ic_asks(alloc, plan.asks)?;
+        let channel = ChannelPlan {
+            relid: plan.relid,
+            kind: plan.kind,
+            sub: plan.sub,
+            subs: plan.subs,
+            window: plan.window,
+            count: plan.count,
+            stop: plan.stop,
+        };
+        let seat = seat.into_device();
+        let worker = make_worker(alloc, Side::Host, end, seat, channel, asks)?;
+        Ok(HostWorker::over(worker))
     }
 
     /// A turn. An end that is asleep polls its signal. Otherwise the worker takes a packet, sends one, serves one, ends, or falls asleep.
@@ -89,6 +81,14 @@ impl HostWorker {
         ensures { Leaves self (of_host result) }
     {
         host_done(self.into_worker().run(rt, gate))
+    }
+
+    /// A worker of the host's side, as one.
+    pub(crate) fn over(worker: Worker) -> HostWorker
+        requires { IsOfSide HostSide worker }
+        ensures { result ≡ worker }
+    {
+        HostWorker { worker }
     }
 
     /// The same, as the worker of an end of either side.

@@ -1,6 +1,8 @@
 //! The workers at the two ends of a channel, the guest's and the host's, each of which asks or serves by the kind of the channel's device.
 #![tactic(auto)]
 
+mod both;
+mod channel_plan;
 mod device_seat;
 mod done;
 mod guest_plan;
@@ -13,6 +15,8 @@ mod making;
 mod turns;
 mod worker;
 
+pub use both::make_both;
+pub use channel_plan::ChannelPlan;
 pub use device_seat::DeviceSeat;
 pub use done::{GuestDone, HostDone};
 pub use guest_plan::GuestPlan;

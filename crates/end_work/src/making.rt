@@ -16,8 +16,8 @@ ghost use Rattle.work_model.specs.Channel.{count_of, held_of};
 ghost use Rattle.end_work.specs.Seats.{served_at, kind_at, left_at, IsAt};
 ghost use Rattle.end_work.specs.Workers.{IsOfSide, end_at};
 
-use crate::DeviceSeat;
 use crate::worker::{ChannelRequester, ChannelServer, Worker};
+use crate::{ChannelPlan, DeviceSeat};
 use bus_script::Ask;
 use bus_talk::KindTalk;
 use chan_state::Stop;
@@ -130,8 +130,8 @@ pub(crate) fn ic_asks(alloc: Global, asks: Vec<IcAsk>) -> Result<Vec<Ask>, Alloc
     Ok(all)
 }
 
-// A worker that asks.
-fn make_asker(
+/// A worker that asks.
+pub(crate) fn make_asker(
     alloc: Global,
     side: Side,
     end: End<TableSeat>,
@@ -193,8 +193,8 @@ fn count_silent(kind: Kind, sub: u32) -> u32
     }
 }
 
-// A worker that serves.
-fn make_server(
+/// A worker that serves.
+pub(crate) fn make_server(
     alloc: Global,
     side: Side,
     end: End<TableSeat>,
@@ -242,73 +242,44 @@ fn make_server(
     )
 }
 
-/// What a worker is made for: the plan of either side.
-#[derive(Drop)]
-pub(crate) struct Order {
-    pub(crate) relid: u32,
-    pub(crate) kind: Kind,
-    pub(crate) sub: u16,
-    pub(crate) subs: u32,
-    pub(crate) window: u32,
-    pub(crate) count: u32,
-    pub(crate) stop: Option<Stop>,
-    pub(crate) asks: Vec<Ask>,
-}
-
 /// A worker at this side: it serves where it has a seat, and asks where it has none.
 pub(crate) fn make_worker(
     alloc: Global,
     side: Side,
     end: End<TableSeat>,
     seat: Option<DeviceSeat>,
-    order: Order,
+    plan: ChannelPlan,
+    asks: Vec<Ask>,
 ) -> Result<Worker, AllocError>
-    requires plan { CanPlan side (planned order) }
-    requires seat { HasSeat side (planned order) seat }
+    requires plan { CanPlan side (planned plan asks.items) }
+    requires seat { HasSeat side (planned plan asks.items) seat }
     requires side { IsAt side seat }
     requires fresh { end.state ≡ new_end end.state.machine.cells side }
     requires size { (512 ≤ end.state.machine.cells) × (end.state.machine.cells ≤ 8192) }
-    ensures made { IfOk result (IsMade (planned order) seat) }
+    ensures made { IfOk result (IsMade (planned plan asks.items) seat) }
     ensures end { IfOk result (λ w. ((end_at w).state ≡ end.state) × ((end_at w).seat ≡ end.seat)) }
     ensures side { IfOk result (IsOfSide side) }
 {
-    let Order {
-        relid,
-        kind,
-        sub,
-        subs,
-        window,
-        count,
-        stop,
-        asks,
-    } = order;
+    let sub = u32::from(plan.sub);
     match seat {
         None => {
             let asker = make_asker(
                 alloc,
                 side,
                 end,
-                relid,
-                kind,
-                u32::from(sub),
-                subs,
-                window,
+                plan.relid,
+                plan.kind,
+                sub,
+                plan.subs,
+                plan.window,
                 asks,
             )?;
             Ok(Worker::Asks(asker))
         }
         Some(seat) => {
             let server = make_server(
-                alloc,
-                side,
-                end,
-                seat,
-                relid,
-                kind,
-                u32::from(sub),
-                subs,
-                count,
-                stop,
+                alloc, side, end, seat, plan.relid, plan.kind, sub, plan.subs, plan.count,
+                plan.stop,
             )?;
             Ok(Worker::Serves(server))
         }

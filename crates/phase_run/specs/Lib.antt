@@ -1,4 +1,3 @@
 pub mod Pairs
-pub mod Agreeing
 pub mod Starting
 pub mod Beginning

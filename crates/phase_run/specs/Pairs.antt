@@ -68,16 +68,6 @@ pub record AreOnChannel (relid cells window : ℕ) (p : Pairing) : Type 0 where
   pub guest_window : HasWindow window p.guest
   pub host_window : HasWindow window p.host
 
--- there is a seat, a new one of a device of this kind, with so many calls at least
-abbrev pub IsNewSeat : Kind → ℕ → Option DeviceSeat → Type 0
-IsNewSeat kind count None = ⊥
-IsNewSeat kind count (Some s) = (kind_at s ≡ kind) × (served_at s ≡ []) × (count ≤ left_at s)
-
--- the pair was opened with this seat
-abbrev pub OpensWith : Order → Option DeviceSeat → Pairing → Type 0
-OpensWith order None p = ⊥
-OpensWith order (Some s) p = Opens order s p
-
 -- the seat of the end that served, which is not of two
 abbrev pub first_of : Option DeviceSeat → Option DeviceSeat → Option DeviceSeat
 first_of None host = host
