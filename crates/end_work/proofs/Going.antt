@@ -7,10 +7,9 @@ use Rattle.bus_speech.specs.Talks.{Talked}
 use Rattle.channel_port.specs.Rooms.{ServedWithin}
 use Rattle.server.specs.Serving.{Serving, ServesOn, EndsBy, calls_behind}
 use Rattle.server.proofs.ServeSteps.{ends_on, lacks_on}
-use Rattle.end_work.specs.Leaving.{LeavesServed}
+use Rattle.end_work.specs.Leaving.{LeavesServed, WorkerDone}
 use Rattle.end_work.specs.Seats.{served_at, device_place}
 use Rattle.end_work.specs.declared.device_seat.DeviceSeat.{DeviceSeat}
-use Rattle.end_work.specs.declared.worker.WorkerDone.{WorkerDone}
 
 -- what it leaves is what was asked of it at its beginning
 pub served_on : (u v : Serving Talked DeviceSeat Ask Reply) (d : WorkerDone) → ServesOn (λ s t. device_place t ≡ device_place s) u v → LeavesServed v d → LeavesServed u d

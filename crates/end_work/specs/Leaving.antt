@@ -11,11 +11,15 @@ use Rattle.server.specs.Serving.{Serving, EndsBy, calls_behind}
 use Rattle.channel_port.specs.declared.ended.Ended.{Ended}
 use Rattle.end_work.specs.Seats.{served_at, device_place, at_guest, at_host}
 use Rattle.end_work.specs.declared.device_seat.DeviceSeat.{DeviceSeat}
-use Rattle.end_work.specs.declared.done.GuestDone.{GuestDone}
-use Rattle.end_work.specs.declared.done.HostDone.{HostDone}
+use Rattle.end_work.specs.declared.done.Done.{Done}
+use Rattle.end_work.specs.declared.guest_seat.GuestSeat.{GuestSeat}
+use Rattle.end_work.specs.declared.host_seat.HostSeat.{HostSeat}
 use Rattle.end_work.specs.declared.worker.Worker.{Worker}
 use Rattle.end_work.specs.declared.worker.Worker.TheVariants.{Asks, Serves}
-use Rattle.end_work.specs.declared.worker.WorkerDone.{WorkerDone}
+
+-- what the worker of an end of either side leaves
+abbrev pub WorkerDone : Type 0
+WorkerDone = Done (Option DeviceSeat)
 
 -- the worker that asks has ended so, with these replies; it has no seat and no serials
 pub record LeavesAsked (w : Asking Talked Reply) (d : WorkerDone) : Type 0 where
@@ -45,10 +49,10 @@ Leaves (Asks w) d = LeavesAsked w d
 Leaves (Serves w) d = LeavesServed w d
 
 -- what a guest's worker leaves, and what a host's
-abbrev pub of_guest : GuestDone → WorkerDone
+abbrev pub of_guest : Done GuestSeat → WorkerDone
 of_guest d = record { end = d.end; ended = d.ended; seat = at_guest d.seat; serials = d.serials; replies = d.replies }
 
-abbrev pub of_host : HostDone → WorkerDone
+abbrev pub of_host : Done HostSeat → WorkerDone
 of_host d = record { end = d.end; ended = d.ended; seat = at_host d.seat; serials = d.serials; replies = d.replies }
 
 -- a worker that asks, which hasn't ended or has ended so

@@ -8,8 +8,7 @@ ghost use Rattle.end_work.specs.Seats.{IsAt, at_guest};
 ghost use Rattle.end_work.specs.Workers.{Caused, GoesOn, IsLive, IsOfSide, Turned, end_at};
 
 use crate::making::{guest_asks, make_worker};
-use crate::worker::{Worker, WorkerDone};
-use crate::{ChannelPlan, GuestDone, GuestPlan, GuestSeat};
+use crate::{ChannelPlan, GuestDone, GuestPlan, GuestSeat, Worker, WorkerDone};
 use channel_port::Turn;
 use io_edge::{Gate, Side};
 use ring_seat::GuestEnd;

@@ -8,8 +8,7 @@ ghost use Rattle.end_work.specs.Seats.{IsAt, at_host};
 ghost use Rattle.end_work.specs.Workers.{Caused, GoesOn, IsLive, IsOfSide, Turned, end_at};
 
 use crate::making::{ic_asks, make_worker};
-use crate::worker::{Worker, WorkerDone};
-use crate::{ChannelPlan, HostDone, HostPlan, HostSeat};
+use crate::{ChannelPlan, HostDone, HostPlan, HostSeat, Worker, WorkerDone};
 use channel_port::Turn;
 use io_edge::{Gate, Side};
 use ring_seat::HostEnd;

@@ -8,8 +8,8 @@ ghost use Rattle.end_work.specs.Seats.{device_place};
 
 use crate::guest_worker::guest_done;
 use crate::host_worker::host_done;
-use crate::worker::{ChannelRequester, ChannelServer, Worker, WorkerDone, asked, served};
-use crate::{GuestDone, GuestWorker, HostDone, HostWorker};
+use crate::worker::{ChannelRequester, ChannelServer, asked, served};
+use crate::{GuestDone, GuestWorker, HostDone, HostWorker, Worker, WorkerDone};
 use channel_port::{Ended, Turn};
 use io_edge::Gate;
 use std::sync::Wait;

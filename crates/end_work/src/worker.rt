@@ -3,14 +3,11 @@ ghost use Rattle.std.specs.Prelude.{◌≡◌, [], None, Some};
 ghost use Rattle.end_work.specs.Leaving.{Leaves};
 ghost use Rattle.end_work.specs.Workers.{Caused, GoesOn, IsLive, Turned};
 
-use crate::DeviceSeat;
-use bus_script::Reply;
+use crate::{DeviceSeat, WorkerDone};
 use bus_talk::KindTalk;
-use channel_port::{Ended, Turn};
+use channel_port::Turn;
 use io_edge::Gate;
 use requester::{Requester, RequesterDone};
-use ring_core::End;
-use ring_seat::TableSeat;
 use server::{Server, ServerDone};
 use std::sync::Wait;
 
@@ -25,16 +22,6 @@ pub(crate) type ChannelServer = Server<KindTalk, DeviceSeat>;
 pub enum Worker {
     Asks(ChannelRequester),
     Serves(ChannelServer),
-}
-
-/// What a worker leaves.
-#[derive(Drop)]
-pub struct WorkerDone {
-    pub end: End<TableSeat>,
-    pub ended: Ended,
-    pub seat: Option<DeviceSeat>,
-    pub serials: Vec<u32>,
-    pub replies: Vec<Reply>,
 }
 
 /// What a worker leaves that asked.

@@ -31,13 +31,12 @@ use Rattle.server.specs.Serving.{Serving, EndsAll, EndsBy, calls_behind}
 use Rattle.channel_port.specs.declared.ended.Ended.{Ended}
 use Rattle.channel_port.specs.declared.ended.Ended.TheVariants.{Marked, PeerMarked, Room}
 use Rattle.channel_port.proofs.RoomLaws.{never_lacks}
-use Rattle.end_work.specs.Leaving.{Leaves, LeavesAsked, LeavesServed}
+use Rattle.end_work.specs.Leaving.{Leaves, LeavesAsked, LeavesServed, WorkerDone}
 use Rattle.end_work.specs.Pairs.{ArePair, PlansAgree}
 use Rattle.end_work.specs.Seats.{served_at, device_place, IsSameSeat, at_guest, at_host}
 use Rattle.end_work.specs.declared.device_seat.DeviceSeat.{DeviceSeat}
 use Rattle.end_work.specs.declared.worker.Worker.{Worker}
 use Rattle.end_work.specs.declared.worker.Worker.TheVariants.{Asks, Serves}
-use Rattle.end_work.specs.declared.worker.WorkerDone.{WorkerDone}
 use Rattle.end_work.proofs.SeatLaws.{same_place}
 use Rattle.phase_run.specs.Pairs.{MadeFor, RunsPair, ComesBack, first_of, is_whole}
 use Rattle.phase_run.specs.declared.pair.PairDone.{PairDone}

@@ -1,5 +1,5 @@
 -- The two workers of a channel, and what they come to.
-use Rattle.std.specs.Prelude.{ℕ, ◌≡◌, ◌≤◌, Bool, true, false, List, [], ◌∷◌, length, map, filter, Option, Some, None, is_some}
+use Rattle.std.specs.Prelude.{ℕ, ◌≡◌, Bool, true, false, List, [], ◌∷◌, length, map, filter, Option, Some, None, is_some}
 use Rattle.std.specs.List.{AllByRecursion, filter_map}
 use Rattle.bus_model.specs.Orders.{Order, startup_of}
 use Rattle.bus_model.specs.Channel.{IsChannelRun, served_count, is_held, replies_to}
@@ -8,8 +8,7 @@ use Rattle.bus_script.specs.declared.outcome.Reply.{Reply}
 use Rattle.bus_speech.specs.Speeches.{has_answer_on}
 use Rattle.bus_speech.specs.Talks.{Talked}
 use Rattle.bus_speech.specs.Wants.{IsAskable}
-use Rattle.contact.specs.declared.kind.Kind.{Kind}
-use Rattle.end_work.specs.Seats.{served_at, kind_at, left_at, IsSameSeat, at_guest, at_host}
+use Rattle.end_work.specs.Seats.{served_at, IsSameSeat, at_guest, at_host}
 use Rattle.end_work.specs.Pairs.{ArePair}
 use Rattle.end_work.specs.Workers.{end_at, relid_at, HasWindow, IsOfSide}
 use Rattle.end_work.specs.declared.device_seat.DeviceSeat.{DeviceSeat}
