@@ -13,7 +13,6 @@ use Rattle.script_phases.specs.Says.{asks_of, stop_of, is_rescinded, is_shut}
 use Rattle.script_phases.specs.Openings.{Opening, Phase, subs_of, is_ended, is_opened, subs_from, channels_from, opened_from, is_first, firsts, others, by_relid}
 use Rattle.script_phases.specs.Shares.{share}
 use Rattle.bus_script.specs.declared.outcome.LineResult.TheVariants.{Gone, Closed}
-use Rattle.bus_model.specs.Orders.{order_of}
 use Rattle.bus_plan.specs.Heard.{stop_told}
 use Rattle.bus_plan.specs.Endings.{AreEnded, outcome_left}
 use Rattle.bus_plan.specs.Plans.{IsPhaseOf, IsOrdered, EachOf, EachOrdered, opening_at, first_opening, opening_if, subs_if}

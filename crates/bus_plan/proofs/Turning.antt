@@ -1,10 +1,10 @@
 -- The channels of a device take turns.
-use Rattle.std.proofs.Common.{◌≡◌, ℕ, suc, ◌+◌, ◌*◌, ◌<◌, ◌/◌, ◌%◌, List, [], ◌∷◌, ◌++◌, length, length-append, refl, ap, sym, ◌∙◌, arith, inl, inr, slice_index_or}
-use Rattle.std.specs.Prelude.{map, slice_get}
+use Rattle.std.proofs.Common.{◌≡◌, ℕ, suc, ◌+◌, ◌*◌, ◌<◌, ◌/◌, ◌%◌, List, [], ◌∷◌, ◌++◌, length, length-append, ap, sym, ◌∙◌, arith, inl, inr, slice_index_or}
+use Rattle.std.specs.Prelude.{slice_get}
 use Rattle.std.proofs.Math.Nat.{mod-lt}
 use Rattle.std.proofs.Math.Seq.{get_or-append_seam}
 use Rattle.std.proofs.lemmas.Bool.{cases_eq}
-use Rattle.std.proofs.lemmas.List.{get_or_append_left, map-append}
+use Rattle.std.proofs.lemmas.List.{get_or_append_left}
 use Rattle.std.proofs.lemmas.Nat.{div-add-mod', mod-mul-add, div-mul-add}
 use Rattle.bus_script.specs.declared.outcome.LineResult.{LineResult}
 use Rattle.bus_model.specs.Run.{nth_of}
@@ -44,11 +44,10 @@ turned x xs cs n =
     ]
 
 -- its next outcome is taken
-pub taken : {C : Type 0} (lists : C → List LineResult) (old new left : List C) (one after : C) (x : LineResult) → old ≡ one ∷ left → lists one ≡ x ∷ lists after → new ≡ left ++ after ∷ [] → TakesTurn (map lists old) x (map lists new)
-taken {C} lists old new left one after x is next grown =
-    let before : map lists old ≡ (x ∷ lists after) ∷ map lists left = ap (map lists) is ∙ ap (λ l. l ∷ map lists left) next in
-    let behind : map lists new ≡ map lists left ++ lists after ∷ [] = ap (map lists) grown ∙ map-append lists left (after ∷ []) in
+pub taken : (old new left : List (List LineResult)) (one after : List LineResult) (x : LineResult) → old ≡ one ∷ left → one ≡ x ∷ after → new ≡ left ++ after ∷ [] → TakesTurn old x new
+taken old new left one after x is next grown =
+    let before : old ≡ (x ∷ after) ∷ left = is ∙ ap (λ l. l ∷ left) next in
     record {
-      first = ap (λ l. nth_of l 0) before ∙ first_is (x ∷ lists after) (map lists left);
-      later = λ n. ap (λ l. nth_of l n) behind ∙ (turned x (lists after) (map lists left) n ∙ ap (λ l. nth_of l (n + 1)) (sym before));
+      first = ap (λ l. nth_of l 0) before ∙ first_is (x ∷ after) left;
+      later = λ n. ap (λ l. nth_of l n) grown ∙ (turned x after left n ∙ ap (λ l. nth_of l (n + 1)) (sym before));
     }

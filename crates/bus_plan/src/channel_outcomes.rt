@@ -1,75 +1,80 @@
-//! The outcomes of a phase's requests, channel by channel.
-ghost use Rattle.std.specs.Prelude.{◌≡◌, ◌<◌, ◌++◌, ◌∷◌, [], List, true, is_some, length, map, replicate, slice_set, slice_index_or, IfOk, OnOk};
-ghost use Rattle.std.specs.Vec.Iter.{into_iter_items};
-ghost use Rattle.bus_model.specs.Run.{nth_of};
-ghost use Rattle.bus_script.specs.declared.outcome.LineResult.{LineResult as OneResult};
-ghost use Rattle.bus_plan.specs.Outcomes.{TakesTurn};
+//! The outcomes of one channel's requests.
+ghost use Rattle.std.specs.Prelude.{◌≡◌, ◌+◌, ◌-◌, ◌≤◌, ◌∷◌, [], length, MatchOption};
+ghost use Rattle.bus_script.specs.declared.outcome.LineResult.TheVariants.{Unserved};
+ghost use Rattle.bus_plan.specs.Served.{left_in, served_line};
 
-use bus_script::LineResult;
-use std::alloc::{AllocError, Global};
-use std::collections::VecDeque;
+use bus_script::{LineResult, Reply};
 use std::marker::Model;
 use std::vec::IntoIter;
 
-/// For each device, for each of its channels, the outcomes of its requests that were not taken yet. The channels of a device stand in the order in which
-/// their turns come.
+/// The outcomes of a channel's requests that were not taken yet, made one by one as they are taken. The served requests come first, each with its place in
+/// the history, and the first of those with their replies.
 #[derive(Drop)]
-pub struct Outcomes {
-    devices: Vec<VecDeque<IntoIter<LineResult>>>,
+pub struct ChannelOutcomes {
+    serials: IntoIter<u32>,
+    replies: IntoIter<Reply>,
+    unserved: usize,
 }
 
-impl Model for Outcomes {
-    ghost use Rattle.std.specs.Prelude.{List, map};
-    ghost use Rattle.std.specs.Vec.Iter.{into_iter_items};
+impl Model for ChannelOutcomes {
+    ghost use Rattle.std.specs.Prelude.{◌≡◌, List, length};
+    ghost use Rattle.std.specs.Vec.Iter.{into_iter_items, into_iter_len};
+    ghost use Rattle.bus_plan.specs.Served.{left_in};
     ghost use Rattle.bus_script.specs.declared.outcome.LineResult.{LineResult as OneResult};
 
-    ghost Value = { List (List (List OneResult)) };
+    ghost Value = { List OneResult };
 
-    ghost view = { λ o. map (λ d. map (λ c. into_iter_items c) d.items) o.devices.items };
+    ghost view = { λ c. left_in (into_iter_items c.serials) (into_iter_items c.replies) c.unserved };
+
+    ghost invariant = { λ c. (into_iter_len c.serials ≡ length (into_iter_items c.serials)) × (into_iter_len c.replies ≡ length (into_iter_items c.replies)) };
 }
 
-/// Takes the next outcome of the channel whose turn it is. The turn of the next channel comes then.
-fn take_turn(channels: &mut VecDeque<IntoIter<LineResult>>) -> LineResult
-    requires { is_some (nth_of (map (λ c. into_iter_items c) channels.old.items) 0) ≡ true }
-    ensures { TakesTurn (map (λ c. into_iter_items c) channels.old.items) result (map (λ c. into_iter_items c) channels.new.items) }
+/// The outcome of a request that was served: it is done where its reply came back.
+fn served(serial: u32, reply: Option<Reply>) -> LineResult
+    ensures { result ≡ served_line serial reply }
 {
-    let Some(mut channel) = channels.pop_front() else {
-        unreachable!();
-    };
-    let Some(outcome) = channel.next() else {
-        unreachable!();
-    };
-    channels.push_back_reserved(channel);
-    outcome
+    match reply {
+        Some(reply) => {
+            return LineResult::Done { serial, reply };
+        }
+        None => {
+            return LineResult::RescindedServed { serial };
+        }
+    }
 }
 
-impl Outcomes {
-    /// Of so many devices, each without a channel.
-    pub fn make(alloc: Global, count: usize) -> Result<Outcomes, AllocError>
-        ensures { IfOk result (λ outcomes. outcomes ≡ replicate count []) }
+/// The next of the outcomes of so many requests that were not served.
+fn next_unserved(unserved: &mut usize) -> Option<LineResult>
+    ensures { MatchOption result ((unserved.old ≡ 0) × (unserved.new ≡ 0)) (λ r. (r ≡ Unserved) × (unserved.old ≡ unserved.new + 1)) }
+{
+    if *unserved == 0 {
+        return None;
+    }
+    *unserved -= 1;
+    Some(LineResult::Unserved)
+}
+
+impl ChannelOutcomes {
+    /// Of so many requests, of which the first were served: these are their places in the history, and these the replies that came back.
+    pub fn of(asked: usize, serials: Vec<u32>, replies: Vec<Reply>) -> ChannelOutcomes
+        requires { length serials.items ≤ asked }
+        ensures { result ≡ left_in serials.items replies.items (asked - length serials.items) }
     {
-        let mut devices = Vec::new(alloc);
-        for _ in 0..count {
-            devices.push(VecDeque::new(alloc))?;
+        let unserved = asked - serials.len();
+        ChannelOutcomes {
+            serials: serials.into_iter(),
+            replies: replies.into_iter(),
+            unserved,
         }
-        Ok(Outcomes { devices })
     }
 
-    /// Puts those of a device's next channel behind those of its others.
-    pub fn push(&mut self, device: usize, channel: Vec<LineResult>) -> Result<(), AllocError>
-        requires { device < length self.old }
-        ensures { OnOk result (self.new ≡ slice_set self.old device (slice_index_or self.old device [] ++ channel.items ∷ [])) }
+    /// Takes the next one.
+    pub(crate) fn next(&mut self) -> Option<LineResult>
+        ensures { MatchOption result (self.old ≡ []) (λ r. self.old ≡ r ∷ self.new) }
     {
-        self.devices[device].push_back(channel.into_iter())?;
-        Ok(())
-    }
-
-    /// Takes the outcome of a device's next request: its channels have its requests in turn, and the first channel has the first one.
-    pub fn take_next(&mut self, device: usize) -> LineResult
-        requires device { device < length self.old }
-        requires some { is_some (nth_of (slice_index_or self.old device []) 0) ≡ true }
-        ensures { (after : List (List OneResult)) × (self.new ≡ slice_set self.old device after) × TakesTurn (slice_index_or self.old device []) result after }
-    {
-        take_turn(&mut self.devices[device])
+        match self.serials.next() {
+            Some(serial) => Some(served(serial, self.replies.next())),
+            None => next_unserved(&mut self.unserved),
+        }
     }
 }

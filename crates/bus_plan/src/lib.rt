@@ -7,13 +7,15 @@ mod endings;
 mod heard;
 mod opening;
 mod outcomes;
+mod phase_outcomes;
 mod plan;
 mod split;
 
-pub use channel_outcomes::Outcomes;
+pub use channel_outcomes::ChannelOutcomes;
 pub use ending::Ending;
 pub use endings::mark_ended;
 pub use opening::{ChannelOrder, Opening};
 pub use outcomes::tell;
+pub use phase_outcomes::Outcomes;
 pub use plan::plan_part;
 pub use split::first_part;

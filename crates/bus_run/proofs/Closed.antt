@@ -6,7 +6,6 @@ use Rattle.std.proofs.lemmas.List.{take_all, append-nil, map-append, length-map,
 use Rattle.std.proofs.lemmas.Bool.{cases_eq}
 use Rattle.std.proofs.lemmas.Bool.Decides.{nat_tests}
 use Rattle.bus_model.proofs.Lists.{each_append}
-use Rattle.bus_model.specs.Channel.{IsChannelRun, outcomes_of}
 use Rattle.bus_model.specs.declared.channel_run.ChannelRun.{ChannelRun}
 use Rattle.bus_script.specs.declared.outcome.LineResult.{LineResult}
 use Rattle.end_work.specs.Seats.{kind_at, served_at, IsSameSeat}

@@ -5,6 +5,5 @@ pub mod Opening
 pub mod Closing
 pub mod Channels
 pub mod Whole
-pub mod Outcomes
 pub mod Due
 pub mod Parts

@@ -1,7 +1,7 @@
 use Rattle.std.proofs.Common.{ap, ◌∙◌, refl, arith, length}
 use Rattle.std.proofs.lemmas.List.{take_all}
 use Rattle.script_phases.specs.Says.{asks_of}
-use Rattle.bus_plan.proofs.Sharing.{CountedSoFar, counted_more}
+use Rattle.bus_plan.proofs.Sharing.{counted_more}
 use Rattle.bus_plan.proofs.heard.count_asks.Goals as goal
 
 pub loop-line-init : goal.loop-line-init

@@ -1,8 +1,8 @@
-use Rattle.std.proofs.Common.{ap, sym, ◌∙◌, refl, arith, subst, length}
+use Rattle.std.proofs.Common.{ap, ◌∙◌, refl, arith}
 use Rattle.std.proofs.lemmas.List.{take_all}
 use Rattle.script_phases.specs.Says.{asks_of}
 use Rattle.script_phases.specs.Shares.{share}
-use Rattle.bus_plan.proofs.Sharing.{SharedSoFar, shared_more}
+use Rattle.bus_plan.proofs.Sharing.{shared_more}
 use Rattle.bus_plan.proofs.heard.share_of.Goals as goal
 
 pub loop-line-init : goal.loop-line-init

@@ -1,4 +1,4 @@
-use Rattle.std.proofs.Common.{◌≡◌, ◌+◌, ◌≤◌, ◌∙◌, ap, sym, subst, arith, length, slice_set, replicate, [], refl}
+use Rattle.std.proofs.Common.{◌≡◌, ◌+◌, ◌≤◌, ◌∙◌, ap, sym, subst, arith, length, slice_set, replicate, []}
 use Rattle.std.specs.Vec.Iter.{into_iter_items}
 use Rattle.std.proofs.lemmas.List.{length-map}
 use Rattle.bus_run.specs.Due.{due_of}
@@ -40,11 +40,11 @@ loop-due-preserved c old given all =
     let x = (due_at c.args.dues.now c.loop-due.due-index) in
     let own = c.index_mut.result.now in
     let n = next c.args.phase c.args.dues.now c.loop-due.due-index old given c.args.seats.now.items c.loop-due.seats.items own x c.args.done.items (into_iter_items c.loop-due.dones) c.args.settled.now.items c.loop-due.settled.items c.loop-due.outcomes all now c.loop-due-test.true (due_is c.args.dues.now c.loop-due.due-index c.loop-due-test.true) c.index_mut.ensures.value in
-    let closed = c.in_ok-results.ensures.closed (order_at old n.next.item.order) n.next.item.seat n.done n.rest (ap (λ (d : Due). d.count) n.due_is) n.dones_are n.ran in
-    let rest = c.in_ok-results.ensures.rest n.done n.rest n.dones_are in
+    let closed = c.in_ok-channel.ensures.closed (order_at old n.next.item.order) n.next.item.seat n.done n.rest (ap (λ (d : Due). d.count) n.due_is) n.dones_are n.ran in
+    let rest = c.in_ok-channel.ensures.rest n.done n.rest n.dones_are in
     subst (ClosedNow c.args.phase (c.loop-due.due-index + 1) old given c.args.seats.now.items (slice_set c.loop-due.seats.items x.opening.device c.close_channel.new.seats) (into_iter_items c.close_channel.new.dones) c.args.settled.now.items c.close_channel.new.settled.items) (sym c.in_ok-push.ensures)
     (closed_more c.args.phase c.loop-due.due-index old given c.args.seats.now.items c.loop-due.seats.items own c.close_channel.new.seats x (into_iter_items c.loop-due.dones) (into_iter_items c.close_channel.new.dones) c.args.settled.now.items c.loop-due.settled.items c.close_channel.new.settled.items c.loop-due.outcomes
-    c.in_ok-results.results.items now n rest closed)
+    c.in_ok-channel.channel now n rest closed)
 
 pub returns : goal.returns
 returns c old given all =
