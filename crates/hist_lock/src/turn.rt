@@ -1,5 +1,5 @@
 //! The steps of one call, each on its own.
-ghost use Rattle.std.specs.Prelude.{◌≡◌, ℕ, ◌+◌, ◌^◌, ◌<◌, List, [], ◌∷◌, ◌++◌, length, Some, None, vec_len, vec_capacity};
+ghost use Rattle.std.specs.Prelude.{◌≡◌, ℕ, ◌+◌, ◌^◌, ◌<◌, List, [], ◌∷◌, ◌++◌, length, Some, None, true, false, vec_len, vec_capacity};
 ghost use Rattle.hist_lock.specs.declared.view.Line.{Line};
 ghost use Rattle.hist_lock.specs.declared.view.Stage.TheVariants.{Idle, Waits, Turn, Holds, Gave};
 ghost use Rattle.hist_lock.specs.declared.history.Entry.{Entry};
@@ -10,6 +10,7 @@ ghost use Rattle.hist_lock.specs.Sitting.{IsAt, terms_of, Sits, MayGive};
 use crate::rule::{Draw, Give, LockSeat, LockShared, Look, Serve, Take};
 use crate::view::Kept;
 use crate::{Entry, Machine};
+use std::hint;
 use std::sync::Wait;
 
 /// The word with the next ticket.
@@ -17,6 +18,9 @@ const TICKET: usize = 0;
 
 /// The word with the ticket that is served.
 pub const SERVING: usize = 1;
+
+/// How often a call looks whether its turn has come, before its thread is parked.
+const LOOKS: u32 = 64;
 
 /// Draws the next ticket.
 pub fn draw<M: Machine>(shared: &LockShared<M>, seat: &mut LockSeat<M>) -> u64
@@ -29,8 +33,26 @@ pub fn draw<M: Machine>(shared: &LockShared<M>, seat: &mut LockSeat<M>) -> u64
     shared.fetch_add::<Draw>(seat, TICKET, 1)
 }
 
+/// Looks a few times whether the ticket is served, as a call of the device takes less time than a thread that is parked and woken.
+fn comes_soon<M: Machine>(shared: &LockShared<M>, seat: &mut LockSeat<M>, ticket: u64) -> bool
+    requires table { IsAt shared.now.table_id seat.old.table_id }
+    requires sits { Sits (terms_of M.first shared.now.key) (Waits ticket) [] seat.old.me }
+    ensures same { seat.new.table_id ≡ seat.old.table_id }
+    ensures turn { result ≡ true → seat.new.me ≡ (staged seat.old.me.0 (Turn ticket), seat.old.me.1) }
+    ensures waits { result ≡ false → seat.new.me ≡ seat.old.me }
+{
+    for _ in 0..LOOKS {
+        let serving = shared.load::<Look>(seat, SERVING);
+        if serving == ticket {
+            return true;
+        }
+        hint::spin_loop();
+    }
+    false
+}
+
 /// Sleeps until the ticket is served.
-pub fn wait_for<M: Machine, R: Wait>(
+fn sleep_for<M: Machine, R: Wait>(
     rt: &R,
     shared: &LockShared<M>,
     seat: &mut LockSeat<M>,
@@ -49,6 +71,23 @@ pub fn wait_for<M: Machine, R: Wait>(
         shared.park(rt, SERVING, serving as u32);
     }
     unreachable!()
+}
+
+/// Waits until the ticket is served, and sleeps where that isn't soon.
+pub fn wait_for<M: Machine, R: Wait>(
+    rt: &R,
+    shared: &LockShared<M>,
+    seat: &mut LockSeat<M>,
+    ticket: u64,
+)
+    requires table { IsAt shared.now.table_id seat.old.table_id }
+    requires sits { Sits (terms_of M.first shared.now.key) (Waits ticket) [] seat.old.me }
+    ensures same { seat.new.table_id ≡ seat.old.table_id }
+    ensures turn { seat.new.me ≡ (staged seat.old.me.0 (Turn ticket), seat.old.me.1) }
+{
+    if !comes_soon(shared, seat, ticket) {
+        sleep_for(rt, shared, seat, ticket);
+    }
 }
 
 /// Takes the slot, and out of it the state with its history.

@@ -9,7 +9,7 @@ use std::hint;
 use std::sync::Wait;
 
 // How often an end looks at its signal before its thread is parked.
-const SPINS: u32 = 64;
+const SPINS: u32 = 256;
 
 /// An end that can sleep.
 pub trait Sleeper {
