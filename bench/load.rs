@@ -2,112 +2,12 @@
 //! of two rings on atomic words each, a guest's and a host's thread a channel, and at most four requests of a channel open at once. Each request is a packet
 //! of a descriptor, a storage packet and the data. Channels are there from the beginning: no control message opens them, and no start-up is asked for.
 
-use std::sync::atomic::{AtomicBool, AtomicU64, AtomicUsize, Ordering::SeqCst};
-use std::sync::{Mutex, OnceLock};
-use std::thread::{self, Thread};
+mod channel;
 
-const CHANNELS: usize = 4;
-const WINDOW: usize = 4;
-const BLOCK: usize = 512;
-const CELLS: usize = 512;
-const HEAD: usize = 10; // words of the descriptor and of the storage packet
-
-/// One ring: cells, and the indices of its producer and its consumer, which count words.
-struct Ring {
-    cells: Vec<AtomicU64>,
-    write: AtomicUsize,
-    read: AtomicUsize,
-}
-
-impl Ring {
-    fn new() -> Ring {
-        Ring {
-            cells: (0..CELLS).map(|_| AtomicU64::new(0)).collect(),
-            write: AtomicUsize::new(0),
-            read: AtomicUsize::new(0),
-        }
-    }
-
-    fn used(write: usize, read: usize) -> usize {
-        (write + CELLS - read) % CELLS
-    }
-
-    /// Sends a packet and its trailer, where there is room.
-    fn send(&self, packet: &[u64]) -> bool {
-        let (write, read) = (self.write.load(SeqCst), self.read.load(SeqCst));
-        if Ring::used(write, read) + packet.len() + 1 >= CELLS {
-            return false;
-        }
-        for (i, word) in packet.iter().enumerate() {
-            self.cells[(write + i) % CELLS].store(*word, SeqCst);
-        }
-        self.cells[(write + packet.len()) % CELLS].store((write as u64) << 35, SeqCst);
-        self.write.store((write + packet.len() + 1) % CELLS, SeqCst);
-        true
-    }
-
-    /// Takes the next packet, where there is one.
-    fn take(&self, packet: &mut Vec<u64>) -> bool {
-        let (write, read) = (self.write.load(SeqCst), self.read.load(SeqCst));
-        if write == read {
-            return false;
-        }
-        packet.clear();
-        let first = self.cells[read].load(SeqCst);
-        let len = (first >> 32) as u16 as usize;
-        packet.push(first);
-        for i in 1..len {
-            packet.push(self.cells[(read + i) % CELLS].load(SeqCst));
-        }
-        self.read.store((read + len + 1) % CELLS, SeqCst);
-        true
-    }
-}
-
-/// An end that may sleep, and the thread to wake then.
-#[derive(Default)]
-struct Sleeper {
-    asleep: AtomicBool,
-    thread: OnceLock<Thread>,
-}
-
-impl Sleeper {
-    /// Sleeps, unless a second look finds something to do.
-    fn sleep(&self, busy: impl Fn() -> bool) {
-        self.thread.get_or_init(thread::current);
-        self.asleep.store(true, SeqCst);
-        if !busy() {
-            thread::park();
-        }
-        self.asleep.store(false, SeqCst);
-    }
-
-    fn wake(&self) {
-        if self.asleep.load(SeqCst) {
-            self.thread.get().unwrap().unpark();
-        }
-    }
-}
-
-struct Channel {
-    to_host: Ring,
-    to_guest: Ring,
-    guest: Sleeper,
-    host: Sleeper,
-    over: AtomicBool,
-}
-
-impl Channel {
-    fn new() -> Channel {
-        Channel {
-            to_host: Ring::new(),
-            to_guest: Ring::new(),
-            guest: Sleeper::default(),
-            host: Sleeper::default(),
-            over: AtomicBool::new(false),
-        }
-    }
-}
+use channel::{data_of, packet, Channel, Ring, BLOCK, CELLS, CHANNELS, HEAD, WINDOW};
+use std::sync::atomic::Ordering::SeqCst;
+use std::sync::Mutex;
+use std::thread;
 
 /// A request: its block, and what fills it where it writes.
 #[derive(Clone, Copy)]
@@ -127,22 +27,6 @@ struct Entry {
 struct Disk {
     blocks: Vec<[u8; BLOCK]>,
     history: Vec<Entry>,
-}
-
-/// A packet of this kind and id, with a storage packet that names the block, and data.
-fn packet(kind: u16, id: u64, ask: Ask, data: &[u8]) -> Vec<u64> {
-    let len = HEAD + data.len() / 8;
-    let mut words = vec![0; HEAD];
-    words[0] = u64::from(kind) | 2 << 16 | (len as u64) << 32;
-    words[1] = id;
-    words[2] = 3 | 1 << 32;
-    words[5] = u64::from(ask.block) | u64::from(ask.fill.is_some()) << 32;
-    words.extend(data.chunks_exact(8).map(|c| u64::from_le_bytes(c.try_into().unwrap())));
-    words
-}
-
-fn data_of(words: &[u64]) -> Vec<u8> {
-    words[HEAD..].iter().flat_map(|w| w.to_le_bytes()).collect()
 }
 
 /// The host's end: serves each request under the disk's lock, and answers it.
@@ -180,7 +64,7 @@ fn serve(channel: &Channel, seat: usize, disk: &Mutex<Disk>) {
                 disk.history.push(Entry { seat, ask, data });
                 back
             };
-            owed = Some(packet(11, words[1], ask, &back));
+            owed = Some(packet(11, words[1], ask.block, ask.fill.is_some(), &back));
         } else if channel.over.load(SeqCst) {
             return;
         } else {
@@ -200,7 +84,7 @@ fn ask(channel: &Channel, asks: &[Ask]) -> Vec<Vec<u8>> {
         while next < asks.len() && next - settled < WINDOW {
             let ask = asks[next];
             let data = ask.fill.map_or(Vec::new(), |fill| vec![fill; BLOCK]);
-            if !channel.to_host.send(&packet(6, next as u64, ask, &data)) {
+            if !channel.to_host.send(&packet(6, next as u64, ask.block, ask.fill.is_some(), &data)) {
                 break;
             }
             channel.host.wake();

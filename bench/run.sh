@@ -1,7 +1,8 @@
 #!/bin/sh
 # Times ten runs of the program, with user, system and wall time, how often its threads slept, and peak memory: a script of 2,048 writes and 2,048 reads of
 # one block each, with windows of 1, 4 and 64 requests, 16 scripts of 256 frames of 1,514 bytes each there and back, the reading alone of a script of a megabyte in 20,000 lines, the text of 20,000 control
-# messages, and a load of 8,192 requests, also by a plain program without a proof where rustc is there. It needs GNU time and awk.
+# messages, and a load of 8,192 requests, where rustc is there also by two plain programs without a proof: one that keeps a few bytes of each request, and one
+# whose values are as large as the library's. It needs GNU time and awk.
 top=$(cd "$(dirname "$0")/.." && pwd) || exit 70
 room=$(mktemp -d) || exit 70
 trap 'rm -rf "$room"' EXIT
@@ -66,7 +67,9 @@ measure 10 '20,000 messages decoded' "$room/messages" 0 "$program" decode
 measure 10 'a load of 8,192 requests over four channels' /dev/null 0 "$program" load 3 8192
 cp "$room/output" "$room/load"
 if command -v rustc >/dev/null; then
-    rustc --edition 2021 -O -o "$room/plain" "$top/bench/load.rs" || exit 70
-    measure 10 'the same load by a plain program' /dev/null 0 "$room/plain" 3 8192
-    cmp "$room/load" "$room/output" || { echo "bench/run.sh: both loads differ" >&2; exit 1; }
+    for plain in load load_in_place; do
+        rustc --edition 2021 -O -o "$room/$plain-program" "$top/bench/$plain.rs" || exit 70
+        measure 10 "the same load by the plain program $plain.rs" /dev/null 0 "$room/$plain-program" 3 8192
+        cmp "$room/load" "$room/output" || { echo "bench/run.sh: both loads differ" >&2; exit 1; }
+    done
 fi
