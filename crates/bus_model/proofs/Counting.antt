@@ -8,7 +8,8 @@ use Rattle.script_lines.specs.declared.line.Line.{Line}
 use Rattle.script_lines.specs.declared.line.What.{What}
 use Rattle.script_lines.specs.declared.line.What.TheVariants.{Contact as IsContact, Offer as IsOffer, Bad as IsBad, RingSize as IsRingSize, Window as IsWindow, Ask as IsAsk, Rescind as IsRescind, Shut as IsShut, Phase as IsPhase}
 use Rattle.script_lines.specs.declared.line.DeviceSpec.{DeviceSpec}
-use Rattle.script_lines.specs.Parts.{is_phase, ends_part, parts, offered}
+use Rattle.script_lines.specs.Lines.{is_phase}
+use Rattle.script_lines.specs.Parts.{ends_part, parts, offered}
 use Rattle.bus_script.specs.Report.{prints, tells}
 use Rattle.bus_script.specs.declared.outcome.LineResult.{LineResult}
 use Rattle.bus_model.specs.Logs.{Recorded}

@@ -5,7 +5,8 @@ use Rattle.chan_run.specs.Runs.{IsFront}
 use Rattle.contact.specs.declared.kind.Kind.TheVariants.{Net}
 use Rattle.script_lines.specs.declared.line.Line.{Line}
 use Rattle.script_lines.specs.declared.line.Ask.{Ask}
-use Rattle.script_phases.specs.Says.{Asks, is_rescinded, is_shut}
+use Rattle.script_lines.specs.Lines.{Asks}
+use Rattle.script_phases.specs.Says.{is_rescinded, is_shut}
 use Rattle.script_phases.specs.Openings.{Phase, phases, by_relid}
 use Rattle.bus_script.specs.declared.outcome.LineResult.{LineResult}
 use Rattle.bus_script.specs.declared.outcome.LineResult.TheVariants.{Version, Done, RescindedServed, Unserved, Gone, Closed}

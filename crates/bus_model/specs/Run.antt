@@ -1,12 +1,13 @@
 -- A run of the bus, phase by phase: what each channel carried, how each device's history went on, and the outcomes of the lines.
 use Rattle.std.specs.Prelude.{ℕ, ◌≡◌, ◌+◌, ◌%◌, ◌/◌, ◌==◌, List, [], ◌∷◌, ◌++◌, length, map, filter, Option, Some, None, slice_get, slice_index_or, if◌then◌else◌}
 use Rattle.std.specs.List.{AllByRecursion}
+use Rattle.std.specs.Option.{option_map_or}
 use Rattle.contact.specs.Versions.{versions_tried}
 use Rattle.script_lines.specs.declared.line.Line.{Line}
 use Rattle.script_lines.specs.declared.line.What.{What}
-use Rattle.script_lines.specs.declared.line.What.TheVariants.{Contact as IsContact}
+use Rattle.script_lines.specs.Lines.{Says, Asks, Rescinds, Shuts, said, contact_of}
 use Rattle.script_lines.specs.Parts.{offered}
-use Rattle.script_phases.specs.Says.{Says, Asks, Rescinds, Shuts, said, asks_of, is_rescinded, is_shut}
+use Rattle.script_phases.specs.Says.{asks_of, is_rescinded, is_shut}
 use Rattle.script_phases.specs.Openings.{Opening, Phase, phases, by_relid}
 use Rattle.bus_script.specs.declared.outcome.LineResult.{LineResult}
 use Rattle.bus_script.specs.declared.outcome.LineResult.TheVariants.{Version as Agreed, Gone, Closed}
@@ -61,10 +62,9 @@ source_said p before (Some (device, Asks ask)) = known_or (ended_as device p.ear
 source_said p before (Some (device, Rescinds after held)) = []
 source_said p before (Some (device, Shuts)) = []
 
--- a contact line has one besides, and no other line of settings (each other kind of line stands in `said`)
+-- a contact line has one besides, and no other line of settings
 abbrev pub source_of : Phase → List Line → What → List Source
-source_of p before (IsContact guest host) = Known (Agreed (length (versions_tried guest.0 host.0))) ∷ []
-source_of p before what = source_said p before (said what)
+source_of p before what = option_map_or (λ v. Known (Agreed (length (versions_tried v.0.0 v.1.0))) ∷ []) (contact_of what) (source_said p before (said what))
 
 -- those of the lines that stand behind others in the phase
 abbrev pub sources_from : Phase → List Line → List Line → List Source

@@ -6,7 +6,8 @@ use Rattle.std.proofs.lemmas.List.{take_more, drop_more, append-nil, take-append
 use Rattle.std.proofs.lemmas.Grind.{flat_map-append}
 use Rattle.chan_state.specs.declared.stop.Stop.{Stop}
 use Rattle.script_lines.specs.declared.line.Line.{Line}
-use Rattle.script_phases.specs.Says.{Says, said, heard_by, said_to, stops, stop_of}
+use Rattle.script_lines.specs.Lines.{Says, said}
+use Rattle.script_phases.specs.Says.{heard_by, said_to, stops, stop_of}
 use Rattle.bus_plan.specs.Heard.{IsBelow, AllBelow, stop_told, heard_told}
 use Rattle.bus_plan.specs.declared.heard.Heard.{Heard}
 

@@ -9,7 +9,8 @@ use Rattle.std.proofs.lemmas.Bool.{cases_eq}
 use Rattle.std.proofs.lemmas.Bool.Decides.{nat_tests}
 use Rattle.script_lines.specs.declared.line.Line.{Line}
 use Rattle.script_lines.specs.declared.line.What.{What}
-use Rattle.script_phases.specs.Says.{Says, said, said_to, heard_by, rescinds, shuts, is_rescinded, is_shut}
+use Rattle.script_lines.specs.Lines.{Says, said, is_rescind, is_close}
+use Rattle.script_phases.specs.Says.{said_to, heard_by, is_rescinded, is_shut}
 use Rattle.bus_script.specs.declared.outcome.LineResult.{LineResult}
 use Rattle.bus_script.specs.declared.outcome.LineResult.TheVariants.{Gone as LineGone, Closed as LineClosed}
 use Rattle.bus_model.specs.Run.{ended_as}
@@ -21,12 +22,12 @@ left_same None = refl
 left_same (Some x) = refl
 
 -- a line that ends nothing
-pub ends_none : (what : What) (ended : List (Option Ending)) → ((k : ℕ) → list_any rescinds (heard_by k (said what)) ≡ false) → ((k : ℕ) → list_any shuts (heard_by k (said what)) ≡ false) → EndsOn what ended ended
+pub ends_none : (what : What) (ended : List (Option Ending)) → ((k : ℕ) → list_any is_rescind (heard_by k (said what)) ≡ false) → ((k : ℕ) → list_any is_close (heard_by k (said what)) ≡ false) → EndsOn what ended ended
 ends_none what ended not_gone not_shut = record {
   count = refl;
   each = λ k less.
       let old = outcome_left (slice_index_or ended k None) in
-      left_same old ∙ ap (λ b. left_on b false old) (sym (not_gone k)) ∙ ap (λ b. left_on (list_any rescinds (heard_by k (said what))) b old) (sym (not_shut k));
+      left_same old ∙ ap (λ b. left_on b false old) (sym (not_gone k)) ∙ ap (λ b. left_on (list_any is_rescind (heard_by k (said what))) b old) (sym (not_shut k));
 }
 
 any_heard : (f : Says → Bool) (b : Bool) (s : Says) → list_any f (cond b (s ∷ []) []) ≡ cond b (f s) false
@@ -39,39 +40,39 @@ any_heard f false s = refl
 
 -- a line that speaks to one device, and says this
 pub ends_one : (what : What) (ended : List (Option Ending)) (device : ℕ) (s : Says) (ending : Option Ending) → said what ≡ Some (device, s) → device < length ended
-    → outcome_left ending ≡ left_on (rescinds s) (shuts s) (outcome_left (slice_index_or ended device None)) → EndsOn what ended (slice_set ended device ending)
+    → outcome_left ending ≡ left_on (is_rescind s) (is_close s) (outcome_left (slice_index_or ended device None)) → EndsOn what ended (slice_set ended device ending)
 ends_one what ended device s ending says within is = record {
   count = length-set ended device ending;
   each = λ k less.
       let old = outcome_left (slice_index_or ended k None) in
       let heard : (f : Says → Bool) → cond (device == k) (f s) false ≡ list_any f (heard_by k (said what)) = λ f. sym (ap (λ o. list_any f (heard_by k o)) says ∙ any_heard f (device == k) s) in
-      let both : left_on (cond (device == k) (rescinds s) false) (cond (device == k) (shuts s) false) old ≡ left_on (list_any rescinds (heard_by k (said what))) (list_any shuts (heard_by k (said what))) old =
-      ap (λ b. left_on b (cond (device == k) (shuts s) false) old) (heard rescinds) ∙ ap (λ b. left_on (list_any rescinds (heard_by k (said what))) b old) (heard shuts) in
+      let both : left_on (cond (device == k) (is_rescind s) false) (cond (device == k) (is_close s) false) old ≡ left_on (list_any is_rescind (heard_by k (said what))) (list_any is_close (heard_by k (said what))) old =
+      ap (λ b. left_on b (cond (device == k) (is_close s) false) old) (heard is_rescind) ∙ ap (λ b. left_on (list_any is_rescind (heard_by k (said what))) b old) (heard is_close) in
       elim (cases_eq k device) [
         | inl e ↦
             let same : (device == k) ≡ true = grind (arith, nat_tests) in
-            subst (λ j. outcome_left (slice_index_or (slice_set ended device ending) j None) ≡ left_on (rescinds s) (shuts s) (outcome_left (slice_index_or ended j None))) (sym e)
+            subst (λ j. outcome_left (slice_index_or (slice_set ended device ending) j None) ≡ left_on (is_rescind s) (is_close s) (outcome_left (slice_index_or ended j None))) (sym e)
             (ap outcome_left (get_or-set_same ended device ending None within) ∙ is)
-            ∙ (ap (λ b. left_on (cond b (rescinds s) false) (cond b (shuts s) false) old) (sym same) ∙ both)
+            ∙ (ap (λ b. left_on (cond b (is_rescind s) false) (cond b (is_close s) false) old) (sym same) ∙ both)
         | inr ne ↦
             let other : (device == k) ≡ false = grind (arith, nat_tests) in
             ap outcome_left (get_or-set_other ended device k ending None ne) ∙ left_same old
-            ∙ (ap (λ b. left_on (cond b (rescinds s) false) (cond b (shuts s) false) old) (sym other) ∙ both)
+            ∙ (ap (λ b. left_on (cond b (is_rescind s) false) (cond b (is_close s) false) old) (sym other) ∙ both)
       ];
 }
 
 -- a line that speaks to a device of no ending
-pub ends_asked : (what : What) (ended : List (Option Ending)) (device : ℕ) (s : Says) → said what ≡ Some (device, s) → rescinds s ≡ false → shuts s ≡ false → EndsOn what ended ended
+pub ends_asked : (what : What) (ended : List (Option Ending)) (device : ℕ) (s : Says) → said what ≡ Some (device, s) → is_rescind s ≡ false → is_close s ≡ false → EndsOn what ended ended
 ends_asked what ended device s says not_gone not_shut =
-    ends_none what ended (λ k. ap (λ o. list_any rescinds (heard_by k o)) says ∙ (any_heard rescinds (device == k) s ∙ (ap (λ b. cond (device == k) b false) not_gone ∙ never (device == k))))
-    (λ k. ap (λ o. list_any shuts (heard_by k o)) says ∙ (any_heard shuts (device == k) s ∙ (ap (λ b. cond (device == k) b false) not_shut ∙ never (device == k))))
+    ends_none what ended (λ k. ap (λ o. list_any is_rescind (heard_by k o)) says ∙ (any_heard is_rescind (device == k) s ∙ (ap (λ b. cond (device == k) b false) not_gone ∙ never (device == k))))
+    (λ k. ap (λ o. list_any is_close (heard_by k o)) says ∙ (any_heard is_close (device == k) s ∙ (ap (λ b. cond (device == k) b false) not_shut ∙ never (device == k))))
   where
     never : (b : Bool) → cond b false false ≡ false
     never true = refl
     never false = refl
 
 pub ends_silent : (what : What) (ended : List (Option Ending)) → said what ≡ None → EndsOn what ended ended
-ends_silent what ended silent = ends_none what ended (λ k. ap (λ o. list_any rescinds (heard_by k o)) silent) (λ k. ap (λ o. list_any shuts (heard_by k o)) silent)
+ends_silent what ended silent = ends_none what ended (λ k. ap (λ o. list_any is_rescind (heard_by k o)) silent) (λ k. ap (λ o. list_any is_close (heard_by k o)) silent)
 
 -- what earlier lines leave, with one more
 abbrev left : Bool → Bool → Option LineResult
@@ -99,19 +100,19 @@ any_append f (x ∷ xs) ys = ap (λ b. f x || b) (any_append f xs ys) ∙ regrou
 said_more : (k : ℕ) (front : List Line) (line : Line) → said_to k (front ++ line ∷ []) ≡ said_to k front ++ heard_by k (said line.what)
 said_more k front line = flat_map-append (λ l. heard_by k (said l.what)) front (line ∷ []) ∙ ap (λ (l : List Says). said_to k front ++ l) (append-nil (heard_by k (said line.what)))
 
-ended_more : (k : ℕ) (earlier : List Line) (line : Line) → left_on (list_any rescinds (heard_by k (said line.what))) (list_any shuts (heard_by k (said line.what))) (ended_as k earlier) ≡ ended_as k (earlier ++ line ∷ [])
+ended_more : (k : ℕ) (earlier : List Line) (line : Line) → left_on (list_any is_rescind (heard_by k (said line.what))) (list_any is_close (heard_by k (said line.what))) (ended_as k earlier) ≡ ended_as k (earlier ++ line ∷ [])
 ended_more k earlier line =
-    let gone : (is_rescinded k earlier || list_any rescinds (heard_by k (said line.what))) ≡ is_rescinded k (earlier ++ line ∷ []) =
-    sym (ap (list_any rescinds) (said_more k earlier line) ∙ any_append rescinds (said_to k earlier) (heard_by k (said line.what))) in
-    let shut : (is_shut k earlier || list_any shuts (heard_by k (said line.what))) ≡ is_shut k (earlier ++ line ∷ []) =
-    sym (ap (list_any shuts) (said_more k earlier line) ∙ any_append shuts (said_to k earlier) (heard_by k (said line.what))) in
-    one_left (is_rescinded k earlier) (is_shut k earlier) (list_any rescinds (heard_by k (said line.what))) (list_any shuts (heard_by k (said line.what)))
-    ∙ (ap (λ b. left b (is_shut k earlier || list_any shuts (heard_by k (said line.what)))) gone ∙ ap (left (is_rescinded k (earlier ++ line ∷ []))) shut)
+    let gone : (is_rescinded k earlier || list_any is_rescind (heard_by k (said line.what))) ≡ is_rescinded k (earlier ++ line ∷ []) =
+    sym (ap (list_any is_rescind) (said_more k earlier line) ∙ any_append is_rescind (said_to k earlier) (heard_by k (said line.what))) in
+    let shut : (is_shut k earlier || list_any is_close (heard_by k (said line.what))) ≡ is_shut k (earlier ++ line ∷ []) =
+    sym (ap (list_any is_close) (said_more k earlier line) ∙ any_append is_close (said_to k earlier) (heard_by k (said line.what))) in
+    one_left (is_rescinded k earlier) (is_shut k earlier) (list_any is_rescind (heard_by k (said line.what))) (list_any is_close (heard_by k (said line.what)))
+    ∙ (ap (λ b. left b (is_shut k earlier || list_any is_close (heard_by k (said line.what)))) gone ∙ ap (left (is_rescinded k (earlier ++ line ∷ []))) shut)
 
 ends_more : (earlier : List Line) (line : Line) (old new : List (Option Ending)) → AreEnded earlier old → EndsOn line.what old new → AreEnded (earlier ++ line ∷ []) new
 ends_more earlier line old new are on k less =
     let within : k < length old = omega (arith, less, on.count) in
-    on.each k within ∙ (ap (left_on (list_any rescinds (heard_by k (said line.what))) (list_any shuts (heard_by k (said line.what)))) (are k within) ∙ ended_more k earlier line)
+    on.each k within ∙ (ap (left_on (list_any is_rescind (heard_by k (said line.what))) (list_any is_close (heard_by k (said line.what)))) (are k within) ∙ ended_more k earlier line)
 
 pub ended_next : (earlier part : List Line) (i : ℕ) (line : Line) (old new : List (Option Ending)) → i < length part → line ≡ get_or part i line → AreEnded (earlier ++ take i part) old → EndsOn line.what old new → AreEnded (earlier ++ take (i + 1) part) new
 ended_next earlier part i line old new less is are on =

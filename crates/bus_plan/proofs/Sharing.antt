@@ -4,7 +4,8 @@ use Rattle.std.specs.Prelude.{if◌then◌else◌}
 use Rattle.std.specs.List.{flat_map}
 use Rattle.script_lines.specs.declared.line.Line.{Line}
 use Rattle.script_lines.specs.declared.line.Ask.{Ask}
-use Rattle.script_phases.specs.Says.{Says, said, heard_by, asked, asks_of}
+use Rattle.script_lines.specs.Lines.{Says, said}
+use Rattle.script_phases.specs.Says.{heard_by, asked, asks_of}
 use Rattle.script_phases.specs.Shares.{share}
 use Rattle.bus_plan.proofs.Hearing.{told_taken}
 

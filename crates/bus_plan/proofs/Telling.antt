@@ -8,7 +8,8 @@ use Rattle.std.proofs.lemmas.Bool.Decides.{nat_tests}
 use Rattle.script_lines.specs.declared.line.Line.{Line}
 use Rattle.script_lines.specs.declared.line.What.{What}
 use Rattle.script_lines.specs.declared.line.Ask.{Ask}
-use Rattle.script_phases.specs.Says.{Says, Asks, Rescinds, Shuts, said, heard_by, said_to, asked, asks_of}
+use Rattle.script_lines.specs.Lines.{Says, Asks, Rescinds, Shuts, said}
+use Rattle.script_phases.specs.Says.{heard_by, said_to, asked, asks_of}
 use Rattle.script_phases.specs.Openings.{Phase}
 use Rattle.bus_script.specs.declared.outcome.LineResult.{LineResult}
 use Rattle.bus_model.specs.Run.{Carried, AskedOf, known_or, ended_as, source_of, sources_from, outcome_at, outcomes_in, nth_of, told_by}

@@ -3,7 +3,8 @@ use Rattle.std.specs.Prelude.{ℕ, ◌≡◌, ◌<◌, Bool, true, false, List, 
 use Rattle.std.specs.List.{list_any}
 use Rattle.script_lines.specs.declared.line.Line.{Line}
 use Rattle.script_lines.specs.declared.line.What.{What}
-use Rattle.script_phases.specs.Says.{said, heard_by, rescinds, shuts}
+use Rattle.script_lines.specs.Lines.{said, is_rescind, is_close}
+use Rattle.script_phases.specs.Says.{heard_by}
 use Rattle.bus_script.specs.declared.outcome.LineResult.{LineResult}
 use Rattle.bus_script.specs.declared.outcome.LineResult.TheVariants.{Gone as LineGone, Closed as LineClosed}
 use Rattle.bus_model.specs.Run.{ended_as}
@@ -31,4 +32,4 @@ left_on false false None = None
 pub record EndsOn (what : What) (old new : List (Option Ending)) : Type 0 where
   pub count : length new ≡ length old
   pub each : (k : ℕ) → k < length old
-      → outcome_left (slice_index_or new k None) ≡ left_on (list_any rescinds (heard_by k (said what))) (list_any shuts (heard_by k (said what))) (outcome_left (slice_index_or old k None))
+      → outcome_left (slice_index_or new k None) ≡ left_on (list_any is_rescind (heard_by k (said what))) (list_any is_close (heard_by k (said what))) (outcome_left (slice_index_or old k None))

@@ -5,9 +5,9 @@ use Rattle.std.specs.List.{AllByRecursion}
 use Rattle.chan_state.specs.declared.stop.Stop.{Stop}
 use Rattle.script_lines.specs.declared.line.Line.{Line}
 use Rattle.script_lines.specs.declared.line.What.{What}
-use Rattle.script_phases.specs.Says.{Says, Asks, Rescinds, Shuts, said}
 use Rattle.bus_plan.specs.declared.heard.Heard.{Heard}
 use Rattle.bus_plan.specs.declared.heard.Heard.TheVariants.{Asks as HeardAsks, Stops as HeardStops, Shuts as HeardShuts}
+use Rattle.script_lines.specs.Lines.{Says, Asks, Rescinds, Shuts, said}
 
 -- after how many requests, and whether nothing goes back for the last of them
 abbrev pub stop_told : Option Stop → Option (ℕ × Bool)

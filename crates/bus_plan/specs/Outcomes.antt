@@ -4,7 +4,8 @@ use Rattle.std.specs.Option.{IfSome}
 use Rattle.std.specs.List.{flat_map}
 use Rattle.script_lines.specs.declared.line.Line.{Line}
 use Rattle.script_lines.specs.declared.line.What.{What}
-use Rattle.script_phases.specs.Says.{said, heard_by, asked, asks_of}
+use Rattle.script_lines.specs.Lines.{said}
+use Rattle.script_phases.specs.Says.{heard_by, asked, asks_of}
 use Rattle.script_phases.specs.Openings.{Phase}
 use Rattle.bus_script.specs.declared.outcome.LineResult.{LineResult}
 use Rattle.bus_model.specs.Run.{Carried, nth_of, told_by}

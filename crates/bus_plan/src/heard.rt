@@ -1,7 +1,8 @@
 //! What the lines of a phase say to a device.
 ghost use Rattle.std.specs.Prelude.{◌≡◌, ◌≤◌, ◌<◌, ◌+◌, ◌^◌, ◌%◌, ◌==◌, ◌++◌, ◌∷◌, [], length, MatchOption, IfOk, OnOk, is_some, slice_get};
 ghost use Rattle.std.specs.List.{flat_map};
-ghost use Rattle.script_phases.specs.Says.{said, heard_by, said_to, asked, asks_of, stops, stop_of};
+ghost use Rattle.script_lines.specs.Lines.{said};
+ghost use Rattle.script_phases.specs.Says.{heard_by, said_to, asked, asks_of, stops, stop_of};
 ghost use Rattle.script_phases.specs.Shares.{share};
 ghost use Rattle.bus_plan.specs.Heard.{said_told, heard_told, stop_told};
 

@@ -1,6 +1,7 @@
 //! Cutting a script into phases.
 ghost use Rattle.std.specs.Prelude.{◌≡◌, ◌≤◌, ◌∷◌, [], ℕ, length, take, drop, MatchOption, ⊤};
-ghost use Rattle.script_lines.specs.Parts.{is_phase, parts};
+ghost use Rattle.script_lines.specs.Lines.{is_phase};
+ghost use Rattle.script_lines.specs.Parts.{parts};
 
 use bus_script::{Line, What};
 

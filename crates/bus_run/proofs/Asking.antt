@@ -1,7 +1,7 @@
 -- What the lines of a phase say suits its devices.
 use Rattle.std.proofs.Common.{◌≡◌, ℕ, ◌+◌, ◌<◌, ◌≤◌, ◌==◌, Bool, true, false, cond, List, [], ◌∷◌, length, length-append, refl, ap, sym, ◌∙◌, subst, arith, slice_get, inl, inr, Option, Some, None}
 use Rattle.std.specs.Prelude.{map, filter}
-use Rattle.std.specs.Option.{IfSome}
+use Rattle.std.specs.Option.{IfSome, option_map_or}
 use Rattle.std.specs.List.{flat_map, AllByRecursion}
 use Rattle.std.proofs.lemmas.List.{length-map}
 use Rattle.std.proofs.lemmas.List.Sums.{length-filter}
@@ -16,9 +16,10 @@ use Rattle.script_lines.specs.declared.line.Line.{Line}
 use Rattle.script_lines.specs.declared.line.What.{What}
 use Rattle.script_lines.specs.declared.line.What.TheVariants.{Contact as IsContact, Offer as IsOffer, Bad as IsBad, RingSize as IsRingSize, Window as IsWindow, Ask as IsAsk, Rescind as IsRescind, Shut as IsShut, Phase as IsPhase}
 use Rattle.script_lines.specs.declared.line.DeviceSpec.{DeviceSpec}
+use Rattle.script_lines.specs.Lines.{Says, Asks, Rescinds, Shuts, said, is_request}
 use Rattle.script_lines.specs.Parts.{is_ask, asks_in, kind_of, kind_asked}
 use Rattle.script_lines.specs.WellFormed.{IsRescindable, IsRight, AllRight, CanGo, AskGoes, AllGo}
-use Rattle.script_phases.specs.Says.{Says, Asks, Rescinds, Shuts, said, said_to, heard_by, asked, stops, asks_of}
+use Rattle.script_phases.specs.Says.{said_to, heard_by, asked, stops, asks_of}
 use Rattle.bus_model.proofs.Lists.{each_append}
 use Rattle.bus_plan.specs.Heard.{AllBelow}
 use Rattle.end_work.specs.Plans.{AllCarried, CanStop}
@@ -102,16 +103,11 @@ few_if : (b : Bool) (s : Says) (n : ℕ) → length (asked s) ≤ n → length (
 few_if true s n few = omega (arith, length-append (asked s) [], few)
 few_if false s n few = omega arith
 
-heard_few : (k : ℕ) (w : What) → length (flat_map asked (heard_by k (said w))) ≤ cond (is_ask w) 1 0
-heard_few k (IsContact guest host) = omega arith
-heard_few k (IsOffer name spec) = omega arith
-heard_few k (IsBad device lba) = omega arith
-heard_few k (IsRingSize device pages) = omega arith
-heard_few k (IsWindow device size) = omega arith
-heard_few k (IsAsk device ask) = few_if (device == k) (Asks ask) 1 (omega arith)
-heard_few k (IsRescind device after held) = few_if (device == k) (Rescinds after held) 0 (omega arith)
-heard_few k (IsShut device) = few_if (device == k) Shuts 0 (omega arith)
-heard_few k IsPhase = omega arith
+heard_few : (k : ℕ) (o : Option (ℕ × Says)) → length (flat_map asked (heard_by k o)) ≤ cond (option_map_or (λ s. is_request s.1) o false) 1 0
+heard_few k None = omega arith
+heard_few k (Some (device, Asks ask)) = few_if (device == k) (Asks ask) 1 (omega arith)
+heard_few k (Some (device, Rescinds after held)) = few_if (device == k) (Rescinds after held) 0 (omega arith)
+heard_few k (Some (device, Shuts)) = few_if (device == k) Shuts 0 (omega arith)
 
 long_if : (b : Bool) (l : Line) (ls : List Line) → length (cond b (l ∷ ls) ls) ≡ cond b 1 0 + length ls
 long_if true l ls = omega arith
@@ -124,7 +120,7 @@ few_shown k (l ∷ part) =
       arith,
       ap length (flat_map-append asked (heard_by k (said l.what)) (said_to k part)),
       length-append (flat_map asked (heard_by k (said l.what))) (asks_of k part),
-      heard_few k l.what,
+      heard_few k (said l.what),
       few_shown k part,
       long_if (is_ask l.what) l (filter (λ l. is_ask l.what) part),
     )

@@ -9,9 +9,10 @@ use Rattle.script_lines.specs.declared.line.Ask.{Ask}
 use Rattle.scsi_disk.proofs.RoomLaws.{by_test}
 use Rattle.script_lines.specs.declared.line.Line.{Line}
 use Rattle.script_lines.specs.declared.line.DeviceSpec.{DeviceSpec}
+use Rattle.script_lines.specs.Lines.{Says}
 use Rattle.script_lines.specs.Parts.{asks_in, kind_of, channels_of}
 use Rattle.script_lines.specs.WellFormed.{AllRight, AllGo}
-use Rattle.script_phases.specs.Says.{Says, said_to, asked, asks_of}
+use Rattle.script_phases.specs.Says.{said_to, asked, asks_of}
 use Rattle.script_phases.specs.Openings.{Opening, Phase, subs_of, is_ended, is_opened, subs_from, channels_from, opened_from, is_first, firsts, others, by_relid}
 use Rattle.bus_script.specs.declared.outcome.LineResult.{LineResult}
 use Rattle.end_work.specs.Plans.{AllCarried}

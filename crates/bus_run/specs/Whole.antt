@@ -1,11 +1,11 @@
 -- A phase, and the phases that are left.
-use Rattle.std.specs.Prelude.{ℕ, ◌≡◌, ◌+◌, ◌*◌, ◌<◌, ◌≤◌, List, [], ◌∷◌, ◌++◌, length, map, take, drop, All, Option, Some, None}
+use Rattle.std.specs.Prelude.{ℕ, ◌≡◌, ◌+◌, ◌*◌, ◌<◌, ◌≤◌, List, [], ◌∷◌, ◌++◌, length, map, take, drop, All, Option, Some, None, IfSome}
 use Rattle.std.specs.List.{flat_map}
 use Rattle.script_lines.specs.declared.line.Line.{Line}
 use Rattle.script_lines.specs.declared.line.What.{What}
-use Rattle.script_lines.specs.declared.line.What.TheVariants.{Contact as IsContact, Offer as IsOffer, Bad as IsBad, RingSize as IsRingSize, Window as IsWindow, Ask as IsAsk, Rescind as IsRescind, Shut as IsShut, Phase as IsPhase}
 use Rattle.script_lines.specs.declared.line.DeviceSpec.{DeviceSpec}
 use Rattle.bus_script.specs.declared.outcome.LineResult.{LineResult}
+use Rattle.script_lines.specs.Lines.{offer_of}
 use Rattle.script_lines.specs.Parts.{parts, offered, blocks_of, bads_of}
 use Rattle.script_lines.specs.WellFormed.{IsDevice}
 use Rattle.script_phases.specs.Openings.{Phase, others, phases}
@@ -40,15 +40,7 @@ pub record PhaseRan (p : Phase) (old new : List Desk) (settled settled' : List C
 
 -- a device that a line offers can be made: it is right, and so are the places of it that lines make bad
 abbrev pub CanMake : List Line → ℕ → What → Type 0
-CanMake lines device (IsContact guest host) = Unit {0}
-CanMake lines device (IsOffer name spec) = IsDevice spec × All (λ place. place < blocks_of spec) (bads_of device lines)
-CanMake lines device (IsBad d lba) = Unit {0}
-CanMake lines device (IsRingSize d pages) = Unit {0}
-CanMake lines device (IsWindow d size) = Unit {0}
-CanMake lines device (IsAsk d ask) = Unit {0}
-CanMake lines device (IsRescind d after held) = Unit {0}
-CanMake lines device (IsShut d) = Unit {0}
-CanMake lines device IsPhase = Unit {0}
+CanMake lines device what = IfSome (offer_of what) (λ o. IsDevice o.1 × All (λ place. place < blocks_of o.1) (bads_of device lines))
 
 -- the disks that devices of these kinds are at first, where the first of them has this number: the lines say which places are bad
 abbrev pub setups_from : List Line → ℕ → List DeviceSpec → List (Option DiskState)

@@ -1,6 +1,7 @@
 -- The text of a run's outcomes.
-use Rattle.std.specs.Prelude.{ℕ, ◌≡◌, ◌+◌, ◌*◌, ◌/◌, ◌%◌, Bool, true, false, List, [], ◌∷◌, ◌++◌, Option, Some, None, codes, count_by, sum_by, length, filter, take, nat_le}
+use Rattle.std.specs.Prelude.{ℕ, ◌≡◌, ◌+◌, ◌*◌, ◌/◌, ◌%◌, Bool, true, false, List, [], ◌∷◌, ◌++◌, Option, Some, None, is_some, IfSome, ◌||◌, if◌then◌else◌, codes, count_by, sum_by, length, filter, take, nat_le}
 use Rattle.std.specs.List.{flat_map, zip}
+use Rattle.std.specs.Option.{option_map_or}
 use Rattle.std.specs.Fmt.{decimal}
 use Rattle.contact.specs.Versions.{versions, IsVersion}
 use Rattle.contact.specs.declared.version.Version.{Version}
@@ -23,7 +24,8 @@ use Rattle.bus_script.specs.declared.outcome.LineResult.{LineResult}
 use Rattle.bus_script.specs.declared.outcome.LineResult.TheVariants.{Version as Agreed, Done, RescindedServed, Unserved, Gone, Closed}
 use Rattle.script_text.specs.Hex.{hex_8, hex_2, hex_short}
 use Rattle.script_text.specs.Runs.{runs_of, runs_text}
-use Rattle.script_lines.specs.Parts.{asks_in}
+use Rattle.script_lines.specs.Lines.{contact_of}
+use Rattle.script_lines.specs.Parts.{is_ask, asks_in}
 
 -- the versions that a guest with this highest one may try, in order
 abbrev pub versions_from : ℕ → List ℕ
@@ -169,15 +171,7 @@ line_text line result = decimal line.number ++ (codes " " ++ (outcome_text line.
 
 -- a line that prints: a contact or a request
 abbrev pub tells : What → Bool
-tells (IsContact guest host) = true
-tells (IsOffer name device) = false
-tells (IsBad device lba) = false
-tells (IsRingSize device pages) = false
-tells (IsWindow device size) = false
-tells (IsAsk device ask) = true
-tells (IsRescind device after held) = false
-tells (IsShut device) = false
-tells IsPhase = false
+tells what = is_some (contact_of what) || is_ask what
 
 abbrev pub prints : Line → Bool
 prints line = tells line.what
@@ -218,24 +212,8 @@ report_of lines results = lines_text lines results ++ end_text (asks_in lines) (
 
 -- the versions of a contact are in the list
 abbrev pub HasVersion : What → Type 0
-HasVersion (IsContact guest host) = IsVersion guest.0
-HasVersion (IsOffer name device) = Unit {0}
-HasVersion (IsBad device lba) = Unit {0}
-HasVersion (IsRingSize device pages) = Unit {0}
-HasVersion (IsWindow device size) = Unit {0}
-HasVersion (IsAsk device ask) = Unit {0}
-HasVersion (IsRescind device after held) = Unit {0}
-HasVersion (IsShut device) = Unit {0}
-HasVersion IsPhase = Unit {0}
+HasVersion what = IfSome (contact_of what) (λ v. IsVersion v.0.0)
 
 -- no outcome of a line has more bytes beside the runs that come back
 abbrev pub most_text : What → ℕ
-most_text (IsContact guest host) = 55 + 42 * length (versions_from guest.0)
-most_text (IsOffer name device) = 0
-most_text (IsBad device lba) = 0
-most_text (IsRingSize device pages) = 0
-most_text (IsWindow device size) = 0
-most_text (IsAsk device ask) = 58
-most_text (IsRescind device after held) = 0
-most_text (IsShut device) = 0
-most_text IsPhase = 0
+most_text what = option_map_or (λ v. 55 + 42 * length (versions_from v.0.0)) (contact_of what) (if is_ask what then 58 else 0)

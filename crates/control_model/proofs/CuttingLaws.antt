@@ -7,7 +7,8 @@ use Rattle.std.specs.List.{onto_first, list_any}
 use Rattle.script_lines.specs.declared.line.Line.{Line}
 use Rattle.script_lines.specs.declared.line.What.{What}
 use Rattle.script_lines.specs.declared.line.What.TheVariants.{Contact as IsContact, Offer as IsOffer, Bad as IsBad, RingSize as IsRingSize, Window as IsWindow, Ask as IsAsk, Rescind as IsRescind, Shut as IsShut, Phase as IsPhase}
-use Rattle.script_lines.specs.Parts.{parts, ends_part, is_phase}
+use Rattle.script_lines.specs.Lines.{is_phase}
+use Rattle.script_lines.specs.Parts.{parts, ends_part}
 use Rattle.control_model.specs.Dealing.{ends, rest_of}
 
 -- lines before the first phase

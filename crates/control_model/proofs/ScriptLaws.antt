@@ -15,9 +15,10 @@ use Rattle.script_lines.specs.declared.line.What.{What}
 use Rattle.script_lines.specs.declared.line.What.TheVariants.{Contact as IsContact, Offer as IsOffer, Bad as IsBad, RingSize as IsRingSize, Window as IsWindow, Ask as IsAsk, Rescind as IsRescind, Shut as IsShut, Phase as IsPhase}
 use Rattle.script_lines.specs.declared.line.DeviceSpec.{DeviceSpec}
 use Rattle.script_lines.specs.declared.line.DeviceSpec.TheVariants.{Beat, Down, Disk, Net}
+use Rattle.script_lines.specs.Lines.{is_rescind, said}
 use Rattle.script_lines.specs.Parts.{parts, ends_part, offered, offered_by, kind_of, channels_of, ring_pages_of, pages_by}
 use Rattle.script_lines.specs.WellFormed.{IsDevice, IsRight, AllRight, IsScript}
-use Rattle.script_phases.specs.Says.{rescinds, heard_by, said, said_to, is_rescinded, is_shut}
+use Rattle.script_phases.specs.Says.{heard_by, said_to, is_rescinded, is_shut}
 use Rattle.script_phases.specs.Openings.{Opening as PhaseOpening, Phase, is_ended, is_opened, subs_of, opened_from, others, phases as phases_of, phases_from}
 use Rattle.script_phases.specs.Laws.{later_channels}
 use Rattle.script_phases.proofs.Following.{next_relids_lem}
@@ -80,7 +81,7 @@ size_of kinds device (l ∷ ls) right = size_by kinds device l.what (flat_map (�
 
 -- a device that these lines rescind was rescinded before what follows them
 said_more : (d : ℕ) (xs ys : List Line) → is_rescinded d (xs ++ ys) ≡ (is_rescinded d xs || is_rescinded d ys)
-said_more d xs ys = ap (list_any rescinds) (flat_map-append (λ l. heard_by d (said l.what)) xs ys) ∙ list_any-append rescinds (said_to d xs) (said_to d ys)
+said_more d xs ys = ap (list_any is_rescind) (flat_map-append (λ l. heard_by d (said l.what)) xs ys) ∙ list_any-append is_rescind (said_to d xs) (said_to d ys)
 
 or_right : (a b : Bool) → (a || b) ≡ false → b ≡ false
 or_right true b e = absurd (cc)

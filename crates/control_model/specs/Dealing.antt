@@ -4,8 +4,9 @@ use Rattle.std.specs.List.{list_any, position}
 use Rattle.script_lines.specs.declared.line.Line.{Line}
 use Rattle.script_lines.specs.declared.line.What.{What}
 use Rattle.script_lines.specs.declared.line.DeviceSpec.{DeviceSpec}
+use Rattle.script_lines.specs.Lines.{said}
 use Rattle.script_lines.specs.Parts.{parts, ring_pages_of, rescinds, shuts}
-use Rattle.script_phases.specs.Says.{heard_by, said}
+use Rattle.script_phases.specs.Says.{heard_by}
 use Rattle.script_phases.specs.Openings.{Opening as PhaseOpening, channels_from, others}
 use Rattle.control_model.specs.Openings.{openings_from, pages_in}
 use Rattle.control_model.specs.declared.planning.Served.{Served}

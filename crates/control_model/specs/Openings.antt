@@ -1,10 +1,11 @@
 -- The plan of a script.
 use Rattle.std.specs.Prelude.{ℕ, ◌+◌, Bool, List, [], ◌∷◌, length, map}
+use Rattle.std.specs.Option.{option_map_or}
 use Rattle.contact.specs.declared.version.Version.{Version}
 use Rattle.contact.specs.Versions.{version}
 use Rattle.script_lines.specs.declared.line.Line.{Line}
 use Rattle.script_lines.specs.declared.line.What.{What}
-use Rattle.script_lines.specs.declared.line.What.TheVariants.{Contact as IsContact}
+use Rattle.script_lines.specs.Lines.{contact_of}
 use Rattle.script_lines.specs.Parts.{offered, kind_of, ring_pages_of}
 use Rattle.script_phases.specs.Says.{is_rescinded}
 use Rattle.script_phases.specs.Openings.{Opening as PhaseOpening, Phase, phases}
@@ -16,12 +17,10 @@ abbrev pub no_less : Version
 no_less = record { 0 = version 5 2 }
 
 abbrev pub guest_by : What → Version
-guest_by (IsContact guest host) = guest
-guest_by _ = no_less
+guest_by what = option_map_or (λ versions. versions.0) (contact_of what) no_less
 
 abbrev pub host_by : What → Version
-host_by (IsContact guest host) = host
-host_by _ = no_less
+host_by what = option_map_or (λ versions. versions.1) (contact_of what) no_less
 
 abbrev pub guest_in : List Line → Version
 guest_in [] = no_less

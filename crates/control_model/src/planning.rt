@@ -2,7 +2,8 @@
 ghost use Rattle.std.specs.Prelude.{◌≡◌, ◌+◌, ◌*◌, ◌^◌, ◌<◌, ◌≤◌, All, [], ◌∷◌, ◌++◌, ℕ, length, map, take, slice_range, IfOk, OnOk};
 ghost use Rattle.std.specs.Option.{option_to_list};
 ghost use Rattle.std.specs.List.{list_any, position, range_with_len};
-ghost use Rattle.script_lines.specs.Parts.{is_phase, offered_by, offered, kind_of, ring_pages_of, rescinds, shuts};
+ghost use Rattle.script_lines.specs.Lines.{is_phase};
+ghost use Rattle.script_lines.specs.Parts.{offered_by, offered, kind_of, ring_pages_of, rescinds, shuts};
 ghost use Rattle.script_phases.specs.Openings.{phases, subs_of, opened_from, others};
 ghost use Rattle.control_model.specs.Plan.{first_gpadl, list_pages};
 ghost use Rattle.control_model.specs.Openings.{numbered, guest_in, host_in, openings_from, pages_in};

@@ -1,6 +1,6 @@
 -- Few runs come back.
 use Rattle.std.proofs.Common.{◌≡◌, ℕ, zero, suc, ◌+◌, ◌*◌, ◌≤◌, ◌<◌, ◌%◌, ◌==◌, Bool, true, false, cond, List, [], ◌∷◌, ◌++◌, length, append_assoc, nat_eq, refl, not, sym, ap, ◌∙◌, subst, arith}
-use Rattle.std.specs.Prelude.{map, take, slice_get, Some, None, if◌then◌else◌}
+use Rattle.std.specs.Prelude.{map, take, slice_get, Option, Some, None, IfSome, if◌then◌else◌}
 use Rattle.std.specs.List.{AllByRecursion, flat_map, onto_first, slice_split}
 use Rattle.std.proofs.lemmas.Bool.Decides.{nat_tests}
 use Rattle.std.proofs.lemmas.Grind.{flat_map-append}
@@ -14,15 +14,16 @@ use Rattle.script_lines.specs.declared.line.What.TheVariants.{Contact as IsConta
 use Rattle.script_lines.specs.declared.line.Ask.{Ask}
 use Rattle.script_lines.specs.declared.line.Ask.TheVariants.{Ic as AskIc, Disk as AskDisk, Net as AskNet}
 use Rattle.script_lines.specs.declared.line.DeviceSpec.{DeviceSpec}
-use Rattle.script_lines.specs.Parts.{is_phase, ends_part, parts, offered, offered_by, channels_of, kind_of, kind_asked}
+use Rattle.script_lines.specs.Lines.{Says, Asks, Rescinds, Shuts, said, is_phase}
+use Rattle.script_lines.specs.Parts.{ends_part, parts, offered, offered_by, channels_of, kind_of, kind_asked}
 use Rattle.script_lines.specs.WellFormed.{IsDevice, IsRight, AllRight}
-use Rattle.script_phases.specs.Says.{Says, Asks, Rescinds, Shuts, said, heard_by, said_to, asked, asks_of, is_rescinded, is_shut}
+use Rattle.script_phases.specs.Says.{heard_by, said_to, asked, asks_of, is_rescinded, is_shut}
 use Rattle.script_phases.specs.Openings.{Opening, Phase, subs_of, is_opened, subs_from, channels_from, opened_from, firsts, others, is_first, by_relid, phases_from}
 use Rattle.script_phases.specs.Shares.{share}
 use Rattle.bus_script.specs.declared.outcome.LineResult.{LineResult}
 use Rattle.bus_script.specs.declared.outcome.LineResult.TheVariants.{Gone, Closed}
 use Rattle.bus_script.specs.Report.{prints, result_runs, runs_back}
-use Rattle.script_lines.proofs.Plain.{PlainAsk, PlainWhat, PlainLine, script_plain}
+use Rattle.script_lines.proofs.Plain.{PlainAsk, PlainSays, PlainLine, script_plain}
 use Rattle.work_model.specs.Roles.{side_that_asks}
 use Rattle.bus_speech.specs.Speeches.{asked_as}
 use Rattle.bus_model.specs.Served.{Served}
@@ -55,22 +56,17 @@ heard_no_ask : (b : Bool) (s : Says) → asked s ≡ [] → AllByRecursion Plain
 heard_no_ask true s none = subst (λ l. AllByRecursion PlainAsk (l ++ [])) (sym none) tt
 heard_no_ask false s none = tt
 
-heard_plain : (device : ℕ) (w : What) → PlainWhat w → AllByRecursion PlainAsk (flat_map asked (heard_by device (said w)))
-heard_plain device (IsContact guest host) plain = tt
-heard_plain device (IsOffer name spec) plain = tt
-heard_plain device (IsBad d lba) plain = tt
-heard_plain device (IsRingSize d pages) plain = tt
-heard_plain device (IsWindow d size) plain = tt
-heard_plain device (IsAsk d ask) plain = heard_ask (nat_eq d device) ask plain
-heard_plain device (IsRescind d after held) plain = heard_no_ask (nat_eq d device) (Rescinds after held) refl
-heard_plain device (IsShut d) plain = heard_no_ask (nat_eq d device) Shuts refl
-heard_plain device IsPhase plain = tt
+heard_plain : (device : ℕ) (o : Option (ℕ × Says)) → IfSome o (λ s. PlainSays s.1) → AllByRecursion PlainAsk (flat_map asked (heard_by device o))
+heard_plain device None plain = tt
+heard_plain device (Some (d, Asks ask)) plain = heard_ask (nat_eq d device) ask plain
+heard_plain device (Some (d, Rescinds after held)) plain = heard_no_ask (nat_eq d device) (Rescinds after held) refl
+heard_plain device (Some (d, Shuts)) plain = heard_no_ask (nat_eq d device) Shuts refl
 
 asks_plain : (device : ℕ) (part : List Line) → AllByRecursion PlainLine part → AllByRecursion PlainAsk (asks_of device part)
 asks_plain device [] plain = tt
 asks_plain device (l ∷ part) plain =
     subst (AllByRecursion PlainAsk) (sym (flat_map-append asked (heard_by device (said l.what)) (said_to device part)))
-    (each_append PlainAsk (flat_map asked (heard_by device (said l.what))) (asks_of device part) (heard_plain device l.what plain.0) (asks_plain device part plain.1))
+    (each_append PlainAsk (flat_map asked (heard_by device (said l.what))) (asks_of device part) (heard_plain device (said l.what) plain.0) (asks_plain device part plain.1))
 
 each_share : {X : Type 0} (P : X → Type 0) (many channel n : ℕ) (xs : List X) → AllByRecursion P xs → AllByRecursion P (share many channel n xs)
 each_share P many channel n [] all = tt

@@ -1,11 +1,12 @@
 -- Laws of the reports of runs.
 use Rattle.std.specs.Prelude.{ℕ, ◌≡◌, ◌≤◌, ◌+◌, ◌*◌, List, [], ◌∷◌, length, Ok}
+use Rattle.std.specs.Option.{option_map_or}
 use Rattle.rndis_msg.specs.Messages.{body_of}
+use Rattle.script_lines.specs.Lines.{Says, Asks, Rescinds, Shuts, said}
 use Rattle.script_lines.specs.Grammar.{script_of}
 use Rattle.script_lines.specs.WellFormed.{IsScript}
 use Rattle.script_lines.specs.declared.line.Line.{Line}
 use Rattle.script_lines.specs.declared.line.What.{What}
-use Rattle.script_lines.specs.declared.line.What.TheVariants.{Contact as IsContact, Offer as IsOffer, Bad as IsBad, RingSize as IsRingSize, Window as IsWindow, Ask as IsAsk, Rescind as IsRescind, Shut as IsShut, Phase as IsPhase}
 use Rattle.script_lines.specs.declared.line.Ask.{Ask}
 use Rattle.script_lines.specs.declared.line.Ask.TheVariants.{Ic as AskIc, Disk as AskDisk, Net as AskNet}
 use Rattle.bus_script.specs.declared.outcome.LineResult.{LineResult}
@@ -21,16 +22,13 @@ data_of (AskDisk request) = 0
 data_of (AskNet message) = length (body_of message)
 
 -- and those of what lines ask
+abbrev pub data_said : Says → ℕ
+data_said (Asks ask) = data_of ask
+data_said (Rescinds after held) = 0
+data_said Shuts = 0
+
 abbrev pub data_in : What → ℕ
-data_in (IsContact guest host) = 0
-data_in (IsOffer name device) = 0
-data_in (IsBad device lba) = 0
-data_in (IsRingSize device pages) = 0
-data_in (IsWindow device size) = 0
-data_in (IsAsk device ask) = data_of ask
-data_in (IsRescind device after held) = 0
-data_in (IsShut device) = 0
-data_in IsPhase = 0
+data_in what = option_map_or (λ s. data_said s.1) (said what) 0
 
 abbrev pub data_by : List Line → ℕ
 data_by [] = 0

@@ -1,6 +1,6 @@
 -- Each write of a script has data that are all the same byte.
 use Rattle.std.proofs.Common.{◌≡◌, ℕ, ◌+◌, ◌*◌, List, [], ◌∷◌, ◌++◌, refl, subst}
-use Rattle.std.specs.Prelude.{Option, Some, None, Result, Ok, Err, unwrap_or}
+use Rattle.std.specs.Prelude.{Option, Some, None, Result, Ok, Err, IfSome, unwrap_or}
 use Rattle.std.specs.List.{AllByRecursion}
 use Rattle.std.specs.Str.Lines.{lines}
 use Rattle.scsi_disk.proofs.OneByteLaws.{IsOneByte, one_byte}
@@ -8,7 +8,6 @@ use Rattle.script_text.specs.declared.fault.Why6.{Why6}
 use Rattle.script_text.specs.declared.fault.ScriptFault.{ScriptFault}
 use Rattle.script_lines.specs.declared.line.Line.{Line}
 use Rattle.script_lines.specs.declared.line.What.{What}
-use Rattle.script_lines.specs.declared.line.What.TheVariants.{Contact as IsContact, Offer as IsOffer, Bad as IsBad, RingSize as IsRingSize, Window as IsWindow, Ask as IsAsk, Rescind as IsRescind, Shut as IsShut, Phase as IsPhase}
 use Rattle.script_lines.specs.declared.line.Ask.{Ask}
 use Rattle.script_lines.specs.declared.line.Ask.TheVariants.{Ic, Disk as AskDisk, Net as AskNet}
 use Rattle.script_lines.specs.declared.asked.Asked.{Asked}
@@ -17,6 +16,7 @@ use Rattle.script_lines.specs.declared.disk_ask.DiskAsk.{DiskAsk}
 use Rattle.script_lines.specs.declared.disk_ask.DiskAsk.TheVariants.{Ready, Inquiry, Capacity, Flush, Read, Write}
 use Rattle.script_lines.specs.declared.said.Said.{Said}
 use Rattle.script_lines.specs.declared.said.Said.TheVariants.{Nothing, Contact, Offer, Bad, Ring, Window, Request, Rescind, Close, Phase}
+use Rattle.script_lines.specs.Lines.{Says, Asks, Rescinds, Shuts, said}
 use Rattle.script_lines.specs.Requests.{request_of}
 use Rattle.script_lines.specs.Rows.{said_in}
 use Rattle.script_lines.specs.Faults.{device_said, fault_at}
@@ -28,16 +28,13 @@ PlainAsk (Ic ask) = Unit {0}
 PlainAsk (AskDisk request) = IsOneByte request.out
 PlainAsk (AskNet message) = Unit {0}
 
+abbrev pub PlainSays : Says → Type 0
+PlainSays (Asks ask) = PlainAsk ask
+PlainSays (Rescinds after held) = Unit {0}
+PlainSays Shuts = Unit {0}
+
 abbrev pub PlainWhat : What → Type 0
-PlainWhat (IsContact guest host) = Unit {0}
-PlainWhat (IsOffer name device) = Unit {0}
-PlainWhat (IsBad device lba) = Unit {0}
-PlainWhat (IsRingSize device pages) = Unit {0}
-PlainWhat (IsWindow device size) = Unit {0}
-PlainWhat (IsAsk device ask) = PlainAsk ask
-PlainWhat (IsRescind device after held) = Unit {0}
-PlainWhat (IsShut device) = Unit {0}
-PlainWhat IsPhase = Unit {0}
+PlainWhat what = IfSome (said what) (λ s. PlainSays s.1)
 
 abbrev pub PlainLine : Line → Type 0
 PlainLine line = PlainWhat line.what

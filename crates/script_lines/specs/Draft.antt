@@ -1,11 +1,12 @@
 -- What a script's reader keeps of the lines before, so that no line is looked at twice.
 use Rattle.std.specs.Prelude.{ℕ, ◌≡◌, Bool, List, [], ◌∷◌, length, Some, slice_get}
 use Rattle.std.specs.List.{list_all, flat_map}
+use Rattle.std.specs.Option.{option_map_or}
 use Rattle.script_lines.specs.declared.line.Line.{Line}
 use Rattle.script_lines.specs.declared.line.What.{What}
-use Rattle.script_lines.specs.declared.line.What.TheVariants.{Contact as IsContact, Offer as IsOffer, Bad as IsBad, RingSize as IsRingSize, Window as IsWindow, Ask as IsAsk, Rescind as IsRescind, Shut as IsShut, Phase as IsPhase}
 use Rattle.script_lines.specs.declared.bad_place.BadPlace.{BadPlace}
 use Rattle.script_lines.specs.declared.draft.Seen.{Seen}
+use Rattle.script_lines.specs.Lines.{bad_block, set_as}
 use Rattle.script_lines.specs.Parts.{is_settings, asks_in, this_part, phases_over, offered, names, channels, has_ring, has_window, rescinded_in, closed_in}
 use Rattle.script_lines.specs.WellFormed.{IsScript}
 
@@ -19,15 +20,7 @@ pub record IsSeen (lines : List Line) (device : ℕ) (seen : Seen) : Type 0 wher
 
 -- the bad blocks that lines say, in order
 abbrev pub places_by : What → List BadPlace
-places_by (IsContact guest host) = []
-places_by (IsOffer name device) = []
-places_by (IsBad device lba) = record { device = device; lba = lba } ∷ []
-places_by (IsRingSize device pages) = []
-places_by (IsWindow device size) = []
-places_by (IsAsk device ask) = []
-places_by (IsRescind device after held) = []
-places_by (IsShut device) = []
-places_by IsPhase = []
+places_by what = option_map_or (λ s. record { device = s.0; lba = s.1 } ∷ []) (set_as bad_block what) []
 
 abbrev pub places : List Line → List BadPlace
 places lines = flat_map (λ l. places_by l.what) lines

@@ -1,6 +1,7 @@
 -- What every script has.
-use Rattle.std.specs.Prelude.{ℕ, ◌≡◌, ◌+◌, ◌<◌, ◌≤◌, ◌⊎◌, Option, Bool, true, false, not, Some, None, IfSome, List, [], ◌∷◌, ◌++◌, length, map, All, count_by, slice_get, if◌then◌else◌}
+use Rattle.std.specs.Prelude.{ℕ, ◌≡◌, ◌+◌, ◌<◌, ◌≤◌, ◌⊎◌, Option, Bool, true, false, not, Some, None, IfSome, is_some, List, [], ◌∷◌, ◌++◌, length, map, All, count_by, slice_get, if◌then◌else◌}
 use Rattle.std.specs.List.{list_all}
+use Rattle.std.specs.Option.{option_map_or}
 use Rattle.contact.specs.Versions.{IsVersion}
 use Rattle.contact.specs.declared.kind.Kind.{Kind}
 use Rattle.contact.specs.declared.kind.Kind.TheVariants.{Disk as KindDisk, Net as KindNet}
@@ -17,6 +18,7 @@ use Rattle.script_lines.specs.declared.offering.Offering.{Offering}
 use Rattle.script_lines.specs.declared.offering.Offering.TheVariants.{Beat as OfBeat, Down as OfDown, Disk as OfDisk, Net as OfNet}
 use Rattle.script_lines.specs.declared.said.Said.{Said}
 use Rattle.script_lines.specs.declared.said.Said.TheVariants.{Nothing, Contact, Offer, Bad, Ring, Window, Request, Rescind, Close, Phase}
+use Rattle.script_lines.specs.Lines.{Says, Asks, Rescinds, Shuts, said, contact_of, bad_block, set_as}
 use Rattle.script_lines.specs.Requests.{AskInRange, IsCarried, IsSent}
 use Rattle.script_lines.specs.Parts.{parts, this_part, offered, offered_by, named_by, asks_in, is_ask, is_settings, rescinds, shuts, rescinded_in, closed_in, channels, channels_of, device_of, kind_of, kind_asked, blocks_at, has_bad}
 
@@ -49,16 +51,14 @@ CanGo (Ic ask) = Unit {0}
 CanGo (AskDisk request) = IsCarried request
 CanGo (AskNet message) = IsSent message
 
+abbrev pub SayGoes : Says → Type 0
+SayGoes (Asks ask) = CanGo ask
+SayGoes (Rescinds after held) = Unit {0}
+SayGoes Shuts = Unit {0}
+
+-- so does the request of a line, where it has one
 abbrev pub AskGoes : What → Type 0
-AskGoes (IsContact guest host) = Unit {0}
-AskGoes (IsOffer name device) = Unit {0}
-AskGoes (IsBad device lba) = Unit {0}
-AskGoes (IsRingSize device pages) = Unit {0}
-AskGoes (IsWindow device size) = Unit {0}
-AskGoes (IsAsk device ask) = CanGo ask
-AskGoes (IsRescind device after held) = Unit {0}
-AskGoes (IsShut device) = Unit {0}
-AskGoes IsPhase = Unit {0}
+AskGoes what = IfSome (said what) (λ s. SayGoes s.1)
 
 -- each request of these lines goes through its channel
 abbrev pub AllGo : List Line → Type 0
@@ -72,15 +72,7 @@ AllRight kinds (l ∷ ls) = IsRight kinds l.what × AllRight kinds ls
 
 -- the line says which versions the guest and its host have
 abbrev pub is_contact : What → Bool
-is_contact (IsContact guest host) = true
-is_contact (IsOffer name device) = false
-is_contact (IsBad device lba) = false
-is_contact (IsRingSize device pages) = false
-is_contact (IsWindow device size) = false
-is_contact (IsAsk device ask) = false
-is_contact (IsRescind device after held) = false
-is_contact (IsShut device) = false
-is_contact IsPhase = false
+is_contact what = is_some (contact_of what)
 
 -- behind the first line none says versions
 abbrev pub contact_first : List Line → Bool
@@ -134,15 +126,7 @@ InRange Phase = Unit {0}
 
 -- the block was made bad before
 abbrev pub is_again : List Line → What → Bool
-is_again before (IsContact guest host) = false
-is_again before (IsOffer name device) = false
-is_again before (IsBad device lba) = has_bad device lba before
-is_again before (IsRingSize device pages) = false
-is_again before (IsWindow device size) = false
-is_again before (IsAsk device ask) = false
-is_again before (IsRescind device after held) = false
-is_again before (IsShut device) = false
-is_again before IsPhase = false
+is_again before what = option_map_or (λ s. has_bad s.0 s.1 before) (set_as bad_block what) false
 
 -- a line of this may stand behind these lines
 pub record Fits (before : List Line) (what : What) : Type 0 where

@@ -5,8 +5,9 @@ use Rattle.std.specs.List.{list_any}
 use Rattle.script_lines.specs.declared.line.Line.{Line}
 use Rattle.script_lines.specs.declared.line.What.{What}
 use Rattle.script_lines.specs.declared.line.What.TheVariants.{Contact as IsContact, Offer as IsOffer, Bad as IsBad, RingSize as IsRingSize, Window as IsWindow, Ask as IsAsk, Rescind as IsRescind, Shut as IsShut, Phase as IsPhase}
+use Rattle.script_lines.specs.Lines.{Says, Asks, Rescinds, Shuts, said, is_rescind, is_close}
 use Rattle.script_lines.specs.Parts.{rescinds as line_rescinds, shuts as line_shuts}
-use Rattle.script_phases.specs.Says.{Says, Asks, Rescinds, Shuts, heard_by, said, said_to, rescinds, shuts, is_rescinded, is_shut}
+use Rattle.script_phases.specs.Says.{heard_by, said_to, is_rescinded, is_shut}
 use Rattle.script_phases.specs.Openings.{is_ended, is_opened}
 
 any_none : {X : Type 0} (f : X → Bool) (b : Bool) (x : X) (xs : List X) → f x ≡ false → list_any f (cond b (x ∷ []) [] ++ xs) ≡ list_any f xs
@@ -26,30 +27,30 @@ speaks_append [] ys = refl
 speaks_append (x ∷ xs) ys = refl
 
 module _ (d : ℕ) where
-  rescind_line : (w : What) (ss : List Says) (rest : Bool) → list_any rescinds ss ≡ rest → list_any rescinds (heard_by d (said w) ++ ss) ≡ (line_rescinds d w || rest)
+  rescind_line : (w : What) (ss : List Says) (rest : Bool) → list_any is_rescind ss ≡ rest → list_any is_rescind (heard_by d (said w) ++ ss) ≡ (line_rescinds d w || rest)
   rescind_line (IsContact guest host) ss rest e = e
   rescind_line (IsOffer name spec) ss rest e = e
   rescind_line (IsBad c lba) ss rest e = e
   rescind_line (IsRingSize c pages) ss rest e = e
   rescind_line (IsWindow c size) ss rest e = e
-  rescind_line (IsAsk c ask) ss rest e = any_none rescinds (nat_eq c d) (Asks ask) ss refl ∙ e
-  rescind_line (IsRescind c after held) ss rest e = any_same rescinds (nat_eq c d) (Rescinds after held) ss refl ∙ ap (λ r. nat_eq c d || r) e
-  rescind_line (IsShut c) ss rest e = any_none rescinds (nat_eq c d) Shuts ss refl ∙ e
+  rescind_line (IsAsk c ask) ss rest e = any_none is_rescind (nat_eq c d) (Asks ask) ss refl ∙ e
+  rescind_line (IsRescind c after held) ss rest e = any_same is_rescind (nat_eq c d) (Rescinds after held) ss refl ∙ ap (λ r. nat_eq c d || r) e
+  rescind_line (IsShut c) ss rest e = any_none is_rescind (nat_eq c d) Shuts ss refl ∙ e
   rescind_line IsPhase ss rest e = e
 
   pub rescind_same : (ls : List Line) → is_rescinded d ls ≡ list_any (λ l. line_rescinds d l.what) ls
   rescind_same [] = refl
   rescind_same (l ∷ ls) = rescind_line l.what (said_to d ls) _ (rescind_same ls)
 
-  shut_line : (w : What) (ss : List Says) (rest : Bool) → list_any shuts ss ≡ rest → list_any shuts (heard_by d (said w) ++ ss) ≡ (line_shuts d w || rest)
+  shut_line : (w : What) (ss : List Says) (rest : Bool) → list_any is_close ss ≡ rest → list_any is_close (heard_by d (said w) ++ ss) ≡ (line_shuts d w || rest)
   shut_line (IsContact guest host) ss rest e = e
   shut_line (IsOffer name spec) ss rest e = e
   shut_line (IsBad c lba) ss rest e = e
   shut_line (IsRingSize c pages) ss rest e = e
   shut_line (IsWindow c size) ss rest e = e
-  shut_line (IsAsk c ask) ss rest e = any_none shuts (nat_eq c d) (Asks ask) ss refl ∙ e
-  shut_line (IsRescind c after held) ss rest e = any_none shuts (nat_eq c d) (Rescinds after held) ss refl ∙ e
-  shut_line (IsShut c) ss rest e = any_same shuts (nat_eq c d) Shuts ss refl ∙ ap (λ r. nat_eq c d || r) e
+  shut_line (IsAsk c ask) ss rest e = any_none is_close (nat_eq c d) (Asks ask) ss refl ∙ e
+  shut_line (IsRescind c after held) ss rest e = any_none is_close (nat_eq c d) (Rescinds after held) ss refl ∙ e
+  shut_line (IsShut c) ss rest e = any_same is_close (nat_eq c d) Shuts ss refl ∙ ap (λ r. nat_eq c d || r) e
   shut_line IsPhase ss rest e = e
 
   pub shut_same : (ls : List Line) → is_shut d ls ≡ list_any (λ l. line_shuts d l.what) ls

@@ -1,28 +1,9 @@
 -- What the lines of a phase say to its devices.
-use Rattle.std.specs.Prelude.{ℕ, ◌==◌, Bool, true, false, List, [], ◌∷◌, Option, Some, None, slice_get, if◌then◌else◌}
+use Rattle.std.specs.Prelude.{ℕ, ◌==◌, Bool, List, [], ◌∷◌, Option, Some, None, slice_get, if◌then◌else◌}
 use Rattle.std.specs.List.{flat_map, list_any}
 use Rattle.script_lines.specs.declared.line.Ask.{Ask}
 use Rattle.script_lines.specs.declared.line.Line.{Line}
-use Rattle.script_lines.specs.declared.line.What.{What}
-use Rattle.script_lines.specs.declared.line.What.TheVariants.{Contact as IsContact, Offer as IsOffer, Bad as IsBad, RingSize as IsRingSize, Window as IsWindow, Ask as IsAsk, Rescind as IsRescind, Shut as IsShut, Phase as IsPhase}
-
--- what is said to a device: a request; that its service stops after so many, the answer to the last one held or not, for it is rescinded; that it is closed
-pub data Says : Type 0 where
-  Asks : Ask → Says
-  Rescinds : ℕ → Bool → Says
-  Shuts : Says
-
--- the device that a line speaks to in its phase, and what it says; settings say nothing in a phase. Each kind of line stands here, so that none is passed over
-abbrev pub said : What → Option (ℕ × Says)
-said (IsContact guest host) = None
-said (IsOffer name spec) = None
-said (IsBad device lba) = None
-said (IsRingSize device pages) = None
-said (IsWindow device size) = None
-said (IsAsk device ask) = Some (device, Asks ask)
-said (IsRescind device after held) = Some (device, Rescinds after held)
-said (IsShut device) = Some (device, Shuts)
-said IsPhase = None
+use Rattle.script_lines.specs.Lines.{Says, Asks, Rescinds, Shuts, said, is_rescind, is_close}
 
 -- of what is said, what is said to this device
 abbrev pub heard_by : ℕ → Option (ℕ × Says) → List Says
@@ -45,16 +26,6 @@ stops (Asks ask) = []
 stops (Rescinds after held) = (after, held) ∷ []
 stops Shuts = []
 
-abbrev pub rescinds : Says → Bool
-rescinds (Asks ask) = false
-rescinds (Rescinds after held) = true
-rescinds Shuts = false
-
-abbrev pub shuts : Says → Bool
-shuts (Asks ask) = false
-shuts (Rescinds after held) = false
-shuts Shuts = true
-
 -- the requests to a device, in order
 abbrev pub asks_of : ℕ → List Line → List Ask
 asks_of device lines = flat_map asked (said_to device lines)
@@ -65,7 +36,7 @@ stop_of device lines = slice_get (flat_map stops (said_to device lines)) 0
 
 -- a line of these rescinds the device, or closes it
 abbrev pub is_rescinded : ℕ → List Line → Bool
-is_rescinded device lines = list_any rescinds (said_to device lines)
+is_rescinded device lines = list_any is_rescind (said_to device lines)
 
 abbrev pub is_shut : ℕ → List Line → Bool
-is_shut device lines = list_any shuts (said_to device lines)
+is_shut device lines = list_any is_close (said_to device lines)
