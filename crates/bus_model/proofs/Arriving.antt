@@ -5,10 +5,10 @@ use Rattle.chan_run.specs.Runs.{IsFront}
 use Rattle.io_edge.specs.declared.side.Side.{Side}
 use Rattle.io_edge.specs.declared.side.Side.TheVariants.{Guest, Host}
 use Rattle.ring_model.specs.Lists.{Lists}
-use Rattle.work_model.specs.Roles.{side_that_asks}
+use Rattle.channel_model.specs.Roles.{side_that_asks}
 use Rattle.bus_model.specs.Served.{Served}
-use Rattle.bus_speech.specs.declared.want.Want.TheVariants.{Script}
-use Rattle.work_model.specs.Channel.{count_of}
+use Rattle.device_formats.specs.declared.want.Want.TheVariants.{Script}
+use Rattle.channel_model.specs.Channel.{count_of}
 use Rattle.bus_model.specs.Orders.{Order}
 use Rattle.bus_model.specs.Channel.{Carries}
 use Rattle.bus_model.specs.Laws.{Arrived, Arrives, ServesEach, CompletesEach}

@@ -7,13 +7,13 @@ use Rattle.io_edge.specs.declared.side.Side.{Side}
 use Rattle.io_edge.specs.declared.side.Side.TheVariants.{Guest, Host}
 use Rattle.ring_model.specs.Lists.{Lists}
 use Rattle.script_lines.specs.declared.line.Ask.{Ask}
-use Rattle.bus_speech.specs.declared.want.Want.TheVariants.{Script}
-use Rattle.bus_speech.specs.Wants.{IsAskable}
-use Rattle.bus_speech.specs.Speeches.{speech_of, fits_on, asked_as}
-use Rattle.bus_speech.proofs.TalkLaws.{few_starts}
-use Rattle.bus_speech.proofs.SpeechLaws.{keeps, start_is_fixed, script_asks, asked_is}
-use Rattle.work_model.specs.Channel.{count_of}
-use Rattle.work_model.specs.Roles.{side_that_asks}
+use Rattle.device_formats.specs.declared.want.Want.TheVariants.{Script}
+use Rattle.device_formats.specs.Wants.{IsAskable}
+use Rattle.device_formats.specs.Formats.{format_of, fits_on, asked_as}
+use Rattle.device_formats.proofs.ChannelScriptLaws.{few_starts}
+use Rattle.device_formats.proofs.FormatLaws.{keeps, start_is_fixed, script_asks, asked_is}
+use Rattle.channel_model.specs.Channel.{count_of}
+use Rattle.channel_model.specs.Roles.{side_that_asks}
 use Rattle.bus_model.specs.Served.{Served}
 use Rattle.bus_model.specs.Orders.{Order, startup_of, plan_of}
 use Rattle.script_phases.specs.Openings.{Phase, Opening}
@@ -25,7 +25,7 @@ use Rattle.bus_model.proofs.Made.{Fit, Made, made}
 use Rattle.bus_model.proofs.FromLists.{serves_first_lem}
 
 fit : (kind : Kind) (n id : ℕ) (asks : List Ask) (served : List Served) → AllByRecursion (IsAskable kind) asks → map (λ c. c.request) served ≡ take n (asked_under (range_with_len id (length asks)) asks)
-    → AllByRecursion (λ (c : Served). fits_on kind c.request c.reply ≡ true) served → Fit (speech_of kind) (keeps kind) n id (map Script asks) served
+    → AllByRecursion (λ (c : Served). fits_on kind c.request c.reply ≡ true) served → Fit (format_of kind) (keeps kind) n id (map Script asks) served
 fit kind zero id asks [] can serves fits = refl
 fit kind zero id asks (c ∷ served) can serves fits = absurd (none (asked_under (range_with_len id (length asks)) asks) serves)
   where
@@ -48,22 +48,22 @@ abbrev pub lists_of : Side → List (List ℕ) → List (List ℕ) → Lists
 lists_of Guest sent back = record { guest_sent = sent; guest_got = back; host_sent = back; host_got = sent; guest_sent_items = []; guest_got_items = []; host_sent_items = []; host_got_items = [] }
 lists_of Host sent back = record { guest_sent = back; guest_got = sent; host_sent = sent; host_got = back; guest_sent_items = []; guest_got_items = []; host_sent_items = []; host_got_items = [] }
 
-plan_made : (order : Order) (served : List Served) → Suits order served → Made (speech_of order.kind) (keeps order.kind) (plan_of order) served
+plan_made : (order : Order) (served : List Served) → Suits order served → Made (format_of order.kind) (keeps order.kind) (plan_of order) served
 plan_made order served suits =
     let long : length (map Script order.asks) ≡ length order.asks = length-map order.asks Script in
     let starts : length (startup_of order) ≤ 5 = few_starts order.kind order.sub order.subs in
     let all : count_of order.stop (length (map Script order.asks)) ≡ count_of order.stop (length order.asks) = ap (count_of order.stop) long in
-    made (speech_of order.kind) (keeps order.kind) (plan_of order) served
+    made (format_of order.kind) (keeps order.kind) (plan_of order) served
     (record { fixed = start_is_fixed order.kind order.sub order.subs; asks = script_asks order.kind order.asks suits.can })
     (omega (arith, starts, long, suits.few, length-append (startup_of order) (map Script order.asks)))
     (count_few order.stop (length (map Script order.asks)))
-    (subst (λ n. Fit (speech_of order.kind) (keeps order.kind) n (1 + length (startup_of order)) (map Script order.asks) served) (sym all)
+    (subst (λ n. Fit (format_of order.kind) (keeps order.kind) n (1 + length (startup_of order)) (map Script order.asks) served) (sym all)
     (fit order.kind (served_count order) (1 + length (startup_of order)) order.asks served suits.can suits.serves suits.fits))
 
 agree : (order : Order) → count_of order.stop (length (map Script order.asks)) ≡ served_count order
 agree order = ap (count_of order.stop) (length-map order.asks Script)
 
-carries : (side : Side) (order : Order) (served : List Served) → (m : Made (speech_of order.kind) (keeps order.kind) (plan_of order) served) → Carries side order (lists_of side m.sent m.back) served
+carries : (side : Side) (order : Order) (served : List Served) → (m : Made (format_of order.kind) (keeps order.kind) (plan_of order) served) → Carries side order (lists_of side m.sent m.back) served
 carries Guest order served m = record {
   front = m.runs.front;
   whole_got = m.runs.whole_got;

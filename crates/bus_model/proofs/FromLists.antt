@@ -11,15 +11,15 @@ use Rattle.script_lines.specs.declared.line.Ask.{Ask}
 use Rattle.script_lines.specs.declared.line.Ask.TheVariants.{Ic as AskIc, Disk as AskDisk, Net as AskNet}
 use Rattle.bus_script.specs.declared.outcome.LineResult.TheVariants.{Unserved as IsUnserved}
 use Rattle.bus_script.specs.declared.outcome.Reply.{Reply}
-use Rattle.bus_speech.specs.declared.want.Want.{Want}
-use Rattle.bus_speech.specs.declared.want.Want.TheVariants.{Script}
-use Rattle.bus_speech.specs.Wants.{IsAskable}
-use Rattle.bus_speech.specs.Speeches.{speech_of, read_on, asked_as}
-use Rattle.bus_speech.proofs.SpeechLaws.{keeps, start_is_fixed, asked_is}
-use Rattle.work_model.specs.Asker.{Encoded}
-use Rattle.work_model.specs.Channel.{AllFixed, count_of, IsChannelRun as IsTalkRun}
-use Rattle.work_model.specs.Outcome.{Outcome, Unserved, done_of, served_of, outcomes_of as work_outcomes}
-use Rattle.work_model.proofs.Outcomes.{lines}
+use Rattle.device_formats.specs.declared.want.Want.{Want}
+use Rattle.device_formats.specs.declared.want.Want.TheVariants.{Script}
+use Rattle.device_formats.specs.Wants.{IsAskable}
+use Rattle.device_formats.specs.Formats.{format_of, read_on, asked_as}
+use Rattle.device_formats.proofs.FormatLaws.{keeps, start_is_fixed, asked_is}
+use Rattle.channel_model.specs.Asker.{Encoded}
+use Rattle.channel_model.specs.Channel.{AllFixed, count_of, IsProtocolRun}
+use Rattle.channel_model.specs.Outcome.{Outcome, Unserved, done_of, served_of, outcomes_of as work_outcomes}
+use Rattle.channel_model.proofs.Outcomes.{lines}
 use Rattle.bus_model.specs.Served.{Served, done_of as line_done}
 use Rattle.bus_model.specs.Orders.{Order, plan_of, startup_of}
 use Rattle.bus_model.specs.Channel.{script_ids, asked_under, served_count, replies_to, rescinded_of, outcomes_by}
@@ -44,20 +44,20 @@ dropped : {X : Type 0} (f : X → Bool) (x : X) (xs : List X) → f x ≡ false 
 dropped f x xs e = grind (arith, e)
 
 -- what asks nothing isn't read, so the requests alone are
-read_requests : (kind : Kind) (ps : List (List ℕ)) → filter_map (read_on kind) ps ≡ filter_map (read_on kind) (filter (speech_of kind).is_request ps)
+read_requests : (kind : Kind) (ps : List (List ℕ)) → filter_map (read_on kind) ps ≡ filter_map (read_on kind) (filter (format_of kind).is_request ps)
 read_requests kind [] = refl
 read_requests kind (p ∷ ps) =
-    by_test ((speech_of kind).is_request p)
-    (λ yes. same_front (read_on kind) p ps (filter (speech_of kind).is_request ps) (read_requests kind ps) ∙ ap (filter_map (read_on kind)) (sym (kept (speech_of kind).is_request p ps yes)))
+    by_test ((format_of kind).is_request p)
+    (λ yes. same_front (read_on kind) p ps (filter (format_of kind).is_request ps) (read_requests kind ps) ∙ ap (filter_map (read_on kind)) (sym (kept (format_of kind).is_request p ps yes)))
     (λ no.
     let none : read_on kind p ≡ None = (keeps kind).unread p ((keeps kind).asks p no) in
-    map_past (read_on kind) p ps none ∙ (read_requests kind ps ∙ ap (filter_map (read_on kind)) (sym (dropped (speech_of kind).is_request p ps no))))
+    map_past (read_on kind) p ps none ∙ (read_requests kind ps ∙ ap (filter_map (read_on kind)) (sym (dropped (format_of kind).is_request p ps no))))
 
-script_read : (kind : Kind) (asks : List Ask) (ps : List (List ℕ)) → AllByRecursion (IsAskable kind) asks → Encoded (speech_of kind) (map Script asks) ps → filter_map (read_on kind) ps ≡ asked_under (map (speech_of kind).id_of ps) asks
+script_read : (kind : Kind) (asks : List Ask) (ps : List (List ℕ)) → AllByRecursion (IsAskable kind) asks → Encoded (format_of kind) (map Script asks) ps → filter_map (read_on kind) ps ≡ asked_under (map (format_of kind).id_of ps) asks
 script_read kind asks [] can encoded = refl
 script_read kind [] (p ∷ ps) can encoded = absurd encoded
 script_read kind (a ∷ asks) (p ∷ ps) can encoded =
-    let id = (speech_of kind).id_of p in
+    let id = (format_of kind).id_of p in
     let is : read_on kind p ≡ Some (asked_as id a) = ap (read_on kind) encoded.0 ∙ asked_is kind id a can.0 in
     map_first (read_on kind) p ps (asked_as id a) is ∙ ap (λ l. asked_as id a ∷ l) (script_read kind asks ps can.1 encoded.1)
 
@@ -65,9 +65,9 @@ drop_none : {X : Type 0} (xs : List X) → drop 0 xs ≡ xs
 drop_none [] = refl
 drop_none (x ∷ xs) = refl
 
-plan_read : (kind : Kind) (start : List Want) (asks : List Ask) (ps : List (List ℕ)) → AllFixed (speech_of kind) start → AllByRecursion (IsAskable kind) asks → Encoded (speech_of kind) (start ++ map Script asks) ps
-    → filter_map (read_on kind) ps ≡ asked_under (map (speech_of kind).id_of (drop (length start) ps)) asks
-plan_read kind [] asks ps fixed can encoded = script_read kind asks ps can encoded ∙ ap (λ l. asked_under (map (speech_of kind).id_of l) asks) (sym (drop_none ps))
+plan_read : (kind : Kind) (start : List Want) (asks : List Ask) (ps : List (List ℕ)) → AllFixed (format_of kind) start → AllByRecursion (IsAskable kind) asks → Encoded (format_of kind) (start ++ map Script asks) ps
+    → filter_map (read_on kind) ps ≡ asked_under (map (format_of kind).id_of (drop (length start) ps)) asks
+plan_read kind [] asks ps fixed can encoded = script_read kind asks ps can encoded ∙ ap (λ l. asked_under (map (format_of kind).id_of l) asks) (sym (drop_none ps))
 plan_read kind (a ∷ start) asks [] fixed can encoded = refl
 plan_read kind (a ∷ start) asks (p ∷ ps) fixed can encoded =
     let is : read_on kind p ≡ None = ap (read_on kind) encoded.0 ∙ fixed.0 _ in
@@ -84,9 +84,9 @@ take_front (x ∷ xs) rest zero e = absurd (cc)
 take_front (x ∷ xs) rest (suc n) e = ap (λ l. x ∷ l) (take_front xs rest n (omega (arith, e)))
 
 first_asked : (order : Order) (sent got server_sent server_got : List (List ℕ)) (served : List Served) (told : List Reply) → AllByRecursion (IsAskable order.kind) order.asks
-    → IsTalkRun (speech_of order.kind) (plan_of order) sent got server_sent server_got served told → map (λ s. s.request) served ≡ take (served_count order) (asked_under (script_ids order sent) order.asks)
+    → IsProtocolRun (format_of order.kind) (plan_of order) sent got server_sent server_got served told → map (λ s. s.request) served ≡ take (served_count order) (asked_under (script_ids order sent) order.asks)
 first_asked order sent got server_sent server_got served told can run =
-    let requests = filter (speech_of order.kind).is_request sent in
+    let requests = filter (format_of order.kind).is_request sent in
     let read : filter_map (read_on order.kind) sent ≡ asked_under (script_ids order sent) order.asks =
     read_requests order.kind sent ∙ plan_read order.kind (startup_of order) order.asks requests (start_is_fixed order.kind order.sub order.subs) can run.requests in
     let whole : asked_under (script_ids order sent) order.asks ≡ map (λ (s : Served). s.request) served ++ run.asked.0 = sym read ∙ run.asked.1 in
@@ -153,4 +153,4 @@ table_same (Some (k, true)) m served =
 
 pub lists_tell_lem : ListsTell
 lists_tell_lem order lists served run =
-    ap (map line_of) (lines (speech_of order.kind) order.stop (length order.asks) served (map (λ s. s.reply) (replies_to order served)) (serves_each_lem order lists served run) refl) ∙ table_same order.stop (length order.asks) served
+    ap (map line_of) (lines (format_of order.kind) order.stop (length order.asks) served (map (λ s. s.reply) (replies_to order served)) (serves_each_lem order lists served run) refl) ∙ table_same order.stop (length order.asks) served

@@ -7,14 +7,14 @@ use Rattle.std.proofs.lemmas.Bool.Decides.{nat_tests}
 use Rattle.scsi_disk.proofs.RoomLaws.{by_test}
 use Rattle.chan_run.specs.Runs.{IsFront}
 use Rattle.hist_lock.specs.Seat.{Call}
-use Rattle.work_model.specs.Speech.{Speech, Keeps, packets_of, packets_in}
-use Rattle.work_model.specs.Acks.{acks_for}
-use Rattle.work_model.proofs.Serving.{serves_idle}
-use Rattle.work_model.specs.Asker.{Encoded}
-use Rattle.work_model.specs.Server.{Serves, ServesAsk, ServesOne, IsCall, answered}
-use Rattle.work_model.specs.Channel.{Plan, count_of, held_of, AllFixed, AllAsk, IsPlan, asks_of, IsChannelRun}
+use Rattle.channel_model.specs.WireFormat.{WireFormat, Keeps, packets_of, packets_in}
+use Rattle.channel_model.specs.Acks.{acks_for}
+use Rattle.channel_model.proofs.Serving.{serves_idle}
+use Rattle.channel_model.specs.Asker.{Encoded}
+use Rattle.channel_model.specs.Server.{Serves, ServesAsk, ServesOne, IsCall, answered}
+use Rattle.channel_model.specs.Channel.{RequestPlan, count_of, held_of, AllFixed, AllAsk, IsRequestPlan, asks_of, IsProtocolRun}
 
-module _ {P A Q R : Type 0} (s : Speech P A Q R) (keeps : Keeps s) where
+module _ {P A Q R : Type 0} (s : WireFormat P A Q R) (keeps : Keeps s) where
   -- the packets that ask, under the ids from this one on
   abbrev pub packets : ℕ → List A → List P
   packets id [] = []
@@ -169,12 +169,12 @@ module _ {P A Q R : Type 0} (s : Speech P A Q R) (keeps : Keeps s) where
       map_first : (x : P) (xs : List P) (y : Q) → s.read x ≡ Some y → filter_map s.read (x ∷ xs) ≡ y ∷ filter_map s.read xs
       map_first x xs y e = grind (arith, e)
 
-  pub record Made (plan : Plan A) (calls : List (Call Q R)) : Type 0 where
+  pub record Made (plan : RequestPlan A) (calls : List (Call Q R)) : Type 0 where
     pub sent : List P
     pub back : List P
-    pub runs : IsChannelRun s plan sent back back sent calls (map (λ c. c.reply) (answered s (held_of plan.stop (length plan.script)) (count_of plan.stop (length plan.script)) calls))
+    pub runs : IsProtocolRun s plan sent back back sent calls (map (λ c. c.reply) (answered s (held_of plan.stop (length plan.script)) (count_of plan.stop (length plan.script)) calls))
 
-  pub made : (plan : Plan A) (calls : List (Call Q R)) → IsPlan s plan → 1 + length (asks_of s plan) ≤ 2 ^ 64 → count_of plan.stop (length plan.script) ≤ length plan.script
+  pub made : (plan : RequestPlan A) (calls : List (Call Q R)) → IsRequestPlan s plan → 1 + length (asks_of s plan) ≤ 2 ^ 64 → count_of plan.stop (length plan.script) ≤ length plan.script
       → Fit (count_of plan.stop (length plan.script)) (1 + length plan.start) plan.script calls → Made plan calls
   made plan calls is low few fit =
       let n = count_of plan.stop (length plan.script) in

@@ -9,8 +9,8 @@ use Rattle.scsi_disk.proofs.RoomLaws.{by_test}
 use Rattle.ring_model.specs.Lists.{Lists}
 use Rattle.script_lines.specs.declared.line.Ask.{Ask}
 use Rattle.script_phases.specs.Openings.{Phase}
-use Rattle.work_model.specs.Channel.{count_of, held_of}
-use Rattle.work_model.specs.Roles.{side_that_asks}
+use Rattle.channel_model.specs.Channel.{count_of, held_of}
+use Rattle.channel_model.specs.Roles.{side_that_asks}
 use Rattle.bus_script.specs.declared.outcome.LineResult.{LineResult}
 use Rattle.bus_script.specs.declared.outcome.LineResult.TheVariants.{Unserved}
 use Rattle.bus_model.specs.Served.{Served, done_of}

@@ -3,7 +3,7 @@ use Rattle.std.proofs.Common.{◌≡◌, ℕ, zero, suc, ◌-◌, ◌≤◌, Boo
 use Rattle.std.specs.Prelude.{map, nat_le, take, drop, replicate, if◌then◌else◌}
 use Rattle.std.proofs.lemmas.Bool.Decides.{nat_tests}
 use Rattle.bus_script.specs.declared.outcome.LineResult.TheVariants.{Unserved, Gone, Closed}
-use Rattle.work_model.specs.Channel.{count_of}
+use Rattle.channel_model.specs.Channel.{count_of}
 use Rattle.bus_model.specs.Served.{Served, done_of}
 use Rattle.script_phases.specs.Says.{asks_of, is_shut}
 use Rattle.bus_model.specs.Orders.{Order}

@@ -6,8 +6,8 @@ use Rattle.script_lines.specs.declared.line.What.TheVariants.{Offer as IsOffer, 
 use Rattle.script_lines.specs.declared.line.Ask.{Ask}
 use Rattle.script_lines.specs.declared.line.Ask.TheVariants.{Ic as AskIc, Disk as AskDisk, Net as AskNet}
 use Rattle.script_lines.specs.declared.line.DeviceSpec.TheVariants.{Disk}
-use Rattle.bus_speech.specs.Wants.{IsAskable}
-use Rattle.bus_speech.specs.Speeches.{asked_as}
+use Rattle.device_formats.specs.Wants.{IsAskable}
+use Rattle.device_formats.specs.Formats.{asked_as}
 use Rattle.script_phases.specs.Openings.{Phase, Opening}
 use Rattle.bus_script.specs.declared.outcome.LineResult.TheVariants.{Done, Closed}
 use Rattle.bus_model.specs.Orders.{order_of}

@@ -1,15 +1,15 @@
 -- The run of one channel in one phase.
 use Rattle.std.specs.Prelude.{ℕ, ◌≡◌, ◌-◌, min, nat_le, Bool, true, false, List, [], ◌∷◌, ◌++◌, map, filter, take, drop, replicate, length, Option, Some, None, if◌then◌else◌}
-use Rattle.bus_speech.specs.Speeches.{speech_of, asked_as}
+use Rattle.device_formats.specs.Formats.{format_of, asked_as}
 use Rattle.script_lines.specs.declared.line.Ask.{Ask}
 use Rattle.bus_script.specs.declared.outcome.LineResult.{LineResult}
 use Rattle.bus_script.specs.declared.outcome.LineResult.TheVariants.{RescindedServed, Unserved}
 use Rattle.io_edge.specs.declared.side.Side.{Side}
 use Rattle.io_edge.specs.declared.side.Side.TheVariants.{Guest, Host}
 use Rattle.ring_model.specs.Lists.{Lists}
-use Rattle.work_model.specs.Channel.{count_of, held_of, IsChannelRun as IsTalkRun}
-use Rattle.work_model.specs.Roles.{side_that_asks}
-use Rattle.work_model.specs.Server.{answered}
+use Rattle.channel_model.specs.Channel.{count_of, held_of, IsProtocolRun}
+use Rattle.channel_model.specs.Roles.{side_that_asks}
+use Rattle.channel_model.specs.Server.{answered}
 use Rattle.bus_model.specs.Served.{Served, done_of}
 use Rattle.bus_model.specs.Orders.{Order, plan_of, startup_of}
 
@@ -35,18 +35,18 @@ is_held order = held_of order.stop (length order.asks)
 
 -- the calls whose replies go back
 abbrev pub replies_to : Order → List Served → List Served
-replies_to order served = answered (speech_of order.kind) (is_held order) (served_count order) served
+replies_to order served = answered (format_of order.kind) (is_held order) (served_count order) served
 
 -- What the end that asks and the end that serves sent and got is the run of the order's plan, with these calls: what was sent was got, as it was sent; the
 -- packets of the one end ask the start-up's and the script's requests, in order; the packets of the other end answer them, in order, with what was served.
 -- Where the service stops, requests after the stop may be missing, and the last answer where it is held
 abbrev pub Carries : Side → Order → Lists → List Served → Type 0
 Carries asks_at order lists served =
-    IsTalkRun (speech_of order.kind) (plan_of order) (sent_by asks_at lists) (got_by asks_at lists) (sent_by (other asks_at) lists) (got_by (other asks_at) lists) served (map (λ c. c.reply) (replies_to order served))
+    IsProtocolRun (format_of order.kind) (plan_of order) (sent_by asks_at lists) (got_by asks_at lists) (sent_by (other asks_at) lists) (got_by (other asks_at) lists) served (map (λ c. c.reply) (replies_to order served))
 
 -- the ids of the packets that ask the script's requests, in order
 abbrev pub script_ids : Order → List (List ℕ) → List ℕ
-script_ids order sent = map (speech_of order.kind).id_of (drop (length (startup_of order)) (filter (speech_of order.kind).is_request sent))
+script_ids order sent = map (format_of order.kind).id_of (drop (length (startup_of order)) (filter (format_of order.kind).is_request sent))
 
 -- what a device is asked by requests under these ids: a message for an adapter that has a request id has that of its packet, and any other request is as it stands in the script
 abbrev pub asked_under : List ℕ → List Ask → List Ask

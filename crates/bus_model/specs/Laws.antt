@@ -12,14 +12,14 @@ use Rattle.bus_script.specs.declared.outcome.LineResult.{LineResult}
 use Rattle.bus_script.specs.declared.outcome.LineResult.TheVariants.{Version, Done, RescindedServed, Unserved, Gone, Closed}
 use Rattle.bus_script.specs.declared.outcome.Reply.{Reply}
 use Rattle.bus_script.specs.Report.{prints}
-use Rattle.bus_speech.specs.Wants.{IsAskable}
-use Rattle.bus_speech.specs.Speeches.{speech_of, fits_on}
+use Rattle.device_formats.specs.Wants.{IsAskable}
+use Rattle.device_formats.specs.Formats.{format_of, fits_on}
 use Rattle.io_edge.specs.declared.side.Side.{Side}
 use Rattle.io_edge.specs.declared.side.Side.TheVariants.{Guest}
 use Rattle.ring_model.specs.Lists.{Lists}
-use Rattle.work_model.specs.Outcome.{Outcome, Done as IsDone, RescindedServed as IsRescinded, Unserved as IsUnserved, lines_of}
-use Rattle.work_model.specs.Acks.{acks_for}
-use Rattle.work_model.specs.Roles.{side_that_asks}
+use Rattle.channel_model.specs.Outcome.{Outcome, Done as IsDone, RescindedServed as IsRescinded, Unserved as IsUnserved, lines_of}
+use Rattle.channel_model.specs.Acks.{acks_for}
+use Rattle.channel_model.specs.Roles.{side_that_asks}
 use Rattle.bus_model.specs.Served.{Served, done_of}
 use Rattle.bus_model.specs.Orders.{Order, order_of, startup_of}
 use Rattle.bus_model.specs.Channel.{IsChannelRun, Carries, asked_under, asked_by, sent_by, other, served_count, is_held, replies_to, rescinded_of, outcomes_of}
@@ -52,8 +52,8 @@ AsksAsScripted = (order : Order) (ids : List ℕ) → (order.kind ≡ Net → �
 
 -- The messages that came back besides the answers: the end that asks completed them in the order in which they were sent, each once where the service doesn't stop, and at most once where it does
 pub record Completed (order : Order) (lists : Lists) : Type 0 where
-  pub in_order : IsFront (filter (speech_of order.kind).is_ack (sent_by (side_that_asks order.kind) lists)) (acks_for (speech_of order.kind) (sent_by (other (side_that_asks order.kind)) lists))
-  pub each : order.stop ≡ None → filter (speech_of order.kind).is_ack (sent_by (side_that_asks order.kind) lists) ≡ acks_for (speech_of order.kind) (sent_by (other (side_that_asks order.kind)) lists)
+  pub in_order : IsFront (filter (format_of order.kind).is_ack (sent_by (side_that_asks order.kind) lists)) (acks_for (format_of order.kind) (sent_by (other (side_that_asks order.kind)) lists))
+  pub each : order.stop ≡ None → filter (format_of order.kind).is_ack (sent_by (side_that_asks order.kind) lists) ≡ acks_for (format_of order.kind) (sent_by (other (side_that_asks order.kind)) lists)
 
 abbrev pub CompletesEach : Type 0
 CompletesEach = (order : Order) (lists : Lists) (served : List Served) → IsChannelRun order lists served → Completed order lists

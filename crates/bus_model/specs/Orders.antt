@@ -6,10 +6,10 @@ use Rattle.script_lines.specs.Parts.{kind_of, channels_of}
 use Rattle.script_phases.specs.Says.{asks_of, stop_of}
 use Rattle.script_phases.specs.Openings.{Opening, Phase, subs_of}
 use Rattle.script_phases.specs.Shares.{share}
-use Rattle.bus_speech.specs.declared.want.Want.{Want}
-use Rattle.bus_speech.specs.declared.want.Want.TheVariants.{Script}
-use Rattle.bus_speech.specs.Wants.{startup}
-use Rattle.work_model.specs.Channel.{Plan}
+use Rattle.device_formats.specs.declared.want.Want.{Want}
+use Rattle.device_formats.specs.declared.want.Want.TheVariants.{Script}
+use Rattle.device_formats.specs.Wants.{startup}
+use Rattle.channel_model.specs.Channel.{RequestPlan}
 
 -- a channel's kind, its number among the device's channels, how many sub-channels that has, its requests, and where its service stops: after some of
 -- them, the answer to the last one held or not
@@ -35,5 +35,5 @@ abbrev pub startup_of : Order → List Want
 startup_of order = startup order.kind order.sub order.subs
 
 -- what the end that asks has to ask, and where the other one stops
-abbrev pub plan_of : Order → Plan Want
+abbrev pub plan_of : Order → RequestPlan Want
 plan_of order = record { start = startup_of order; script = map Script order.asks; stop = order.stop }

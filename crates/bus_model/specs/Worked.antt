@@ -10,8 +10,8 @@ use Rattle.script_phases.specs.Openings.{phases}
 use Rattle.bus_script.specs.declared.outcome.LineResult.{LineResult}
 use Rattle.bus_script.specs.declared.outcome.LineResult.TheVariants.{Done, RescindedServed, Unserved, Closed}
 use Rattle.bus_script.specs.declared.outcome.Reply.{Reply}
-use Rattle.bus_speech.specs.Wants.{IsAskable}
-use Rattle.bus_speech.specs.Speeches.{fits_on}
+use Rattle.device_formats.specs.Wants.{IsAskable}
+use Rattle.device_formats.specs.Formats.{fits_on}
 use Rattle.ring_model.specs.Lists.{Lists}
 use Rattle.bus_model.specs.Served.{Served}
 use Rattle.bus_model.specs.Orders.{Order}
@@ -35,7 +35,7 @@ abbrev pub entry : ℕ → Exchange → Recorded
 entry seat e = record { seat = seat; ask = e.ask; reply = e.reply }
 
 -- a run of the phases of lines with one device: its channels in order, its history, and the outcomes
-pub record Ran (lines : List Line) (channels : List (ℕ × ℕ × ℕ)) (log : List Recorded) (results : List LineResult) : Type 0 where
+pub record WorkedRun (lines : List Line) (channels : List (ℕ × ℕ × ℕ)) (log : List Recorded) (results : List LineResult) : Type 0 where
   pub settled : List ChannelRun
   pub runs : RunsOf (phases lines) ([] ∷ []) settled (log ∷ []) results
   pub channels_are : map carried_at settled ≡ channels
@@ -46,19 +46,19 @@ sharing a b c = line 1 (IsOffer [] (Disk 64 1)) ∷ line 2 (IsAsk 0 a.ask) ∷ l
 
 abbrev pub Shares : Type 0
 Shares = (a b c : Exchange)
-    → Ran (sharing a b c) ((0, 1, 0) ∷ (0, 2, 0) ∷ (1, 1, 0) ∷ (1, 3, 0) ∷ []) (entry 0 a ∷ entry 0 b ∷ entry 1 c ∷ []) (Done 0 a.reply ∷ Done 1 b.reply ∷ Done 2 c.reply ∷ [])
+    → WorkedRun (sharing a b c) ((0, 1, 0) ∷ (0, 2, 0) ∷ (1, 1, 0) ∷ (1, 3, 0) ∷ []) (entry 0 a ∷ entry 0 b ∷ entry 1 c ∷ []) (Done 0 a.reply ∷ Done 1 b.reply ∷ Done 2 c.reply ∷ [])
 
 -- or the sub-channel's request was served first
 abbrev pub SharesOtherwise : Type 0
 SharesOtherwise = (a b c : Exchange)
-    → Ran (sharing a b c) ((0, 1, 0) ∷ (0, 2, 0) ∷ (1, 1, 0) ∷ (1, 3, 0) ∷ []) (entry 0 a ∷ entry 1 c ∷ entry 0 b ∷ []) (Done 0 a.reply ∷ Done 2 b.reply ∷ Done 1 c.reply ∷ [])
+    → WorkedRun (sharing a b c) ((0, 1, 0) ∷ (0, 2, 0) ∷ (1, 1, 0) ∷ (1, 3, 0) ∷ []) (entry 0 a ∷ entry 1 c ∷ entry 0 b ∷ []) (Done 0 a.reply ∷ Done 2 b.reply ∷ Done 1 c.reply ∷ [])
 
 -- a disk is asked and closed, and asked again in the next phase, which opens nothing
 abbrev pub closing : Exchange → Exchange → List Line
 closing a b = line 1 (IsOffer [] (Disk 64 0)) ∷ line 2 (IsAsk 0 a.ask) ∷ line 3 (IsShut 0) ∷ line 4 IsPhase ∷ line 5 (IsAsk 0 b.ask) ∷ []
 
 abbrev pub Closes : Type 0
-Closes = (a b : Exchange) → Ran (closing a b) ((0, 1, 0) ∷ []) (entry 0 a ∷ []) (Done 0 a.reply ∷ Closed ∷ [])
+Closes = (a b : Exchange) → WorkedRun (closing a b) ((0, 1, 0) ∷ []) (entry 0 a ∷ []) (Done 0 a.reply ∷ Closed ∷ [])
 
 -- a disk is asked four times, and rescinded after two
 abbrev pub rescinding : Bool → Exchange → Exchange → Exchange → Exchange → Order

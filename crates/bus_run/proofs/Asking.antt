@@ -11,7 +11,7 @@ use Rattle.std.proofs.lemmas.Bool.Decides.{nat_tests}
 use Rattle.contact.specs.declared.kind.Kind.{Kind}
 use Rattle.contact.specs.declared.kind.Kind.TheVariants.{Disk as KindDisk, Net as KindNet}
 use Rattle.io_edge.specs.declared.side.Side.TheVariants.{Guest}
-use Rattle.work_model.specs.Roles.{side_that_asks}
+use Rattle.channel_model.specs.Roles.{side_that_asks}
 use Rattle.script_lines.specs.declared.line.Line.{Line}
 use Rattle.script_lines.specs.declared.line.What.{What}
 use Rattle.script_lines.specs.declared.line.What.TheVariants.{Contact as IsContact, Offer as IsOffer, Bad as IsBad, RingSize as IsRingSize, Window as IsWindow, Ask as IsAsk, Rescind as IsRescind, Shut as IsShut, Phase as IsPhase}
@@ -22,7 +22,7 @@ use Rattle.script_lines.specs.WellFormed.{IsRescindable, IsRight, AllRight, CanG
 use Rattle.script_phases.specs.Says.{said_to, heard_by, asked, stops, asks_of}
 use Rattle.bus_model.proofs.Lists.{each_append}
 use Rattle.bus_plan.specs.Heard.{AllBelow}
-use Rattle.end_work.specs.Plans.{AllCarried, CanStop}
+use Rattle.channel_workers.specs.Plans.{AllCarried, CanStop}
 
 -- what is said to a device is for one of its kind, and goes through its channel
 abbrev pub FitsSays : List DeviceSpec → ℕ → Says → Type 0

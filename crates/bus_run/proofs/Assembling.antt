@@ -13,8 +13,8 @@ use Rattle.bus_model.specs.Run.{Carried, IsCarried, EachGrows, seats_of}
 use Rattle.bus_model.proofs.Arriving.{serves_each_lem}
 use Rattle.bus_model.specs.declared.channel_run.ChannelRun.{ChannelRun}
 use Rattle.bus_script.specs.declared.outcome.LineResult.{LineResult}
-use Rattle.end_work.specs.Seats.{kind_at, served_at, IsSameSeat}
-use Rattle.end_work.specs.declared.device_seat.DeviceSeat.{DeviceSeat}
+use Rattle.channel_workers.specs.Seats.{kind_at, served_at, IsSameSeat}
+use Rattle.channel_workers.specs.declared.device_seat.DeviceSeat.{DeviceSeat}
 use Rattle.phase_run.specs.Pairs.{EachRuns, Pairing}
 use Rattle.phase_run.specs.declared.pair.PairDone.{PairDone}
 use Rattle.bus_plan.specs.Plans.{EachOf, IsOrdered, order_by}
@@ -23,11 +23,11 @@ use Rattle.bus_run.specs.Channels.{CanRun, ChannelsRan, IsOf}
 use Rattle.bus_run.specs.Closing.{AllBack, AllClosed, AllCome, AreWhole, Closed, IsClosed, RanAt, closed_of, run_of, told_of}
 use Rattle.bus_run.specs.Due.{due_of}
 use Rattle.bus_run.specs.declared.due.Due.{Due}
-use Rattle.bus_run.specs.Desk.{desk_at, desk_log, spec_of, setup_of, GoesOn, IsKept, IsReady}
+use Rattle.bus_run.specs.DeviceSlot.{slot_at, slot_log, spec_of, setup_of, GoesOn, IsKept, IsReady}
 use Rattle.bus_run.specs.Opening.{AllOpened, AreAway, CanOpen, CanOpenAll, Given, OpensAt, order_at, orders_of, quotas_of, seats_at, seats_given}
 use Rattle.bus_run.specs.Seats.{AreSeatsFor, ComesBack, EachWith, IsAway, kind_in, seats_in}
-use Rattle.bus_run.specs.declared.desk.Desk.{Desk}
-use Rattle.bus_run.specs.declared.desk.Desk.TheVariants.{Out}
+use Rattle.bus_run.specs.declared.device_slot.DeviceSlot.{DeviceSlot}
+use Rattle.bus_run.specs.declared.device_slot.DeviceSlot.TheVariants.{Out}
 use Rattle.bus_run.specs.declared.seats.Seats.{Seats}
 use Rattle.bus_run.specs.declared.seats.Seats.TheVariants.{None as NoSeats, Beat as BeatSeats, Down as DownSeats, Disk as DiskSeats, Net as NetSeats}
 use Rattle.bus_run.specs.declared.settings.Settings.{Settings}
@@ -36,7 +36,7 @@ use Rattle.bus_run.proofs.ServedLines.{no_more}
 
 -- the channels ran
 
-each_ran : (settings : List Settings) (old : List Desk) (given : List Given) (pairs : List Pairing) (dones : List PairDone) → EachWith (OpensAt settings old) given pairs → EachRuns pairs dones → EachWith (RanAt old) given dones
+each_ran : (settings : List Settings) (old : List DeviceSlot) (given : List Given) (pairs : List Pairing) (dones : List PairDone) → EachWith (OpensAt settings old) given pairs → EachRuns pairs dones → EachWith (RanAt old) given dones
 each_ran settings old [] [] [] each runs = tt
 each_ran settings old [] [] (d ∷ dones) each runs = absurd runs
 each_ran settings old [] (q ∷ pairs) dones each runs = absurd each
@@ -44,16 +44,16 @@ each_ran settings old (g ∷ given) [] dones each runs = absurd each
 each_ran settings old (g ∷ given) (q ∷ pairs) [] each runs = absurd runs
 each_ran settings old (g ∷ given) (q ∷ pairs) (d ∷ dones) each runs = (runs.0.runs (order_at old g.order) g.seat each.0.opens, each_ran settings old given pairs dones each.1 runs.1)
 
-all_within : (plan : List ChannelOrder) (old : List Desk) → AllByRecursion (CanOpen old) plan → AllByRecursion (λ x. x.opening.device < length old) plan
+all_within : (plan : List ChannelOrder) (old : List DeviceSlot) → AllByRecursion (CanOpen old) plan → AllByRecursion (λ x. x.opening.device < length old) plan
 all_within [] old can = tt
 all_within (x ∷ plan) old can = (can.0.within, all_within plan old can.1)
 
-all_fit : (old : List Desk) (before seats : List Seats) (given : List Given) → ((k : ℕ) → k < length old → kind_in (seats_at seats k) ≡ kind_in (seats_at before k)) → AllByRecursion (λ (g : Given). g.order.opening.device < length old) given
+all_fit : (old : List DeviceSlot) (before seats : List Seats) (given : List Given) → ((k : ℕ) → k < length old → kind_in (seats_at seats k) ≡ kind_in (seats_at before k)) → AllByRecursion (λ (g : Given). g.order.opening.device < length old) given
     → AllByRecursion (λ (g : Given). kind_in (seats_at before g.order.opening.device) ≡ Some (kind_at g.seat)) given → AllByRecursion (λ (g : Given). kind_in (seats_at seats g.order.opening.device) ≡ Some (kind_at g.seat)) given
 all_fit old before seats [] kinds low fits = tt
 all_fit old before seats (g ∷ given) kinds low fits = (kinds g.order.opening.device low.0 ∙ fits.0, all_fit old before seats given kinds low.1 fits.1)
 
-given_within : (old : List Desk) (given : List Given) → AllByRecursion (λ (x : ChannelOrder). x.opening.device < length old) (map (λ (g : Given). g.order) given) → AllByRecursion (λ (g : Given). g.order.opening.device < length old) given
+given_within : (old : List DeviceSlot) (given : List Given) → AllByRecursion (λ (x : ChannelOrder). x.opening.device < length old) (map (λ (g : Given). g.order) given) → AllByRecursion (λ (g : Given). g.order.opening.device < length old) given
 given_within old [] low = tt
 given_within old (g ∷ given) low = (low.0, given_within old given low.1)
 
@@ -61,11 +61,11 @@ dues_given : (given : List Given) → map (λ (g : Given). due_of g.order) given
 dues_given [] = refl
 dues_given (g ∷ given) = ap (λ l. due_of g.order ∷ l) (dues_given given)
 
-dues_within : (old : List Desk) (plan : List ChannelOrder) → AllByRecursion (λ (x : ChannelOrder). x.opening.device < length old) plan → AllByRecursion (λ (d : Due). d.opening.device < length old) (map due_of plan)
+dues_within : (old : List DeviceSlot) (plan : List ChannelOrder) → AllByRecursion (λ (x : ChannelOrder). x.opening.device < length old) plan → AllByRecursion (λ (d : Due). d.opening.device < length old) (map due_of plan)
 dues_within old [] low = tt
 dues_within old (x ∷ plan) low = (low.0, dues_within old plan low.1)
 
-pub all_come : (settings : List Settings) (plan : List ChannelOrder) (old held : List Desk) (before seats : List Seats) (pairs : List Pairing) (dones : List PairDone) → CanOpenAll plan old → AreAway plan old held before → (all : AllOpened settings plan old before seats pairs) → EachRuns pairs dones
+pub all_come : (settings : List Settings) (plan : List ChannelOrder) (old held : List DeviceSlot) (before seats : List Seats) (pairs : List Pairing) (dones : List PairDone) → CanOpenAll plan old → AreAway plan old held before → (all : AllOpened settings plan old before seats pairs) → EachRuns pairs dones
     → AllCome (map due_of plan) old all.opened.given seats dones
 all_come settings plan old held before seats pairs dones can away all runs =
     let opened = all.opened in
@@ -82,7 +82,7 @@ all_come settings plan old held before seats pairs dones can away all runs =
 
 -- the seats that came back
 
-same_closed : (old : List Desk) (k : ℕ) (closed : List Closed) → AllByRecursion (IsClosed old) closed → EachWith IsSameSeat (seats_given k (map (λ (c : Closed). c.given) closed)) (map (λ (c : Closed). c.back) (closed_of k closed))
+same_closed : (old : List DeviceSlot) (k : ℕ) (closed : List Closed) → AllByRecursion (IsClosed old) closed → EachWith IsSameSeat (seats_given k (map (λ (c : Closed). c.given) closed)) (map (λ (c : Closed). c.back) (closed_of k closed))
 same_closed old k [] all = tt
 same_closed old k (c ∷ closed) all = by_flag (c.given.order.opening.device == k) (filter (λ (g : Given). g.order.opening.device == k) (map (λ (c : Closed). c.given) closed)) (closed_of k closed) all.0.same (same_closed old k closed all.1)
   where
@@ -98,12 +98,12 @@ no_kind (DownSeats v) is = absurd (cc)
 no_kind (DiskSeats v) is = absurd (cc)
 no_kind (NetSeats v) is = absurd (cc)
 
-comes_back : (old held : Desk) (quotas : List ℕ) (before seats : Seats) (given : List DeviceSeat) → IsKept old → IsAway old quotas held before (seats_in before) → kind_in seats ≡ kind_in before → seats_in before ≡ given → EachWith IsSameSeat given (seats_in seats)
+comes_back : (old held : DeviceSlot) (quotas : List ℕ) (before seats : Seats) (given : List DeviceSeat) → IsKept old → IsAway old quotas held before (seats_in before) → kind_in seats ≡ kind_in before → seats_in before ≡ given → EachWith IsSameSeat given (seats_in seats)
     → ComesBack old quotas given held seats
 comes_back old held [] before seats given kept away kind dealt same = (away.0, no_kind seats (kind ∙ ap kind_in away.1), kept)
 comes_back old held (q ∷ quotas) before seats given kept away kind dealt same = (away.0, kind ∙ away.1, subst (AreSeatsFor old (q ∷ quotas)) dealt away.2, same)
 
-pub all_back : (settings : List Settings) (phase most : ℕ) (plan : List ChannelOrder) (old held : List Desk) (before between seats : List Seats) (pairs : List Pairing) (settled settled' : List ChannelRun) (outcomes : List (List (List LineResult))) → All (IsReady (4096 * most)) old
+pub all_back : (settings : List Settings) (phase most : ℕ) (plan : List ChannelOrder) (old held : List DeviceSlot) (before between seats : List Seats) (pairs : List Pairing) (settled settled' : List ChannelRun) (outcomes : List (List (List LineResult))) → All (IsReady (4096 * most)) old
     → AreAway plan old held before → (all : AllOpened settings plan old before between pairs) → AllClosed phase old all.opened.given between seats settled settled' outcomes
     → AllBack old (λ k. quotas_of k plan) (λ k. seats_given k all.opened.given) held seats
 all_back settings phase most plan old held before between seats pairs settled settled' outcomes ready away all closed =
@@ -118,12 +118,12 @@ all_back settings phase most plan old held before between seats pairs settled se
           let same : EachWith IsSameSeat (seats_given k opened.given) (seats_in (seats_at seats k)) =
           subst (EachWith IsSameSeat (seats_given k opened.given)) (sym (closed.back k mid))
           (subst (λ gs. EachWith IsSameSeat (seats_given k gs) (map (λ (c : Closed). c.back) (closed_of k closed.closed))) closed.given_are (same_closed old k closed.closed closed.each)) in
-          comes_back (desk_at old k) (desk_at held k) (quotas_of k plan) (seats_at before k) (seats_at seats k) (seats_given k opened.given) (room_here most plan old k ready less).kept (away.each k less) (closed.kinds k mid ∙ opened.kinds k low) dealt same;
+          comes_back (slot_at old k) (slot_at held k) (quotas_of k plan) (seats_at before k) (seats_at seats k) (seats_given k opened.given) (room_here most plan old k ready less).kept (away.each k less) (closed.kinds k mid ∙ opened.kinds k low) dealt same;
     }
 
 -- what each channel carried
 
-module _ (p : Phase) (phase : ℕ) (old : List Desk) where
+module _ (p : Phase) (phase : ℕ) (old : List DeviceSlot) where
   abbrev Is : Opening → Closed → Type 0
   Is o c = IsOrdered p o c.given.order
 
@@ -152,7 +152,7 @@ module _ (p : Phase) (phase : ℕ) (old : List Desk) where
 
   -- the order of a channel in the phase
   pub same_order : (o : Opening) (x : ChannelOrder) → IsOrdered p o x → IsOf old o → order_at old x ≡ order_of p o
-  same_order o x is of = ap (λ k. order_by x (spec_of (desk_at old k))) is.device ∙ (ap (order_by x) (sym of.spec) ∙ is.order)
+  same_order o x is of = ap (λ k. order_by x (spec_of (slot_at old k))) is.device ∙ (ap (order_by x) (sym of.spec) ∙ is.order)
 
   carried_each : p.number ≡ phase → (os : List Opening) (closed : List Closed) → EachOf Is os closed → AllByRecursion (IsOf old) os → AllByRecursion (IsClosed old) closed → AllByRecursion (IsCarried p) (carried os closed)
   carried_each number [] [] each of all = tt
@@ -181,7 +181,7 @@ module _ (p : Phase) (phase : ℕ) (old : List Desk) where
 
 -- a device's channels serve no more than they are asked
 
-served_few : (old : List Desk) (k : ℕ) (closed : List Closed) → AllByRecursion (IsClosed old) closed → total (map (λ (c : Closed). served_at c.back) (closed_of k closed)) ≤ sum (quotas_of k (map (λ (c : Closed). c.given.order) closed))
+served_few : (old : List DeviceSlot) (k : ℕ) (closed : List Closed) → AllByRecursion (IsClosed old) closed → total (map (λ (c : Closed). served_at c.back) (closed_of k closed)) ≤ sum (quotas_of k (map (λ (c : Closed). c.given.order) closed))
 served_few old k [] all = omega arith
 served_few old k (c ∷ closed) all =
     let order = order_at old c.given.order in
@@ -195,8 +195,8 @@ served_few old k (c ∷ closed) all =
 
 -- all histories went on
 
-each_grows : (place : ℕ) (channels : List Carried) (old new : List Desk) → length new ≡ length old → ((k : ℕ) → k < length old → GoesOn (desk_at old k) (desk_at new k) (map (λ c. c.served) (seats_of (place + k) channels)))
-    → EachGrows place channels (map desk_log old) (map desk_log new) × (map spec_of new ≡ map spec_of old) × (map setup_of new ≡ map setup_of old)
+each_grows : (place : ℕ) (channels : List Carried) (old new : List DeviceSlot) → length new ≡ length old → ((k : ℕ) → k < length old → GoesOn (slot_at old k) (slot_at new k) (map (λ c. c.served) (seats_of (place + k) channels)))
+    → EachGrows place channels (map slot_log old) (map slot_log new) × (map spec_of new ≡ map spec_of old) × (map setup_of new ≡ map setup_of old)
 each_grows place channels [] [] count goes = (tt, refl, refl)
 each_grows place channels [] (n ∷ new) count goes = absurd (omega (arith, count))
 each_grows place channels (o ∷ old) [] count goes = absurd (omega (arith, count))
@@ -204,13 +204,13 @@ each_grows place channels (o ∷ old) (n ∷ new) count goes =
     let first = goes 0 (omega arith) in
     let here : place + 0 ≡ place = omega arith in
     let more = each_grows (place + 1) channels old new (omega (arith, count))
-    (λ k less. let next : place + suc k ≡ (place + 1) + k = omega arith in subst (λ j. GoesOn (desk_at old k) (desk_at new k) (map (λ (c : Carried). c.served) (seats_of j channels))) next (goes (suc k) (omega (arith, less)))) in (
-      (subst (λ j. Grows (desk_log o) (desk_log n) (map (λ (c : Carried). c.served) (seats_of j channels))) here first.grows, more.0),
+    (λ k less. let next : place + suc k ≡ (place + 1) + k = omega arith in subst (λ j. GoesOn (slot_at old k) (slot_at new k) (map (λ (c : Carried). c.served) (seats_of j channels))) next (goes (suc k) (omega (arith, less)))) in (
+      (subst (λ j. Grows (slot_log o) (slot_log n) (map (λ (c : Carried). c.served) (seats_of j channels))) here first.grows, more.0),
       ap (λ s. s ∷ map spec_of new) first.spec ∙ ap (λ l. spec_of o ∷ l) more.1,
       ap (λ s. s ∷ map setup_of new) first.setup ∙ ap (λ l. setup_of o ∷ l) more.2,
     )
 
-module _ (settings : List Settings) (phase : ℕ) (plan : List ChannelOrder) (p : Phase) (old held new : List Desk) (before between seats : List Seats) (pairs : List Pairing) (settled settled' : List ChannelRun) (outcomes : List (List (List LineResult)))
+module _ (settings : List Settings) (phase : ℕ) (plan : List ChannelOrder) (p : Phase) (old held new : List DeviceSlot) (before between seats : List Seats) (pairs : List Pairing) (settled settled' : List ChannelRun) (outcomes : List (List (List LineResult)))
     (can : CanRun phase plan old p) (away : AreAway plan old held before) (all : AllOpened settings plan old before between pairs) (closed : AllClosed phase old all.opened.given between seats settled settled' outcomes) (whole : AreWhole old new seats) where
   places : length between ≡ length old
   places = all.opened.places ∙ away.places
@@ -225,15 +225,15 @@ module _ (settings : List Settings) (phase : ℕ) (plan : List ChannelOrder) (p 
   served_there : (k : ℕ) → k < length old → map served_at (seats_in (seats_at seats k)) ≡ map (λ (c : Closed). served_at c.back) (closed_of k closed.closed)
   served_there k less = ap (map served_at) (closed.back k (omega (arith, less, places))) ∙ map-map served_at (λ (c : Closed). c.back) (closed_of k closed.closed)
 
-  goes_on : (k : ℕ) → k < length old → GoesOn (desk_at old k) (desk_at new k) (map (λ (c : Carried). c.served) (seats_of k (carried p phase old (by_relid p.opened) closed.closed)))
+  goes_on : (k : ℕ) → k < length old → GoesOn (slot_at old k) (slot_at new k) (map (λ (c : Carried). c.served) (seats_of k (carried p phase old (by_relid p.opened) closed.closed)))
   goes_on k less =
-      subst (GoesOn (desk_at old k) (desk_at new k)) (served_there k less ∙ sym (carried_of p phase old (λ (c : Carried). c.served) (λ (c : Closed). served_at c.back) (λ o c is of. refl) k (by_relid p.opened) closed.closed each can.of)) (whole.each k less)
+      subst (GoesOn (slot_at old k) (slot_at new k)) (served_there k less ∙ sym (carried_of p phase old (λ (c : Carried). c.served) (λ (c : Closed). served_at c.back) (λ o c is of. refl) k (by_relid p.opened) closed.closed each can.of)) (whole.each k less)
 
   pub channels_ran : ChannelsRan p old new settled settled' outcomes
   channels_ran =
       let os = by_relid p.opened in
       let channels = carried p phase old os closed.closed in
-      let goes = each_grows 0 channels old new whole.count (λ k less. let same : k ≡ 0 + k = omega arith in subst (λ j. GoesOn (desk_at old k) (desk_at new k) (map (λ (c : Carried). c.served) (seats_of j channels))) same (goes_on k less)) in
+      let goes = each_grows 0 channels old new whole.count (λ k less. let same : k ≡ 0 + k = omega arith in subst (λ j. GoesOn (slot_at old k) (slot_at new k) (map (λ (c : Carried). c.served) (seats_of j channels))) same (goes_on k less)) in
       record {
         channels = channels;
         opened = carried_openings p phase old os closed.closed each;
@@ -254,4 +254,4 @@ module _ (settings : List Settings) (phase : ℕ) (plan : List ChannelOrder) (p 
       let was = room_here phase plan old k ready within in
       let few : total (map (λ (c : Closed). served_at c.back) (closed_of k closed.closed)) ≤ sum (quotas_of k plan) = subst (λ xs. total (map (λ (c : Closed). served_at c.back) (closed_of k closed.closed)) ≤ sum (quotas_of k xs)) orders (served_few old k closed.closed closed.each) in
       subst (IsReady (4096 * (phase + 1))) (get_or_default new k (Out 0) d less)
-      (record { kept = goes.kept; few = omega (arith, was.few, few, can.can.asked k within, ap length goes.grows.after_is, length-append (desk_log (desk_at old k)) goes.grows.more, goes.grows.all, ap total (served_there k within)) })
+      (record { kept = goes.kept; few = omega (arith, was.few, few, can.can.asked k within, ap length goes.grows.after_is, length-append (slot_log (slot_at old k)) goes.grows.more, goes.grows.all, ap total (served_there k within)) })

@@ -8,18 +8,18 @@ use Rattle.std.proofs.lemmas.Bool.Decides.{nat_tests}
 use Rattle.bus_model.proofs.Lists.{each_append}
 use Rattle.bus_model.specs.declared.channel_run.ChannelRun.{ChannelRun}
 use Rattle.bus_script.specs.declared.outcome.LineResult.{LineResult}
-use Rattle.end_work.specs.Seats.{kind_at, served_at, IsSameSeat}
-use Rattle.end_work.specs.declared.device_seat.DeviceSeat.{DeviceSeat}
-use Rattle.end_work.specs.declared.device_seat.DeviceSeat.TheVariants.{Beat as BeatSeat, Down as DownSeat, Disk as DiskSeat, Net as NetSeat}
-use Rattle.phase_run.specs.Pairs.{Ran}
+use Rattle.channel_workers.specs.Seats.{kind_at, served_at, IsSameSeat}
+use Rattle.channel_workers.specs.declared.device_seat.DeviceSeat.{DeviceSeat}
+use Rattle.channel_workers.specs.declared.device_seat.DeviceSeat.TheVariants.{Beat as BeatSeat, Down as DownSeat, Disk as DiskSeat, Net as NetSeat}
+use Rattle.phase_run.specs.Pairs.{RanPair}
 use Rattle.phase_run.specs.declared.pair.PairDone.{PairDone}
-use Rattle.bus_run.specs.Desk.{desk_at, GoesOn}
+use Rattle.bus_run.specs.DeviceSlot.{slot_at, GoesOn}
 use Rattle.bus_run.specs.Due.{due_of}
 use Rattle.bus_run.specs.Opening.{Given, order_at, seats_at}
 use Rattle.bus_run.specs.Closing.{AllBack, AllClosed, AllCome, AreWhole, ChannelClosed, Closed, IsClosed, RanAt, closed_of, run_of, told_of}
 use Rattle.bus_run.specs.Seats.{EachWith, ComesBack, kind_in, seats_in}
-use Rattle.bus_run.specs.declared.desk.Desk.{Desk}
-use Rattle.bus_run.specs.declared.desk.Desk.TheVariants.{Out}
+use Rattle.bus_run.specs.declared.device_slot.DeviceSlot.{DeviceSlot}
+use Rattle.bus_run.specs.declared.device_slot.DeviceSlot.TheVariants.{Out}
 use Rattle.bus_run.specs.declared.due.Due.{Due}
 use Rattle.bus_run.specs.declared.seats.Seats.{Seats}
 use Rattle.bus_run.specs.declared.seats.Seats.TheVariants.{None as NoSeats}
@@ -44,11 +44,11 @@ same_kind (NetSeat s) (DownSeat t) same = absurd same
 same_kind (NetSeat s) (DiskSeat t) same = absurd same
 same_kind (NetSeat s) (NetSeat t) same = refl
 
-pub record ClosedNow (phase i : ℕ) (old : List Desk) (given : List Given) (before seats : List Seats) (dones : List PairDone) (settled settled' : List ChannelRun) (outcomes : List (List (List LineResult))) : Type 0 where
+pub record ClosedNow (phase i : ℕ) (old : List DeviceSlot) (given : List Given) (before seats : List Seats) (dones : List PairDone) (settled settled' : List ChannelRun) (outcomes : List (List (List LineResult))) : Type 0 where
   pub so_far : AllClosed phase old (take i given) before seats settled settled' outcomes
   pub left : EachWith (RanAt old) (drop i given) dones
 
-pub closed_start : (phase : ℕ) (dues : List Due) (old : List Desk) (given : List Given) (before : List Seats) (dones : List PairDone) (settled : List ChannelRun) (outcomes : List (List (List LineResult))) → AllCome dues old given before dones
+pub closed_start : (phase : ℕ) (dues : List Due) (old : List DeviceSlot) (given : List Given) (before : List Seats) (dones : List PairDone) (settled : List ChannelRun) (outcomes : List (List (List LineResult))) → AllCome dues old given before dones
     → outcomes ≡ replicate (length before) [] → ClosedNow phase 0 old given before before dones settled settled outcomes
 closed_start phase dues old given before dones settled outcomes all none = record {
   so_far = record {
@@ -73,7 +73,7 @@ pub due_is : (dues : List Due) (i : ℕ) → i < length dues → due_at dues i �
 due_is dues i less = sym (get_or_default dues i (due_at dues i) (record { opening = record { relid = 0; device = 0; sub = 0 }; count = 0 }) less)
 
 -- the channel whose turn it is
-pub record Next (old : List Desk) (given : List Given) (i : ℕ) (before seats : List Seats) (own : Seats) (d : Due) (dones : List PairDone) : Type 0 where
+pub record Next (old : List DeviceSlot) (given : List Given) (i : ℕ) (before seats : List Seats) (own : Seats) (d : Due) (dones : List PairDone) : Type 0 where
   pub next : At given i
   pub due_is : due_of next.item.order ≡ d
   pub place : d.opening.device < length old
@@ -83,10 +83,10 @@ pub record Next (old : List Desk) (given : List Given) (i : ℕ) (before seats :
   pub done : PairDone
   pub rest : List PairDone
   pub dones_are : dones ≡ done ∷ rest
-  pub ran : Ran (order_at old next.item.order) next.item.seat done
+  pub ran : RanPair (order_at old next.item.order) next.item.seat done
   pub more : EachWith (RanAt old) (drop (i + 1) given) rest
 
-pub next : (phase : ℕ) (dues : List Due) (i : ℕ) (old : List Desk) (given : List Given) (before seats : List Seats) (own : Seats) (d : Due) (all_dones dones : List PairDone) (settled settled' : List ChannelRun) (outcomes : List (List (List LineResult)))
+pub next : (phase : ℕ) (dues : List Due) (i : ℕ) (old : List DeviceSlot) (given : List Given) (before seats : List Seats) (own : Seats) (d : Due) (all_dones dones : List PairDone) (settled settled' : List ChannelRun) (outcomes : List (List (List LineResult)))
     → AllCome dues old given before all_dones → ClosedNow phase i old given before seats dones settled settled' outcomes → i < length dues → d ≡ get_or dues i d → own ≡ get_or seats d.opening.device own → Next old given i before seats own d dones
 next phase dues i old given before seats own d all_dones dones settled settled' outcomes all now less is value =
     let so_far = now.so_far in
@@ -122,13 +122,13 @@ next phase dues i old given before seats own d all_dones dones settled settled' 
     comes [] g gs each = absurd each
     comes (d ∷ ds) g gs each = (d, ds, refl, each.0, each.1)
 
-pub here_within : (phase : ℕ) (dues : List Due) (i : ℕ) (old : List Desk) (given : List Given) (before seats : List Seats) (d : Due) (all_dones dones : List PairDone) (settled settled' : List ChannelRun) (outcomes : List (List (List LineResult)))
+pub here_within : (phase : ℕ) (dues : List Due) (i : ℕ) (old : List DeviceSlot) (given : List Given) (before seats : List Seats) (d : Due) (all_dones dones : List PairDone) (settled settled' : List ChannelRun) (outcomes : List (List (List LineResult)))
     → AllCome dues old given before all_dones → ClosedNow phase i old given before seats dones settled settled' outcomes → i < length dues → d ≡ get_or dues i d → (d.opening.device < length seats) × (d.opening.device < length outcomes)
 here_within phase dues i old given before seats d all_dones dones settled settled' outcomes all now less is =
     let place : d.opening.device < length old = subst (λ (y : Due). y.opening.device < length old) (sym is) (all_at (λ (y : Due). y.opening.device < length old) dues i d all.within less) in
     (omega (arith, place, all.places, now.so_far.places), omega (arith, place, all.places, now.so_far.long))
 
-pub closed_more : (phase i : ℕ) (old : List Desk) (given : List Given) (before seats : List Seats) (own new : Seats) (d : Due) (dones rest : List PairDone) (settled settled' settled'' : List ChannelRun) (outcomes : List (List (List LineResult))) (results : List LineResult)
+pub closed_more : (phase i : ℕ) (old : List DeviceSlot) (given : List Given) (before seats : List Seats) (own new : Seats) (d : Due) (dones rest : List PairDone) (settled settled' settled'' : List ChannelRun) (outcomes : List (List (List LineResult))) (results : List LineResult)
     → ClosedNow phase i old given before seats dones settled settled' outcomes → (n : Next old given i before seats own d dones) → rest ≡ n.rest → ChannelClosed phase d.opening (order_at old n.next.item.order) n.next.item.seat own new settled' settled'' results
     → ClosedNow phase (i + 1) old given before (slice_set seats d.opening.device new) rest settled settled'' (slice_set outcomes d.opening.device (slice_index_or outcomes d.opening.device [] ++ results ∷ []))
 closed_more phase i old given before seats own new d dones rest settled settled' settled'' outcomes results now n rest_is one =
@@ -189,51 +189,51 @@ closed_more phase i old given before seats own new d dones rest settled settled'
     told_here : results ≡ told_of old (record { given = n.next.item; back = one.back; lists = one.lists })
     told_here = one.ended.outcomes
 
-pub closed_end : (phase i : ℕ) (old : List Desk) (given : List Given) (before seats : List Seats) (dones : List PairDone) (settled settled' : List ChannelRun) (outcomes : List (List (List LineResult))) → ClosedNow phase i old given before seats dones settled settled' outcomes → length given ≤ i
+pub closed_end : (phase i : ℕ) (old : List DeviceSlot) (given : List Given) (before seats : List Seats) (dones : List PairDone) (settled settled' : List ChannelRun) (outcomes : List (List (List LineResult))) → ClosedNow phase i old given before seats dones settled settled' outcomes → length given ≤ i
     → AllClosed phase old given before seats settled settled' outcomes
 closed_end phase i old given before seats dones settled settled' outcomes now over = subst (λ l. AllClosed phase old l before seats settled settled' outcomes) (take_all i given over) now.so_far
 
 -- the devices, made whole one by one
 
-pub record WholeSoFar (i : ℕ) (old held desks : List Desk) (all seats : List Seats) : Type 0 where
-  pub count : length desks ≡ length old
+pub record WholeSoFar (i : ℕ) (old held slots : List DeviceSlot) (all seats : List Seats) : Type 0 where
+  pub count : length slots ≡ length old
   pub places : length seats ≡ length old
-  pub each : (k : ℕ) → k < i → k < length old → GoesOn (desk_at old k) (desk_at desks k) (map served_at (seats_in (seats_at all k)))
-  pub desks_left : (k : ℕ) → i ≤ k → desk_at desks k ≡ desk_at held k
+  pub each : (k : ℕ) → k < i → k < length old → GoesOn (slot_at old k) (slot_at slots k) (map served_at (seats_in (seats_at all k)))
+  pub slots_left : (k : ℕ) → i ≤ k → slot_at slots k ≡ slot_at held k
   pub seats_left : (k : ℕ) → i ≤ k → seats_at seats k ≡ seats_at all k
 
-pub whole_start : (old held : List Desk) (quotas : ℕ → List ℕ) (given : ℕ → List DeviceSeat) (all : List Seats) → AllBack old quotas given held all → WholeSoFar 0 old held held all all
-whole_start old held quotas given all back = record { count = back.count; places = back.places; each = λ k less within. absurd (omega (arith, less)); desks_left = λ k le. refl; seats_left = λ k le. refl }
+pub whole_start : (old held : List DeviceSlot) (quotas : ℕ → List ℕ) (given : ℕ → List DeviceSeat) (all : List Seats) → AllBack old quotas given held all → WholeSoFar 0 old held held all all
+whole_start old held quotas given all back = record { count = back.count; places = back.places; each = λ k less within. absurd (omega (arith, less)); slots_left = λ k le. refl; seats_left = λ k le. refl }
 
 -- the next device and its seats
-pub record IsNext (i : ℕ) (old held : List Desk) (quotas : ℕ → List ℕ) (given : ℕ → List DeviceSeat) (all : List Seats) (desk : Desk) (own : Seats) : Type 0 where
-  pub back : ComesBack (desk_at old i) (quotas i) (given i) desk own
+pub record IsNext (i : ℕ) (old held : List DeviceSlot) (quotas : ℕ → List ℕ) (given : ℕ → List DeviceSeat) (all : List Seats) (slot : DeviceSlot) (own : Seats) : Type 0 where
+  pub back : ComesBack (slot_at old i) (quotas i) (given i) slot own
   pub own_is : own ≡ seats_at all i
 
-pub next_whole : (i : ℕ) (old held desks : List Desk) (quotas : ℕ → List ℕ) (given : ℕ → List DeviceSeat) (all seats : List Seats) (desk : Desk) (own : Seats) → AllBack old quotas given held all → WholeSoFar i old held desks all seats → i < length desks
-    → desk ≡ get_or desks i desk → own ≡ get_or seats i own → IsNext i old held quotas given all desk own
-next_whole i old held desks quotas given all seats desk own back so_far less is own_value =
+pub next_whole : (i : ℕ) (old held slots : List DeviceSlot) (quotas : ℕ → List ℕ) (given : ℕ → List DeviceSeat) (all seats : List Seats) (slot : DeviceSlot) (own : Seats) → AllBack old quotas given held all → WholeSoFar i old held slots all seats → i < length slots
+    → slot ≡ get_or slots i slot → own ≡ get_or seats i own → IsNext i old held quotas given all slot own
+next_whole i old held slots quotas given all seats slot own back so_far less is own_value =
     let within : i < length old = omega (arith, less, so_far.count) in
-    let desk_is : desk ≡ desk_at held i = is ∙ (get_or_default desks i desk (Out 0) less ∙ so_far.desks_left i (omega arith)) in
+    let slot_is : slot ≡ slot_at held i = is ∙ (get_or_default slots i slot (Out 0) less ∙ so_far.slots_left i (omega arith)) in
     let own_is : own ≡ seats_at all i = own_value ∙ (get_or_default seats i own NoSeats (omega (arith, within, so_far.places)) ∙ so_far.seats_left i (omega arith)) in
     record {
-      back = subst (λ d. ComesBack (desk_at old i) (quotas i) (given i) d own) (sym desk_is) (subst (ComesBack (desk_at old i) (quotas i) (given i) (desk_at held i)) (sym own_is) (back.each i within));
+      back = subst (λ d. ComesBack (slot_at old i) (quotas i) (given i) d own) (sym slot_is) (subst (ComesBack (slot_at old i) (quotas i) (given i) (slot_at held i)) (sym own_is) (back.each i within));
       own_is = own_is;
     }
 
-pub whole_more : (i : ℕ) (old held desks : List Desk) (quotas : ℕ → List ℕ) (given : ℕ → List DeviceSeat) (all seats : List Seats) (desk new : Desk) (own gone : Seats) → WholeSoFar i old held desks all seats → i < length desks → IsNext i old held quotas given all desk own
-    → GoesOn (desk_at old i) new (map served_at (seats_in own)) → WholeSoFar (i + 1) old held (slice_set desks i new) all (slice_set seats i gone)
-whole_more i old held desks quotas given all seats desk new own gone so_far less n goes = record {
-  count = length-set desks i new ∙ so_far.count;
+pub whole_more : (i : ℕ) (old held slots : List DeviceSlot) (quotas : ℕ → List ℕ) (given : ℕ → List DeviceSeat) (all seats : List Seats) (slot new : DeviceSlot) (own gone : Seats) → WholeSoFar i old held slots all seats → i < length slots → IsNext i old held quotas given all slot own
+    → GoesOn (slot_at old i) new (map served_at (seats_in own)) → WholeSoFar (i + 1) old held (slice_set slots i new) all (slice_set seats i gone)
+whole_more i old held slots quotas given all seats slot new own gone so_far less n goes = record {
+  count = length-set slots i new ∙ so_far.count;
   places = length-set seats i gone ∙ so_far.places;
   each = λ k low within. elim (cases_eq k i) [
-    | inl e ↦ subst (λ j. GoesOn (desk_at old j) (desk_at (slice_set desks i new) j) (map served_at (seats_in (seats_at all j)))) (sym e)
-        (subst (λ d. GoesOn (desk_at old i) d (map served_at (seats_in (seats_at all i)))) (sym (get_or-set_same desks i new (Out 0) less)) (subst (λ s. GoesOn (desk_at old i) new (map served_at (seats_in s))) n.own_is goes))
-    | inr ne ↦ subst (λ d. GoesOn (desk_at old k) d (map served_at (seats_in (seats_at all k)))) (sym (get_or-set_other desks i k new (Out 0) ne)) (so_far.each k (omega (arith, low, ne)) within)
+    | inl e ↦ subst (λ j. GoesOn (slot_at old j) (slot_at (slice_set slots i new) j) (map served_at (seats_in (seats_at all j)))) (sym e)
+        (subst (λ d. GoesOn (slot_at old i) d (map served_at (seats_in (seats_at all i)))) (sym (get_or-set_same slots i new (Out 0) less)) (subst (λ s. GoesOn (slot_at old i) new (map served_at (seats_in s))) n.own_is goes))
+    | inr ne ↦ subst (λ d. GoesOn (slot_at old k) d (map served_at (seats_in (seats_at all k)))) (sym (get_or-set_other slots i k new (Out 0) ne)) (so_far.each k (omega (arith, low, ne)) within)
   ];
-  desks_left = λ k le. let ne : k ≡ i → ⊥ = λ e. omega (arith, le, e) in get_or-set_other desks i k new (Out 0) ne ∙ so_far.desks_left k (omega (arith, le));
+  slots_left = λ k le. let ne : k ≡ i → ⊥ = λ e. omega (arith, le, e) in get_or-set_other slots i k new (Out 0) ne ∙ so_far.slots_left k (omega (arith, le));
   seats_left = λ k le. let ne : k ≡ i → ⊥ = λ e. omega (arith, le, e) in get_or-set_other seats i k gone NoSeats ne ∙ so_far.seats_left k (omega (arith, le));
 }
 
-pub whole_end : (i : ℕ) (old held desks : List Desk) (all seats : List Seats) → WholeSoFar i old held desks all seats → length old ≤ i → AreWhole old desks all
-whole_end i old held desks all seats so_far over = record { count = so_far.count; each = λ k less. so_far.each k (omega (arith, less, over)) less }
+pub whole_end : (i : ℕ) (old held slots : List DeviceSlot) (all seats : List Seats) → WholeSoFar i old held slots all seats → length old ≤ i → AreWhole old slots all
+whole_end i old held slots all seats so_far over = record { count = so_far.count; each = λ k less. so_far.each k (omega (arith, less, over)) less }

@@ -20,9 +20,9 @@ use Rattle.scsi_disk.specs.FiniteMap.{Kept, kept_after, unwritten, stands_for}
 use Rattle.scsi_disk.specs.declared.request.DiskRequest.{DiskRequest}
 use Rattle.scsi_disk.specs.declared.reply.DiskReply.{DiskReply}
 use Rattle.scsi_disk.proofs.ModelLaws.{stands_for-kept_after}
-use Rattle.bus_run.specs.Desk.{spec_of, setup_of, setup_for, IsKept}
-use Rattle.bus_run.specs.declared.desk.Desk.{Desk}
-use Rattle.bus_run.specs.declared.desk.Desk.TheVariants.{Disk as DiskDesk}
+use Rattle.bus_run.specs.DeviceSlot.{spec_of, setup_of, setup_for, IsKept}
+use Rattle.bus_run.specs.declared.device_slot.DeviceSlot.{DeviceSlot}
+use Rattle.bus_run.specs.declared.device_slot.DeviceSlot.TheVariants.{Disk as DiskSlot}
 
 -- entries and calls of any device, by what its requests and replies are among all
 
@@ -60,8 +60,8 @@ pub disk_legal : (k : Kept) (es : List (Entry Kept DiskRequest DiskReply)) → I
 disk_legal k [] legal = tt
 disk_legal k (e ∷ es) legal = (legal.0, subst (λ d. IsLegal disk_after disk_reply d es) (stands_for-kept_after k e.request) (disk_legal (kept_after k e.request) es legal.1))
 
-pub disk_history : (desk : Desk) (subs : ℕ) (state : Kept) (history : History Kept DiskRequest DiskReply) (bad : List ℕ) → desk ≡ DiskDesk subs state history → IsKept desk → setup_of desk ≡ setup_for (spec_of desk) bad → IsHistory (spec_of desk) bad (DiskHistory history)
-disk_history desk subs state history bad is kept setup =
+pub disk_history : (slot : DeviceSlot) (subs : ℕ) (state : Kept) (history : History Kept DiskRequest DiskReply) (bad : List ℕ) → slot ≡ DiskSlot subs state history → IsKept slot → setup_of slot ≡ setup_for (spec_of slot) bad → IsHistory (spec_of slot) bad (DiskHistory history)
+disk_history slot subs state history bad is kept setup =
     let same = subst (λ d. setup_of d ≡ setup_for (spec_of d) bad) is setup in
     let here = subst IsKept is kept in
     subst (λ d. IsHistory (spec_of d) bad (DiskHistory history)) (sym is)

@@ -25,10 +25,10 @@ use Rattle.bus_model.specs.declared.channel_run.ChannelRun.{ChannelRun}
 use Rattle.bus_model.specs.declared.history.DeviceHistory.{DeviceHistory}
 use Rattle.bus_plan.specs.Endings.{AreEnded, outcome_left}
 use Rattle.bus_plan.specs.declared.ending.Ending.{Ending}
-use Rattle.bus_run.specs.declared.desk.Desk.{Desk}
+use Rattle.bus_run.specs.declared.device_slot.DeviceSlot.{DeviceSlot}
 use Rattle.bus_run.specs.declared.runner.Runner.{Runner}
 use Rattle.scsi_disk.specs.DiskModel.{DiskState}
-use Rattle.bus_run.specs.Desk.{spec_of, setup_of, setup_for, desk_log, IsFresh, IsReady}
+use Rattle.bus_run.specs.DeviceSlot.{spec_of, setup_of, setup_for, slot_log, IsFresh, IsReady}
 use Rattle.bus_run.specs.Settings.{SettingsOf}
 use Rattle.bus_run.specs.Whole.{IsThis, PhaseRan, AreFresh, setups_from, specs_of, parts_left, earlier_lines, NextWithin, behind, next_relid, RunsSoFar}
 
@@ -38,15 +38,15 @@ setups_push : (lines : List Line) (device at : ℕ) (kinds : List DeviceSpec) (k
 setups_push lines device at [] k is = let here : device ≡ at = omega (arith, is) in ap (λ n. setup_for k (bads_of n lines) ∷ []) here
 setups_push lines device at (j ∷ kinds) k is = ap (λ l. setup_for j (bads_of device lines) ∷ l) (setups_push lines (device + 1) at kinds k (omega (arith, is)))
 
-pub fresh_more : (lines : List Line) (kinds : List DeviceSpec) (desks new : List Desk) (spec : DeviceSpec) (bad : List ℕ) (desk : Desk) → AreFresh lines kinds desks → bad ≡ bads_of (length desks) lines → IsFresh spec bad desk → new ≡ desks ++ desk ∷ []
+pub fresh_more : (lines : List Line) (kinds : List DeviceSpec) (slots new : List DeviceSlot) (spec : DeviceSpec) (bad : List ℕ) (slot : DeviceSlot) → AreFresh lines kinds slots → bad ≡ bads_of (length slots) lines → IsFresh spec bad slot → new ≡ slots ++ slot ∷ []
     → AreFresh lines (kinds ++ spec ∷ []) new
-fresh_more lines kinds desks new spec bad desk old places fresh is =
-    let long : length desks ≡ 0 + length kinds = omega (arith, length-map desks spec_of, ap length old.kinds_are) in
+fresh_more lines kinds slots new spec bad slot old places fresh is =
+    let long : length slots ≡ 0 + length kinds = omega (arith, length-map slots spec_of, ap length old.kinds_are) in
     subst (AreFresh lines (kinds ++ spec ∷ [])) (sym is) (record {
-      kinds_are = map-append spec_of desks (desk ∷ []) ∙ ap (λ l. l ++ spec_of desk ∷ []) old.kinds_are ∙ ap (λ k. kinds ++ k ∷ []) fresh.spec;
-      setups_are = map-append setup_of desks (desk ∷ []) ∙ ap (λ l. l ++ setup_of desk ∷ []) old.setups_are ∙ ap (λ s. setups_from lines 0 kinds ++ s ∷ []) (fresh.setup ∙ ap (setup_for spec) places) ∙ sym (setups_push lines 0 (length desks) kinds spec long);
-      logs = map-append desk_log desks (desk ∷ []) ∙ ap (λ l. l ++ desk_log desk ∷ []) old.logs ∙ ap (λ k. map (λ k. []) kinds ++ k ∷ []) fresh.log ∙ sym (map-append (λ k. []) kinds (spec ∷ []));
-      ready = All-push (IsReady 0) desks desk old.ready (record { kept = fresh.kept; few = omega (arith, ap length fresh.log) });
+      kinds_are = map-append spec_of slots (slot ∷ []) ∙ ap (λ l. l ++ spec_of slot ∷ []) old.kinds_are ∙ ap (λ k. kinds ++ k ∷ []) fresh.spec;
+      setups_are = map-append setup_of slots (slot ∷ []) ∙ ap (λ l. l ++ setup_of slot ∷ []) old.setups_are ∙ ap (λ s. setups_from lines 0 kinds ++ s ∷ []) (fresh.setup ∙ ap (setup_for spec) places) ∙ sym (setups_push lines 0 (length slots) kinds spec long);
+      logs = map-append slot_log slots (slot ∷ []) ∙ ap (λ l. l ++ slot_log slot ∷ []) old.logs ∙ ap (λ k. map (λ k. []) kinds ++ k ∷ []) fresh.log ∙ sym (map-append (λ k. []) kinds (spec ∷ []));
+      ready = All-push (IsReady 0) slots slot old.ready (record { kept = fresh.kept; few = omega (arith, ap length fresh.log) });
     })
 
 pub offered_taken : (lines : List Line) (i : ℕ) (line : Line) → i < length lines → line ≡ get_or lines i line → offered (take (i + 1) lines) ≡ offered (take i lines) ++ offered_by line.what
@@ -58,55 +58,55 @@ offered_taken lines i line less is =
 -- histories at the end
 
 -- a device that was not reached is the old one
-pub rest_there : (old desks : List Desk) (i : ℕ) (desk : Desk) → drop i desks ≡ drop i old → i < length desks → i < length old → desk ≡ get_or desks i desk → desk ≡ get_or old i desk
-rest_there old desks i desk rest less within is =
-    let heads : get_or desks i desk ∷ drop (i + 1) desks ≡ get_or old i desk ∷ drop (i + 1) old = sym (drop_more desks i desk less) ∙ rest ∙ drop_more old i desk within in
-    is ∙ ap (λ (l : List Desk). get_or l 0 desk) heads
+pub rest_there : (old slots : List DeviceSlot) (i : ℕ) (slot : DeviceSlot) → drop i slots ≡ drop i old → i < length slots → i < length old → slot ≡ get_or slots i slot → slot ≡ get_or old i slot
+rest_there old slots i slot rest less within is =
+    let heads : get_or slots i slot ∷ drop (i + 1) slots ≡ get_or old i slot ∷ drop (i + 1) old = sym (drop_more slots i slot less) ∙ rest ∙ drop_more old i slot within in
+    is ∙ ap (λ (l : List DeviceSlot). get_or l 0 slot) heads
 
 -- each history is its device's
-abbrev pub EachTells : List Desk → List DeviceHistory → Type 0
+abbrev pub EachTells : List DeviceSlot → List DeviceHistory → Type 0
 EachTells [] [] = Unit {0}
 EachTells [] (h ∷ histories) = ⊥
-EachTells (d ∷ desks) [] = ⊥
-EachTells (d ∷ desks) (h ∷ histories) = ((bad : List ℕ) → setup_of d ≡ setup_for (spec_of d) bad → IsHistory (spec_of d) bad h) × EachTells desks histories
+EachTells (d ∷ slots) [] = ⊥
+EachTells (d ∷ slots) (h ∷ histories) = ((bad : List ℕ) → setup_of d ≡ setup_for (spec_of d) bad → IsHistory (spec_of d) bad h) × EachTells slots histories
 
-tells_push : (desks : List Desk) (histories : List DeviceHistory) (d : Desk) (h : DeviceHistory) → EachTells desks histories → ((bad : List ℕ) → setup_of d ≡ setup_for (spec_of d) bad → IsHistory (spec_of d) bad h) → EachTells (desks ++ d ∷ []) (histories ++ h ∷ [])
+tells_push : (slots : List DeviceSlot) (histories : List DeviceHistory) (d : DeviceSlot) (h : DeviceHistory) → EachTells slots histories → ((bad : List ℕ) → setup_of d ≡ setup_for (spec_of d) bad → IsHistory (spec_of d) bad h) → EachTells (slots ++ d ∷ []) (histories ++ h ∷ [])
 tells_push [] [] d h each one = (one, tt)
 tells_push [] (g ∷ histories) d h each one = absurd each
-tells_push (e ∷ desks) [] d h each one = absurd each
-tells_push (e ∷ desks) (g ∷ histories) d h each one = (each.0, tells_push desks histories d h each.1 one)
+tells_push (e ∷ slots) [] d h each one = absurd each
+tells_push (e ∷ slots) (g ∷ histories) d h each one = (each.0, tells_push slots histories d h each.1 one)
 
-each_history : (lines : List Line) (device : ℕ) (desks : List Desk) (histories : List DeviceHistory) → EachTells desks histories → map setup_of desks ≡ setups_from lines device (map spec_of desks) → EachHistory lines device (map spec_of desks) histories
+each_history : (lines : List Line) (device : ℕ) (slots : List DeviceSlot) (histories : List DeviceHistory) → EachTells slots histories → map setup_of slots ≡ setups_from lines device (map spec_of slots) → EachHistory lines device (map spec_of slots) histories
 each_history lines device [] [] each are = tt
 each_history lines device [] (h ∷ histories) each are = absurd each
-each_history lines device (d ∷ desks) [] each are = absurd each
-each_history lines device (d ∷ desks) (h ∷ histories) each are =
-    (each.0 (bads_of device lines) (ap (λ (l : List (Option DiskState)). get_or l 0 None) are), each_history lines (device + 1) desks histories each.1 (ap (λ (l : List (Option DiskState)). drop 1 l) are))
+each_history lines device (d ∷ slots) [] each are = absurd each
+each_history lines device (d ∷ slots) (h ∷ histories) each are =
+    (each.0 (bads_of device lines) (ap (λ (l : List (Option DiskState)). get_or l 0 None) are), each_history lines (device + 1) slots histories each.1 (ap (λ (l : List (Option DiskState)). drop 1 l) are))
 
-pub record HistoriesSoFar (i : ℕ) (old desks : List Desk) (histories : List DeviceHistory) : Type 0 where
-  pub logs : map log_of histories ≡ map desk_log (take i old)
+pub record HistoriesSoFar (i : ℕ) (old slots : List DeviceSlot) (histories : List DeviceHistory) : Type 0 where
+  pub logs : map log_of histories ≡ map slot_log (take i old)
   pub legal : EachTells (take i old) histories
-  pub rest : drop i desks ≡ drop i old
-  pub count : length desks ≡ length old
+  pub rest : drop i slots ≡ drop i old
+  pub count : length slots ≡ length old
 
-pub history_more : (i : ℕ) (old desks : List Desk) (histories : List DeviceHistory) (desk gone : Desk) (h : DeviceHistory) → HistoriesSoFar i old desks histories → i < length desks → desk ≡ get_or desks i desk → log_of h ≡ desk_log desk
-    → ((bad : List ℕ) → setup_of desk ≡ setup_for (spec_of desk) bad → IsHistory (spec_of desk) bad h) → HistoriesSoFar (i + 1) old (slice_set desks i gone) (histories ++ h ∷ [])
-history_more i old desks histories desk gone h so_far less is log legal =
+pub history_more : (i : ℕ) (old slots : List DeviceSlot) (histories : List DeviceHistory) (slot gone : DeviceSlot) (h : DeviceHistory) → HistoriesSoFar i old slots histories → i < length slots → slot ≡ get_or slots i slot → log_of h ≡ slot_log slot
+    → ((bad : List ℕ) → setup_of slot ≡ setup_for (spec_of slot) bad → IsHistory (spec_of slot) bad h) → HistoriesSoFar (i + 1) old (slice_set slots i gone) (histories ++ h ∷ [])
+history_more i old slots histories slot gone h so_far less is log legal =
     let within : i < length old = omega (arith, less, so_far.count) in
-    let here : desk ≡ get_or old i desk = rest_there old desks i desk so_far.rest less within is in
-    let taken : take (i + 1) old ≡ take i old ++ desk ∷ [] = take_more old i desk within ∙ ap (λ (d : Desk). take i old ++ d ∷ []) (sym here) in
+    let here : slot ≡ get_or old i slot = rest_there old slots i slot so_far.rest less within is in
+    let taken : take (i + 1) old ≡ take i old ++ slot ∷ [] = take_more old i slot within ∙ ap (λ (d : DeviceSlot). take i old ++ d ∷ []) (sym here) in
     record {
-      logs = map-append log_of histories (h ∷ []) ∙ ap (λ l. l ++ log_of h ∷ []) so_far.logs ∙ ap (λ x. map desk_log (take i old) ++ x ∷ []) log ∙ sym (ap (map desk_log) taken ∙ map-append desk_log (take i old) (desk ∷ []));
-      legal = subst (λ l. EachTells l (histories ++ h ∷ [])) (sym taken) (tells_push (take i old) histories desk h so_far.legal legal);
-      rest = drop-set-lt (i + 1) desks i gone (omega arith) ∙ ap (drop 1) (sym (drop_more desks i desk less) ∙ so_far.rest ∙ drop_more old i desk within);
-      count = length-set desks i gone ∙ so_far.count;
+      logs = map-append log_of histories (h ∷ []) ∙ ap (λ l. l ++ log_of h ∷ []) so_far.logs ∙ ap (λ x. map slot_log (take i old) ++ x ∷ []) log ∙ sym (ap (map slot_log) taken ∙ map-append slot_log (take i old) (slot ∷ []));
+      legal = subst (λ l. EachTells l (histories ++ h ∷ [])) (sym taken) (tells_push (take i old) histories slot h so_far.legal legal);
+      rest = drop-set-lt (i + 1) slots i gone (omega arith) ∙ ap (drop 1) (sym (drop_more slots i slot less) ∙ so_far.rest ∙ drop_more old i slot within);
+      count = length-set slots i gone ∙ so_far.count;
     }
 
-pub histories_end : (i : ℕ) (old desks : List Desk) (histories : List DeviceHistory) → HistoriesSoFar i old desks histories → length old ≤ i
-    → (map log_of histories ≡ map desk_log old) × ((lines : List Line) → map setup_of old ≡ setups_from lines 0 (map spec_of old) → EachHistory lines 0 (map spec_of old) histories)
-histories_end i old desks histories so_far done =
+pub histories_end : (i : ℕ) (old slots : List DeviceSlot) (histories : List DeviceHistory) → HistoriesSoFar i old slots histories → length old ≤ i
+    → (map log_of histories ≡ map slot_log old) × ((lines : List Line) → map setup_of old ≡ setups_from lines 0 (map spec_of old) → EachHistory lines 0 (map spec_of old) histories)
+histories_end i old slots histories so_far done =
     let whole : take i old ≡ old = take_all i old done in (
-      so_far.logs ∙ ap (map desk_log) whole,
+      so_far.logs ∙ ap (map slot_log) whole,
       λ lines are. each_history lines 0 old histories (subst (λ l. EachTells l histories) whole so_far.legal) are,
     )
 
@@ -234,7 +234,7 @@ abbrev pub the_phase : List Line → ℕ → Phase
 the_phase lines k = get_or (phases lines) k no_phase
 
 -- it is the one that runs next
-pub next_phase : (lines : List Line) (r : Runner) (part : List Line) (rest : List (List Line)) → RunsSoFar lines r → IsScript lines → part ∷ rest ≡ drop r.phase (parts lines) → IsThis r.phase part r.ended.items (specs_of r.desks.items) r.relid (the_phase lines r.phase)
+pub next_phase : (lines : List Line) (r : Runner) (part : List Line) (rest : List (List Line)) → RunsSoFar lines r → IsScript lines → part ∷ rest ≡ drop r.phase (parts lines) → IsThis r.phase part r.ended.items (specs_of r.slots.items) r.relid (the_phase lines r.phase)
 next_phase lines r part rest so_far script left =
     let less : r.phase < length (parts lines) = (this_phase (parts lines) r.phase part rest left).0 in
     let at = phase_at (offered lines) 0 (length (offered lines) + 1) [] (parts lines) r.phase no_phase less in
@@ -245,7 +245,7 @@ next_phase lines r part rest so_far script left =
       of = record {
         part_is = at.part_is ∙ sym head;
         ended_are = subst (λ l. AreEnded l r.ended.items) (sym at.earlier_is) so_far.ended;
-        devices = length-map r.desks.items spec_of ∙ sym so_far.ended_count;
+        devices = length-map r.slots.items spec_of ∙ sym so_far.ended_count;
         opened = at.opened
             ∙ (ap (λ n. opened_from (is_opened (the_phase lines r.phase).earlier (the_phase lines r.phase).part) 0 n (offered lines)) (sym so_far.relid)
             ∙ ap (opened_from (is_opened (the_phase lines r.phase).earlier (the_phase lines r.phase).part) 0 r.relid) (sym kinds));
@@ -273,14 +273,14 @@ all_few kinds [] right = tt
 all_few kinds (l ∷ lines) right = each_append (λ s. subs_of s ≤ 3) (offered_by l.what) (offered lines) (few_offered kinds l.what right.0) (all_few kinds lines right.1)
 
 -- no phase ran
-pub start : (lines : List Line) (r : Runner) → AreFresh lines (offered lines) r.desks.items → SettingsOf lines (length r.desks.items) r.settings.items → r.ended.items ≡ replicate (length r.desks.items) None → r.relid ≡ length r.desks.items + 1 → length (offered lines) ≤ 16 → r.phase ≡ 0 → r.next ≡ Some 0 → r.settled.items ≡ [] → r.results.items ≡ []
+pub start : (lines : List Line) (r : Runner) → AreFresh lines (offered lines) r.slots.items → SettingsOf lines (length r.slots.items) r.settings.items → r.ended.items ≡ replicate (length r.slots.items) None → r.relid ≡ length r.slots.items + 1 → length (offered lines) ≤ 16 → r.phase ≡ 0 → r.next ≡ Some 0 → r.settled.items ≡ [] → r.results.items ≡ []
     → RunsSoFar lines r
 start lines r fresh settings none relid sixteen phase next settled results =
     let before : List (List Recorded) = map (λ k. []) (offered lines) in
-    let many : length r.desks.items ≡ length (offered lines) = sym (length-map r.desks.items spec_of) ∙ ap length fresh.kinds_are in
+    let many : length r.slots.items ≡ length (offered lines) = sym (length-map r.slots.items spec_of) ∙ ap length fresh.kinds_are in
     let none_opened : length (offered lines) + 1 ≡ next_relid lines 0 = omega arith in
     record {
-      runs = subst (λ k. RunsOf (take k (phases lines)) before r.settled.items (map desk_log r.desks.items) r.results.items) (sym phase)
+      runs = subst (λ k. RunsOf (take k (phases lines)) before r.settled.items (map slot_log r.slots.items) r.results.items) (sym phase)
           (subst (λ l. RunsOf [] before r.settled.items l r.results.items) (sym fresh.logs)
           (subst (λ l. RunsOf [] before l before r.results.items) (sym settled) (subst (λ l. RunsOf [] before [] before l) (sym results) over)));
       left = ap (parts_left lines) next ∙ ap (λ p. drop p (parts lines)) (sym phase);
@@ -293,9 +293,9 @@ start lines r fresh settings none relid sixteen phase next settled results =
       ended = subst (λ n. AreEnded (earlier_lines lines n) r.ended.items) (sym phase)
           (λ k less.
           let blank : Option Ending = None in
-          let within : k < length r.desks.items = omega (arith, less, ap length none, length-replicate (length r.desks.items) blank) in
-          ap outcome_left (ap (λ l. slice_index_or l k None) none ∙ get_or-replicate (length r.desks.items) k blank None within));
-      ended_count = ap length none ∙ length-replicate (length r.desks.items) None;
+          let within : k < length r.slots.items = omega (arith, less, ap length none, length-replicate (length r.slots.items) blank) in
+          ap outcome_left (ap (λ l. slice_index_or l k None) none ∙ get_or-replicate (length r.slots.items) k blank None within));
+      ended_count = ap length none ∙ length-replicate (length r.slots.items) None;
       relid = relid ∙ (ap (λ n. n + 1) many ∙ (none_opened ∙ ap (next_relid lines) (sym phase)));
       relid_few = omega (arith, relid, many, sixteen);
     }
@@ -303,10 +303,10 @@ start lines r fresh settings none relid sixteen phase next settled results =
 -- one more phase ran
 pub go_on : (lines part : List Line) (old new : Runner) (at : ℕ) (next : Option ℕ) → RunsSoFar lines old → IsScript lines → old.next ≡ Some at
     → MatchOption next (parts (drop at lines) ≡ part ∷ []) (λ n. parts (drop at lines) ≡ part ∷ parts (drop n (drop at lines))) → MatchOption next ⊤ (λ n. n ≤ length (drop at lines))
-    → ((p : Phase) → IsThis old.phase part old.ended.items (specs_of old.desks.items) old.relid p → PhaseRan p old.desks.items new.desks.items old.settled.items new.settled.items old.results.items new.results.items)
-    → ((p : Phase) → IsThis old.phase part old.ended.items (specs_of old.desks.items) old.relid p → new.relid ≡ old.relid + length (others p.opened)) → new.relid ≤ old.relid + 48
+    → ((p : Phase) → IsThis old.phase part old.ended.items (specs_of old.slots.items) old.relid p → PhaseRan p old.slots.items new.slots.items old.settled.items new.settled.items old.results.items new.results.items)
+    → ((p : Phase) → IsThis old.phase part old.ended.items (specs_of old.slots.items) old.relid p → new.relid ≡ old.relid + length (others p.opened)) → new.relid ≤ old.relid + 48
     → ((earlier : List Line) → AreEnded earlier old.ended.items → AreEnded (earlier ++ part) new.ended.items)
-    → length new.ended.items ≡ length old.ended.items → All (IsReady (4096 * (old.phase + 1))) new.desks.items → new.phase ≡ old.phase + 1 → new.next ≡ behind at next → new.settings.items ≡ old.settings.items → RunsSoFar lines new
+    → length new.ended.items ≡ length old.ended.items → All (IsReady (4096 * (old.phase + 1))) new.slots.items → new.phase ≡ old.phase + 1 → new.next ≡ behind at next → new.settings.items ≡ old.settings.items → RunsSoFar lines new
 go_on lines part old new at next so_far script here split within ran relids few ended count ready phase moved settings =
     let cut : parts (drop at lines) ≡ part ∷ parts_left lines (behind at next) = part_next lines part at next split in
     let left : part ∷ parts_left lines (behind at next) ≡ drop old.phase (parts lines) = sym cut ∙ ap (parts_left lines) (sym here) ∙ so_far.left in
@@ -315,11 +315,11 @@ go_on lines part old new at next so_far script here split within ran relids few 
     let one = ran p is_this in
     let this = this_phase (parts lines) old.phase part (parts_left lines (behind at next)) left in
     let started : at ≤ length lines = subst (NextWithin lines) here so_far.within in
-    let desks : length new.desks.items ≡ length old.desks.items = sym (length-map new.desks.items spec_of) ∙ ap length one.kinds ∙ length-map old.desks.items spec_of in
+    let slots : length new.slots.items ≡ length old.slots.items = sym (length-map new.slots.items spec_of) ∙ ap length one.kinds ∙ length-map old.slots.items spec_of in
     let less : old.phase < length (phases lines) = omega (arith, this.0, phases_long (offered lines) 0 (length (offered lines) + 1) [] (parts lines)) in
     let before : List (List Recorded) = map (λ k. []) (offered lines) in
-    let whole : RunsOf (take old.phase (phases lines) ++ p ∷ []) before (old.settled.items ++ one.runs) (map desk_log new.desks.items) (old.results.items ++ one.told) =
-    runs_push (take old.phase (phases lines)) before (map desk_log old.desks.items) (map desk_log new.desks.items) old.settled.items one.runs old.results.items one.told p so_far.runs one.phase_runs in
+    let whole : RunsOf (take old.phase (phases lines) ++ p ∷ []) before (old.settled.items ++ one.runs) (map slot_log new.slots.items) (old.results.items ++ one.told) =
+    runs_push (take old.phase (phases lines)) before (map slot_log old.slots.items) (map slot_log new.slots.items) old.settled.items one.runs old.results.items one.told p so_far.runs one.phase_runs in
     let taken : take new.phase (phases lines) ≡ take old.phase (phases lines) ++ p ∷ [] = ap (λ n. take n (phases lines)) phase ∙ take_more (phases lines) old.phase no_phase less in
     let head : part ≡ get_or (parts lines) old.phase [] = ap (λ (l : List (List Line)). get_or l 0 []) (left ∙ drop_more (parts lines) old.phase [] this.0) in
     let lines_behind : earlier_lines lines old.phase ++ part ≡ earlier_lines lines new.phase =
@@ -327,18 +327,18 @@ go_on lines part old new at next so_far script here split within ran relids few 
     ∙ (sym (flat_map-append (λ (part : List Line). part) (take old.phase (parts lines)) (get_or (parts lines) old.phase [] ∷ []))
     ∙ ap (flat_map (λ part. part)) (sym (ap (λ n. take n (parts lines)) phase ∙ take_more (parts lines) old.phase [] this.0))) in
     record {
-      runs = subst (λ ps. RunsOf ps before new.settled.items (map desk_log new.desks.items) new.results.items) (sym taken)
-          (subst (λ l. RunsOf (take old.phase (phases lines) ++ p ∷ []) before l (map desk_log new.desks.items) new.results.items) (sym one.settled_are)
-          (subst (λ l. RunsOf (take old.phase (phases lines) ++ p ∷ []) before (old.settled.items ++ one.runs) (map desk_log new.desks.items) l) (sym one.results_are) whole));
+      runs = subst (λ ps. RunsOf ps before new.settled.items (map slot_log new.slots.items) new.results.items) (sym taken)
+          (subst (λ l. RunsOf (take old.phase (phases lines) ++ p ∷ []) before l (map slot_log new.slots.items) new.results.items) (sym one.settled_are)
+          (subst (λ l. RunsOf (take old.phase (phases lines) ++ p ∷ []) before (old.settled.items ++ one.runs) (map slot_log new.slots.items) l) (sym one.results_are) whole));
       left = ap (parts_left lines) moved ∙ this.2 ∙ ap (λ p. drop p (parts lines)) (sym phase);
       within = subst (NextWithin lines) (sym moved) (within_next lines at next started within);
       counted = omega (arith, phase, this.0);
       kinds = one.kinds ∙ so_far.kinds;
       setups = one.setups ∙ so_far.setups;
-      ready = subst (λ p. All (IsReady (4096 * p)) new.desks.items) (sym phase) ready;
-      settings = subst (λ n. SettingsOf lines n new.settings.items) (sym desks) (subst (SettingsOf lines (length old.desks.items)) (sym settings) so_far.settings);
+      ready = subst (λ p. All (IsReady (4096 * p)) new.slots.items) (sym phase) ready;
+      settings = subst (λ n. SettingsOf lines n new.settings.items) (sym slots) (subst (SettingsOf lines (length old.slots.items)) (sym settings) so_far.settings);
       ended = subst (λ l. AreEnded l new.ended.items) lines_behind (ended (earlier_lines lines old.phase) so_far.ended);
-      ended_count = count ∙ so_far.ended_count ∙ sym desks;
+      ended_count = count ∙ so_far.ended_count ∙ sym slots;
       relid = omega (
         arith,
         relids p is_this,
@@ -352,12 +352,12 @@ go_on lines part old new at next so_far script here split within ran relids few 
     }
 
 -- all phases ran
-pub finish : (lines : List Line) (r : Runner) (histories : List DeviceHistory) → RunsSoFar lines r → r.phase ≡ length (parts lines) → map log_of histories ≡ map desk_log r.desks.items → ((ls : List Line) → map setup_of r.desks.items ≡ setups_from ls 0 (map spec_of r.desks.items) → EachHistory ls 0 (map spec_of r.desks.items) histories)
+pub finish : (lines : List Line) (r : Runner) (histories : List DeviceHistory) → RunsSoFar lines r → r.phase ≡ length (parts lines) → map log_of histories ≡ map slot_log r.slots.items → ((ls : List Line) → map setup_of r.slots.items ≡ setups_from ls 0 (map spec_of r.slots.items) → EachHistory ls 0 (map spec_of r.slots.items) histories)
     → IsBusRun lines r.settled.items histories r.results.items
 finish lines r histories so_far done logs legal =
     let all : take r.phase (phases lines) ≡ phases lines = take_all r.phase (phases lines) (omega (arith, done, phases_long (offered lines) 0 (length (offered lines) + 1) [] (parts lines))) in
     let before : List (List Recorded) = map (λ k. []) (offered lines) in
     record {
-      phases_run = subst (λ l. RunsOf (phases lines) before r.settled.items l r.results.items) (sym logs) (subst (λ ps. RunsOf ps before r.settled.items (map desk_log r.desks.items) r.results.items) all so_far.runs);
+      phases_run = subst (λ l. RunsOf (phases lines) before r.settled.items l r.results.items) (sym logs) (subst (λ ps. RunsOf ps before r.settled.items (map slot_log r.slots.items) r.results.items) all so_far.runs);
       legal = subst (λ k. EachHistory lines 0 k histories) so_far.kinds (legal lines (so_far.setups ∙ ap (setups_from lines 0) (sym so_far.kinds)));
     }

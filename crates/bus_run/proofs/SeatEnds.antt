@@ -16,9 +16,9 @@ use Rattle.hist_lock.specs.Seat.{Lock, Seat, AreNew, AreFrom, AreAll, IsSame}
 use Rattle.hist_lock.specs.declared.history.Entry.{Entry}
 use Rattle.hist_lock.specs.declared.history.History.{History}
 use Rattle.hist_lock.proofs.Rows.{new_all}
-use Rattle.end_work.specs.Seats.{IsSameSeat, served_at}
-use Rattle.end_work.specs.declared.device_seat.DeviceSeat.{DeviceSeat}
-use Rattle.end_work.specs.declared.device_seat.DeviceSeat.TheVariants.{Beat as BeatSeat, Down as DownSeat, Disk as DiskSeat, Net as NetSeat}
+use Rattle.channel_workers.specs.Seats.{IsSameSeat, served_at}
+use Rattle.channel_workers.specs.declared.device_seat.DeviceSeat.{DeviceSeat}
+use Rattle.channel_workers.specs.declared.device_seat.DeviceSeat.TheVariants.{Beat as BeatSeat, Down as DownSeat, Disk as DiskSeat, Net as NetSeat}
 use Rattle.scsi_disk.specs.DiskModel.{disk_reply}
 use Rattle.scsi_disk.specs.FiniteMap.{Kept, unwritten, kept_after, stands_for}
 use Rattle.scsi_disk.specs.declared.request.DiskRequest.{DiskRequest}
@@ -33,10 +33,10 @@ use Rattle.util_ic.specs.declared.beat.BeatMachine.{BeatMachine}
 use Rattle.util_ic.specs.declared.down.DownMachine.{DownMachine}
 use Rattle.util_ic.specs.declared.ic.IcAsk.{IcAsk}
 use Rattle.util_ic.specs.declared.ic.IcAnswer.{IcAnswer}
-use Rattle.bus_run.specs.Desk.{GoesOn, spec_of, subs_of}
+use Rattle.bus_run.specs.DeviceSlot.{GoesOn, spec_of, subs_of}
 use Rattle.bus_run.specs.Seats.{ComesBack, EachWith, kind_in, seats_in}
-use Rattle.bus_run.specs.declared.desk.Desk.{Desk}
-use Rattle.bus_run.specs.declared.desk.Desk.TheVariants.{Out, Beat as BeatDesk, Down as DownDesk, Disk as DiskDesk, Net as NetDesk}
+use Rattle.bus_run.specs.declared.device_slot.DeviceSlot.{DeviceSlot}
+use Rattle.bus_run.specs.declared.device_slot.DeviceSlot.TheVariants.{Out, Beat as BeatSlot, Down as DownSlot, Disk as DiskSlot, Net as NetSlot}
 use Rattle.bus_run.specs.declared.seats.Seats.{Seats}
 use Rattle.bus_run.specs.declared.seats.Seats.TheVariants.{None as NoSeats}
 use Rattle.bus_run.proofs.ManySeats.{grows_all}
@@ -96,114 +96,114 @@ module _ {S Q A : Type 0} where
 
 -- by the kind of the device
 
-abbrev BeatBack : Desk → List (Seat BeatMachine IcAsk IcAnswer) → Type 0
+abbrev BeatBack : DeviceSlot → List (Seat BeatMachine IcAsk IcAnswer) → Type 0
 BeatBack (Out subs) own = ⊥
-BeatBack (BeatDesk state history) own = Back beat_start (entries_of history) own
-BeatBack (DownDesk state history) own = ⊥
-BeatBack (DiskDesk subs state history) own = ⊥
-BeatBack (NetDesk state history) own = ⊥
+BeatBack (BeatSlot state history) own = Back beat_start (entries_of history) own
+BeatBack (DownSlot state history) own = ⊥
+BeatBack (DiskSlot subs state history) own = ⊥
+BeatBack (NetSlot state history) own = ⊥
 
-abbrev DownBack : Desk → List (Seat DownMachine IcAsk IcAnswer) → Type 0
+abbrev DownBack : DeviceSlot → List (Seat DownMachine IcAsk IcAnswer) → Type 0
 DownBack (Out subs) own = ⊥
-DownBack (BeatDesk state history) own = ⊥
-DownBack (DownDesk state history) own = Back down_start (entries_of history) own
-DownBack (DiskDesk subs state history) own = ⊥
-DownBack (NetDesk state history) own = ⊥
+DownBack (BeatSlot state history) own = ⊥
+DownBack (DownSlot state history) own = Back down_start (entries_of history) own
+DownBack (DiskSlot subs state history) own = ⊥
+DownBack (NetSlot state history) own = ⊥
 
-abbrev DiskBack : Desk → List (Seat Kept DiskRequest DiskReply) → Type 0
+abbrev DiskBack : DeviceSlot → List (Seat Kept DiskRequest DiskReply) → Type 0
 DiskBack (Out subs) own = ⊥
-DiskBack (BeatDesk state history) own = ⊥
-DiskBack (DownDesk state history) own = ⊥
-DiskBack (DiskDesk subs state history) own = Back (unwritten state) (entries_of history) own
-DiskBack (NetDesk state history) own = ⊥
+DiskBack (BeatSlot state history) own = ⊥
+DiskBack (DownSlot state history) own = ⊥
+DiskBack (DiskSlot subs state history) own = Back (unwritten state) (entries_of history) own
+DiskBack (NetSlot state history) own = ⊥
 
-abbrev NetBack : Desk → List (Seat Station (Result Rndis RndisFault) NetReply) → Type 0
+abbrev NetBack : DeviceSlot → List (Seat Station (Result Rndis RndisFault) NetReply) → Type 0
 NetBack (Out subs) own = ⊥
-NetBack (BeatDesk state history) own = ⊥
-NetBack (DownDesk state history) own = ⊥
-NetBack (DiskDesk subs state history) own = ⊥
-NetBack (NetDesk state history) own = Back (unfiltered state) (entries_of history) own
+NetBack (BeatSlot state history) own = ⊥
+NetBack (DownSlot state history) own = ⊥
+NetBack (DiskSlot subs state history) own = ⊥
+NetBack (NetSlot state history) own = Back (unfiltered state) (entries_of history) own
 
-module _ (held : Desk) (given : List DeviceSeat) (seats : Seats) where
+module _ (held : DeviceSlot) (given : List DeviceSeat) (seats : Seats) where
   no_kind : (kind : Kind) → kind_in seats ≡ Some kind → seats ≡ NoSeats → ⊥
   no_kind kind is none = let both : Some kind ≡ None = sym is ∙ ap kind_in none in absurd (cc)
 
-  pub beat_back : (old : Desk) (quotas : List ℕ) (own : List (Seat BeatMachine IcAsk IcAnswer)) → seats_in seats ≡ map BeatSeat own → kind_in seats ≡ Some KindBeat → ComesBack old quotas given held seats → BeatBack old own
+  pub beat_back : (old : DeviceSlot) (quotas : List ℕ) (own : List (Seat BeatMachine IcAsk IcAnswer)) → seats_in seats ≡ map BeatSeat own → kind_in seats ≡ Some KindBeat → ComesBack old quotas given held seats → BeatBack old own
   beat_back old [] own is kind back = absurd (no_kind KindBeat kind back.1)
   beat_back (Out subs) (q ∷ quotas) own is kind back = absurd back.2
-  beat_back (BeatDesk state history) (q ∷ quotas) own is kind back =
+  beat_back (BeatSlot state history) (q ∷ quotas) own is kind back =
       let new = back.2 in
       back_of beat_start (entries_of history) q quotas new.0 own new.2 (unmap BeatSeat (λ s t same. same) new.0 own (subst (λ l. EachWith IsSameSeat l (map BeatSeat own)) new.1 (subst (EachWith IsSameSeat given) is back.3)))
-  beat_back (DownDesk state history) (q ∷ quotas) own is kind back = let both : Some KindBeat ≡ Some KindDown = sym kind ∙ back.1 in absurd (cc)
-  beat_back (DiskDesk subs state history) (q ∷ quotas) own is kind back = let both : Some KindBeat ≡ Some KindDisk = sym kind ∙ back.1 in absurd (cc)
-  beat_back (NetDesk state history) (q ∷ quotas) own is kind back = let both : Some KindBeat ≡ Some KindNet = sym kind ∙ back.1 in absurd (cc)
+  beat_back (DownSlot state history) (q ∷ quotas) own is kind back = let both : Some KindBeat ≡ Some KindDown = sym kind ∙ back.1 in absurd (cc)
+  beat_back (DiskSlot subs state history) (q ∷ quotas) own is kind back = let both : Some KindBeat ≡ Some KindDisk = sym kind ∙ back.1 in absurd (cc)
+  beat_back (NetSlot state history) (q ∷ quotas) own is kind back = let both : Some KindBeat ≡ Some KindNet = sym kind ∙ back.1 in absurd (cc)
 
-  pub down_back : (old : Desk) (quotas : List ℕ) (own : List (Seat DownMachine IcAsk IcAnswer)) → seats_in seats ≡ map DownSeat own → kind_in seats ≡ Some KindDown → ComesBack old quotas given held seats → DownBack old own
+  pub down_back : (old : DeviceSlot) (quotas : List ℕ) (own : List (Seat DownMachine IcAsk IcAnswer)) → seats_in seats ≡ map DownSeat own → kind_in seats ≡ Some KindDown → ComesBack old quotas given held seats → DownBack old own
   down_back old [] own is kind back = absurd (no_kind KindDown kind back.1)
   down_back (Out subs) (q ∷ quotas) own is kind back = absurd back.2
-  down_back (BeatDesk state history) (q ∷ quotas) own is kind back = let both : Some KindDown ≡ Some KindBeat = sym kind ∙ back.1 in absurd (cc)
-  down_back (DownDesk state history) (q ∷ quotas) own is kind back =
+  down_back (BeatSlot state history) (q ∷ quotas) own is kind back = let both : Some KindDown ≡ Some KindBeat = sym kind ∙ back.1 in absurd (cc)
+  down_back (DownSlot state history) (q ∷ quotas) own is kind back =
       let new = back.2 in
       back_of down_start (entries_of history) q quotas new.0 own new.2 (unmap DownSeat (λ s t same. same) new.0 own (subst (λ l. EachWith IsSameSeat l (map DownSeat own)) new.1 (subst (EachWith IsSameSeat given) is back.3)))
-  down_back (DiskDesk subs state history) (q ∷ quotas) own is kind back = let both : Some KindDown ≡ Some KindDisk = sym kind ∙ back.1 in absurd (cc)
-  down_back (NetDesk state history) (q ∷ quotas) own is kind back = let both : Some KindDown ≡ Some KindNet = sym kind ∙ back.1 in absurd (cc)
+  down_back (DiskSlot subs state history) (q ∷ quotas) own is kind back = let both : Some KindDown ≡ Some KindDisk = sym kind ∙ back.1 in absurd (cc)
+  down_back (NetSlot state history) (q ∷ quotas) own is kind back = let both : Some KindDown ≡ Some KindNet = sym kind ∙ back.1 in absurd (cc)
 
-  pub disk_back : (old : Desk) (quotas : List ℕ) (own : List (Seat Kept DiskRequest DiskReply)) → seats_in seats ≡ map DiskSeat own → kind_in seats ≡ Some KindDisk → ComesBack old quotas given held seats → DiskBack old own
+  pub disk_back : (old : DeviceSlot) (quotas : List ℕ) (own : List (Seat Kept DiskRequest DiskReply)) → seats_in seats ≡ map DiskSeat own → kind_in seats ≡ Some KindDisk → ComesBack old quotas given held seats → DiskBack old own
   disk_back old [] own is kind back = absurd (no_kind KindDisk kind back.1)
   disk_back (Out subs) (q ∷ quotas) own is kind back = absurd back.2
-  disk_back (BeatDesk state history) (q ∷ quotas) own is kind back = let both : Some KindDisk ≡ Some KindBeat = sym kind ∙ back.1 in absurd (cc)
-  disk_back (DownDesk state history) (q ∷ quotas) own is kind back = let both : Some KindDisk ≡ Some KindDown = sym kind ∙ back.1 in absurd (cc)
-  disk_back (DiskDesk subs state history) (q ∷ quotas) own is kind back =
+  disk_back (BeatSlot state history) (q ∷ quotas) own is kind back = let both : Some KindDisk ≡ Some KindBeat = sym kind ∙ back.1 in absurd (cc)
+  disk_back (DownSlot state history) (q ∷ quotas) own is kind back = let both : Some KindDisk ≡ Some KindDown = sym kind ∙ back.1 in absurd (cc)
+  disk_back (DiskSlot subs state history) (q ∷ quotas) own is kind back =
       let new = back.2 in
       back_of (unwritten state) (entries_of history) q quotas new.0 own new.2 (unmap DiskSeat (λ s t same. same) new.0 own (subst (λ l. EachWith IsSameSeat l (map DiskSeat own)) new.1 (subst (EachWith IsSameSeat given) is back.3)))
-  disk_back (NetDesk state history) (q ∷ quotas) own is kind back = let both : Some KindDisk ≡ Some KindNet = sym kind ∙ back.1 in absurd (cc)
+  disk_back (NetSlot state history) (q ∷ quotas) own is kind back = let both : Some KindDisk ≡ Some KindNet = sym kind ∙ back.1 in absurd (cc)
 
-  pub net_back : (old : Desk) (quotas : List ℕ) (own : List (Seat Station (Result Rndis RndisFault) NetReply)) → seats_in seats ≡ map NetSeat own → kind_in seats ≡ Some KindNet → ComesBack old quotas given held seats → NetBack old own
+  pub net_back : (old : DeviceSlot) (quotas : List ℕ) (own : List (Seat Station (Result Rndis RndisFault) NetReply)) → seats_in seats ≡ map NetSeat own → kind_in seats ≡ Some KindNet → ComesBack old quotas given held seats → NetBack old own
   net_back old [] own is kind back = absurd (no_kind KindNet kind back.1)
   net_back (Out subs) (q ∷ quotas) own is kind back = absurd back.2
-  net_back (BeatDesk state history) (q ∷ quotas) own is kind back = let both : Some KindNet ≡ Some KindBeat = sym kind ∙ back.1 in absurd (cc)
-  net_back (DownDesk state history) (q ∷ quotas) own is kind back = let both : Some KindNet ≡ Some KindDown = sym kind ∙ back.1 in absurd (cc)
-  net_back (DiskDesk subs state history) (q ∷ quotas) own is kind back = let both : Some KindNet ≡ Some KindDisk = sym kind ∙ back.1 in absurd (cc)
-  net_back (NetDesk state history) (q ∷ quotas) own is kind back =
+  net_back (BeatSlot state history) (q ∷ quotas) own is kind back = let both : Some KindNet ≡ Some KindBeat = sym kind ∙ back.1 in absurd (cc)
+  net_back (DownSlot state history) (q ∷ quotas) own is kind back = let both : Some KindNet ≡ Some KindDown = sym kind ∙ back.1 in absurd (cc)
+  net_back (DiskSlot subs state history) (q ∷ quotas) own is kind back = let both : Some KindNet ≡ Some KindDisk = sym kind ∙ back.1 in absurd (cc)
+  net_back (NetSlot state history) (q ∷ quotas) own is kind back =
       let new = back.2 in
       back_of (unfiltered state) (entries_of history) q quotas new.0 own new.2 (unmap NetSeat (λ s t same. same) new.0 own (subst (λ l. EachWith IsSameSeat l (map NetSeat own)) new.1 (subst (EachWith IsSameSeat given) is back.3)))
 
   -- so all of them can be closed
 
-  pub beat_all : (old : Desk) (own : List (Seat BeatMachine IcAsk IcAnswer)) → BeatBack old own → AreAll own
+  pub beat_all : (old : DeviceSlot) (own : List (Seat BeatMachine IcAsk IcAnswer)) → BeatBack old own → AreAll own
   beat_all (Out subs) own back = absurd back
-  beat_all (BeatDesk state history) own back = back.all
-  beat_all (DownDesk state history) own back = absurd back
-  beat_all (DiskDesk subs state history) own back = absurd back
-  beat_all (NetDesk state history) own back = absurd back
+  beat_all (BeatSlot state history) own back = back.all
+  beat_all (DownSlot state history) own back = absurd back
+  beat_all (DiskSlot subs state history) own back = absurd back
+  beat_all (NetSlot state history) own back = absurd back
 
-  pub down_all : (old : Desk) (own : List (Seat DownMachine IcAsk IcAnswer)) → DownBack old own → AreAll own
+  pub down_all : (old : DeviceSlot) (own : List (Seat DownMachine IcAsk IcAnswer)) → DownBack old own → AreAll own
   down_all (Out subs) own back = absurd back
-  down_all (BeatDesk state history) own back = absurd back
-  down_all (DownDesk state history) own back = back.all
-  down_all (DiskDesk subs state history) own back = absurd back
-  down_all (NetDesk state history) own back = absurd back
+  down_all (BeatSlot state history) own back = absurd back
+  down_all (DownSlot state history) own back = back.all
+  down_all (DiskSlot subs state history) own back = absurd back
+  down_all (NetSlot state history) own back = absurd back
 
-  pub disk_all : (old : Desk) (own : List (Seat Kept DiskRequest DiskReply)) → DiskBack old own → AreAll own
+  pub disk_all : (old : DeviceSlot) (own : List (Seat Kept DiskRequest DiskReply)) → DiskBack old own → AreAll own
   disk_all (Out subs) own back = absurd back
-  disk_all (BeatDesk state history) own back = absurd back
-  disk_all (DownDesk state history) own back = absurd back
-  disk_all (DiskDesk subs state history) own back = back.all
-  disk_all (NetDesk state history) own back = absurd back
+  disk_all (BeatSlot state history) own back = absurd back
+  disk_all (DownSlot state history) own back = absurd back
+  disk_all (DiskSlot subs state history) own back = back.all
+  disk_all (NetSlot state history) own back = absurd back
 
-  pub net_all : (old : Desk) (own : List (Seat Station (Result Rndis RndisFault) NetReply)) → NetBack old own → AreAll own
+  pub net_all : (old : DeviceSlot) (own : List (Seat Station (Result Rndis RndisFault) NetReply)) → NetBack old own → AreAll own
   net_all (Out subs) own back = absurd back
-  net_all (BeatDesk state history) own back = absurd back
-  net_all (DownDesk state history) own back = absurd back
-  net_all (DiskDesk subs state history) own back = absurd back
-  net_all (NetDesk state history) own back = back.all
+  net_all (BeatSlot state history) own back = absurd back
+  net_all (DownSlot state history) own back = absurd back
+  net_all (DiskSlot subs state history) own back = absurd back
+  net_all (NetSlot state history) own back = back.all
 
   -- and the device is whole again
 
-  pub beat_whole : (old : Desk) (own : List (Seat BeatMachine IcAsk IcAnswer)) (state : BeatMachine) (history : History BeatMachine IcAsk IcAnswer) → seats_in seats ≡ map BeatSeat own → BeatBack old own
-      → Closes (λ s q. s) (λ s q. beat_reply q) own (entries_of history) → Leaves (λ s. beat_start) (λ s q. s) (λ s q. beat_reply q) (entries_of history) state → GoesOn old (BeatDesk state history) (map served_at (seats_in seats))
+  pub beat_whole : (old : DeviceSlot) (own : List (Seat BeatMachine IcAsk IcAnswer)) (state : BeatMachine) (history : History BeatMachine IcAsk IcAnswer) → seats_in seats ≡ map BeatSeat own → BeatBack old own
+      → Closes (λ s q. s) (λ s q. beat_reply q) own (entries_of history) → Leaves (λ s. beat_start) (λ s q. s) (λ s q. beat_reply q) (entries_of history) state → GoesOn old (BeatSlot state history) (map served_at (seats_in seats))
   beat_whole (Out subs) own state history is back closes leaves = absurd back
-  beat_whole (BeatDesk state' history') own state history is back closes leaves =
+  beat_whole (BeatSlot state' history') own state history is back closes leaves =
       let served = ap (map served_at) is ∙ (served_map BeatSeat own ∙ ap (map (λ (s : Seat BeatMachine IcAsk IcAnswer). served_at (BeatSeat s))) back.seats_are) in
       record {
         grows = subst (Grows (ic_log (entries_of history')) (ic_log (entries_of history))) (sym served)
@@ -212,15 +212,15 @@ module _ (held : Desk) (given : List DeviceSeat) (seats : Seats) where
         setup = refl;
         kept = leaves;
       }
-  beat_whole (DownDesk state' history') own state history is back closes leaves = absurd back
-  beat_whole (DiskDesk subs state' history') own state history is back closes leaves = absurd back
-  beat_whole (NetDesk state' history') own state history is back closes leaves = absurd back
+  beat_whole (DownSlot state' history') own state history is back closes leaves = absurd back
+  beat_whole (DiskSlot subs state' history') own state history is back closes leaves = absurd back
+  beat_whole (NetSlot state' history') own state history is back closes leaves = absurd back
 
-  pub down_whole : (old : Desk) (own : List (Seat DownMachine IcAsk IcAnswer)) (state : DownMachine) (history : History DownMachine IcAsk IcAnswer) → seats_in seats ≡ map DownSeat own → DownBack old own
-      → Closes (λ s q. s) (λ s q. down_reply q) own (entries_of history) → Leaves (λ s. down_start) (λ s q. s) (λ s q. down_reply q) (entries_of history) state → GoesOn old (DownDesk state history) (map served_at (seats_in seats))
+  pub down_whole : (old : DeviceSlot) (own : List (Seat DownMachine IcAsk IcAnswer)) (state : DownMachine) (history : History DownMachine IcAsk IcAnswer) → seats_in seats ≡ map DownSeat own → DownBack old own
+      → Closes (λ s q. s) (λ s q. down_reply q) own (entries_of history) → Leaves (λ s. down_start) (λ s q. s) (λ s q. down_reply q) (entries_of history) state → GoesOn old (DownSlot state history) (map served_at (seats_in seats))
   down_whole (Out subs) own state history is back closes leaves = absurd back
-  down_whole (BeatDesk state' history') own state history is back closes leaves = absurd back
-  down_whole (DownDesk state' history') own state history is back closes leaves =
+  down_whole (BeatSlot state' history') own state history is back closes leaves = absurd back
+  down_whole (DownSlot state' history') own state history is back closes leaves =
       let served = ap (map served_at) is ∙ (served_map DownSeat own ∙ ap (map (λ (s : Seat DownMachine IcAsk IcAnswer). served_at (DownSeat s))) back.seats_are) in
       record {
         grows = subst (Grows (ic_log (entries_of history')) (ic_log (entries_of history))) (sym served)
@@ -229,17 +229,17 @@ module _ (held : Desk) (given : List DeviceSeat) (seats : Seats) where
         setup = refl;
         kept = leaves;
       }
-  down_whole (DiskDesk subs state' history') own state history is back closes leaves = absurd back
-  down_whole (NetDesk state' history') own state history is back closes leaves = absurd back
+  down_whole (DiskSlot subs state' history') own state history is back closes leaves = absurd back
+  down_whole (NetSlot state' history') own state history is back closes leaves = absurd back
 
   -- no request changes how many blocks a disk has and which places are bad
-  pub disk_whole : (old : Desk) (own : List (Seat Kept DiskRequest DiskReply)) (subs : ℕ) (state : Kept) (history : History Kept DiskRequest DiskReply) → seats_in seats ≡ map DiskSeat own → subs_of old ≡ subs → DiskBack old own
+  pub disk_whole : (old : DeviceSlot) (own : List (Seat Kept DiskRequest DiskReply)) (subs : ℕ) (state : Kept) (history : History Kept DiskRequest DiskReply) → seats_in seats ≡ map DiskSeat own → subs_of old ≡ subs → DiskBack old own
       → Closes kept_after (λ s q. disk_reply (stands_for s) q) own (entries_of history) → Leaves unwritten kept_after (λ s q. disk_reply (stands_for s) q) (entries_of history) state
-      → ((k : ℕ) (s : Seat Kept DiskRequest DiskReply) → slice_get own k ≡ Some s → unwritten state ≡ s.lock.first) → GoesOn old (DiskDesk subs state history) (map served_at (seats_in seats))
+      → ((k : ℕ) (s : Seat Kept DiskRequest DiskReply) → slice_get own k ≡ Some s → unwritten state ≡ s.lock.first) → GoesOn old (DiskSlot subs state history) (map served_at (seats_in seats))
   disk_whole (Out n) own subs state history is with_subs back closes leaves firsts = absurd back
-  disk_whole (BeatDesk state' history') own subs state history is with_subs back closes leaves firsts = absurd back
-  disk_whole (DownDesk state' history') own subs state history is with_subs back closes leaves firsts = absurd back
-  disk_whole (DiskDesk subs' state' history') own subs state history is with_subs back closes leaves firsts =
+  disk_whole (BeatSlot state' history') own subs state history is with_subs back closes leaves firsts = absurd back
+  disk_whole (DownSlot state' history') own subs state history is with_subs back closes leaves firsts = absurd back
+  disk_whole (DiskSlot subs' state' history') own subs state history is with_subs back closes leaves firsts =
       let served = ap (map served_at) is ∙ (served_map DiskSeat own ∙ ap (map (λ (s : Seat Kept DiskRequest DiskReply). served_at (DiskSeat s))) back.seats_are) in
       let setup : unwritten state ≡ unwritten state' = firsts 0 back.head (ap (λ l. slice_get l 0) back.seats_are) ∙ back.first_is in
       record {
@@ -250,17 +250,17 @@ module _ (held : Desk) (given : List DeviceSeat) (seats : Seats) where
         setup = ap (λ k. Some (stands_for k)) setup;
         kept = leaves;
       }
-  disk_whole (NetDesk state' history') own subs state history is with_subs back closes leaves firsts = absurd back
+  disk_whole (NetSlot state' history') own subs state history is with_subs back closes leaves firsts = absurd back
 
   -- nor an adapter's addresses
-  pub net_whole : (old : Desk) (own : List (Seat Station (Result Rndis RndisFault) NetReply)) (state : Station) (history : History Station (Result Rndis RndisFault) NetReply) → seats_in seats ≡ map NetSeat own → NetBack old own
+  pub net_whole : (old : DeviceSlot) (own : List (Seat Station (Result Rndis RndisFault) NetReply)) (state : Station) (history : History Station (Result Rndis RndisFault) NetReply) → seats_in seats ≡ map NetSeat own → NetBack old own
       → Closes station_after station_reply own (entries_of history) → Leaves unfiltered station_after station_reply (entries_of history) state
-      → ((k : ℕ) (s : Seat Station (Result Rndis RndisFault) NetReply) → slice_get own k ≡ Some s → unfiltered state ≡ s.lock.first) → GoesOn old (NetDesk state history) (map served_at (seats_in seats))
+      → ((k : ℕ) (s : Seat Station (Result Rndis RndisFault) NetReply) → slice_get own k ≡ Some s → unfiltered state ≡ s.lock.first) → GoesOn old (NetSlot state history) (map served_at (seats_in seats))
   net_whole (Out n) own state history is back closes leaves firsts = absurd back
-  net_whole (BeatDesk state' history') own state history is back closes leaves firsts = absurd back
-  net_whole (DownDesk state' history') own state history is back closes leaves firsts = absurd back
-  net_whole (DiskDesk subs state' history') own state history is back closes leaves firsts = absurd back
-  net_whole (NetDesk state' history') own state history is back closes leaves firsts =
+  net_whole (BeatSlot state' history') own state history is back closes leaves firsts = absurd back
+  net_whole (DownSlot state' history') own state history is back closes leaves firsts = absurd back
+  net_whole (DiskSlot subs state' history') own state history is back closes leaves firsts = absurd back
+  net_whole (NetSlot state' history') own state history is back closes leaves firsts =
       let served = ap (map served_at) is ∙ (served_map NetSeat own ∙ ap (map (λ (s : Seat Station (Result Rndis RndisFault) NetReply). served_at (NetSeat s))) back.seats_are) in
       let setup : unfiltered state ≡ unfiltered state' = firsts 0 back.head (ap (λ l. slice_get l 0) back.seats_are) ∙ back.first_is in
       record {
@@ -273,10 +273,10 @@ module _ (held : Desk) (given : List DeviceSeat) (seats : Seats) where
       }
 
   -- one whose channels a phase didn't open stays
-  pub none_whole : (old : Desk) (quotas : List ℕ) → seats ≡ NoSeats → ComesBack old quotas given held seats → GoesOn old held (map served_at (seats_in seats))
+  pub none_whole : (old : DeviceSlot) (quotas : List ℕ) → seats ≡ NoSeats → ComesBack old quotas given held seats → GoesOn old held (map served_at (seats_in seats))
   none_whole old [] none back = subst (λ d. GoesOn old d (map served_at (seats_in seats))) (sym back.0) (subst (λ l. GoesOn old old (map served_at (seats_in l))) (sym none) (stays old back.2))
   none_whole old (q ∷ quotas) none back = absurd (no_kind (kind_of (spec_of old)) back.1 none)
 
-  pub same_subs : (old : Desk) (quotas : List ℕ) (kind : Kind) → kind_in seats ≡ Some kind → ComesBack old quotas given held seats → subs_of old ≡ subs_of held
+  pub same_subs : (old : DeviceSlot) (quotas : List ℕ) (kind : Kind) → kind_in seats ≡ Some kind → ComesBack old quotas given held seats → subs_of old ≡ subs_of held
   same_subs old [] kind is back = absurd (no_kind kind is back.1)
   same_subs old (q ∷ quotas) kind is back = sym (ap subs_of back.0)

@@ -2,8 +2,8 @@
 use Rattle.std.proofs.Common.{◌≡◌, ℕ, zero, suc, ◌-◌, ◌≤◌, Bool, arith, List, [], ◌∷◌, ◌++◌, map, drop, length, append_assoc, refl, sym, ap, ◌∙◌, Option, Some, None}
 use Rattle.std.specs.Prelude.{replicate}
 use Rattle.std.proofs.lemmas.List.{map-append, length-map}
-use Rattle.work_model.specs.Channel.{count_of}
-use Rattle.work_model.specs.Outcome.{Outcome, Unserved as IsUnserved, lines_done, lines_of, served_at}
+use Rattle.channel_model.specs.Channel.{count_of}
+use Rattle.channel_model.specs.Outcome.{Outcome, Unserved as IsUnserved, lines_done, lines_of, served_at}
 use Rattle.bus_script.specs.declared.outcome.LineResult.{LineResult}
 use Rattle.bus_script.specs.declared.outcome.LineResult.TheVariants.{Unserved}
 use Rattle.bus_script.specs.declared.outcome.Reply.{Reply}
@@ -12,10 +12,10 @@ use Rattle.bus_model.specs.Orders.{Order}
 use Rattle.bus_model.specs.Channel.{outcomes_of}
 use Rattle.bus_model.proofs.Arriving.{serves_each_lem}
 use Rattle.bus_model.proofs.FromLists.{lists_tell_lem}
-use Rattle.end_work.specs.Seats.{served_at as calls_at}
+use Rattle.channel_workers.specs.Seats.{served_at as calls_at}
 use Rattle.phase_run.specs.declared.pair.PairDone.{PairDone}
-use Rattle.end_work.specs.declared.device_seat.DeviceSeat.{DeviceSeat}
-use Rattle.phase_run.specs.Pairs.{Ran}
+use Rattle.channel_workers.specs.declared.device_seat.DeviceSeat.{DeviceSeat}
+use Rattle.phase_run.specs.Pairs.{RanPair}
 use Rattle.bus_plan.specs.Served.{left_in, served_line, served_lines}
 
 without_replies : (ns : List ℕ) → map line_of (map served_at ns) ≡ served_lines ns []
@@ -49,11 +49,11 @@ no_more (Some k) m = omega arith
 
 -- what the end of a channel tells
 
-pub few_serials : (order : Order) (first : DeviceSeat) (done : PairDone) (asked : ℕ) → length order.asks ≡ asked → Ran order first done → length done.serials.items ≤ asked
+pub few_serials : (order : Order) (first : DeviceSeat) (done : PairDone) (asked : ℕ) → length order.asks ≡ asked → RanPair order first done → length done.serials.items ≤ asked
 few_serials order first done asked many ran =
     omega (arith, ap length ran.serials, length-map (calls_at ran.back) (λ s. s.serial), serves_each_lem order done.settled (calls_at ran.back) ran.channel, no_more order.stop (length order.asks), many)
 
-pub outcomes_told : (order : Order) (first : DeviceSeat) (done : PairDone) (asked : ℕ) (results : List LineResult) → length order.asks ≡ asked → (ran : Ran order first done) → results ≡ left_in done.serials.items done.replies.items (asked - length done.serials.items)
+pub outcomes_told : (order : Order) (first : DeviceSeat) (done : PairDone) (asked : ℕ) (results : List LineResult) → length order.asks ≡ asked → (ran : RanPair order first done) → results ≡ left_in done.serials.items done.replies.items (asked - length done.serials.items)
     → results ≡ outcomes_of order (calls_at ran.back)
 outcomes_told order first done asked results many ran is =
     is ∙ all_lines asked done.serials.items done.replies.items ∙ ap (λ m. map line_of (lines_of m done.serials.items done.replies.items)) (sym many)

@@ -1,12 +1,12 @@
 -- A device that a phase leaves as it is.
 use Rattle.std.proofs.Common.{[], refl, sym}
 use Rattle.std.proofs.lemmas.List.{append-nil}
-use Rattle.bus_run.specs.Desk.{GoesOn, IsKept, desk_log}
-use Rattle.bus_run.specs.declared.desk.Desk.{Desk}
+use Rattle.bus_run.specs.DeviceSlot.{GoesOn, IsKept, slot_log}
+use Rattle.bus_run.specs.declared.device_slot.DeviceSlot.{DeviceSlot}
 
-pub stays : (old : Desk) → IsKept old → GoesOn old old []
+pub stays : (old : DeviceSlot) → IsKept old → GoesOn old old []
 stays old kept = record {
-  grows = record { more = []; after_is = sym (append-nil (desk_log old)); seats = tt; all = refl };
+  grows = record { more = []; after_is = sym (append-nil (slot_log old)); seats = tt; all = refl };
   spec = refl;
   setup = refl;
   kept = kept;

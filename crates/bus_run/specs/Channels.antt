@@ -8,29 +8,29 @@ use Rattle.script_phases.specs.Openings.{Opening, Phase, by_relid}
 use Rattle.bus_plan.specs.Plans.{EachOrdered}
 use Rattle.bus_plan.specs.Outcomes.{AreTold}
 use Rattle.bus_plan.specs.declared.opening.ChannelOrder.{ChannelOrder}
-use Rattle.bus_run.specs.Desk.{spec_of, setup_of, desk_log, desk_at}
+use Rattle.bus_run.specs.DeviceSlot.{spec_of, setup_of, slot_log, slot_at}
 use Rattle.bus_run.specs.Opening.{CanOpenAll}
-use Rattle.bus_run.specs.declared.desk.Desk.{Desk}
+use Rattle.bus_run.specs.declared.device_slot.DeviceSlot.{DeviceSlot}
 
 -- the channel is one of these devices
-pub record IsOf (desks : List Desk) (o : Opening) : Type 0 where
-  pub within : o.device < length desks
-  pub spec : o.spec ≡ spec_of (desk_at desks o.device)
+pub record IsOf (slots : List DeviceSlot) (o : Opening) : Type 0 where
+  pub within : o.device < length slots
+  pub spec : o.spec ≡ spec_of (slot_at slots o.device)
 
 -- the channels that a phase opens, what is ordered of each, and that they can be opened
-pub record CanRun (phase : ℕ) (plan : List ChannelOrder) (desks : List Desk) (p : Phase) : Type 0 where
+pub record CanRun (phase : ℕ) (plan : List ChannelOrder) (slots : List DeviceSlot) (p : Phase) : Type 0 where
   pub number : p.number ≡ phase
   pub ordered : EachOrdered p (by_relid p.opened) plan
-  pub of : AllByRecursion (IsOf desks) (by_relid p.opened)
-  pub can : CanOpenAll plan desks
+  pub of : AllByRecursion (IsOf slots) (by_relid p.opened)
+  pub can : CanOpenAll plan slots
 
 -- what all channels of a phase did
-pub record ChannelsRan (p : Phase) (old new : List Desk) (settled settled' : List ChannelRun) (outcomes : List (List (List LineResult))) : Type 0 where
+pub record ChannelsRan (p : Phase) (old new : List DeviceSlot) (settled settled' : List ChannelRun) (outcomes : List (List (List LineResult))) : Type 0 where
   pub channels : List Carried
   pub opened : map (λ c. c.opening) channels ≡ by_relid p.opened
   pub each : AllByRecursion (IsCarried p) channels
   pub settled_are : settled' ≡ settled ++ map (λ c. c.run) channels
-  pub histories : EachGrows 0 channels (map desk_log old) (map desk_log new)
+  pub histories : EachGrows 0 channels (map slot_log old) (map slot_log new)
   pub kinds : map spec_of new ≡ map spec_of old
   pub setups : map setup_of new ≡ map setup_of old
   pub long : length outcomes ≡ length old

@@ -5,17 +5,17 @@ use Rattle.bus_model.specs.Channel.{IsChannelRun, outcomes_of}
 use Rattle.bus_model.specs.Orders.{Order}
 use Rattle.bus_model.specs.declared.channel_run.ChannelRun.{ChannelRun}
 use Rattle.bus_script.specs.declared.outcome.LineResult.{LineResult}
-use Rattle.end_work.specs.Seats.{served_at, kind_at, IsSameSeat}
-use Rattle.end_work.specs.declared.device_seat.DeviceSeat.{DeviceSeat}
-use Rattle.phase_run.specs.Pairs.{Ran}
+use Rattle.channel_workers.specs.Seats.{served_at, kind_at, IsSameSeat}
+use Rattle.channel_workers.specs.declared.device_seat.DeviceSeat.{DeviceSeat}
+use Rattle.phase_run.specs.Pairs.{RanPair}
 use Rattle.phase_run.specs.declared.pair.PairDone.{PairDone}
 use Rattle.ring_model.specs.Lists.{Lists}
 use Rattle.bus_plan.specs.declared.opening.Opening.{Opening as Place}
-use Rattle.bus_run.specs.Desk.{desk_at, GoesOn}
+use Rattle.bus_run.specs.DeviceSlot.{slot_at, GoesOn}
 use Rattle.bus_run.specs.Opening.{Given, order_at, seats_at}
 use Rattle.bus_run.specs.Seats.{EachWith, ComesBack, kind_in, seats_in}
 use Rattle.bus_run.specs.Due.{due_of}
-use Rattle.bus_run.specs.declared.desk.Desk.{Desk}
+use Rattle.bus_run.specs.declared.device_slot.DeviceSlot.{DeviceSlot}
 use Rattle.bus_run.specs.declared.due.Due.{Due}
 use Rattle.bus_run.specs.declared.seats.Seats.{Seats}
 
@@ -34,11 +34,11 @@ pub record ChannelClosed (phase : ℕ) (place : Place) (order : Order) (first : 
   pub kind : kind_in new ≡ kind_in old
   pub settled_are : settled' ≡ settled ++ record { phase = phase; relid = place.relid; device = place.device; settled = lists } ∷ []
 
-abbrev pub RanAt : List Desk → Given → PairDone → Type 0
-RanAt desks g done = Ran (order_at desks g.order) g.seat done
+abbrev pub RanAt : List DeviceSlot → Given → PairDone → Type 0
+RanAt slots g done = RanPair (order_at slots g.order) g.seat done
 
 -- the channels of a phase, of which this is due, were opened with these seats, and have run; no seat stands here
-pub record AllCome (dues : List Due) (old : List Desk) (given : List Given) (seats : List Seats) (dones : List PairDone) : Type 0 where
+pub record AllCome (dues : List Due) (old : List DeviceSlot) (given : List Given) (seats : List Seats) (dones : List PairDone) : Type 0 where
   pub planned : map (λ g. due_of g.order) given ≡ dues
   pub within : AllByRecursion (λ x. x.opening.device < length old) dues
   pub places : length seats ≡ length old
@@ -56,7 +56,7 @@ abbrev pub run_of : ℕ → Closed → ChannelRun
 run_of phase c = record { phase = phase; relid = c.given.order.opening.relid; device = c.given.order.opening.device; settled = c.lists }
 
 -- it carried what was ordered
-pub record IsClosed (old : List Desk) (c : Closed) : Type 0 where
+pub record IsClosed (old : List DeviceSlot) (c : Closed) : Type 0 where
   pub channel : IsChannelRun (order_at old c.given.order) c.lists (served_at c.back)
   pub same : IsSameSeat c.given.seat c.back
 
@@ -64,11 +64,11 @@ pub record IsClosed (old : List Desk) (c : Closed) : Type 0 where
 abbrev pub closed_of : ℕ → List Closed → List Closed
 closed_of device closed = filter (λ c. c.given.order.opening.device == device) closed
 
-abbrev pub told_of : List Desk → Closed → List LineResult
+abbrev pub told_of : List DeviceSlot → Closed → List LineResult
 told_of old c = outcomes_of (order_at old c.given.order) (served_at c.back)
 
 -- Channels of a phase are closed: each gave its seat back to its device, and told the outcomes of its requests
-pub record AllClosed (phase : ℕ) (old : List Desk) (given : List Given) (before seats : List Seats) (settled settled' : List ChannelRun) (outcomes : List (List (List LineResult))) : Type 0 where
+pub record AllClosed (phase : ℕ) (old : List DeviceSlot) (given : List Given) (before seats : List Seats) (settled settled' : List ChannelRun) (outcomes : List (List (List LineResult))) : Type 0 where
   pub closed : List Closed
   pub given_are : map (λ c. c.given) closed ≡ given
   pub each : AllByRecursion (IsClosed old) closed
@@ -80,12 +80,12 @@ pub record AllClosed (phase : ℕ) (old : List Desk) (given : List Given) (befor
   pub told : (k : ℕ) → k < length before → slice_index_or outcomes k [] ≡ map (told_of old) (closed_of k closed)
 
 -- the seats of all devices came back
-pub record AllBack (old : List Desk) (quotas : ℕ → List ℕ) (given : ℕ → List DeviceSeat) (held : List Desk) (seats : List Seats) : Type 0 where
+pub record AllBack (old : List DeviceSlot) (quotas : ℕ → List ℕ) (given : ℕ → List DeviceSeat) (held : List DeviceSlot) (seats : List Seats) : Type 0 where
   pub count : length held ≡ length old
   pub places : length seats ≡ length old
-  pub each : (k : ℕ) → k < length old → ComesBack (desk_at old k) (quotas k) (given k) (desk_at held k) (seats_at seats k)
+  pub each : (k : ℕ) → k < length old → ComesBack (slot_at old k) (quotas k) (given k) (slot_at held k) (seats_at seats k)
 
 -- and each device's history went on with what its seats served
-pub record AreWhole (old new : List Desk) (seats : List Seats) : Type 0 where
+pub record AreWhole (old new : List DeviceSlot) (seats : List Seats) : Type 0 where
   pub count : length new ≡ length old
-  pub each : (k : ℕ) → k < length old → GoesOn (desk_at old k) (desk_at new k) (map served_at (seats_in (seats_at seats k)))
+  pub each : (k : ℕ) → k < length old → GoesOn (slot_at old k) (slot_at new k) (map served_at (seats_in (seats_at seats k)))

@@ -1,4 +1,4 @@
-pub mod Desk
+pub mod DeviceSlot
 pub mod Settings
 pub mod Seats
 pub mod Opening

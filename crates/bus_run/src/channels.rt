@@ -1,12 +1,12 @@
 //! The channels of a phase: all are opened, all run at once, and all are closed, in order of their relids.
 ghost use Rattle.std.specs.Prelude.{◌≡◌, ◌+◌, ◌*◌, ◌≤◌, length, All, IfOk, OnOk};
 ghost use Rattle.script_phases.specs.Openings.{Phase};
-ghost use Rattle.bus_run.specs.Desk.{IsReady};
+ghost use Rattle.bus_run.specs.DeviceSlot.{IsReady};
 ghost use Rattle.bus_run.specs.Channels.{CanRun, ChannelsRan};
 ghost use Rattle.bus_run.specs.Settings.{HasLimits};
 
-use crate::closing::{close_all, close_desks};
-use crate::desk::Desk;
+use crate::closing::{close_all, close_slots};
+use crate::device_slot::DeviceSlot;
 use crate::due::all_due;
 use crate::opening::{open_all, reopen_all};
 use crate::settings::Settings;
@@ -25,24 +25,24 @@ pub fn run_channels<R: Threads + Wait + Sync, G: Gate>(
     phase: u32,
     plan: Vec<ChannelOrder>,
     settings: &[Settings],
-    desks: &mut Vec<Desk>,
+    slots: &mut Vec<DeviceSlot>,
     settled: &mut Vec<ChannelRun>,
 ) -> Result<Outcomes, AllocError>
-    requires can { (p : Phase) × CanRun phase plan.items desks.old.items p }
-    requires ready { All (IsReady (4096 * phase)) desks.old.items }
-    requires settings { length settings.now ≡ length desks.old.items }
+    requires can { (p : Phase) × CanRun phase plan.items slots.old.items p }
+    requires ready { All (IsReady (4096 * phase)) slots.old.items }
+    requires settings { length settings.now ≡ length slots.old.items }
     requires limits { All HasLimits settings.now }
     requires phase { phase ≤ 20000 }
-    requires few { length desks.old.items ≤ 16 }
-    ensures ran { IfOk result (λ outcomes. (p : Phase) → CanRun phase plan.items desks.old.items p → ChannelsRan p desks.old.items desks.new.items settled.old.items settled.new.items outcomes) }
-    ensures ready { OnOk result (All (IsReady (4096 * (phase + 1))) desks.new.items) }
+    requires few { length slots.old.items ≤ 16 }
+    ensures ran { IfOk result (λ outcomes. (p : Phase) → CanRun phase plan.items slots.old.items p → ChannelsRan p slots.old.items slots.new.items settled.old.items settled.new.items outcomes) }
+    ensures ready { OnOk result (All (IsReady (4096 * (phase + 1))) slots.new.items) }
 {
-    let mut seats = reopen_all(alloc, phase, &plan, desks)?;
+    let mut seats = reopen_all(alloc, phase, &plan, slots)?;
     let dues = all_due(alloc, &plan)?;
-    let pairs = open_all(alloc, plan, settings, desks, &mut seats)?;
+    let pairs = open_all(alloc, plan, settings, slots, &mut seats)?;
     let mut done = Vec::with_capacity(alloc, pairs.len())?;
     phase_run::run_phase(rt, pairs, &mut done, gate);
     let outcomes = close_all(alloc, phase, &dues, done, &mut seats, settled)?;
-    close_desks(desks, seats);
+    close_slots(slots, seats);
     Ok(outcomes)
 }

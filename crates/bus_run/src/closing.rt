@@ -2,22 +2,22 @@
 ghost use Rattle.std.specs.Prelude.{◌≡◌, ◌+◌, ◌<◌, ◌++◌, ◌∷◌, [], ℕ, List, length, map, Some, IfOk, OnOk};
 ghost use Rattle.std.specs.Vec.Iter.{into_iter_items};
 ghost use Rattle.bus_model.specs.Orders.{Order as OneOrder};
-ghost use Rattle.end_work.specs.Seats.{kind_at, served_at};
-ghost use Rattle.phase_run.specs.Pairs.{Ran};
+ghost use Rattle.channel_workers.specs.Seats.{kind_at, served_at};
+ghost use Rattle.phase_run.specs.Pairs.{RanPair};
 ghost use Rattle.phase_run.specs.declared.pair.PairDone.{PairDone as OneDone};
-ghost use Rattle.end_work.specs.declared.device_seat.DeviceSeat.{DeviceSeat as OneSeat};
-ghost use Rattle.bus_run.specs.declared.desk.Desk.{Desk as OneDesk};
-ghost use Rattle.bus_run.specs.Desk.{GoesOn, desk_at};
+ghost use Rattle.channel_workers.specs.declared.device_seat.DeviceSeat.{DeviceSeat as OneSeat};
+ghost use Rattle.bus_run.specs.declared.device_slot.DeviceSlot.{DeviceSlot as OneSlot};
+ghost use Rattle.bus_run.specs.DeviceSlot.{GoesOn, slot_at};
 ghost use Rattle.bus_run.specs.Opening.{Given};
 ghost use Rattle.bus_run.specs.Closing.{AllBack, AllCome, AllClosed, AreWhole, ChannelClosed, ChannelEnded};
 ghost use Rattle.bus_run.specs.Seats.{kind_in, seats_in};
 
-use crate::desk::Desk;
+use crate::device_slot::DeviceSlot;
 use crate::due::Due;
 use crate::seats::Seats;
 use bus_model::ChannelRun;
 use bus_plan::{ChannelOutcomes, Outcomes};
-use end_work::DeviceSeat;
+use channel_workers::DeviceSeat;
 use phase_run::{PairDone, serving_seat};
 use ring_seat::Settled;
 use std::alloc::{AllocError, Global};
@@ -26,8 +26,8 @@ use std::vec::IntoIter;
 
 /// What a channel carried, its seat, and the outcomes of its requests, of which there are so many: nothing is copied.
 fn end_channel(asked: usize, done: PairDone) -> (Settled, DeviceSeat, ChannelOutcomes)
-    requires { (order : OneOrder) × (first : OneSeat) × (length order.asks ≡ asked) × Ran order first done }
-    ensures { (order : OneOrder) (first : OneSeat) → length order.asks ≡ asked → Ran order first done → ChannelEnded order first result.0 result.1 result.2 }
+    requires { (order : OneOrder) × (first : OneSeat) × (length order.asks ≡ asked) × RanPair order first done }
+    ensures { (order : OneOrder) (first : OneSeat) → length order.asks ≡ asked → RanPair order first done → ChannelEnded order first result.0 result.1 result.2 }
 {
     let PairDone {
         settled,
@@ -52,8 +52,8 @@ fn close_channel(
     dones: &mut IntoIter<PairDone>,
     settled: &mut Vec<ChannelRun>,
 ) -> Result<ChannelOutcomes, AllocError>
-    requires { (order : OneOrder) × (first : OneSeat) × (done : OneDone) × (rest : List OneDone) × (length order.asks ≡ due.now.count) × (kind_in seats.old ≡ Some (kind_at first)) × (into_iter_items dones.old ≡ done ∷ rest) × Ran order first done }
-    ensures closed { IfOk result (λ results. (order : OneOrder) (first : OneSeat) (done : OneDone) (rest : List OneDone) → length order.asks ≡ due.now.count → into_iter_items dones.old ≡ done ∷ rest → Ran order first done
+    requires { (order : OneOrder) × (first : OneSeat) × (done : OneDone) × (rest : List OneDone) × (length order.asks ≡ due.now.count) × (kind_in seats.old ≡ Some (kind_at first)) × (into_iter_items dones.old ≡ done ∷ rest) × RanPair order first done }
+    ensures closed { IfOk result (λ results. (order : OneOrder) (first : OneSeat) (done : OneDone) (rest : List OneDone) → length order.asks ≡ due.now.count → into_iter_items dones.old ≡ done ∷ rest → RanPair order first done
         → ChannelClosed phase due.now.opening order first seats.old seats.new settled.old.items settled.new.items results) }
     ensures rest { OnOk result ((done : OneDone) (rest : List OneDone) → into_iter_items dones.old ≡ done ∷ rest → into_iter_items dones.new ≡ rest) }
 {
@@ -80,8 +80,8 @@ pub fn close_all(
     seats: &mut Vec<Seats>,
     settled: &mut Vec<ChannelRun>,
 ) -> Result<Outcomes, AllocError>
-    requires { (old : List OneDesk) × (given : List Given) × AllCome dues.now old given seats.old.items done.items }
-    ensures { IfOk result (λ outcomes. (old : List OneDesk) (given : List Given) → AllCome dues.now old given seats.old.items done.items → AllClosed phase old given seats.old.items seats.new.items settled.old.items settled.new.items outcomes) }
+    requires { (old : List OneSlot) × (given : List Given) × AllCome dues.now old given seats.old.items done.items }
+    ensures { IfOk result (λ outcomes. (old : List OneSlot) (given : List Given) → AllCome dues.now old given seats.old.items done.items → AllClosed phase old given seats.old.items seats.new.items settled.old.items settled.new.items outcomes) }
 {
     let mut dones = done.into_iter();
     let mut outcomes = Outcomes::make(alloc, seats.len())?;
@@ -94,12 +94,12 @@ pub fn close_all(
 }
 
 /// Closes the histories of all devices, once their channels are closed: each device is whole again.
-pub fn close_desks(desks: &mut Vec<Desk>, mut seats: Vec<Seats>)
-    requires { (old : List OneDesk) × (quotas : ℕ → List ℕ) × (given : ℕ → List OneSeat) × AllBack old quotas given desks.old.items seats.items }
-    ensures { (old : List OneDesk) (quotas : ℕ → List ℕ) (given : ℕ → List OneSeat) → AllBack old quotas given desks.old.items seats.items → AreWhole old desks.new.items seats.items }
+pub fn close_slots(slots: &mut Vec<DeviceSlot>, mut seats: Vec<Seats>)
+    requires { (old : List OneSlot) × (quotas : ℕ → List ℕ) × (given : ℕ → List OneSeat) × AllBack old quotas given slots.old.items seats.items }
+    ensures { (old : List OneSlot) (quotas : ℕ → List ℕ) (given : ℕ → List OneSeat) → AllBack old quotas given slots.old.items seats.items → AreWhole old slots.new.items seats.items }
 {
-    for device in 0..desks.len() {
+    for device in 0..slots.len() {
         let own = mem::replace(&mut seats[device], Seats::None);
-        own.close(&mut desks[device]);
+        own.close(&mut slots[device]);
     }
 }

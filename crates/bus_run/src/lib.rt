@@ -4,7 +4,7 @@
 mod bads;
 mod channels;
 mod closing;
-mod desk;
+mod device_slot;
 mod due;
 mod opening;
 mod phase;
@@ -12,5 +12,5 @@ mod runner;
 mod seats;
 mod settings;
 
-pub use desk::Desk;
-pub use runner::{Ran, Runner};
+pub use device_slot::DeviceSlot;
+pub use runner::{Runner, ScriptRun};

@@ -1,18 +1,18 @@
 //! The channels of a phase are opened.
 ghost use Rattle.std.specs.Prelude.{◌≡◌, ◌+◌, ◌*◌, ◌<◌, ◌≤◌, ◌^◌, ◌++◌, ◌∷◌, [], List, All, length, sum, IfOk, OnOk};
-ghost use Rattle.end_work.specs.Seats.{kind_at, served_at, left_at};
-ghost use Rattle.bus_run.specs.Desk.{desk_log, desk_at, IsKept, IsReady, Suits};
+ghost use Rattle.channel_workers.specs.Seats.{kind_at, served_at, left_at};
+ghost use Rattle.bus_run.specs.DeviceSlot.{slot_log, slot_at, IsKept, IsReady, Suits};
 ghost use Rattle.bus_run.specs.Settings.{HasLimits};
 ghost use Rattle.bus_run.specs.Seats.{IsAway, seats_in};
 ghost use Rattle.bus_run.specs.Opening.{AreAway, CanOpenAll, IsOpenedWith, AllOpened, order_with, quotas_of};
-ghost use Rattle.bus_run.specs.declared.desk.Desk.{Desk as OneDesk};
+ghost use Rattle.bus_run.specs.declared.device_slot.DeviceSlot.{DeviceSlot as OneSlot};
 
-use crate::desk::Desk;
+use crate::device_slot::DeviceSlot;
 use crate::seats::Seats;
 use crate::settings::Settings;
 use bus_plan::ChannelOrder;
+use channel_workers::DeviceSeat;
 use contact::Kind;
-use end_work::DeviceSeat;
 use phase_run::{Pair, open_pair};
 use std::alloc::{AllocError, Global};
 use std::mem;
@@ -41,17 +41,17 @@ fn quotas_of(alloc: Global, device: u32, plan: &[ChannelOrder]) -> Result<Vec<u3
 }
 
 /// Opens a device's history again, with a seat for each of these channels of it: the device is away from then on. Without a channel it stays.
-fn reopen(alloc: Global, desk: &mut Desk, quotas: &[u32]) -> Result<Seats, AllocError>
-    requires kept { IsKept desk.old }
+fn reopen(alloc: Global, slot: &mut DeviceSlot, quotas: &[u32]) -> Result<Seats, AllocError>
+    requires kept { IsKept slot.old }
     requires few { length quotas.now < 2 ^ 32 }
-    requires room { length (desk_log desk.old) + sum quotas.now < 2 ^ 32 }
-    ensures { IfOk result (λ seats. IsAway desk.old quotas.now desk.new seats (seats_in seats)) }
+    requires room { length (slot_log slot.old) + sum quotas.now < 2 ^ 32 }
+    ensures { IfOk result (λ seats. IsAway slot.old quotas.now slot.new seats (seats_in seats)) }
 {
     if quotas.is_empty() {
         return Ok(Seats::None);
     }
-    let subs = desk.subs();
-    let whole = mem::replace(desk, Desk::Out { subs });
+    let subs = slot.subs();
+    let whole = mem::replace(slot, DeviceSlot::Out { subs });
     Seats::open(alloc, whole, quotas)
 }
 
@@ -60,18 +60,18 @@ pub fn reopen_all(
     alloc: Global,
     most: u32,
     plan: &[ChannelOrder],
-    desks: &mut Vec<Desk>,
+    slots: &mut Vec<DeviceSlot>,
 ) -> Result<Vec<Seats>, AllocError>
-    requires can { CanOpenAll plan.now desks.old.items }
-    requires ready { All (IsReady (4096 * most)) desks.old.items }
+    requires can { CanOpenAll plan.now slots.old.items }
+    requires ready { All (IsReady (4096 * most)) slots.old.items }
     requires most { most ≤ 20000 }
-    requires few { length desks.old.items ≤ 16 }
-    ensures { IfOk result (λ seats. AreAway plan.now desks.old.items desks.new.items seats.items) }
+    requires few { length slots.old.items ≤ 16 }
+    ensures { IfOk result (λ seats. AreAway plan.now slots.old.items slots.new.items seats.items) }
 {
-    let mut seats = Vec::with_capacity(alloc, desks.len())?;
-    for device in 0..desks.len() {
+    let mut seats = Vec::with_capacity(alloc, slots.len())?;
+    for device in 0..slots.len() {
         let quotas = quotas_of(alloc, device as u32, plan)?;
-        seats.push_reserved(reopen(alloc, &mut desks[device], &quotas)?);
+        seats.push_reserved(reopen(alloc, &mut slots[device], &quotas)?);
     }
     Ok(seats)
 }
@@ -125,19 +125,19 @@ pub fn open_all(
     alloc: Global,
     plan: Vec<ChannelOrder>,
     settings: &[Settings],
-    desks: &[Desk],
+    slots: &[DeviceSlot],
     seats: &mut Vec<Seats>,
 ) -> Result<Vec<Pair>, AllocError>
-    requires away { (old : List OneDesk) × CanOpenAll plan.items old × AreAway plan.items old desks.now seats.old.items }
-    requires settings { length settings.now ≡ length desks.now }
+    requires away { (old : List OneSlot) × CanOpenAll plan.items old × AreAway plan.items old slots.now seats.old.items }
+    requires settings { length settings.now ≡ length slots.now }
     requires limits { All HasLimits settings.now }
-    ensures { IfOk result (λ pairs. (old : List OneDesk) → CanOpenAll plan.items old → AreAway plan.items old desks.now seats.old.items → AllOpened settings.now plan.items old seats.old.items seats.new.items pairs.items) }
+    ensures { IfOk result (λ pairs. (old : List OneSlot) → CanOpenAll plan.items old → AreAway plan.items old slots.now seats.old.items → AllOpened settings.now plan.items old seats.old.items seats.new.items pairs.items) }
 {
     let mut pairs = Vec::with_capacity(alloc, plan.len())?;
     for channel in plan {
         let at = channel.opening.device as usize;
         let seat = seats[at].take_first();
-        let pair = open_channel(alloc, &settings[at], desks[at].subs(), channel, seat)?;
+        let pair = open_channel(alloc, &settings[at], slots[at].subs(), channel, seat)?;
         pairs.push(pair)?;
     }
     Ok(pairs)

@@ -6,12 +6,12 @@ ghost use Rattle.script_lines.specs.Parts.{asks_in, channels_of};
 ghost use Rattle.script_lines.specs.WellFormed.{AllRight, AllGo};
 ghost use Rattle.script_phases.specs.Openings.{Phase, others, subs_of};
 ghost use Rattle.bus_plan.specs.Endings.{AreEnded};
-ghost use Rattle.bus_run.specs.Desk.{IsReady};
+ghost use Rattle.bus_run.specs.DeviceSlot.{IsReady};
 ghost use Rattle.bus_run.specs.Settings.{HasLimits};
 ghost use Rattle.bus_run.specs.Whole.{IsThis, PhaseRan, specs_of};
 
 use crate::channels::run_channels;
-use crate::desk::{Desk, all_subs};
+use crate::device_slot::{DeviceSlot, all_subs};
 use crate::settings::Settings;
 use bus_model::ChannelRun;
 use bus_plan::{Ending, mark_ended, plan_part, tell};
@@ -23,7 +23,7 @@ use std::thread::Threads;
 
 /// Plans a phase, runs its channels, tells the outcomes of its lines in their order, and notes which devices it ended. `relid` is the first one that no
 /// channel has had.
-pub fn run_phase<R: Threads + Wait + Sync, G: Gate>(
+pub fn run_script_phase<R: Threads + Wait + Sync, G: Gate>(
     rt: &R,
     gate: &G,
     alloc: Global,
@@ -32,33 +32,33 @@ pub fn run_phase<R: Threads + Wait + Sync, G: Gate>(
     settings: &[Settings],
     ended: &mut [Option<Ending>],
     relid: &mut u32,
-    desks: &mut Vec<Desk>,
+    slots: &mut Vec<DeviceSlot>,
     settled: &mut Vec<ChannelRun>,
     results: &mut Vec<LineResult>,
 ) -> Result<(), AllocError>
-    requires ready { All (IsReady (4096 * phase)) desks.old.items }
-    requires right { AllRight (specs_of desks.old.items) part.now }
+    requires ready { All (IsReady (4096 * phase)) slots.old.items }
+    requires right { AllRight (specs_of slots.old.items) part.now }
     requires go { AllGo part.now }
     requires asks { asks_in part.now ≤ 4096 }
-    requires this { (p : Phase) × IsThis phase part.now ended.old (specs_of desks.old.items) relid.old p }
+    requires this { (p : Phase) × IsThis phase part.now ended.old (specs_of slots.old.items) relid.old p }
     requires room { relid.old + 48 < 2 ^ 32 }
-    requires ended { length ended.old ≡ length desks.old.items }
-    requires settings { length settings.now ≡ length desks.old.items }
+    requires ended { length ended.old ≡ length slots.old.items }
+    requires settings { length settings.now ≡ length slots.old.items }
     requires limits { All HasLimits settings.now }
-    requires few { length desks.old.items ≤ 16 }
-    requires subs { AllByRecursion (λ s. subs_of s ≤ 3) (specs_of desks.old.items) }
-    requires channels { sum_by channels_of (specs_of desks.old.items) ≤ 16 }
+    requires few { length slots.old.items ≤ 16 }
+    requires subs { AllByRecursion (λ s. subs_of s ≤ 3) (specs_of slots.old.items) }
+    requires channels { sum_by channels_of (specs_of slots.old.items) ≤ 16 }
     requires phase { phase ≤ 20000 }
-    ensures ran { OnOk result ((p : Phase) → IsThis phase part.now ended.old (specs_of desks.old.items) relid.old p → PhaseRan p desks.old.items desks.new.items settled.old.items settled.new.items results.old.items results.new.items) }
-    ensures relid { OnOk result ((p : Phase) → IsThis phase part.now ended.old (specs_of desks.old.items) relid.old p → relid.new ≡ relid.old + length (others p.opened)) }
+    ensures ran { OnOk result ((p : Phase) → IsThis phase part.now ended.old (specs_of slots.old.items) relid.old p → PhaseRan p slots.old.items slots.new.items settled.old.items settled.new.items results.old.items results.new.items) }
+    ensures relid { OnOk result ((p : Phase) → IsThis phase part.now ended.old (specs_of slots.old.items) relid.old p → relid.new ≡ relid.old + length (others p.opened)) }
     ensures few { OnOk result (relid.new ≤ relid.old + 48) }
-    ensures ready { OnOk result (All (IsReady (4096 * (phase + 1))) desks.new.items) }
+    ensures ready { OnOk result (All (IsReady (4096 * (phase + 1))) slots.new.items) }
     ensures ended { OnOk result ((earlier : List OneLine) → AreEnded earlier ended.old → AreEnded (earlier ++ part.now) ended.new) }
     ensures count { OnOk result (length ended.new ≡ length ended.old) }
 {
-    let subs = all_subs(alloc, desks)?;
+    let subs = all_subs(alloc, slots)?;
     let plan = plan_part(alloc, ended, &subs, relid, part)?;
-    let outcomes = run_channels(rt, gate, alloc, phase, plan, settings, desks, settled)?;
+    let outcomes = run_channels(rt, gate, alloc, phase, plan, settings, slots, settled)?;
     tell(ended, outcomes, part, results)?;
     mark_ended(ended, part);
     Ok(())

@@ -7,13 +7,13 @@ ghost use Rattle.script_lines.specs.declared.line.Line.{Line as OneLine};
 ghost use Rattle.script_lines.specs.declared.line.DeviceSpec.{DeviceSpec as OneSpec};
 ghost use Rattle.bus_script.specs.Report.{prints};
 ghost use Rattle.script_lines.specs.WellFormed.{AllRight};
-ghost use Rattle.bus_run.specs.Desk.{IsKept, spec_of, setup_of, desk_log};
+ghost use Rattle.bus_run.specs.DeviceSlot.{IsKept, spec_of, setup_of, slot_log};
 ghost use Rattle.bus_run.specs.Parts.{AreOpen};
 ghost use Rattle.bus_run.specs.Whole.{AreFresh, CanMake, RunsSoFar, behind, setups_from};
 
 use crate::bads::bad_places;
-use crate::desk::{Desk, history_of, new_desk};
-use crate::phase::run_phase;
+use crate::device_slot::{DeviceSlot, history_of, new_slot};
+use crate::phase::run_script_phase;
 use crate::settings::{Settings, all_settings};
 use bus_model::{ChannelRun, DeviceHistory};
 use bus_plan::{Ending, first_part};
@@ -28,7 +28,7 @@ use std::thread::Threads;
 /// What a run of a script gives: what each channel carried, in order of phase and then of relid; what each device served, in order of offer; and the
 /// outcome of each line that prints.
 #[derive(Drop)]
-pub struct Ran {
+pub struct ScriptRun {
     pub settled: Vec<ChannelRun>,
     pub histories: Vec<DeviceHistory>,
     pub results: Vec<LineResult>,
@@ -37,7 +37,7 @@ pub struct Ran {
 /// A script under way, between two of its phases.
 #[derive(Drop)]
 pub struct Runner {
-    desks: Vec<Desk>,
+    slots: Vec<DeviceSlot>,
     settings: Vec<Settings>,
     // how an earlier phase ended each device
     ended: Vec<Option<Ending>>,
@@ -53,17 +53,17 @@ pub struct Runner {
 /// The device that a line offers, with the bad places of all lines.
 fn offer(
     alloc: Global,
-    desks: &mut Vec<Desk>,
+    slots: &mut Vec<DeviceSlot>,
     lines: &[Line],
     what: &What,
 ) -> Result<(), AllocError>
-    requires { CanMake lines.now (length desks.old.items) what.now }
-    ensures { OnOk result ((kinds : List OneSpec) → AreFresh lines.now kinds desks.old.items → AreFresh lines.now (kinds ++ offered_by what.now) desks.new.items) }
+    requires { CanMake lines.now (length slots.old.items) what.now }
+    ensures { OnOk result ((kinds : List OneSpec) → AreFresh lines.now kinds slots.old.items → AreFresh lines.now (kinds ++ offered_by what.now) slots.new.items) }
 {
     match what {
         What::Offer { name: _, device } => {
-            let bad = bad_places(alloc, desks.len(), lines)?;
-            desks.push(new_desk(alloc, *device, &bad)?)?;
+            let bad = bad_places(alloc, slots.len(), lines)?;
+            slots.push(new_slot(alloc, *device, &bad)?)?;
             Ok(())
         }
         _ => Ok(()),
@@ -71,27 +71,27 @@ fn offer(
 }
 
 /// The devices that a script offers.
-fn new_desks(alloc: Global, lines: &[Line]) -> Result<Vec<Desk>, AllocError>
+fn new_slots(alloc: Global, lines: &[Line]) -> Result<Vec<DeviceSlot>, AllocError>
     requires { AllRight (offered lines.now) lines.now }
-    ensures { IfOk result (λ desks. AreFresh lines.now (offered lines.now) desks.items) }
+    ensures { IfOk result (λ slots. AreFresh lines.now (offered lines.now) slots.items) }
 {
-    let mut desks = Vec::new(alloc);
+    let mut slots = Vec::new(alloc);
     for line in lines {
-        offer(alloc, &mut desks, lines, &line.what)?;
+        offer(alloc, &mut slots, lines, &line.what)?;
     }
-    Ok(desks)
+    Ok(slots)
 }
 
 /// What the devices served.
-fn histories_of(alloc: Global, mut desks: Vec<Desk>) -> Result<Vec<DeviceHistory>, AllocError>
-    requires { All IsKept desks.items }
-    ensures logs { IfOk result (λ histories. map log_of histories.items ≡ map desk_log desks.items) }
-    ensures legal { IfOk result (λ histories. (lines : List OneLine) → map setup_of desks.items ≡ setups_from lines 0 (map spec_of desks.items) → EachHistory lines 0 (map spec_of desks.items) histories.items) }
+fn histories_of(alloc: Global, mut slots: Vec<DeviceSlot>) -> Result<Vec<DeviceHistory>, AllocError>
+    requires { All IsKept slots.items }
+    ensures logs { IfOk result (λ histories. map log_of histories.items ≡ map slot_log slots.items) }
+    ensures legal { IfOk result (λ histories. (lines : List OneLine) → map setup_of slots.items ≡ setups_from lines 0 (map spec_of slots.items) → EachHistory lines 0 (map spec_of slots.items) histories.items) }
 {
     let mut histories = Vec::new(alloc);
-    for i in 0..desks.len() {
-        let desk = mem::replace(&mut desks[i], Desk::Out { subs: 0 });
-        histories.push(history_of(desk))?;
+    for i in 0..slots.len() {
+        let slot = mem::replace(&mut slots[i], DeviceSlot::Out { subs: 0 });
+        histories.push(history_of(slot))?;
     }
     Ok(histories)
 }
@@ -149,13 +149,13 @@ impl Runner {
         ensures phase { IfOk result (λ runner. runner.phase ≡ 0) }
     {
         let lines = script.lines();
-        let desks = new_desks(alloc, lines)?;
-        let settings = all_settings(alloc, desks.len(), lines)?;
-        let ended = none_ended(alloc, desks.len())?;
-        let relid = first_relid(desks.len());
+        let slots = new_slots(alloc, lines)?;
+        let settings = all_settings(alloc, slots.len(), lines)?;
+        let ended = none_ended(alloc, slots.len())?;
+        let relid = first_relid(slots.len());
         let results = new_results(alloc, lines)?;
         Ok(Runner {
-            desks,
+            slots,
             settings,
             ended,
             phase: 0,
@@ -201,7 +201,7 @@ impl Runner {
         };
         let (_, rest) = script.lines().split_at(at);
         let (part, next) = first_part(rest);
-        run_phase(
+        run_script_phase(
             rt,
             gate,
             alloc,
@@ -210,7 +210,7 @@ impl Runner {
             &self.settings,
             &mut self.ended,
             &mut self.relid,
-            &mut self.desks,
+            &mut self.slots,
             &mut self.settled,
             &mut self.results,
         )?;
@@ -220,18 +220,18 @@ impl Runner {
     }
 
     /// What ran, once no phase of the script is left.
-    pub fn end(self, alloc: Global) -> Result<Ran, AllocError>
+    pub fn end(self, alloc: Global) -> Result<ScriptRun, AllocError>
         requires { (lines : List OneLine) × RunsSoFar lines self × (self.phase ≡ length (parts lines)) }
         ensures run { IfOk result (λ ran. (lines : List OneLine) → RunsSoFar lines self → self.phase ≡ length (parts lines) → IsBusRun lines ran.settled.items ran.histories.items ran.results.items) }
     {
         let Runner {
-            desks,
+            slots,
             settled,
             results,
             ..
         } = self;
-        let histories = histories_of(alloc, desks)?;
-        Ok(Ran {
+        let histories = histories_of(alloc, slots)?;
+        Ok(ScriptRun {
             settled,
             histories,
             results,

@@ -1,14 +1,14 @@
 //! The seats of a device, which its channels have in a phase.
 ghost use Rattle.std.specs.Prelude.{◌≡◌, ◌+◌, ◌^◌, ◌<◌, ◌++◌, ◌∷◌, [], ℕ, List, length, map, sum, Some, IfOk, OnOk};
 ghost use Rattle.script_lines.specs.Parts.{kind_of};
-ghost use Rattle.end_work.specs.Seats.{kind_at, served_at};
-ghost use Rattle.end_work.specs.declared.device_seat.DeviceSeat.{DeviceSeat as OneSeat};
-ghost use Rattle.bus_run.specs.Desk.{GoesOn, IsKept, spec_of, desk_log};
+ghost use Rattle.channel_workers.specs.Seats.{kind_at, served_at};
+ghost use Rattle.channel_workers.specs.declared.device_seat.DeviceSeat.{DeviceSeat as OneSeat};
+ghost use Rattle.bus_run.specs.DeviceSlot.{GoesOn, IsKept, spec_of, slot_log};
 ghost use Rattle.bus_run.specs.Seats.{AreSeatsFor, ComesBack, kind_in, seats_in};
-ghost use Rattle.bus_run.specs.declared.desk.Desk.{Desk as OneDesk};
+ghost use Rattle.bus_run.specs.declared.device_slot.DeviceSlot.{DeviceSlot as OneSlot};
 
-use crate::desk::Desk;
-use end_work::DeviceSeat;
+use crate::device_slot::DeviceSlot;
+use channel_workers::DeviceSeat;
 use hist_lock::{HistLock, HistSeat};
 use net_dev::Station;
 use scsi_disk::Disk;
@@ -33,24 +33,24 @@ pub enum Seats {
 
 impl Seats {
     /// Opens a device's history again, with a seat for so many calls for each of its channels.
-    pub fn open(alloc: Global, desk: Desk, quotas: &[u32]) -> Result<Seats, AllocError>
-        requires kept { IsKept desk }
+    pub fn open(alloc: Global, slot: DeviceSlot, quotas: &[u32]) -> Result<Seats, AllocError>
+        requires kept { IsKept slot }
         requires some { 0 < length quotas.now }
         requires few { length quotas.now < 2 ^ 32 }
-        requires room { length (desk_log desk) + sum quotas.now < 2 ^ 32 }
-        ensures kind { IfOk result (λ seats. kind_in seats ≡ Some (kind_of (spec_of desk))) }
-        ensures seats { IfOk result (λ seats. AreSeatsFor desk quotas.now (seats_in seats)) }
+        requires room { length (slot_log slot) + sum quotas.now < 2 ^ 32 }
+        ensures kind { IfOk result (λ seats. kind_in seats ≡ Some (kind_of (spec_of slot))) }
+        ensures seats { IfOk result (λ seats. AreSeatsFor slot quotas.now (seats_in seats)) }
     {
-        match desk {
-            Desk::Beat(state, history) => {
+        match slot {
+            DeviceSlot::Beat(state, history) => {
                 let seats = HistLock::reopen(alloc, state, history, quotas)?;
                 Ok(Seats::Beat(seats))
             }
-            Desk::Down(state, history) => {
+            DeviceSlot::Down(state, history) => {
                 let seats = HistLock::reopen(alloc, state, history, quotas)?;
                 Ok(Seats::Down(seats))
             }
-            Desk::Disk {
+            DeviceSlot::Disk {
                 subs: _,
                 state: disk,
                 history,
@@ -58,11 +58,11 @@ impl Seats {
                 let seats = HistLock::reopen(alloc, disk, history, quotas)?;
                 Ok(Seats::Disk(seats))
             }
-            Desk::Net(state, history) => {
+            DeviceSlot::Net(state, history) => {
                 let seats = HistLock::reopen(alloc, state, history, quotas)?;
                 Ok(Seats::Net(seats))
             }
-            Desk::Out { .. } => unreachable!(),
+            DeviceSlot::Out { .. } => unreachable!(),
         }
     }
 
@@ -113,24 +113,24 @@ impl Seats {
     }
 
     /// Closes a device's history, once its channels gave all seats back: the device is whole again. It takes no memory.
-    pub fn close(self, desk: &mut Desk)
-        requires { (old : OneDesk) × (quotas : List ℕ) × (given : List OneSeat) × ComesBack old quotas given desk.old self }
-        ensures { (old : OneDesk) (quotas : List ℕ) (given : List OneSeat) → ComesBack old quotas given desk.old self → GoesOn old desk.new (map served_at (seats_in self)) }
+    pub fn close(self, slot: &mut DeviceSlot)
+        requires { (old : OneSlot) × (quotas : List ℕ) × (given : List OneSeat) × ComesBack old quotas given slot.old self }
+        ensures { (old : OneSlot) (quotas : List ℕ) (given : List OneSeat) → ComesBack old quotas given slot.old self → GoesOn old slot.new (map served_at (seats_in self)) }
     {
         match self {
             Seats::None => {}
             Seats::Beat(seats) => {
                 let (state, history) = HistLock::close(seats);
-                *desk = Desk::Beat(state, history);
+                *slot = DeviceSlot::Beat(state, history);
             }
             Seats::Down(seats) => {
                 let (state, history) = HistLock::close(seats);
-                *desk = Desk::Down(state, history);
+                *slot = DeviceSlot::Down(state, history);
             }
             Seats::Disk(seats) => {
-                let subs = desk.subs();
+                let subs = slot.subs();
                 let (state, history) = HistLock::close(seats);
-                *desk = Desk::Disk {
+                *slot = DeviceSlot::Disk {
                     subs,
                     state,
                     history,
@@ -138,7 +138,7 @@ impl Seats {
             }
             Seats::Net(seats) => {
                 let (state, history) = HistLock::close(seats);
-                *desk = Desk::Net(state, history);
+                *slot = DeviceSlot::Net(state, history);
             }
         }
     }

@@ -11,12 +11,12 @@ use Rattle.ring_core.specs.Seen.{Seen}
 use Rattle.ring_machine.specs.Endings.{refused}
 use Rattle.ring_core.specs.declared.room.Room.{Room}
 use Rattle.ring_seat.specs.declared.table_seat.TableSeat.{TableSeat}
-use Rattle.work_model.specs.Speech.{Speech, Keeps}
-use Rattle.work_model.specs.Workers.{ServerKept, AcksKept}
-use Rattle.work_model.specs.Amounts.{room_of, besides_of, AsksAtMost, MayHaveMessages}
-use Rattle.work_model.proofs.Amounts.{never_over, sent_within, serves_at_most}
-use Rattle.work_model.proofs.Runs.{guest_front, host_front}
-use Rattle.work_model.proofs.Served.{filter_first}
+use Rattle.channel_model.specs.WireFormat.{WireFormat, Keeps}
+use Rattle.channel_model.specs.Workers.{ServerKept, AcksKept}
+use Rattle.channel_model.specs.Amounts.{room_of, besides_of, AsksAtMost, MayHaveMessages}
+use Rattle.channel_model.proofs.Amounts.{never_over, sent_within, serves_at_most}
+use Rattle.channel_model.proofs.Runs.{guest_front, host_front}
+use Rattle.channel_model.proofs.Served.{filter_first}
 use Rattle.channel_port.specs.Line.{LacksTake}
 use Rattle.channel_port.specs.Owed.{LacksSend, LacksSendOf}
 use Rattle.channel_port.specs.Rooms.{words_in, AreShort, CameOver, HasReserved, HasReservedSent, KeepsRoom, GotInto, SentInto, AskedOver, AskedWithin, ServedWithin, AskLacksFor, ServeLacksFor, has_room, is_asked, NeverLacks}
@@ -52,13 +52,13 @@ not_over kind most room mine other front short few few' over = by over.over
     by (inr (inl more)) = omega (arith, more, few, short_words (got_of mine) (short_front (got_of mine) front.0 (subst AreShort front.1 short)))
     by (inr (inr more)) = omega (arith, more, few')
 
-no_lack : {A Q R : Type 0} (s : Speech (List ℕ) A Q R) (besides : Bool) (asks : ℕ) (how : Ended) (mine : List (Event (List ℕ))) → (CameOver s.is_message (besides_of besides asks) (room_of besides asks) mine → ⊥) → AskLacksFor s besides asks how mine
+no_lack : {A Q R : Type 0} (s : WireFormat (List ℕ) A Q R) (besides : Bool) (asks : ℕ) (how : Ended) (mine : List (Event (List ℕ))) → (CameOver s.is_message (besides_of besides asks) (room_of besides asks) mine → ⊥) → AskLacksFor s besides asks how mine
     → has_room how ≡ true
 no_lack s besides asks Marked mine none h = refl
 no_lack s besides asks PeerMarked mine none h = refl
 no_lack s besides asks (RoomEnd packets words left) mine none h = absurd (none h)
 
-no_call_lack : {A Q R : Type 0} (s : Speech (List ℕ) A Q R) (besides : Bool) (most serve : ℕ) (stops : Bool) (how : Ended) (mine : List (Event (List ℕ))) → (CameOver s.is_request most (room_of besides most) mine → ⊥)
+no_call_lack : {A Q R : Type 0} (s : WireFormat (List ℕ) A Q R) (besides : Bool) (most serve : ℕ) (stops : Bool) (how : Ended) (mine : List (Event (List ℕ))) → (CameOver s.is_request most (room_of besides most) mine → ⊥)
     → (stops ≡ false → AskedOver (is_asked s) serve mine → ⊥) → ServeLacksFor s besides most serve stops how mine → has_room how ≡ true
 no_call_lack s besides most serve stops Marked mine none few h = refl
 no_call_lack s besides most serve stops PeerMarked mine none few h = refl
@@ -69,7 +69,7 @@ room_more : (besides : Bool) (m n : ℕ) → m ≤ n → room_of besides m ≤ r
 room_more false m n le = le
 room_more true m n le = omega (arith, le)
 
-pub never_lacks : {A Q R : Type 0} (s : Speech (List ℕ) A Q R) → NeverLacks s
+pub never_lacks : {A Q R : Type 0} (s : WireFormat (List ℕ) A Q R) → NeverLacks s
 never_lacks s besides asks most serve stops asker server asked served le few one a lacks b lacks' =
     let front : IsFront (got_of server) (sent_of asker) = subst (λ t. IsFront (got_of server) (sent_of t)) one.guest_is (subst (λ u. IsFront (got_of u) (sent_of (guest_of one.turns))) one.host_is (host_front one.turns one.run)) in
     let back : IsFront (got_of asker) (sent_of server) = subst (λ t. IsFront (got_of t) (sent_of server)) one.guest_is (subst (λ u. IsFront (got_of (guest_of one.turns)) (sent_of u)) one.host_is (guest_front one.turns one.run)) in
@@ -149,7 +149,7 @@ pub took_whole : {T E : Type 0} (r : Result T E) → is_err r ≡ false → refu
 took_whole (Ok x) e = refl
 took_whole (Err x) e = absurd (cc)
 
-module _ {A Q R : Type 0} (s : Speech (List ℕ) A Q R) where
+module _ {A Q R : Type 0} (s : WireFormat (List ℕ) A Q R) where
   -- where the asking end lacks room for what it is to send, more messages came than it has asks
   pub asks_over : (besides : Bool) (count packets words : ℕ) (p : List ℕ) (e : Seen TableSeat) → AsksAtMost s count e.state.past → HasReservedSent (room_of besides count) e → LacksSendOf packets words p e
       → length (filter s.is_request (sent_of e.state.past)) + length (filter s.is_ack (sent_of e.state.past)) < count + length (filter s.is_message (got_of e.state.past))

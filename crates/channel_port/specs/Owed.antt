@@ -3,7 +3,7 @@ use Rattle.std.specs.Prelude.{ℕ, ◌≡◌, ◌<◌, ◌≤◌, ◌+◌, ◌*�
 use Rattle.ring_machine.specs.States.{IsPacket}
 use Rattle.ring_core.specs.Seen.{Seen}
 use Rattle.ring_seat.specs.declared.table_seat.TableSeat.{TableSeat}
-use Rattle.work_model.specs.Speech.{Speech}
+use Rattle.channel_model.specs.WireFormat.{WireFormat}
 
 abbrev pub is_nil : {P : Type 0} → List P → Bool
 is_nil [] = true
@@ -16,7 +16,7 @@ pub record IsSheet (words : List ℕ) (len : ℕ) : Type 0 where
   pub packet : 0 < len → IsPacket (take len words)
 
 -- the device may give this reply to what the packet asks
-abbrev pub FitsReply : {A Q R : Type 0} → Speech (List ℕ) A Q R → List ℕ → R → Type 0
+abbrev pub FitsReply : {A Q R : Type 0} → WireFormat (List ℕ) A Q R → List ℕ → R → Type 0
 FitsReply {Q = Q} s p r = (q : Q) × (s.read p ≡ Some q) × (s.fits q r ≡ true)
 
 -- the room in bytes that the next packet needs

@@ -5,8 +5,8 @@ use Rattle.chan_run.specs.Laws.{AreOfOneRun}
 use Rattle.chan_run.specs.Runs.{sent_of, got_of}
 use Rattle.ring_core.specs.Seen.{Seen}
 use Rattle.ring_seat.specs.declared.table_seat.TableSeat.{TableSeat}
-use Rattle.work_model.specs.Speech.{Speech}
-use Rattle.work_model.specs.Amounts.{room_of, besides_of, AsksAtMost, ServesAtMost}
+use Rattle.channel_model.specs.WireFormat.{WireFormat}
+use Rattle.channel_model.specs.Amounts.{room_of, besides_of, AsksAtMost, ServesAtMost}
 use Rattle.channel_port.specs.declared.ended.Ended.{Ended}
 use Rattle.channel_port.specs.declared.ended.Ended.TheVariants.{Marked, PeerMarked, Room}
 
@@ -66,7 +66,7 @@ abbrev pub OnlyWith : Bool → Type 0 → Type 0
 OnlyWith false Holds = ⊥
 OnlyWith true Holds = Holds
 
-module _ {A Q R : Type 0} (s : Speech (List ℕ) A Q R) where
+module _ {A Q R : Type 0} (s : WireFormat (List ℕ) A Q R) where
   -- a packet asks the device for something
   abbrev pub is_asked : List ℕ → Bool
   is_asked p = is_some (s.read p)

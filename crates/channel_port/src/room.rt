@@ -1,6 +1,6 @@
 //! How much room a worker makes.
 ghost use Rattle.std.specs.Prelude.{◌≡◌, ◌≤◌, ◌*◌, ◌^◌};
-ghost use Rattle.work_model.specs.Amounts.{room_of};
+ghost use Rattle.channel_model.specs.Amounts.{room_of};
 
 /// The packets for which a worker makes room each way, where so many requests are to come or to go: one for each, and another one where messages go
 /// back besides the answers.

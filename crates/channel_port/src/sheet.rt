@@ -1,11 +1,11 @@
 //! A sheet on which a packet is written.
 ghost use Rattle.std.specs.Prelude.{◌≡◌, ◌<◌, ◌≤◌, ◌+◌, ◌*◌, [], ℕ, length, slice_get, Some, IfOk, true, ◌⊎◌};
-ghost use Rattle.chan_talk.specs.Listed.{answer_in, listed_packet, message_in};
-ghost use Rattle.work_model.specs.Speech.{listed, under_own};
+ghost use Rattle.channel_protocol.specs.Listed.{answer_in, listed_packet, message_in};
+ghost use Rattle.channel_model.specs.WireFormat.{listed, under_own};
 ghost use Rattle.ring_machine.specs.States.{IsPacket};
 ghost use Rattle.channel_port.specs.Owed.{is_nil, FitsReply};
 
-use chan_talk::Talk;
+use channel_protocol::Protocol;
 use std::alloc::{AllocError, Global};
 use std::marker::Model;
 
@@ -71,66 +71,72 @@ impl Sheet {
         8 * self.len as u32 + 8
     }
 
-    /// Writes the k-th request of a talk under an id.
-    pub fn encode<T: Talk>(&mut self, talk: &T, k: u32, id: u64)
-        requires which { k < length (T.asks talk.now) }
-        ensures value { (a : T.Ask) → slice_get (T.asks talk.now) k ≡ Some a → self.new ≡ (T.speech talk.now).encode id a }
+    /// Writes the k-th request of a protocol under an id.
+    pub fn encode<T: Protocol>(&mut self, protocol: &T, k: u32, id: u64)
+        requires which { k < length (T.asks protocol.now) }
+        ensures value { (a : T.Ask) → slice_get (T.asks protocol.now) k ≡ Some a → self.new ≡ (T.format protocol.now).encode id a }
         ensures packet { IsPacket self.new }
         ensures most { length self.new ≤ 384 }
     {
-        self.len = talk.encode(k, id, self.words.as_mut_slice());
+        self.len = protocol.encode(k, id, self.words.as_mut_slice());
     }
 
     /// Writes what acknowledges a message.
-    pub fn write_ack<T: Talk>(&mut self, talk: &T, packet: &[u64])
+    pub fn write_ack<T: Protocol>(&mut self, protocol: &T, packet: &[u64])
         requires packet { IsPacket packet.now }
-        requires message { (T.speech talk.now).is_message packet.now ≡ true }
-        ensures value { self.new ≡ (T.speech talk.now).ack packet.now }
+        requires message { (T.format protocol.now).is_message packet.now ≡ true }
+        ensures value { self.new ≡ (T.format protocol.now).ack packet.now }
         ensures packet { IsPacket self.new }
         ensures most { length self.new ≤ 384 }
     {
-        self.len = talk.write_ack(packet, self.words.as_mut_slice());
+        self.len = protocol.write_ack(packet, self.words.as_mut_slice());
     }
 
     /// Writes the message that goes back for a packet that asks nothing of the device, if there is one, under an id of the serving end's own.
-    pub fn write_fixed_message<T: Talk>(&mut self, talk: &T, packet: &[u64], own: u64)
+    pub fn write_fixed_message<T: Protocol>(&mut self, protocol: &T, packet: &[u64], own: u64)
         requires packet { IsPacket packet.now }
-        ensures { listed_packet self.new ≡ listed (message_in own ((T.speech talk.now).fixed packet.now)) }
+        ensures { listed_packet self.new ≡ listed (message_in own ((T.format protocol.now).fixed packet.now)) }
     {
-        self.len = talk.write_fixed_message(packet, own, self.words.as_mut_slice());
+        self.len = protocol.write_fixed_message(packet, own, self.words.as_mut_slice());
     }
 
     /// Writes the answer that goes back for it, if one does.
-    pub fn write_fixed<T: Talk>(&mut self, talk: &T, packet: &[u64])
+    pub fn write_fixed<T: Protocol>(&mut self, protocol: &T, packet: &[u64])
         requires packet { IsPacket packet.now }
-        ensures { listed_packet self.new ≡ listed (answer_in ((T.speech talk.now).fixed packet.now)) }
+        ensures { listed_packet self.new ≡ listed (answer_in ((T.format protocol.now).fixed packet.now)) }
     {
-        self.len = talk.write_fixed(packet, self.words.as_mut_slice());
+        self.len = protocol.write_fixed(packet, self.words.as_mut_slice());
     }
 
     /// Writes the message that goes back before the answer, if there is one, under an id of the serving end's own.
-    pub fn write_message<T: Talk>(&mut self, talk: &T, packet: &[u64], reply: &T::Reply, own: u64)
+    pub fn write_message<T: Protocol>(
+        &mut self,
+        protocol: &T,
+        packet: &[u64],
+        reply: &T::Reply,
+        own: u64,
+    )
         requires packet { IsPacket packet.now }
-        requires fits { FitsReply (T.speech talk.now) packet.now reply.now }
-        ensures { listed_packet self.new ≡ listed (under_own own ((T.speech talk.now).gives packet.now reply.now).message) }
+        requires fits { FitsReply (T.format protocol.now) packet.now reply.now }
+        ensures { listed_packet self.new ≡ listed (under_own own ((T.format protocol.now).gives packet.now reply.now).message) }
     {
-        self.len = talk.write_message(packet, reply, own, self.words.as_mut_slice());
+        self.len = protocol.write_message(packet, reply, own, self.words.as_mut_slice());
     }
 
     /// Writes the answer with the device's reply.
-    pub fn write_answer<T: Talk>(
+    pub fn write_answer<T: Protocol>(
         &mut self,
-        talk: &T,
+        protocol: &T,
         packet: &[u64],
         head: &T::Head,
         reply: &T::Reply,
     )
         requires packet { IsPacket packet.now }
-        requires head { T.is_head talk.now packet.now head.now }
-        requires fits { FitsReply (T.speech talk.now) packet.now reply.now }
-        ensures value { self.new ≡ ((T.speech talk.now).gives packet.now reply.now).answer }
+        requires head { T.is_head protocol.now packet.now head.now }
+        requires fits { FitsReply (T.format protocol.now) packet.now reply.now }
+        ensures value { self.new ≡ ((T.format protocol.now).gives packet.now reply.now).answer }
         ensures packet { IsPacket self.new }
     {
-        self.len = talk.write_answer(packet, head, reply, self.words.as_mut_slice());
+        self.len = protocol.write_answer(packet, head, reply, self.words.as_mut_slice());
     }
 }

@@ -1,4 +1,4 @@
--- What holds of a guest and its host while they talk.
+-- What holds of a guest and its host while they exchange messages.
 use Rattle.std.specs.Prelude.{◌≡◌, ℕ, ◌+◌, ◌-◌, ◌<◌, ◌≤◌, ◌==◌, Bool, true, false, filter, List, [], ◌∷◌, ◌++◌, length, Some, is_some, Ok}
 use Rattle.contact.specs.declared.part.Part.{Part}
 use Rattle.contact.specs.declared.part.Part.TheVariants.{Unload}

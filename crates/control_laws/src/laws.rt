@@ -1,4 +1,4 @@
-//! Laws of a guest's control and of its host's, of each by itself and of both as they talk. The
+//! Laws of a guest's control and of its host's, of each by itself and of both as they exchange messages. The
 //! functions do nothing: each one's contract is the law.
 ghost use Rattle.control_laws.specs.Sides.{NewOnesStand, GuestStarts, HostStarts, GuestHears, HostHears, GuestFronts, HostFronts, GuestIsCut, HostIsCut, BothOver};
 ghost use Rattle.control_laws.specs.Laws.{NewOnesAgree, BothBegin, HostGoesOn, GuestGoesOn, BothDone, FewOnTheirWay, EndsWell, EndTellsEach, RescindedAreReleased, RescindedOnce, SubsAreReleased, SubsOnce, EndsAtLower};

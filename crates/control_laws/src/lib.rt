@@ -1,4 +1,4 @@
-//! Laws of the control path: of a guest and of a host by itself, and of both as they talk.
+//! Laws of the control path: of a guest and of a host by itself, and of both as they exchange messages.
 #![tactic(auto)]
 
 mod laws;

@@ -29,6 +29,6 @@ pub use guest_wait::GuestWait;
 pub use host_next::{HostNext, Rescind};
 pub use host_wait::HostWait;
 pub use opening::Opening;
-pub use plan::Plan;
+pub use plan::ControlPlan;
 pub use sending::{messages, open_on, release, teardown, type_of};
 pub use version::version_below;

@@ -15,14 +15,14 @@ use std::marker::Model;
 
 /// The versions of both ends, the devices, and which channels each phase opens.
 #[derive(Drop)]
-pub struct Plan {
+pub struct ControlPlan {
     guest: Version,
     host: Version,
     kinds: Vec<Kind>,
     phases: Vec<Vec<Opening>>,
 }
 
-impl Model for Plan {
+impl Model for ControlPlan {
     ghost use Rattle.std.specs.Prelude.{map};
     ghost use Rattle.control_model.specs.Plan.{BusPlan, IsPlan};
 
@@ -33,9 +33,9 @@ impl Model for Plan {
     ghost invariant = { λ p. IsPlan (record { guest = p.guest; host = p.host; kinds = p.kinds.items; phases = map (λ phase. phase.items) p.phases.items }) };
 }
 
-impl Plan {
+impl ControlPlan {
     /// The plan of a script.
-    pub fn of(alloc: Global, script: &Script) -> Result<Plan, AllocError>
+    pub fn of(alloc: Global, script: &Script) -> Result<ControlPlan, AllocError>
         ensures { IfOk result (λ plan. plan ≡ plan_of script.now) }
     {
         let lines = script.lines();
@@ -44,7 +44,7 @@ impl Plan {
         let devices = table_of(alloc, lines, kinds.len() as u32)?;
         let specs = specs(alloc, lines)?;
         let phases = phases(alloc, lines, specs.as_slice(), devices.as_slice())?;
-        Ok(Plan {
+        Ok(ControlPlan {
             guest,
             host,
             kinds,

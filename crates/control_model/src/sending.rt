@@ -7,7 +7,7 @@ ghost use Rattle.vmbus_msg.specs.Grammar.{type_of};
 ghost use Rattle.control_model.specs.Plan.{IsOpening, subs_behind};
 ghost use Rattle.control_model.specs.Messages.{open_on, teardown, release, delivered, offer_sub, pages_from, Sends, Fits};
 
-use crate::{Burst, Opening, Plan};
+use crate::{Burst, ControlPlan, Opening};
 use contact::{Kind, Part, offer, offers};
 use gpadl::to_messages;
 use std::alloc::{AllocError, Global};
@@ -73,7 +73,7 @@ pub fn type_of(m: &Msg) -> u32
 }
 
 /// The messages of a burst, in order: at most 17.
-pub fn messages(alloc: Global, plan: &Plan, burst: &Burst) -> Result<Vec<Msg>, AllocError>
+pub fn messages(alloc: Global, plan: &ControlPlan, burst: &Burst) -> Result<Vec<Msg>, AllocError>
     requires { Fits burst.now }
     ensures sends { IfOk result (λ sent. Sends plan.now burst.now sent.items) }
     ensures few { IfOk result (λ sent. length sent.items ≤ 17) }
@@ -143,7 +143,7 @@ fn numbers(alloc: Global, first: u64, count: u32) -> Result<Vec<u64>, AllocError
 }
 
 // All offers, and that they were all.
-fn all_offers(alloc: Global, plan: &Plan) -> Result<Vec<Msg>, AllocError>
+fn all_offers(alloc: Global, plan: &ControlPlan) -> Result<Vec<Msg>, AllocError>
     ensures sends { IfOk result (λ sent. sent.items ≡ offers_from 1 plan.now.kinds ++ delivered ∷ []) }
     ensures few { IfOk result (λ sent. length sent.items ≤ 17) }
 {
@@ -155,7 +155,7 @@ fn all_offers(alloc: Global, plan: &Plan) -> Result<Vec<Msg>, AllocError>
 // A message, and an offer for each sub-channel of the device whose first channel is opened at a place.
 fn with_offers(
     alloc: Global,
-    plan: &Plan,
+    plan: &ControlPlan,
     first: &Msg,
     part: Option<Part>,
     place: usize,

@@ -28,7 +28,7 @@ use Rattle.guest_end.specs.AsSide.{guest_side, GuestFollows}
 use Rattle.host_end.specs.AsSide.{host_side, HostFollows}
 use Rattle.control_run.specs.declared.path.ControlPath.{ControlPath}
 use Rattle.control_run.specs.declared.want.PathWant.{PathWant}
-use Rattle.control_run.specs.Path.{AreNew, Rests, Ran, joined, WantMemory, EndsInWant, RanInWant}
+use Rattle.control_run.specs.Path.{AreNew, Rests, RanPart, joined, WantMemory, EndsInWant, RanInWant}
 
 -- what all messages are is so of each
 of_each : (P : Msg → Type 0) (xs front rest : List Msg) (m : Msg) → AllByRecursion P xs → xs ≡ front ++ m ∷ rest → P m
@@ -155,7 +155,7 @@ new_rests g h gp hf hp gf gb hb n m to_host to_guest last back new n1 l1 n2 l2 p
 pub has_run : (old : ControlPath) (part : Part) (guest : PartLeft GuestSeen) (host : PartLeft HostSeen) → Rests old → GuestFollows guest.done.control → HostFollows host.done.control
     → Served part (guest_side old.guest) old.guest_fetch old.guest_post (guest_side guest.done.control) guest.done.fetch guest.done.post guest.done.fault
     → Served part (host_side old.host) old.host_fetch old.host_post (host_side host.done.control) host.done.fetch host.done.post host.done.fault
-    → guest.local ≡ record { size = 64; queue = [] } → host.local ≡ record { size = 64; queue = [] } → guest.done.fault ≡ None → host.done.fault ≡ None → Ran old (joined guest host) part
+    → guest.local ≡ record { size = 64; queue = [] } → host.local ≡ record { size = 64; queue = [] } → guest.done.fault ≡ None → host.done.fault ≡ None → RanPart old (joined guest host) part
 has_run old part guest host rests guest_follows host_follows g h guest_box host_box no_guest no_host =
     let guest_ends = g.done no_guest in
     let host_ends = h.done no_host in record {
@@ -201,8 +201,8 @@ pub ran_where_ok : {E : Type 0} (old : ControlPath) (part : Part) (guest : PartL
     → Served part (guest_side old.guest) old.guest_fetch old.guest_post (guest_side guest.done.control) guest.done.fetch guest.done.post guest.done.fault
     → Served part (host_side old.host) old.host_fetch old.host_post (host_side host.done.control) host.done.fetch host.done.post host.done.fault
     → guest.local ≡ record { size = 64; queue = [] } → host.local ≡ record { size = 64; queue = [] }
-    → IfOk r (λ p. p ≡ joined guest host) → IfOk r (λ p. guest.done.fault ≡ None) → IfOk r (λ p. host.done.fault ≡ None) → IfOk r (λ p. Ran old p part)
-ran_where_ok old part guest host (Ok p) rests gf hf g h gb hb is no_guest no_host = subst (λ (x : ControlPath). Ran old x part) (sym is) (has_run old part guest host rests gf hf g h gb hb no_guest no_host)
+    → IfOk r (λ p. p ≡ joined guest host) → IfOk r (λ p. guest.done.fault ≡ None) → IfOk r (λ p. host.done.fault ≡ None) → IfOk r (λ p. RanPart old p part)
+ran_where_ok old part guest host (Ok p) rests gf hf g h gb hb is no_guest no_host = subst (λ (x : ControlPath). RanPart old x part) (sym is) (has_run old part guest host rests gf hf g h gb hb no_guest no_host)
 ran_where_ok old part guest host (Err e) rests gf hf g h gb hb is no_guest no_host = tt
 
 -- where it doesn't, a side wanted memory in it

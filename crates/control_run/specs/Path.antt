@@ -38,7 +38,7 @@ pub record Rests (p : ControlPath) : Type 0 where
   pub host_box : p.host_box ≡ record { size = 64; queue = [] }
 
 -- a part was run: both are done with it, and rest
-pub record Ran (old new : ControlPath) (part : Part) : Type 0 where
+pub record RanPart (old new : ControlPath) (part : Part) : Type 0 where
   pub rests : Rests new
   pub plan : new.guest.plan ≡ old.guest.plan
   pub guest_part : new.guest.part ≡ Some part

@@ -12,7 +12,7 @@ ghost use Rattle.control_serve.specs.Sides.{Serves};
 ghost use Rattle.guest_end.specs.AsSide.{guest_side};
 ghost use Rattle.host_end.specs.AsSide.{host_side};
 ghost use Rattle.mail_box.specs.Mail.{Closes};
-ghost use Rattle.control_run.specs.Path.{AreNew, joined, Rests, Ran, EndsInWant, RanInWant};
+ghost use Rattle.control_run.specs.Path.{AreNew, joined, Rests, RanPart, EndsInWant, RanInWant};
 
 use crate::{PathOver, PathWant};
 use bus_script::Script;
@@ -21,7 +21,7 @@ use control_serve::PartLeft;
 use guest_end::GuestControl;
 use host_end::HostControl;
 use mail_box::{FetchEnd, MailBox, Named, PostEnd};
-use part_run::{Seat, run_part, settle};
+use part_run::{PartSide, run_part, settle};
 use std::alloc::{AllocError, Global};
 use std::marker::Brand;
 use std::sync::Wait;
@@ -66,7 +66,7 @@ impl ControlPath {
     pub fn run<R: Threads + Wait + Sync>(self, rt: &R, part: Part) -> Result<ControlPath, PathWant>
         requires rests { Rests self }
         requires part { part_after self.guest.plan self.guest.part ≡ Some part }
-        ensures ran { IfOk result (λ path. Ran self path part) }
+        ensures ran { IfOk result (λ path. RanPart self path part) }
         ensures wants { IfErr result (λ want. RanInWant self part want.ends) }
     {
         let ControlPath {
@@ -79,13 +79,13 @@ impl ControlPath {
             guest_box,
             host_box,
         } = self;
-        let guest = Seat {
+        let guest = PartSide {
             control: guest,
             fetch: guest_fetch,
             post: guest_post,
             local: guest_box,
         };
-        let host = Seat {
+        let host = PartSide {
             control: host,
             fetch: host_fetch,
             post: host_post,

@@ -1,4 +1,4 @@
--- One side of a talk: what it says and hears, and how far it has come with its two ends.
+-- One side of the control path: what it says and hears, and how far it has come with its two ends.
 use Rattle.std.specs.Prelude.{◌≡◌, ◌⊎◌, Bool, true, List, [], ◌∷◌, ◌++◌, Option, Some, None}
 use mathlib.Core.List.{IsPrefix}
 use Rattle.contact.specs.declared.part.Part.{Part}

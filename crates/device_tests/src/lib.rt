@@ -1,16 +1,16 @@
-//! Tests of the disk, the services and the talk of a network: their packets against those of Linux's own structs, their replies, and each public call once.
+//! Tests of the disk, the services and the protocol of a network: their packets against those of Linux's own structs, their replies, and each public call once.
 #![tactic(auto)]
 
 #[cfg(test)]
-mod bus_talk_tests;
-#[cfg(test)]
 mod check;
+#[cfg(test)]
+mod device_protocols_tests;
 #[cfg(test)]
 mod hex;
 #[cfg(test)]
 mod hist_lock_tests;
 #[cfg(test)]
-mod net_talk_tests;
+mod net_protocol_tests;
 #[cfg(test)]
 mod said;
 #[cfg(test)]

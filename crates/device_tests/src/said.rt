@@ -1,11 +1,11 @@
 //! What an answer says, on each kind of channel.
 ghost use Rattle.std.specs.Prelude.{◌≡◌, ◌<◌, ◌⊎◌, [], length};
 ghost use Rattle.ring_machine.specs.States.{IsPacket};
-ghost use Rattle.bus_speech.specs.Talks.{asks_of};
+ghost use Rattle.device_formats.specs.ChannelScript.{asks_of};
 
 use bus_script::Reply;
-use bus_talk::KindTalk;
-use chan_talk::Talk;
+use channel_protocol::Protocol;
+use device_protocols::DeviceProtocol;
 use std::alloc::Global;
 use std::process::Abort;
 
@@ -13,18 +13,18 @@ use std::process::Abort;
 pub(crate) fn said(
     rt: &impl Abort,
     alloc: Global,
-    talk: &KindTalk,
+    protocol: &DeviceProtocol,
     k: u32,
     before: &[u64],
     packet: &[u64],
 ) -> Option<Reply>
-    requires which { k < length (asks_of talk.now) }
+    requires which { k < length (asks_of protocol.now) }
     requires before { before.now ≡ [] ⊎ IsPacket before.now }
     requires packet { IsPacket packet.now }
 {
     let Ok(mut replies) = Vec::with_capacity(alloc, 1) else {
         panic!(rt; "no memory")
     };
-    talk.keep_result(k, before, packet, &mut replies);
+    protocol.keep_result(k, before, packet, &mut replies);
     replies.pop()
 }

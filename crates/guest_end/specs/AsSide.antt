@@ -1,4 +1,4 @@
--- A guest's control as one side of a talk.
+-- A guest's control as one side of the control path.
 use Rattle.std.specs.Prelude.{◌≡◌, true, Some}
 use Rattle.contact.specs.declared.part.Part.{Part}
 use Rattle.control_model.specs.Plan.{part_after, IsPlan}

@@ -15,7 +15,7 @@ ghost use Rattle.control_model.specs.Guest.{new_guest, IsFit, GuestSeen, guest_d
 use bus_script::Script;
 use chan_state::State;
 use contact::{Part, Version};
-use control_model::{Change, Channel, ControlFault, GuestTurn, GuestWait, Plan, messages};
+use control_model::{Change, Channel, ControlFault, ControlPlan, GuestTurn, GuestWait, messages};
 use mail_box::MailBox;
 use std::alloc::{AllocError, Global};
 use std::marker::Model;
@@ -29,7 +29,7 @@ use vmbus_msg::Msg;
 #[derive(Drop)]
 pub struct GuestControl {
     alloc: Global,
-    pub(crate) plan: Plan,
+    pub(crate) plan: ControlPlan,
     pub(crate) part: Option<Part>,
     pub(crate) awaits: GuestWait,
     pub(crate) version: Option<Version>,
@@ -56,7 +56,7 @@ impl GuestControl {
         ensures made { IfOk result (λ control. control ≡ new_guest (plan_of script.now)) }
         ensures plan { IfOk result (λ control. IsPlan control.plan) }
     {
-        let plan = Plan::of(alloc, script)?;
+        let plan = ControlPlan::of(alloc, script)?;
         Ok(GuestControl {
             alloc,
             plan,

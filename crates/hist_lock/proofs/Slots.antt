@@ -13,7 +13,7 @@ use Rattle.hist_lock.specs.declared.view.View.{View}
 use Rattle.hist_lock.specs.declared.view.Kept.{Kept}
 use Rattle.hist_lock.specs.Legal.{IsLegal, state_after}
 use Rattle.hist_lock.specs.Calls.{calls_from}
-use Rattle.hist_lock.specs.Rule.{Spot, free, out, given, late, Plan, total, limit, view, lefts, Each, IsOut, Carries, IsOne, Fits, Stands, Owned, IsStaged, Knows, Rule}
+use Rattle.hist_lock.specs.Rule.{Spot, free, out, given, late, LockFacts, total, limit, view, lefts, Each, IsOut, Carries, IsOne, Fits, Stands, Owned, IsStaged, Knows, Rule}
 use Rattle.hist_lock.specs.Plays.{took, gave, ended, Took}
 use Rattle.hist_lock.specs.Sitting.{Covers}
 use Rattle.hist_lock.proofs.Totals.{total_set, after_set, each_map, each_append, set_at}
@@ -21,7 +21,7 @@ use Rattle.hist_lock.proofs.Histories.{legal_push, snoc_same}
 use Rattle.hist_lock.proofs.Views.{St, quiet, served_here, is_free, by_plan, one_owned, still_out}
 
 -- the plan with the slot elsewhere
-abbrev plan_at : {X : Type 0} → Plan X → Spot X → Plan X
+abbrev plan_at : {X : Type 0} → LockFacts X → Spot X → LockFacts X
 plan_at p spot = record { ticket = p.ticket; serving = p.serving; since = p.since; spot = spot; owner = p.owner; holder = p.holder }
 
 free_or_out : {X : Type 0} {x : Spot X} {j : ℕ} → x ≡ free → x ≡ out j → ⊥
@@ -120,7 +120,7 @@ module _ {S Q A : Type 0} (after : S → Q → S) (reply_to : S → Q → A) (t 
       ))
     where
       -- a view with no seat is idle
-      alone : (p : Plan (Entry S Q A)) (id j : ℕ) (ls : List (Line S Q A)) (stage : Stage S Q A) → p.spot ≡ free → (IsOne ls → ⊥) → IsStaged t p j ls stage → IsStaged t (plan_at p (out id)) j ls stage
+      alone : (p : LockFacts (Entry S Q A)) (id j : ℕ) (ls : List (Line S Q A)) (stage : Stage S Q A) → p.spot ≡ free → (IsOne ls → ⊥) → IsStaged t p j ls stage → IsStaged t (plan_at p (out id)) j ls stage
       alone p id j ls Idle is none_here h = tt
       alone p id j ls (Waits k) is none_here h = absurd (none_here h.0)
       alone p id j ls (Turn k) is none_here h = absurd (none_here h.0)

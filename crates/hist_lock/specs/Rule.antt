@@ -32,7 +32,7 @@ pub record HasTicket (ticket serving : ℕ) (holder : ℕ → ℕ) (j k : ℕ) :
   pub below : k < ticket
 
 -- the facts that all views agree on
-pub record Plan (E : Type 0) : Type 0 where
+pub record LockFacts (E : Type 0) : Type 0 where
   pub ticket : ℕ
   pub serving : ℕ
   -- the entries after the past ones, of calls that were served
@@ -110,10 +110,10 @@ module _ {S Q A : Type 0} where
     pub below : l.number < length t.quotas
     pub made : l.calls ≡ calls_from l.number (length t.past) since
 
-  abbrev pub IsServed : Plan (Entry S Q A) → ℕ → List (Line S Q A) → ℕ → Spot (Entry S Q A) → Type 0
+  abbrev pub IsServed : LockFacts (Entry S Q A) → ℕ → List (Line S Q A) → ℕ → Spot (Entry S Q A) → Type 0
   IsServed p j lines k spot = IsOne lines × HasTicket p.ticket p.serving p.holder j k × (k ≡ p.serving) × (p.spot ≡ spot)
 
-  abbrev pub IsStaged : Terms S Q A → Plan (Entry S Q A) → ℕ → List (Line S Q A) → Stage S Q A → Type 0
+  abbrev pub IsStaged : Terms S Q A → LockFacts (Entry S Q A) → ℕ → List (Line S Q A) → Stage S Q A → Type 0
   IsStaged t p j lines Idle = Unit {0}
   IsStaged t p j lines (Waits k) = IsOne lines × HasTicket p.ticket p.serving p.holder j k
   IsStaged t p j lines (Turn k) = IsServed p j lines k free
@@ -122,12 +122,12 @@ module _ {S Q A : Type 0} where
   IsStaged t p j lines (Ended xs) = (p.spot ≡ out j) × ((i : ℕ) → i < length t.quotas → p.owner i ≡ j)
 
   -- what is so of each view
-  pub record Knows (t : Terms S Q A) (p : Plan (Entry S Q A)) (j : ℕ) (v : View S Q A) : Type 0 where
+  pub record Knows (t : Terms S Q A) (p : LockFacts (Entry S Q A)) (j : ℕ) (v : View S Q A) : Type 0 where
     pub lines : Each (Owned t p.since p.owner j) v.lines
     pub stage : IsStaged t p j v.lines v.stage
 
   pub record Rule (after : S → Q → S) (reply_to : S → Q → A) (t : Terms S Q A) (s : State (Option (Kept S Q A)) (View S Q A)) : Type 0 where
-    pub plan : Plan (Entry S Q A)
+    pub plan : LockFacts (Entry S Q A)
     pub some_seat : 0 < length t.quotas
     pub few : limit t < 2 ^ 32
     pub words : s.words ≡ plan.ticket ∷ plan.serving ∷ []

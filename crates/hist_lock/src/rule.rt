@@ -11,20 +11,20 @@ use std::marker::PhantomData;
 
 /// The rule. Word 0 is the next ticket, word 1 the one that is served, and the slot has the machine
 /// and its history.
-pub struct Order<M> {
+pub struct LockRule<M> {
     of: PhantomData<M>,
 }
 
 /// The words and the slot of a lock.
-pub type LockTable<M> = Table<Option<Kept<M>>, View<M>, Charter<M>, Order<M>, Global>;
+pub type LockTable<M> = Table<Option<Kept<M>>, View<M>, Charter<M>, LockRule<M>, Global>;
 
 /// What the seats of a lock share.
-pub type LockShared<M> = Shared<Option<Kept<M>>, View<M>, Charter<M>, Order<M>>;
+pub type LockShared<M> = Shared<Option<Kept<M>>, View<M>, Charter<M>, LockRule<M>>;
 
 /// A seat at the lock's table.
 pub type LockSeat<M> = Seat<Option<Kept<M>>, View<M>>;
 
-impl<M: Machine> TableRule<Option<Kept<M>>, View<M>, Charter<M>> for Order<M> {
+impl<M: Machine> TableRule<Option<Kept<M>>, View<M>, Charter<M>> for LockRule<M> {
     ghost holds = { λ key. Rule M.after M.reply_to (terms_of M.first key) };
 
     ghost first = { λ key. opened (terms_of M.first key) };

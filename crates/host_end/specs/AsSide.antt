@@ -1,4 +1,4 @@
--- A host's control as one side of a talk.
+-- A host's control as one side of the control path.
 use Rattle.std.specs.Prelude.{◌≡◌, true, Some}
 use Rattle.contact.specs.declared.part.Part.{Part}
 use Rattle.control_model.specs.Plan.{part_after, IsPlan}

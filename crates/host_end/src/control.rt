@@ -11,7 +11,7 @@ use crate::ending::{end_list, put_rescinded};
 use bus_script::Script;
 use chan_state::{ChanState, State};
 use contact::{Part, Version};
-use control_model::{ControlFault, HostWait, Plan, type_of};
+use control_model::{ControlFault, ControlPlan, HostWait, type_of};
 use gpadl::Assembler;
 use mail_box::MailBox;
 use std::alloc::{AllocError, Global};
@@ -26,7 +26,7 @@ use vmbus_msg::Msg;
 #[derive(Drop)]
 pub struct HostControl {
     pub(crate) alloc: Global,
-    pub(crate) plan: Plan,
+    pub(crate) plan: ControlPlan,
     pub(crate) part: Option<Part>,
     pub(crate) awaits: HostWait,
     pub(crate) version: Option<Version>,
@@ -50,7 +50,7 @@ impl HostControl {
     pub fn make(alloc: Global, script: &Script) -> Result<HostControl, AllocError>
         ensures { IfOk result (λ control. control ≡ new_host (plan_of script.now)) }
     {
-        let plan = Plan::of(alloc, script)?;
+        let plan = ControlPlan::of(alloc, script)?;
         Ok(HostControl {
             alloc,
             plan,

@@ -13,7 +13,7 @@ use Rattle.script_lines.specs.declared.line.DeviceSpec.TheVariants.{Disk as IsDi
 use Rattle.script_lines.specs.declared.disk_ask.DiskAsk.{DiskAsk}
 use Rattle.script_lines.specs.declared.disk_ask.DiskAsk.TheVariants.{Read, Write}
 use Rattle.script_lines.specs.Parts.{ends_part, parts, is_settings, is_ask, asks_in, offered, kind_of, rescinds, shuts, channels_of}
-use Rattle.script_lines.specs.Requests.{request_of, IsCarried}
+use Rattle.script_lines.specs.Requests.{request_of, CanBeCarried}
 use Rattle.script_lines.specs.WellFormed.{AllRight, AllGo, is_contact, settings_first, IsScript}
 use Rattle.script_lines.proofs.Carrying.{asks_carried}
 use Rattle.script_lines.proofs.Phases.{by_test}
@@ -39,7 +39,7 @@ module _ (number : ℕ → ℕ) (ask : ℕ → DiskAsk) where
   all_right kinds s zero more disk rest = rest
   all_right kinds s (suc n) more disk rest = (disk, all_right kinds (s + 1) n more disk rest)
 
-  all_go : (s n : ℕ) (more : List Line) → ((k : ℕ) → k < s + n → IsCarried (request_of (ask k))) → AllGo more → AllGo (asks s n ++ more)
+  all_go : (s n : ℕ) (more : List Line) → ((k : ℕ) → k < s + n → CanBeCarried (request_of (ask k))) → AllGo more → AllGo (asks s n ++ more)
   all_go s zero more goes rest = rest
   all_go s (suc n) more goes rest = (goes s (omega arith), all_go (s + 1) n more (λ k less. goes k (omega (arith, less))) rest)
 
@@ -87,10 +87,10 @@ settings_of (l ∷ ls) none = by_test (is_settings l.what)
     (λ e. ap (λ (b : Bool). if b then settings_first ls else list_all (λ m. not (is_settings m.what)) ls) e ∙ (sym (ap (λ (b : Bool). not b && list_all (λ m. not (is_settings m.what)) ls) e) ∙ none))
 
 -- a write and a read of a block go through the disk's channel
-writes_go : (seed k : ℕ) → k < 2 ^ 32 → IsCarried (request_of (Write (Some k) (Some 1) (fill_of seed k)))
+writes_go : (seed k : ℕ) → k < 2 ^ 32 → CanBeCarried (request_of (Write (Some k) (Some 1) (fill_of seed k)))
 writes_go seed k small = asks_carried (Write (Some k) (Some 1) (fill_of seed k)) refl (small, omega arith)
 
-reads_go : (k : ℕ) → k < 2 ^ 32 → IsCarried (request_of (Read (Some k) (Some 1)))
+reads_go : (k : ℕ) → k < 2 ^ 32 → CanBeCarried (request_of (Read (Some k) (Some 1)))
 reads_go k small = asks_carried (Read (Some k) (Some 1)) refl (small, omega arith)
 
 -- so many blocks are written and read

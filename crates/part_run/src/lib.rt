@@ -2,10 +2,10 @@
 #![tactic(auto)]
 
 mod ends;
+mod part_side;
 mod run;
-mod seat;
 mod start;
 
 pub use ends::{Ends, settle};
+pub use part_side::PartSide;
 pub use run::run_part;
-pub use seat::Seat;

@@ -2,7 +2,7 @@
 ghost use Rattle.part_run.specs.Parts.{IsReady, Leaves};
 ghost use Rattle.part_run.specs.Starting.{Comes};
 
-use crate::Seat;
+use crate::PartSide;
 use crate::start::{Begun, Start, begin_there};
 use contact::Part;
 use control_serve::{Control, PartLeft, Serving, Turn};
@@ -16,8 +16,8 @@ use std::thread::{Scope, Threads};
 /// are served here, in turns, through the same queues and with the same rules.
 pub fn run_part<G: Control, H: Control + Send, R: Threads + Wait + Sync>(
     rt: &R,
-    guest: Seat<G>,
-    host: Seat<H>,
+    guest: PartSide<G>,
+    host: PartSide<H>,
     part: Part,
 ) -> (PartLeft<G>, PartLeft<H>)
     requires guest { IsReady G.seen G.follows G.can_begin guest part }
@@ -42,8 +42,8 @@ fn run_in<'s, E, G: Control, H: Control + Send + 's, R: Threads + Wait + Sync>(
     rt: &'s R,
     scope: &Scope<'s, E>,
     refused: &'s AtomicBool,
-    guest: Seat<G>,
-    host: Seat<H>,
+    guest: PartSide<G>,
+    host: PartSide<H>,
     part: Part,
 ) -> (PartLeft<G>, PartLeft<H>)
     requires guest { IsReady G.seen G.follows G.can_begin guest part }
@@ -51,27 +51,27 @@ fn run_in<'s, E, G: Control, H: Control + Send + 's, R: Threads + Wait + Sync>(
     ensures guest { Leaves G.seen G.follows part guest result.0 }
     ensures host { Leaves H.seen H.follows part host result.1 }
 {
-    let seat = Snapshot::of(&host);
+    let side = Snapshot::of(&host);
     match begin_there(rt, scope, refused, host, part) {
         Begun::Thread(handle) => {
             let guest = guest.serve(rt, part);
-            let host = host_left(rt, &seat, handle.join(rt), part);
+            let host = host_left(rt, &side, handle.join(rt), part);
             (guest, host)
         }
-        Begun::Here(left) => both_here(rt, guest, &seat, left, part),
+        Begun::Here(left) => both_here(rt, guest, &side, left, part),
     }
 }
 
 // What a thread left of the host's side.
 fn host_left<H: Control, R: Wait>(
     rt: &R,
-    seat: &Snapshot<Seat<H>>,
+    side: &Snapshot<PartSide<H>>,
     left: Start<H>,
     part: Part,
 ) -> PartLeft<H>
-    requires ready { IsReady H.seen H.follows H.can_begin seat.now.value part }
-    requires comes { Comes H.seen H.follows part seat.now.value left }
-    ensures { Leaves H.seen H.follows part seat.now.value result }
+    requires ready { IsReady H.seen H.follows H.can_begin side.now.value part }
+    requires comes { Comes H.seen H.follows part side.now.value left }
+    ensures { Leaves H.seen H.follows part side.now.value result }
 {
     match left {
         Start::Ran(done) => done,
@@ -82,16 +82,16 @@ fn host_left<H: Control, R: Wait>(
 // Both sides, where the host's came back from a start that was refused.
 fn both_here<G: Control, H: Control, R: Wait>(
     rt: &R,
-    guest: Seat<G>,
-    seat: &Snapshot<Seat<H>>,
+    guest: PartSide<G>,
+    side: &Snapshot<PartSide<H>>,
     left: Start<H>,
     part: Part,
 ) -> (PartLeft<G>, PartLeft<H>)
     requires guest { IsReady G.seen G.follows G.can_begin guest part }
-    requires ready { IsReady H.seen H.follows H.can_begin seat.now.value part }
-    requires comes { Comes H.seen H.follows part seat.now.value left }
+    requires ready { IsReady H.seen H.follows H.can_begin side.now.value part }
+    requires comes { Comes H.seen H.follows part side.now.value left }
     ensures guest { Leaves G.seen G.follows part guest result.0 }
-    ensures host { Leaves H.seen H.follows part seat.now.value result.1 }
+    ensures host { Leaves H.seen H.follows part side.now.value result.1 }
 {
     match left {
         Start::Ran(done) => (guest.serve(rt, part), done),
@@ -102,8 +102,8 @@ fn both_here<G: Control, H: Control, R: Wait>(
 // Both sides here, move by move, through the same queues.
 fn by_turns<G: Control, H: Control, R: Wait>(
     rt: &R,
-    guest: Seat<G>,
-    host: Seat<H>,
+    guest: PartSide<G>,
+    host: PartSide<H>,
     part: Part,
 ) -> (PartLeft<G>, PartLeft<H>)
     requires guest { IsReady G.seen G.follows G.can_begin guest part }

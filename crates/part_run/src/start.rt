@@ -2,7 +2,7 @@
 ghost use Rattle.part_run.specs.Starting.{Begins, Comes};
 ghost use Rattle.part_run.specs.Parts.{IsReady};
 
-use crate::Seat;
+use crate::PartSide;
 use contact::Part;
 use control_serve::{Control, PartLeft};
 use std::snapshot::Snapshot;
@@ -14,20 +14,20 @@ use std::thread::{Promise, PromisedHandle, Scope, Threads};
 #[derive(Drop)]
 pub(crate) enum Start<C: Control> {
     Ran(PartLeft<C>),
-    Back(Seat<C>),
+    Back(PartSide<C>),
 }
 
-/// A thread that was started for a seat keeps this.
+/// A thread that was started for a side keeps this.
 #[derive(Drop)]
 pub(crate) struct PartPromise<C: Control> {
-    seat: Snapshot<Seat<C>>,
+    side: Snapshot<PartSide<C>>,
     part: Part,
 }
 
 impl<C: Control> Promise<Start<C>> for PartPromise<C> {
     ghost use Rattle.part_run.specs.Starting.{Comes};
 
-    ghost kept_by = { λ p s. Comes C.seen C.follows p.part p.seat.value s };
+    ghost kept_by = { λ p s. Comes C.seen C.follows p.part p.side.value s };
 }
 
 /// A thread, or what the start gave where none could be had.
@@ -41,16 +41,16 @@ pub(crate) enum Begun<C: Control> {
 fn serve_there<C: Control, R: Wait>(
     rt: &R,
     refused: &AtomicBool,
-    seat: Seat<C>,
+    side: PartSide<C>,
     part: Part,
 ) -> Start<C>
-    requires { IsReady C.seen C.follows C.can_begin seat part }
-    ensures { Comes C.seen C.follows part seat result }
+    requires { IsReady C.seen C.follows C.can_begin side part }
+    ensures { Comes C.seen C.follows part side result }
 {
     if refused.load(Ordering::SeqCst) {
-        return Start::Back(seat);
+        return Start::Back(side);
     }
-    Start::Ran(seat.serve(rt, part))
+    Start::Ran(side.serve(rt, part))
 }
 
 /// Starts a part in a thread. The word is this start's own: it is set only once the start was
@@ -59,21 +59,21 @@ pub(crate) fn begin_there<'s, E, C: Control + Send + 's, R: Threads + Wait + Syn
     rt: &'s R,
     scope: &Scope<'s, E>,
     refused: &'s AtomicBool,
-    seat: Seat<C>,
+    side: PartSide<C>,
     part: Part,
 ) -> Begun<C>
-    requires { IsReady C.seen C.follows C.can_begin seat part }
-    ensures { Begins C.seen C.follows part seat result }
+    requires { IsReady C.seen C.follows C.can_begin side part }
+    ensures { Begins C.seen C.follows part side result }
 {
     let promise = PartPromise {
-        seat: Snapshot::of(&seat),
+        side: Snapshot::of(&side),
         part,
     };
     match scope.spawn_with(
         promise,
         move ||
-            requires { IsReady C.seen C.follows C.can_begin seat part }
-        { serve_there(rt, refused, seat, part) },
+            requires { IsReady C.seen C.follows C.can_begin side part }
+        { serve_there(rt, refused, side, part) },
     ) {
         Ok(started) => Begun::Thread(started),
         Err(back) => {

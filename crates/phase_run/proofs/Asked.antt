@@ -2,11 +2,11 @@
 use Rattle.std.proofs.Common.{◌≡◌, ℕ, ◌≤◌, List, [], ◌∷◌, ◌++◌, length, filter, Bool, false, refl, ap, ◌∙◌, arith, None, is_some}
 use Rattle.chan_run.specs.declared.event.Event.{Event}
 use Rattle.chan_run.specs.Runs.{sent_of}
-use Rattle.work_model.specs.Speech.{Speech, Keeps}
-use Rattle.work_model.specs.Asker.{Encoded, requests_of}
-use Rattle.work_model.specs.Channel.{AllFixed}
-use Rattle.work_model.proofs.Opens.{by_test}
-use Rattle.work_model.proofs.Served.{filter_first, filter_past}
+use Rattle.channel_model.specs.WireFormat.{WireFormat, Keeps}
+use Rattle.channel_model.specs.Asker.{Encoded, requests_of}
+use Rattle.channel_model.specs.Channel.{AllFixed}
+use Rattle.channel_model.proofs.Opens.{by_test}
+use Rattle.channel_model.proofs.Served.{filter_first, filter_past}
 use Rattle.requester.specs.Asking.{AsksBy}
 use Rattle.requester.proofs.AskSteps.{encoded_few}
 use Rattle.channel_port.specs.Rooms.{is_asked}
@@ -20,7 +20,7 @@ filter_le f (p ∷ ps) =
     (λ e. omega (arith, ap length (filter_first f p ps e), filter_le f ps))
     (λ e. omega (arith, ap length (filter_past f p ps e), filter_le f ps))
 
-module _ {A Q R : Type 0} (s : Speech (List ℕ) A Q R) (keeps : Keeps s) where
+module _ {A Q R : Type 0} (s : WireFormat (List ℕ) A Q R) (keeps : Keeps s) where
   -- the start-up asks nothing of the device
   asked_few : (start script : List A) (ps : List (List ℕ)) → AllFixed s start → Encoded s (start ++ script) ps → length (filter (is_asked s) ps) ≤ length script
   asked_few [] script ps fixed h = omega (arith, filter_le (is_asked s) ps, encoded_few s script ps h)

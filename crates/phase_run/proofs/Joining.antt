@@ -6,13 +6,13 @@ use Rattle.chan_run.specs.declared.event.Event.{Event}
 use Rattle.chan_run.specs.Runs.{sent_of, got_of}
 use Rattle.chan_run.specs.Laws.{AreOfOneRun}
 use Rattle.bus_script.specs.declared.outcome.Reply.{Reply}
-use Rattle.bus_speech.specs.declared.want.Want.TheVariants.{Script}
-use Rattle.bus_speech.specs.Wants.{IsAskable}
-use Rattle.bus_speech.specs.Speeches.{speech_of}
-use Rattle.bus_speech.proofs.SpeechLaws.{keeps, start_is_fixed, script_asks}
-use Rattle.work_model.specs.Server.{answered}
-use Rattle.work_model.specs.Channel.{AskerEnds, ServerEnds, count_of, held_of, IsChannelRun as Runs}
-use Rattle.work_model.proofs.Ends.{joins}
+use Rattle.device_formats.specs.declared.want.Want.TheVariants.{Script}
+use Rattle.device_formats.specs.Wants.{IsAskable}
+use Rattle.device_formats.specs.Formats.{format_of}
+use Rattle.device_formats.proofs.FormatLaws.{keeps, start_is_fixed, script_asks}
+use Rattle.channel_model.specs.Server.{answered}
+use Rattle.channel_model.specs.Channel.{AskerEnds, ServerEnds, count_of, held_of, IsProtocolRun as Runs}
+use Rattle.channel_model.proofs.Ends.{joins}
 use Rattle.bus_model.specs.Served.{Served}
 use Rattle.bus_model.specs.Orders.{Order, plan_of}
 use Rattle.bus_model.specs.Channel.{replies_to}
@@ -21,20 +21,20 @@ use Rattle.bus_model.specs.Channel.{replies_to}
 pub record BothEnd (order : Order) (asker server : List (Event (List ℕ))) (calls : List Served) (told : List Reply) : Type 0 where
   pub can : AllByRecursion (IsAskable order.kind) order.asks
   pub one : AreOfOneRun asker server
-  pub asker_ends : AskerEnds (speech_of order.kind) (plan_of order) asker told
-  pub server_ends : ServerEnds (speech_of order.kind) (plan_of order) server calls
+  pub asker_ends : AskerEnds (format_of order.kind) (plan_of order) asker told
+  pub server_ends : ServerEnds (format_of order.kind) (plan_of order) server calls
 
 run_of : (order : Order) (asker server : List (Event (List ℕ))) (calls : List Served) (told : List Reply) → BothEnd order asker server calls told
-    → Runs (speech_of order.kind) (plan_of order) (sent_of asker) (got_of asker) (sent_of server) (got_of server) calls told
+    → Runs (format_of order.kind) (plan_of order) (sent_of asker) (got_of asker) (sent_of server) (got_of server) calls told
 run_of order asker server calls told both =
-    joins (speech_of order.kind) (keeps order.kind) (plan_of order) (record { fixed = start_is_fixed order.kind order.sub order.subs; asks = script_asks order.kind order.asks both.can }) asker server calls told both.one both.asker_ends both.server_ends
+    joins (format_of order.kind) (keeps order.kind) (plan_of order) (record { fixed = start_is_fixed order.kind order.sub order.subs; asks = script_asks order.kind order.asks both.can }) asker server calls told both.one both.asker_ends both.server_ends
 
 -- the replies that were read are those of the calls that were answered, in order
 pub told_is : (order : Order) (asker server : List (Event (List ℕ))) (calls : List Served) (told : List Reply) → BothEnd order asker server calls told → told ≡ map (λ c. c.reply) (replies_to order calls)
 told_is order asker server calls told both =
-    (run_of order asker server calls told both).replies ∙ ap (λ m. map (λ (c : Served). c.reply) (answered (speech_of order.kind) (held_of order.stop m) (count_of order.stop m) calls)) (length-map order.asks Script)
+    (run_of order asker server calls told both).replies ∙ ap (λ m. map (λ (c : Served). c.reply) (answered (format_of order.kind) (held_of order.stop m) (count_of order.stop m) calls)) (length-map order.asks Script)
 
 pub runs : (order : Order) (asker server : List (Event (List ℕ))) (calls : List Served) (told : List Reply) → BothEnd order asker server calls told
-    → Runs (speech_of order.kind) (plan_of order) (sent_of asker) (got_of asker) (sent_of server) (got_of server) calls (map (λ c. c.reply) (replies_to order calls))
+    → Runs (format_of order.kind) (plan_of order) (sent_of asker) (got_of asker) (sent_of server) (got_of server) calls (map (λ c. c.reply) (replies_to order calls))
 runs order asker server calls told both =
-    subst (λ t. Runs (speech_of order.kind) (plan_of order) (sent_of asker) (got_of asker) (sent_of server) (got_of server) calls t) (told_is order asker server calls told both) (run_of order asker server calls told both)
+    subst (λ t. Runs (format_of order.kind) (plan_of order) (sent_of asker) (got_of asker) (sent_of server) (got_of server) calls t) (told_is order asker server calls told both) (run_of order asker server calls told both)

@@ -2,7 +2,7 @@
 use Rattle.std.proofs.Common.{◌≡◌, ℕ, length, [], Some, None, refl, ap, sym, subst, ◌∙◌}
 use Rattle.script_lines.specs.declared.line.Ask.{Ask}
 use Rattle.bus_script.specs.declared.outcome.Reply.{Reply}
-use Rattle.bus_speech.specs.Talks.{Talked}
+use Rattle.device_formats.specs.ChannelScript.{ChannelScript}
 use Rattle.bus_model.specs.Orders.{Order}
 use Rattle.io_edge.specs.declared.side.Side.{Side}
 use Rattle.io_edge.specs.declared.side.Side.TheVariants.{Guest, Host}
@@ -12,15 +12,15 @@ use Rattle.ring_machine.specs.declared.state.EndState.{EndState}
 use Rattle.ring_seat.specs.Seats.{new_end}
 use Rattle.ring_seat.specs.declared.table_seat.TableSeat.{TableSeat}
 use Rattle.server.specs.Serving.{Serving}
-use Rattle.work_model.specs.Channel.{count_of, held_of}
-use Rattle.work_model.specs.Roles.{side_that_asks}
-use Rattle.end_work.specs.Pairs.{AreMadeAt}
-use Rattle.end_work.specs.Plans.{AsksFor, IsMade, Planned, ServesFor}
-use Rattle.end_work.specs.Seats.{served_at}
-use Rattle.end_work.specs.Workers.{end_at, relid_at, HasWindow}
-use Rattle.end_work.specs.declared.device_seat.DeviceSeat.{DeviceSeat}
-use Rattle.end_work.specs.declared.worker.Worker.{Worker}
-use Rattle.end_work.specs.declared.worker.Worker.TheVariants.{Asks, Serves}
+use Rattle.channel_model.specs.Channel.{count_of, held_of}
+use Rattle.channel_model.specs.Roles.{side_that_asks}
+use Rattle.channel_workers.specs.Pairs.{AreMadeAt}
+use Rattle.channel_workers.specs.Plans.{AsksFor, IsMade, Planned, ServesFor}
+use Rattle.channel_workers.specs.Seats.{served_at}
+use Rattle.channel_workers.specs.Workers.{end_at, relid_at, HasWindow}
+use Rattle.channel_workers.specs.declared.device_seat.DeviceSeat.{DeviceSeat}
+use Rattle.channel_workers.specs.declared.worker.Worker.{Worker}
+use Rattle.channel_workers.specs.declared.worker.Worker.TheVariants.{Asks, Serves}
 use Rattle.phase_run.specs.Pairs.{Pairing, AreOnChannel, MadeFor, Opens, OpensAt}
 
 -- what a plan orders of a channel
@@ -28,10 +28,10 @@ abbrev pub ordered : Planned → Order
 ordered p = record { kind = p.kind; sub = p.sub; subs = p.subs; asks = p.asks; stop = p.stop }
 
 -- workers that were made for it were made for that order
-made_for : (p : Planned) (seat : DeviceSeat) (a : Asking Talked Reply) (s : Serving Talked DeviceSeat Ask Reply) → p.count ≡ length p.asks → served_at seat ≡ [] → AsksFor p a → ServesFor p seat s → MadeFor (ordered p) seat a s
+made_for : (p : Planned) (seat : DeviceSeat) (a : Asking ChannelScript Reply) (s : Serving ChannelScript DeviceSeat Ask Reply) → p.count ≡ length p.asks → served_at seat ≡ [] → AsksFor p a → ServesFor p seat s → MadeFor (ordered p) seat a s
 made_for p seat a s count fresh asked served = record {
   can = asked.can;
-  talk = asked.talk;
+  protocol = asked.protocol;
   answers = served.answers;
   seat_is = served.seat_is;
   before = served.before ∙ fresh;

@@ -11,33 +11,33 @@ use Rattle.bus_model.proofs.FromLists.{serves_first_lem}
 use Rattle.bus_model.specs.Served.{Served}
 use Rattle.script_lines.specs.declared.line.Ask.{Ask}
 use Rattle.bus_script.specs.declared.outcome.Reply.{Reply}
-use Rattle.bus_speech.specs.Speeches.{besides_on, speech_of}
-use Rattle.bus_speech.specs.Wants.{startup}
-use Rattle.bus_speech.proofs.SpeechLaws.{keeps, start_is_fixed}
-use Rattle.bus_speech.specs.Talks.{Talked, asks_of}
-use Rattle.bus_speech.specs.declared.want.Want.{Want}
-use Rattle.bus_speech.specs.declared.want.Want.TheVariants.{Script}
+use Rattle.device_formats.specs.Formats.{besides_on, format_of}
+use Rattle.device_formats.specs.Wants.{startup}
+use Rattle.device_formats.proofs.FormatLaws.{keeps, start_is_fixed}
+use Rattle.device_formats.specs.ChannelScript.{ChannelScript, asks_of}
+use Rattle.device_formats.specs.declared.want.Want.{Want}
+use Rattle.device_formats.specs.declared.want.Want.TheVariants.{Script}
 use Rattle.io_edge.specs.declared.side.Side.{Side}
 use Rattle.io_edge.specs.declared.side.Side.TheVariants.{Guest, Host}
 use Rattle.ring_core.specs.Seen.{Seen}
 use Rattle.ring_model.specs.Lists.{Lists}
 use Rattle.ring_seat.specs.declared.table_seat.TableSeat.{TableSeat}
-use Rattle.work_model.specs.Channel.{AskerEnds, ServerEnds, count_of, held_of, IsChannelRun as Runs}
-use Rattle.work_model.specs.Roles.{side_that_asks}
-use Rattle.work_model.specs.Speech.{Speech}
+use Rattle.channel_model.specs.Channel.{AskerEnds, ServerEnds, count_of, held_of, IsProtocolRun as Runs}
+use Rattle.channel_model.specs.Roles.{side_that_asks}
+use Rattle.channel_model.specs.WireFormat.{WireFormat}
 use Rattle.requester.specs.Asking.{Asking, AsksAll, AsksBy}
 use Rattle.channel_port.specs.Rooms.{AskedWithin, AskLacksFor, has_room, is_asked}
 use Rattle.server.specs.Serving.{Serving, EndsAll, EndsBy, calls_behind}
 use Rattle.channel_port.specs.declared.ended.Ended.{Ended}
 use Rattle.channel_port.specs.declared.ended.Ended.TheVariants.{Marked, PeerMarked, Room}
 use Rattle.channel_port.proofs.RoomLaws.{never_lacks}
-use Rattle.end_work.specs.Leaving.{Leaves, LeavesAsked, LeavesServed, WorkerDone}
-use Rattle.end_work.specs.Pairs.{ArePair, PlansAgree}
-use Rattle.end_work.specs.Seats.{served_at, device_place, IsSameSeat, at_guest, at_host}
-use Rattle.end_work.specs.declared.device_seat.DeviceSeat.{DeviceSeat}
-use Rattle.end_work.specs.declared.worker.Worker.{Worker}
-use Rattle.end_work.specs.declared.worker.Worker.TheVariants.{Asks, Serves}
-use Rattle.end_work.proofs.SeatLaws.{same_place}
+use Rattle.channel_workers.specs.Leaving.{Leaves, LeavesAsked, LeavesServed, WorkerDone}
+use Rattle.channel_workers.specs.Pairs.{ArePair, PlansAgree}
+use Rattle.channel_workers.specs.Seats.{served_at, device_place, IsSameSeat, at_guest, at_host}
+use Rattle.channel_workers.specs.declared.device_seat.DeviceSeat.{DeviceSeat}
+use Rattle.channel_workers.specs.declared.worker.Worker.{Worker}
+use Rattle.channel_workers.specs.declared.worker.Worker.TheVariants.{Asks, Serves}
+use Rattle.channel_workers.proofs.SeatLaws.{same_place}
 use Rattle.phase_run.specs.Pairs.{MadeFor, RunsPair, ComesBack, first_of, is_whole}
 use Rattle.phase_run.specs.declared.pair.PairDone.{PairDone}
 use Rattle.phase_run.proofs.Asked.{few_asked}
@@ -52,7 +52,7 @@ pub record Joins (asker server : Seen TableSeat) (lists : Lists) (side : Side) :
   pub server_got : got_by (other side) lists ≡ got_of server.state.past
 
 -- both workers have ended, and their ends were joined
-pub record BothLeave (a : Asking Talked Reply) (s : Serving Talked DeviceSeat Ask Reply) (asked served : WorkerDone) (lists : Lists) (side : Side) : Type 0 where
+pub record BothLeave (a : Asking ChannelScript Reply) (s : Serving ChannelScript DeviceSeat Ask Reply) (asked served : WorkerDone) (lists : Lists) (side : Side) : Type 0 where
   pub agree : PlansAgree a s
   pub asker_leaves : LeavesAsked a asked
   pub server_leaves : LeavesServed s served
@@ -64,42 +64,42 @@ is_whole_of PeerMarked is = refl
 is_whole_of (Room packets words left) is = absurd (cc (is))
 
 -- the one that asks asks no more of the device than the other one has calls for, unless that one stops
-few_for : (a : Asking Talked Reply) (s : Serving Talked DeviceSeat Ask Reply) (asked : WorkerDone) → PlansAgree a s → LeavesAsked a asked → s.stops ≡ false → length (filter (is_asked (speech_of s.desk.talk.kind)) (sent_of asked.end.state.past)) ≤ s.serve
+few_for : (a : Asking ChannelScript Reply) (s : Serving ChannelScript DeviceSeat Ask Reply) (asked : WorkerDone) → PlansAgree a s → LeavesAsked a asked → s.stops ≡ false → length (filter (is_asked (format_of s.responder.protocol.kind)) (sent_of asked.end.state.past)) ≤ s.serve
 few_for a s asked agree leaves go =
-    let kind = a.talk.kind in
-    let few = few_asked (speech_of kind) (keeps kind) asked.ended (startup kind a.talk.sub a.talk.subs) (map Script a.talk.asks) asked.end.state.past asked.replies.items (start_is_fixed kind a.talk.sub a.talk.subs) leaves.asks in
-    omega (arith, ap (λ k. length (filter (is_asked (speech_of k)) (sent_of asked.end.state.past))) agree.kind, few, length-map a.talk.asks Script, agree.calls go)
+    let kind = a.protocol.kind in
+    let few = few_asked (format_of kind) (keeps kind) asked.ended (startup kind a.protocol.sub a.protocol.subs) (map Script a.protocol.asks) asked.end.state.past asked.replies.items (start_is_fixed kind a.protocol.sub a.protocol.subs) leaves.asks in
+    omega (arith, ap (λ k. length (filter (is_asked (format_of k)) (sent_of asked.end.state.past))) agree.kind, few, length-map a.protocol.asks Script, agree.calls go)
 
 -- neither ended for want of room, or of a call
-both_whole : (a : Asking Talked Reply) (s : Serving Talked DeviceSeat Ask Reply) (asked served : WorkerDone) (lists : Lists) (side : Side) → BothLeave a s asked served lists side → (is_whole asked.ended ≡ true) × (is_whole served.ended ≡ true)
+both_whole : (a : Asking ChannelScript Reply) (s : Serving ChannelScript DeviceSeat Ask Reply) (asked served : WorkerDone) (lists : Lists) (side : Side) → BothLeave a s asked served lists side → (is_whole asked.ended ≡ true) × (is_whole served.ended ≡ true)
 both_whole a s asked served lists side both =
-    let kind = s.desk.talk.kind in
-    let count = length (asks_of a.talk) in
-    let sent = subst (λ k. AskedWithin (speech_of k) count asked.end.state.past) both.agree.kind both.asker_leaves.sent in
-    let lacks = subst (λ k. AskLacksFor (speech_of k) (besides_on k) count asked.ended asked.end.state.past) both.agree.kind both.asker_leaves.room in
-    let whole = never_lacks (speech_of kind) (besides_on kind) count (s.starts + s.come) s.serve s.stops asked.end.state.past served.end.state.past asked.ended served.ended both.agree.room (few_for a s asked both.agree both.asker_leaves) both.joins.one sent lacks both.server_leaves.sent both.server_leaves.room in
+    let kind = s.responder.protocol.kind in
+    let count = length (asks_of a.protocol) in
+    let sent = subst (λ k. AskedWithin (format_of k) count asked.end.state.past) both.agree.kind both.asker_leaves.sent in
+    let lacks = subst (λ k. AskLacksFor (format_of k) (besides_on k) count asked.ended asked.end.state.past) both.agree.kind both.asker_leaves.room in
+    let whole = never_lacks (format_of kind) (besides_on kind) count (s.starts + s.come) s.serve s.stops asked.end.state.past served.end.state.past asked.ended served.ended both.agree.room (few_for a s asked both.agree both.asker_leaves) both.joins.one sent lacks both.server_leaves.sent both.server_leaves.room in
     (is_whole_of asked.ended whole.0, is_whole_of served.ended whole.1)
 
-asks_all : (s : Speech (List ℕ) Want Ask Reply) (how : Ended) (asks : List Want) (past : List (Event (List ℕ))) (told : List Reply) → is_whole how ≡ true → AsksBy s how asks past told → AsksAll s asks past told
+asks_all : (s : WireFormat (List ℕ) Want Ask Reply) (how : Ended) (asks : List Want) (past : List (Event (List ℕ))) (told : List Reply) → is_whole how ≡ true → AsksBy s how asks past told → AsksAll s asks past told
 asks_all s Marked asks past told whole by = by.0
 asks_all s PeerMarked asks past told whole by = by.0
 asks_all s (Room packets words left) asks past told whole by = absurd (cc (whole))
 
-ends_all : (s : Speech (List ℕ) Want Ask Reply) (besides : Bool) (how : Ended) (w : Serving Talked DeviceSeat Ask Reply) (e : Seen TableSeat) (calls : List Served) → is_whole how ≡ true → EndsBy s besides how w e calls → EndsAll s w e.state.past calls
+ends_all : (s : WireFormat (List ℕ) Want Ask Reply) (besides : Bool) (how : Ended) (w : Serving ChannelScript DeviceSeat Ask Reply) (e : Seen TableSeat) (calls : List Served) → is_whole how ≡ true → EndsBy s besides how w e calls → EndsAll s w e.state.past calls
 ends_all s besides Marked w e calls whole by = by.0
 ends_all s besides PeerMarked w e calls whole by = by.0
 ends_all s besides (Room packets words left) w e calls whole by = absurd (cc (whole))
 
 -- the end that asks, for what the phase orders
-asker_ends : (order : Order) (talk : Talked) (past : List (Event (List ℕ))) (told : List Reply) → talk ≡ record { kind = order.kind; sub = order.sub; subs = order.subs; asks = order.asks } → AsksAll (speech_of talk.kind) (asks_of talk) past told
-    → AskerEnds (speech_of order.kind) (plan_of order) past told
-asker_ends order talk past told is all = subst (λ (t : Talked). AsksAll (speech_of t.kind) (asks_of t) past told) is all (plan_of order) refl
+asker_ends : (order : Order) (protocol : ChannelScript) (past : List (Event (List ℕ))) (told : List Reply) → protocol ≡ record { kind = order.kind; sub = order.sub; subs = order.subs; asks = order.asks } → AsksAll (format_of protocol.kind) (asks_of protocol) past told
+    → AskerEnds (format_of order.kind) (plan_of order) past told
+asker_ends order protocol past told is all = subst (λ (t : ChannelScript). AsksAll (format_of t.kind) (asks_of t) past told) is all (plan_of order) refl
 
 -- and the one that serves
-server_ends : (order : Order) (seat : DeviceSeat) (a : Asking Talked Reply) (s : Serving Talked DeviceSeat Ask Reply) (past : List (Event (List ℕ))) (calls : List Served) → MadeFor order seat a s
-    → EndsAll (speech_of s.desk.talk.kind) s past calls → ServerEnds (speech_of order.kind) (plan_of order) past calls
+server_ends : (order : Order) (seat : DeviceSeat) (a : Asking ChannelScript Reply) (s : Serving ChannelScript DeviceSeat Ask Reply) (past : List (Event (List ℕ))) (calls : List Served) → MadeFor order seat a s
+    → EndsAll (format_of s.responder.protocol.kind) s past calls → ServerEnds (format_of order.kind) (plan_of order) past calls
 server_ends order seat a s past calls made all =
-    subst (λ k. EndsAll (speech_of k) s past calls) made.answers all (plan_of order) (record {
+    subst (λ k. EndsAll (format_of k) s past calls) made.answers all (plan_of order) (record {
       serve = made.serve ∙ ap (count_of order.stop) (sym (length-map order.asks Script));
       held = made.held ∙ ap (held_of order.stop) (sym (length-map order.asks Script));
       stops = made.stops;
@@ -108,9 +108,9 @@ server_ends order seat a s past calls made all =
 
 -- the lists of a run are those that the joined ends tell
 lists_are : (side : Side) (order : Order) (a b c d : List (List ℕ)) (lists : Lists) (calls : List Served) → sent_by side lists ≡ a → got_by side lists ≡ b → sent_by (other side) lists ≡ c → got_by (other side) lists ≡ d
-    → Runs (speech_of order.kind) (plan_of order) a b c d calls (map (λ c. c.reply) (replies_to order calls)) → Carries side order lists calls
+    → Runs (format_of order.kind) (plan_of order) a b c d calls (map (λ c. c.reply) (replies_to order calls)) → Carries side order lists calls
 lists_are side order a b c d lists calls e f g h run =
-    let Of : List (List ℕ) → List (List ℕ) → List (List ℕ) → List (List ℕ) → Type 0 = λ x y z w. Runs (speech_of order.kind) (plan_of order) x y z w calls (map (λ c. c.reply) (replies_to order calls)) in
+    let Of : List (List ℕ) → List (List ℕ) → List (List ℕ) → List (List ℕ) → Type 0 = λ x y z w. Runs (format_of order.kind) (plan_of order) x y z w calls (map (λ c. c.reply) (replies_to order calls)) in
     subst (λ x. Of x (got_by side lists) (sent_by (other side) lists) (got_by (other side) lists)) (sym e) (subst (λ x. Of a x (sent_by (other side) lists) (got_by (other side) lists)) (sym f)
     (subst (λ x. Of a b x (got_by (other side) lists)) (sym g) (subst (λ x. Of a b c x) (sym h) run)))
 
@@ -121,19 +121,19 @@ pub record RanBy (order : Order) (seat back : DeviceSeat) (lists : Lists) (asked
   pub serials : served.serials.items ≡ map (λ s. s.serial) (served_at back)
   pub replies : asked.replies.items ≡ map (λ s. s.reply) (replies_to order (served_at back))
 
-ran : (order : Order) (seat : DeviceSeat) (a : Asking Talked Reply) (s : Serving Talked DeviceSeat Ask Reply) (asked served : WorkerDone) (lists : Lists) (side : Side) → side_that_asks order.kind ≡ side → MadeFor order seat a s
+ran : (order : Order) (seat : DeviceSeat) (a : Asking ChannelScript Reply) (s : Serving ChannelScript DeviceSeat Ask Reply) (asked served : WorkerDone) (lists : Lists) (side : Side) → side_that_asks order.kind ≡ side → MadeFor order seat a s
     → (both : BothLeave a s asked served lists side) → RanBy order seat both.server_leaves.back lists asked served
 ran order seat a s asked served lists side at_side made ended =
     let told = asked.replies.items in
     let calls = served_at ended.server_leaves.back in
-    let none_before : calls_behind s.desk.before calls ≡ calls = ap (λ l. calls_behind l calls) made.before in
+    let none_before : calls_behind s.responder.before calls ≡ calls = ap (λ l. calls_behind l calls) made.before in
     let whole = both_whole a s asked served lists side ended in
     let at : Joins asked.end served.end lists (side_that_asks order.kind) = subst (Joins asked.end served.end lists) (sym at_side) ended.joins in
     let both : BothEnd order asked.end.state.past served.end.state.past calls told = record {
       can = made.can;
       one = at.one;
-      asker_ends = asker_ends order a.talk asked.end.state.past told made.talk (asks_all _ asked.ended _ _ _ whole.0 ended.asker_leaves.asks);
-      server_ends = server_ends order seat a s served.end.state.past calls made (ends_all _ _ served.ended _ _ _ whole.1 (subst (λ l. EndsBy (speech_of s.desk.talk.kind) (besides_on s.desk.talk.kind) served.ended s served.end l) none_before ended.server_leaves.serves));
+      asker_ends = asker_ends order a.protocol asked.end.state.past told made.protocol (asks_all _ asked.ended _ _ _ whole.0 ended.asker_leaves.asks);
+      server_ends = server_ends order seat a s served.end.state.past calls made (ends_all _ _ served.ended _ _ _ whole.1 (subst (λ l. EndsBy (format_of s.responder.protocol.kind) (besides_on s.responder.protocol.kind) served.ended s served.end l) none_before ended.server_leaves.serves));
     } in
     let carried : Carries (side_that_asks order.kind) order lists calls =
     lists_are (side_that_asks order.kind) order _ _ _ _ lists calls at.asker_sent at.asker_got at.server_sent at.server_got (runs order asked.end.state.past served.end.state.past calls told both) in
@@ -145,11 +145,11 @@ ran order seat a s asked served lists side at_side made ended =
     }
 
 -- the seat that comes back
-comes_back : (s : Serving Talked DeviceSeat Ask Reply) (served : WorkerDone) (seat : Option DeviceSeat) → seat ≡ served.seat → LeavesServed s served → ComesBack s.desk.seat seat
+comes_back : (s : Serving ChannelScript DeviceSeat Ask Reply) (served : WorkerDone) (seat : Option DeviceSeat) → seat ≡ served.seat → LeavesServed s served → ComesBack s.responder.seat seat
 comes_back s served seat is leaves = record {
   same = leaves.back;
   is_back = is ∙ leaves.seat;
-  place = same_place s.desk.seat leaves.back leaves.place;
+  place = same_place s.responder.seat leaves.back leaves.place;
 }
 
 -- what a channel comes to is put together from what both workers leave
@@ -175,7 +175,7 @@ none_before {A} all front back is none = is ∙ ap (λ (l : List A). l ++ back) 
 none_after : {A : Type 0} (all front back : List A) → all ≡ front ++ back → back ≡ [] → all ≡ front
 none_after {A} all front back is none = is ∙ ap (λ (l : List A). front ++ l) none ∙ append-nil front
 
-guest_asks : (a : Asking Talked Reply) (s : Serving Talked DeviceSeat Ask Reply) (guest host : WorkerDone) (done : PairDone) → Closes (Asks a) (Serves s) guest host done → BothLeave a s guest host done.settled Guest
+guest_asks : (a : Asking ChannelScript Reply) (s : Serving ChannelScript DeviceSeat Ask Reply) (guest host : WorkerDone) (done : PairDone) → Closes (Asks a) (Serves s) guest host done → BothLeave a s guest host done.settled Guest
 guest_asks a s guest host done closes = record {
   agree = closes.pair.roles;
   asker_leaves = closes.guest_leaves;
@@ -183,7 +183,7 @@ guest_asks a s guest host done closes = record {
   joins = record { one = closes.run; asker_sent = closes.guest_sent; asker_got = closes.guest_got; server_sent = closes.host_sent; server_got = closes.host_got };
 }
 
-host_asks : (a : Asking Talked Reply) (s : Serving Talked DeviceSeat Ask Reply) (guest host : WorkerDone) (done : PairDone) → Closes (Serves s) (Asks a) guest host done → BothLeave a s host guest done.settled Host
+host_asks : (a : Asking ChannelScript Reply) (s : Serving ChannelScript DeviceSeat Ask Reply) (guest host : WorkerDone) (done : PairDone) → Closes (Serves s) (Asks a) guest host done → BothLeave a s host guest done.settled Host
 host_asks a s guest host done closes = record {
   agree = closes.pair.roles;
   asker_leaves = closes.host_leaves;

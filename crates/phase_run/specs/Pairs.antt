@@ -5,19 +5,19 @@ use Rattle.bus_model.specs.Orders.{Order, startup_of}
 use Rattle.bus_model.specs.Channel.{IsChannelRun, served_count, is_held, replies_to}
 use Rattle.script_lines.specs.declared.line.Ask.{Ask}
 use Rattle.bus_script.specs.declared.outcome.Reply.{Reply}
-use Rattle.bus_speech.specs.Speeches.{has_answer_on}
-use Rattle.bus_speech.specs.Talks.{Talked}
-use Rattle.bus_speech.specs.Wants.{IsAskable}
-use Rattle.end_work.specs.Seats.{served_at, IsSameSeat, at_guest, at_host}
-use Rattle.end_work.specs.Pairs.{ArePair}
-use Rattle.end_work.specs.Workers.{end_at, relid_at, HasWindow, IsOfSide}
-use Rattle.end_work.specs.declared.device_seat.DeviceSeat.{DeviceSeat}
-use Rattle.end_work.specs.declared.guest_seat.GuestSeat.{GuestSeat}
-use Rattle.end_work.specs.declared.host_seat.HostSeat.{HostSeat}
-use Rattle.end_work.specs.declared.worker.Worker.{Worker}
-use Rattle.end_work.specs.declared.worker.Worker.TheVariants.{Asks, Serves}
+use Rattle.device_formats.specs.Formats.{has_answer_on}
+use Rattle.device_formats.specs.ChannelScript.{ChannelScript}
+use Rattle.device_formats.specs.Wants.{IsAskable}
+use Rattle.channel_workers.specs.Seats.{served_at, IsSameSeat, at_guest, at_host}
+use Rattle.channel_workers.specs.Pairs.{ArePair}
+use Rattle.channel_workers.specs.Workers.{end_at, relid_at, HasWindow, IsOfSide}
+use Rattle.channel_workers.specs.declared.device_seat.DeviceSeat.{DeviceSeat}
+use Rattle.channel_workers.specs.declared.guest_seat.GuestSeat.{GuestSeat}
+use Rattle.channel_workers.specs.declared.host_seat.HostSeat.{HostSeat}
+use Rattle.channel_workers.specs.declared.worker.Worker.{Worker}
+use Rattle.channel_workers.specs.declared.worker.Worker.TheVariants.{Asks, Serves}
 use Rattle.io_edge.specs.declared.side.Side.TheVariants.{Guest, Host}
-use Rattle.work_model.specs.Roles.{side_that_asks}
+use Rattle.channel_model.specs.Roles.{side_that_asks}
 use Rattle.requester.specs.Asking.{Asking}
 use Rattle.server.specs.Serving.{Serving}
 use Rattle.channel_port.specs.declared.ended.Ended.{Ended}
@@ -37,14 +37,14 @@ pub record IsPaired (p : Pairing) : Type 0 where
 
 -- The workers were made for this order of a channel, whose device has this seat: the one asks what is ordered, and the other serves as many
 -- requests, holds the answer to the last one where the order says so, and stops where the order does
-pub record MadeFor (order : Order) (seat : DeviceSeat) (asker : Asking Talked Reply) (server : Serving Talked DeviceSeat Ask Reply) : Type 0 where
+pub record MadeFor (order : Order) (seat : DeviceSeat) (asker : Asking ChannelScript Reply) (server : Serving ChannelScript DeviceSeat Ask Reply) : Type 0 where
   pub can : AllByRecursion (IsAskable order.kind) order.asks
-  pub talk : asker.talk ≡ record { kind = order.kind; sub = order.sub; subs = order.subs; asks = order.asks }
-  pub answers : server.desk.talk.kind ≡ order.kind
-  pub seat_is : server.desk.seat ≡ seat
-  pub before : server.desk.before ≡ []
+  pub protocol : asker.protocol ≡ record { kind = order.kind; sub = order.sub; subs = order.subs; asks = order.asks }
+  pub answers : server.responder.protocol.kind ≡ order.kind
+  pub seat_is : server.responder.seat ≡ seat
+  pub before : server.responder.before ≡ []
   pub serve : server.serve ≡ served_count order
-  pub held : server.desk.held ≡ is_held order
+  pub held : server.responder.held ≡ is_held order
   pub stops : server.stops ≡ is_some order.stop
   pub starts : server.starts ≡ length (filter (has_answer_on order.kind) (startup_of order))
 
@@ -77,7 +77,7 @@ serving_of guest host = first_of (at_guest guest) (at_host host)
 
 -- A pair with this order and this seat has run: its channel carried what is ordered, each request that was served was a call of the seat, these are the serials
 -- of the calls, and these the replies that came back: all of them but that of the last call where its answer is held
-pub record Ran (order : Order) (seat : DeviceSeat) (done : PairDone) : Type 0 where
+pub record RanPair (order : Order) (seat : DeviceSeat) (done : PairDone) : Type 0 where
   pub back : DeviceSeat
   pub serving : serving_of done.guest_seat done.host_seat ≡ Some back
   pub channel : IsChannelRun order done.settled (served_at back)
@@ -100,8 +100,8 @@ pub record ComesBack (seat : DeviceSeat) (back : Option DeviceSeat) : Type 0 whe
 -- the seats are the workers': the one that asks has none
 abbrev pub KeepsSeats : Worker → Worker → Option DeviceSeat → Option DeviceSeat → Type 0
 KeepsSeats (Asks a) (Asks b) guest host = ⊥
-KeepsSeats (Asks a) (Serves s) guest host = (guest ≡ None) × ComesBack s.desk.seat host
-KeepsSeats (Serves s) (Asks a) guest host = ComesBack s.desk.seat guest × (host ≡ None)
+KeepsSeats (Asks a) (Serves s) guest host = (guest ≡ None) × ComesBack s.responder.seat host
+KeepsSeats (Serves s) (Asks a) guest host = ComesBack s.responder.seat guest × (host ≡ None)
 KeepsSeats (Serves s) (Serves t) guest host = ⊥
 
 -- both workers of a pair ended where their plans end, with their seats; and for each order that the pair was opened for, it has run
@@ -109,7 +109,7 @@ pub record RunsPair (p : Pairing) (done : PairDone) : Type 0 where
   pub guest : is_whole done.guest ≡ true
   pub host : is_whole done.host ≡ true
   pub seats : KeepsSeats p.guest p.host (at_guest done.guest_seat) (at_host done.host_seat)
-  pub runs : (order : Order) (seat : DeviceSeat) → Opens order seat p → Ran order seat done
+  pub runs : (order : Order) (seat : DeviceSeat) → Opens order seat p → RanPair order seat done
 
 -- each pair has run, in order
 abbrev pub EachRuns : List Pairing → List PairDone → Type 0

@@ -1,7 +1,7 @@
 -- What the start of a worker gives.
 use Rattle.std.specs.Prelude.{◌≡◌}
-use Rattle.end_work.specs.Leaving.{Leaves}
-use Rattle.end_work.specs.declared.worker.Worker.{Worker}
+use Rattle.channel_workers.specs.Leaving.{Leaves}
+use Rattle.channel_workers.specs.declared.worker.Worker.{Worker}
 use Rattle.phase_run.specs.declared.start.Start.{Start}
 use Rattle.phase_run.specs.declared.start.Start.TheVariants.{Ran, Back}
 use Rattle.phase_run.specs.declared.start.Started.{Started}

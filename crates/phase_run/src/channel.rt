@@ -1,8 +1,8 @@
 //! The two workers of a channel, from the start of the first to the end of both.
 ghost use Rattle.std.specs.Prelude.{◌≡◌};
-ghost use Rattle.end_work.specs.Leaving.{Leaves};
-ghost use Rattle.end_work.specs.Workers.{IsLive};
-ghost use Rattle.end_work.specs.declared.worker.Worker.{Worker as OneWorker};
+ghost use Rattle.channel_workers.specs.Leaving.{Leaves};
+ghost use Rattle.channel_workers.specs.Workers.{IsLive};
+ghost use Rattle.channel_workers.specs.declared.worker.Worker.{Worker as OneWorker};
 ghost use Rattle.phase_run.specs.Pairs.{IsPaired, RunsPair};
 ghost use Rattle.phase_run.specs.Starting.{Comes, IsStarted};
 ghost use Rattle.phase_run.specs.Beginning.{Begins};
@@ -10,7 +10,7 @@ ghost use Rattle.phase_run.specs.Beginning.{Begins};
 use crate::close::close;
 use crate::start::{Start, StartPromise, Started, start_worker};
 use crate::{Pair, PairDone};
-use end_work::{Worker, WorkerDone, run_both};
+use channel_workers::{Worker, WorkerDone, run_both};
 use io_edge::Gate;
 use std::marker::Model;
 use std::snapshot::Snapshot;

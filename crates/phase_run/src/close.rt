@@ -1,10 +1,10 @@
 //! What a channel comes to.
 ghost use Rattle.std.specs.Prelude.{◌≡◌, ◌++◌, ◌⊎◌, []};
-ghost use Rattle.end_work.specs.Leaving.{Leaves};
+ghost use Rattle.channel_workers.specs.Leaving.{Leaves};
 ghost use Rattle.phase_run.specs.Pairs.{IsPaired, RunsPair};
 
 use crate::{Pair, PairDone};
-use end_work::{GuestSeat, HostSeat, WorkerDone};
+use channel_workers::{GuestSeat, HostSeat, WorkerDone};
 use ring_seat::finish;
 use std::snapshot::Snapshot;
 

@@ -1,15 +1,15 @@
 //! A channel is opened with its two workers.
 ghost use Rattle.std.specs.Prelude.{◌≡◌, ◌≤◌, ◌*◌, [], length, IfOk};
-ghost use Rattle.end_work.specs.Pairs.{ArePair};
-ghost use Rattle.end_work.specs.Plans.{AllCarried, CanStop, stop_of};
-ghost use Rattle.end_work.specs.Seats.{served_at, kind_at, left_at};
+ghost use Rattle.channel_workers.specs.Pairs.{ArePair};
+ghost use Rattle.channel_workers.specs.Plans.{AllCarried, CanStop, stop_of};
+ghost use Rattle.channel_workers.specs.Seats.{served_at, kind_at, left_at};
 ghost use Rattle.phase_run.specs.Pairs.{AreOnChannel, Opens};
 
 use crate::Pair;
 use bus_script::Ask;
 use chan_state::Stop;
+use channel_workers::{ChannelPlan, DeviceSeat, GuestWorker, HostWorker, make_both};
 use contact::Kind;
-use end_work::{ChannelPlan, DeviceSeat, GuestWorker, HostWorker, make_both};
 use ring_seat::ChannelMem;
 use std::alloc::{AllocError, Global};
 

@@ -5,7 +5,7 @@ ghost use Rattle.phase_run.specs.Pairs.{IsPaired, RunsPair, serving_of};
 use crate::close::close;
 use bus_script::Reply;
 use channel_port::Ended;
-use end_work::{DeviceSeat, GuestSeat, GuestWorker, HostSeat, HostWorker, Worker, run_both};
+use channel_workers::{DeviceSeat, GuestSeat, GuestWorker, HostSeat, HostWorker, Worker, run_both};
 use io_edge::Gate;
 use ring_seat::Settled;
 use std::marker::Model;
@@ -21,7 +21,7 @@ pub struct Pair {
 }
 
 impl Model for Pair {
-    ghost use Rattle.end_work.specs.Pairs.{ArePair};
+    ghost use Rattle.channel_workers.specs.Pairs.{ArePair};
     ghost use Rattle.phase_run.specs.Pairs.{Pairing};
 
     ghost Value = { Pairing };

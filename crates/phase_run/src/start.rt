@@ -1,8 +1,8 @@
 //! Workers in threads of a scope. A worker whose thread was refused comes back.
-ghost use Rattle.end_work.specs.Workers.{IsLive};
+ghost use Rattle.channel_workers.specs.Workers.{IsLive};
 ghost use Rattle.phase_run.specs.Starting.{Comes, IsStarted};
 
-use end_work::{Worker, WorkerDone};
+use channel_workers::{Worker, WorkerDone};
 use io_edge::Gate;
 use std::snapshot::Snapshot;
 use std::sync::Wait;

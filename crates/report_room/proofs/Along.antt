@@ -7,8 +7,8 @@ use Rattle.script_lines.specs.declared.line.Ask.TheVariants.{Ic as AskIc, Disk a
 use Rattle.rndis_msg.specs.declared.rndis.Rndis.{Rndis}
 use Rattle.rndis_msg.specs.declared.rndis.Rndis.TheVariants.{Query, Set, Keepalive}
 use Rattle.rndis_msg.specs.Messages.{body_of}
-use Rattle.bus_speech.specs.Nets.{with_id, request_id_of}
-use Rattle.bus_speech.specs.Speeches.{asked_as}
+use Rattle.device_formats.specs.Nets.{with_id, request_id_of}
+use Rattle.device_formats.specs.Formats.{asked_as}
 use Rattle.bus_script.specs.declared.outcome.Reply.{Reply}
 use Rattle.bus_script.specs.declared.outcome.LineResult.{LineResult}
 use Rattle.bus_script.specs.declared.outcome.LineResult.TheVariants.{Unserved}

@@ -24,8 +24,8 @@ use Rattle.bus_script.specs.declared.outcome.LineResult.{LineResult}
 use Rattle.bus_script.specs.declared.outcome.LineResult.TheVariants.{Gone, Closed}
 use Rattle.bus_script.specs.Report.{prints, result_runs, runs_back}
 use Rattle.script_lines.proofs.Plain.{PlainAsk, PlainSays, PlainLine, script_plain}
-use Rattle.work_model.specs.Roles.{side_that_asks}
-use Rattle.bus_speech.specs.Speeches.{asked_as}
+use Rattle.channel_model.specs.Roles.{side_that_asks}
+use Rattle.device_formats.specs.Formats.{asked_as}
 use Rattle.bus_model.specs.Served.{Served}
 use Rattle.bus_model.specs.Orders.{order_of}
 use Rattle.bus_model.specs.Channel.{asked_under, asked_by, served_count}

@@ -11,15 +11,15 @@ use Rattle.chan_run.proofs.Pasts.{drained_seen, follows_unmarked}
 use Rattle.ring_core.specs.Seen.{Seen}
 use Rattle.ring_seat.specs.declared.table_seat.TableSeat.{TableSeat}
 use Rattle.txn_table.specs.Open.{request_of}
-use Rattle.work_model.specs.Speech.{Speech, Keeps}
-use Rattle.work_model.specs.Asker.{Encoded, opened, said, since, under, without, open_of, requests_of}
-use Rattle.work_model.specs.Channel.{AskerBreaks}
-use Rattle.work_model.specs.Workers.{ask_of, Apart, AskerKept, AcksKept}
-use Rattle.work_model.specs.Amounts.{room_of, besides_of, AsksAtMost}
-use Rattle.work_model.proofs.Acking.{acks_new, acks_came, acks_gave, acks_asked, acks_quiet}
-use Rattle.work_model.proofs.Amounts.{asks_at_most, kinds_asked, kinds_acked}
-use Rattle.work_model.proofs.Opens.{by_test}
-use Rattle.work_model.proofs.Asking.{since_more, asker_accepted, asker_sent, asker_told, asker_answered, asker_stray, asker_came, asker_acked, asker_breaks, asker_open, asker_empty, asker_marked, asker_saw, asker_settled, asker_stopped}
+use Rattle.channel_model.specs.WireFormat.{WireFormat, Keeps}
+use Rattle.channel_model.specs.Asker.{Encoded, opened, said, since, under, without, open_of, requests_of}
+use Rattle.channel_model.specs.Channel.{AskerBreaks}
+use Rattle.channel_model.specs.Workers.{ask_of, Apart, AskerKept, AcksKept}
+use Rattle.channel_model.specs.Amounts.{room_of, besides_of, AsksAtMost}
+use Rattle.channel_model.proofs.Acking.{acks_new, acks_came, acks_gave, acks_asked, acks_quiet}
+use Rattle.channel_model.proofs.Amounts.{asks_at_most, kinds_asked, kinds_acked}
+use Rattle.channel_model.proofs.Opens.{by_test}
+use Rattle.channel_model.proofs.Asking.{since_more, asker_accepted, asker_sent, asker_told, asker_answered, asker_stray, asker_came, asker_acked, asker_breaks, asker_open, asker_empty, asker_marked, asker_saw, asker_settled, asker_stopped}
 use Rattle.channel_port.specs.Line.{SleepsFor}
 use Rattle.requester.specs.Asking.{Asking, IsAsking, IsPaced, AsksAll, Holds, HasSettled, AskerLacks, LacksNext, id_in, answer_of, ask_at, asked_in, waits_in, waits_under, want_by, pending, AsksOn, AsksBy}
 use Rattle.requester.specs.declared.requester.Hold.{Hold}
@@ -58,7 +58,7 @@ module _ {A : Type 0} where
   ask_set asks true k a x e = e
   ask_set asks false k a x e = refl
 
-module _ {A Q R : Type 0} (s : Speech (List ℕ) A Q R) where
+module _ {A Q R : Type 0} (s : WireFormat (List ℕ) A Q R) where
   -- who waits under no such id
   not_waiting : (todo : List A) (waiting : Option ℕ) (id : ℕ) → waits_under waiting id ≡ false → under s id (waits_in todo waiting) ≡ None
   not_waiting todo None id e = refl
@@ -93,7 +93,7 @@ cond_none : {A : Type 0} (b : Bool) → cond {A = List A} b [] [] ≡ []
 cond_none true = refl
 cond_none false = refl
 
-module _ {A Q R : Type 0} (s : Speech (List ℕ) A Q R) where
+module _ {A Q R : Type 0} (s : WireFormat (List ℕ) A Q R) where
   -- what comes opens nothing
   none_opens : (p : List ℕ) (os : List (ℕ × A)) → os ≡ [] → cond (s.is_answer p) (without s (s.id_of p) os) os ≡ []
   none_opens p os none = ap (λ l. cond (s.is_answer p) (without s (s.id_of p) l) l) none ∙ cond_none (s.is_answer p)
@@ -110,12 +110,12 @@ module _ {A Q R : Type 0} (s : Speech (List ℕ) A Q R) where
   encoded_few [] (p ∷ ps) enc = absurd enc
   encoded_few (a ∷ asks) (p ∷ ps) enc = omega (arith, encoded_few asks ps enc.1)
 
-module _ {A Q R : Type 0} (s : Speech (List ℕ) A Q R) where
+module _ {A Q R : Type 0} (s : WireFormat (List ℕ) A Q R) where
   -- the packet at the place of a message is that message
   pub message_here : (got : List (List ℕ)) (k : ℕ) (m p : List ℕ) → slice_get got k ≡ Some m → s.is_message m ≡ true → slice_get got k ≡ Some p → s.is_message p ≡ true
   message_here got k m p at is here = ap s.is_message (some_same p m (sym here ∙ at)) ∙ is
 
-module _ {T A Q R : Type 0} (s : Speech (List ℕ) A Q R) (asks : List A) (w : Asking T R) where
+module _ {T A Q R : Type 0} (s : WireFormat (List ℕ) A Q R) (asks : List A) (w : Asking T R) where
   -- as many requests were sent as stand before the next one
   sent_next : IsAsking s asks w → length (requests_of s w.end.state.past) ≡ w.next
   sent_next h =
@@ -126,7 +126,7 @@ module _ {T A Q R : Type 0} (s : Speech (List ℕ) A Q R) (asks : List A) (w : A
   none_stands : IsAsking s asks w → count_by is_some w.table ≡ 0 → open_of s asks w.end.state.past ≡ []
   none_stands h none = none_left s (open_of s asks w.end.state.past) (waits_in (drop w.next asks) w.waiting) (λ id. sym (h.kept.opens id) ∙ ap (ask_at asks) (none_open w.table none id))
 
-module _ {T A Q R : Type 0} (s : Speech (List ℕ) A Q R) (keeps : Keeps s) (asks : List A) (w : Asking T R) where
+module _ {T A Q R : Type 0} (s : WireFormat (List ℕ) A Q R) (keeps : Keeps s) (asks : List A) (w : Asking T R) where
   -- the table as a map, and what waits
   abbrev tabled : ℕ → Option A
   tabled = asked_in asks w.table
@@ -271,7 +271,7 @@ module _ {T A Q R : Type 0} (s : Speech (List ℕ) A Q R) (keeps : Keeps s) (ask
         alone = λ id e few. ap (open_of s asks) (is ∙ ap (λ q. Sent q ∷ w.end.state.past) made) ∙ (opens ∙ h.alone id e few);
       }
 
-module _ {T A Q R : Type 0} (s : Speech (List ℕ) A Q R) (keeps : Keeps s) (asks : List A) (w : Asking T R) where
+module _ {T A Q R : Type 0} (s : WireFormat (List ℕ) A Q R) (keeps : Keeps s) (asks : List A) (w : Asking T R) where
   -- an answer to the request that isn't sent yet was dropped
   pub stray_kept : (end' : Seen TableSeat) (p : List ℕ) (id : ℕ) → s.is_answer p ≡ true → w.waiting ≡ Some id → end'.state.past ≡ Got p ∷ w.end.state.past → end'.state.got ≡ w.end.state.got ++ p ∷ [] → end'.state.machine.asleep ≡ false → (id == s.id_of p) ≡ true → IsAsking s asks w
       → IsAsking s asks (record w { end = end' })
@@ -474,9 +474,9 @@ module _ {T A Q R : Type 0} (s : Speech (List ℕ) A Q R) (keeps : Keeps s) (ask
   need_in (Room need) h = (h.4, h.5)
 
 pub ask_trans : {T R : Type 0} (u v w : Asking T R) → AsksOn u v → AsksOn v w → AsksOn u w
-ask_trans u v w a b = record { talk = b.talk ∙ a.talk; relid = b.relid ∙ a.relid; starts = b.starts ∙ a.starts; window = b.window ∙ a.window; end = record { seat = b.end.seat ∙ a.end.seat; side = b.end.side ∙ a.end.side } }
+ask_trans u v w a b = record { protocol = b.protocol ∙ a.protocol; relid = b.relid ∙ a.relid; starts = b.starts ∙ a.starts; window = b.window ∙ a.window; end = record { seat = b.end.seat ∙ a.end.seat; side = b.end.side ∙ a.end.side } }
 
 -- what it gives at its end is what was asked of it at its beginning
-pub asks_on : {T A Q R : Type 0} (sp : T → Speech (List ℕ) A Q R) (asks : T → List A) (how : Ended) (u w : Asking T R) (past : List (Event (List ℕ))) (told : List R) → AsksOn u w
-    → AsksBy (sp w.talk) how (asks w.talk) past told → AsksBy (sp u.talk) how (asks u.talk) past told
-asks_on sp asks how u w past told on h = subst (λ t. AsksBy (sp t) how (asks t) past told) on.talk h
+pub asks_on : {T A Q R : Type 0} (sp : T → WireFormat (List ℕ) A Q R) (asks : T → List A) (how : Ended) (u w : Asking T R) (past : List (Event (List ℕ))) (told : List R) → AsksOn u w
+    → AsksBy (sp w.protocol) how (asks w.protocol) past told → AsksBy (sp u.protocol) how (asks u.protocol) past told
+asks_on sp asks how u w past told on h = subst (λ t. AsksBy (sp t) how (asks t) past told) on.protocol h

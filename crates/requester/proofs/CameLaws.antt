@@ -1,11 +1,11 @@
 -- What came just before the last packet.
 use Rattle.std.proofs.Common.{◌≡◌, ℕ, zero, suc, ◌+◌, ◌<◌, List, [], ◌∷◌, ◌++◌, length, cond, true, false, refl, sym, ap, ◌∙◌, arith, Some, None, length-append}
 use Rattle.std.specs.Prelude.{slice_get}
-use Rattle.chan_talk.specs.Listed.{packet_in}
+use Rattle.channel_protocol.specs.Listed.{packet_in}
 use Rattle.ring_machine.specs.States.{IsPacket}
-use Rattle.work_model.specs.Speech.{Speech}
-use Rattle.work_model.specs.Asker.{since}
-use Rattle.work_model.proofs.Asking.{since_more}
+use Rattle.channel_model.specs.WireFormat.{WireFormat}
+use Rattle.channel_model.specs.Asker.{since}
+use Rattle.channel_model.proofs.Asking.{since_more}
 
 -- the last but one stands last of those before the last
 before_last : (before : List (List ℕ)) (p q : List ℕ) (i : ℕ) → i + 2 ≡ length (before ++ p ∷ []) → slice_get (before ++ p ∷ []) i ≡ Some q → (first : List (List ℕ)) × (before ≡ first ++ q ∷ [])
@@ -20,7 +20,7 @@ pub packet_is : (q : List ℕ) → IsPacket q → packet_in q ≡ Some q
 packet_is [] h = absurd (omega (arith, h.two))
 packet_is (w ∷ ws) h = refl
 
-module _ {A Q R : Type 0} (s : Speech (List ℕ) A Q R) where
+module _ {A Q R : Type 0} (s : WireFormat (List ℕ) A Q R) where
   -- one packet came
   pub none_before : (before : List (List ℕ)) (p : List ℕ) → length (before ++ p ∷ []) < 2 → since s None before ≡ None
   none_before [] p e = refl

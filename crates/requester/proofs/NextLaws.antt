@@ -6,9 +6,9 @@ use Rattle.std.proofs.lemmas.List.{drop_more}
 use Rattle.std.proofs.lemmas.Option.{get_or_from_slice_get, slice_get_within}
 use Rattle.std.proofs.lemmas.Bool.Decides.{nat_tests}
 use Rattle.chan_run.specs.declared.event.Event.{Event}
-use Rattle.work_model.specs.Speech.{Speech}
-use Rattle.work_model.specs.Workers.{AcksKept}
-use Rattle.work_model.proofs.Acking.{acks_passed}
+use Rattle.channel_model.specs.WireFormat.{WireFormat}
+use Rattle.channel_model.specs.Workers.{AcksKept}
+use Rattle.channel_model.proofs.Acking.{acks_passed}
 use Rattle.requester.specs.Acking.{NoneIn, IsNext}
 
 module _ {A : Type 0} where
@@ -20,7 +20,7 @@ module _ {A : Type 0} where
   at_least (a ∷ asks) zero lt = (a, refl)
   at_least (a ∷ asks) (suc k) lt = at_least asks k (omega (arith, lt))
 
-module _ {A Q R : Type 0} (s : Speech (List ℕ) A Q R) (got : List (List ℕ)) where
+module _ {A Q R : Type 0} (s : WireFormat (List ℕ) A Q R) (got : List (List ℕ)) where
   pub none_first : (from : ℕ) → NoneIn s got from from
   none_first from i p le lt at = absurd (omega (arith, le, lt))
 

@@ -3,7 +3,7 @@ ghost use Rattle.std.specs.Prelude.{◌≡◌, ◌<◌, ◌≤◌, ◌+◌, [], 
 ghost use Rattle.chan_run.specs.Runs.{got_of, is_drained};
 ghost use Rattle.ring_seat.specs.Seats.{new_end};
 ghost use Rattle.ring_seat.specs.Settling.{IsSameEnd};
-ghost use Rattle.work_model.specs.Channel.{AskerBreaks};
+ghost use Rattle.channel_model.specs.Channel.{AskerBreaks};
 ghost use Rattle.channel_port.specs.declared.ended.Ended.TheVariants.{Marked as MarkedEnd, PeerMarked as PeerMarkedEnd, Room as RoomEnd};
 ghost use Rattle.channel_port.specs.Causes.{Arms, Polls};
 ghost use Rattle.requester.specs.Causes.{AskCause, AskerActs, AsksOne, AsksOrArms};
@@ -11,14 +11,14 @@ ghost use Rattle.channel_port.specs.Line.{IsReady, HasTakeRoom, TookOne};
 ghost use Rattle.requester.specs.Asking.{AsksBy, AskTurns, IsPaced, AskLacks, AskerLacks, AsksOn, AskEnds, Holds, HasAcked, HasMessage, HasOpen, HasSettled, waits_under, want_by, AskedBy};
 ghost use Rattle.channel_port.specs.Rooms.{AskedWithin, AskLacksFor, KeepsRoom};
 ghost use Rattle.txn_table.specs.Open.{HasNone};
-ghost use Rattle.work_model.specs.Amounts.{room_of};
+ghost use Rattle.channel_model.specs.Amounts.{room_of};
 
 use crate::came::came_before;
 use crate::lists::Lists;
 use crate::next::next_message;
 use crate::settle::settle;
-use chan_talk::Talk;
 use channel_port::{Ended, Looked, Port, Sheet, Turn, room_of};
+use channel_protocol::Protocol;
 use io_edge::{Gate, Side};
 use ring_core::End;
 use ring_seat::TableSeat;
@@ -51,10 +51,10 @@ enum Asked {
     Lacks { packets: u64, words: u64 },
 }
 
-/// The worker of the end that asks: it asks all that its talk has to ask, in order, reads the replies, and acknowledges the messages that come with them.
+/// The worker of the end that asks: it asks all that its protocol has to ask, in order, reads the replies, and acknowledges the messages that come with them.
 #[derive(Drop)]
-pub struct Requester<T: Talk> {
-    talk: T,
+pub struct Requester<T: Protocol> {
+    protocol: T,
     port: Port,
     table: TxnTable<u32>,
     next: u32,
@@ -73,29 +73,29 @@ pub struct Requester<T: Talk> {
     relid: u32,
 }
 
-impl<T: Talk> Model for Requester<T> {
+impl<T: Protocol> Model for Requester<T> {
     ghost use Rattle.std.specs.Prelude.{◌≡◌, ◌≤◌, ◌+◌, ◌-◌, false, length, count_by, is_some, vec_len, vec_capacity};
     ghost use Rattle.requester.specs.Asking.{Asking, IsAsking, pending};
     ghost use Rattle.channel_port.specs.Rooms.{KeepsRoom};
-    ghost use Rattle.work_model.specs.Amounts.{room_of};
+    ghost use Rattle.channel_model.specs.Amounts.{room_of};
 
     ghost Value = { Asking T T.Reply };
 
-    ghost view = { λ w. record { talk = w.talk; end = w.port; table = w.table; next = w.next; waiting = w.waiting; acked = w.acked; told = w.replies.items; starts = w.starts; seen = w.seen; hold = w.hold; relid = w.relid } };
+    ghost view = { λ w. record { protocol = w.protocol; end = w.port; table = w.table; next = w.next; waiting = w.waiting; acked = w.acked; told = w.replies.items; starts = w.starts; seen = w.seen; hold = w.hold; relid = w.relid } };
 
-    ghost invariant = { λ w. w.port.state.machine.marked ≡ false → record { live : IsAsking (T.speech w.talk) (T.asks w.talk) (record { talk = w.talk; end = w.port; table = w.table; next = w.next; waiting = w.waiting; acked = w.acked; told = w.replies.items; starts = w.starts; seen = w.seen; hold = w.hold; relid = w.relid }); replies : vec_len w.replies + count_by is_some w.table + (length (T.asks w.talk) - w.next) ≤ vec_capacity w.replies + pending w.waiting; spare : vec_len w.rescinded + length w.table ≤ vec_capacity w.rescinded; size : length w.table ≤ 64; room : KeepsRoom (room_of (T.besides w.talk) (length (T.asks w.talk))) w.port; side : w.side ≡ w.port.state.machine.side } };
+    ghost invariant = { λ w. w.port.state.machine.marked ≡ false → record { live : IsAsking (T.format w.protocol) (T.asks w.protocol) (record { protocol = w.protocol; end = w.port; table = w.table; next = w.next; waiting = w.waiting; acked = w.acked; told = w.replies.items; starts = w.starts; seen = w.seen; hold = w.hold; relid = w.relid }); replies : vec_len w.replies + count_by is_some w.table + (length (T.asks w.protocol) - w.next) ≤ vec_capacity w.replies + pending w.waiting; spare : vec_len w.rescinded + length w.table ≤ vec_capacity w.rescinded; size : length w.table ≤ 64; room : KeepsRoom (room_of (T.besides w.protocol) (length (T.asks w.protocol))) w.port; side : w.side ≡ w.port.state.machine.side } };
 }
 
 /// What an asking worker gives once it has ended.
 #[derive(Drop)]
-pub struct RequesterDone<T: Talk> {
+pub struct RequesterDone<T: Protocol> {
     pub end: End<TableSeat>,
     pub ended: Ended,
     /// The replies to the requests of the script, in order.
     pub replies: Vec<T::Reply>,
 }
 
-impl<T: Talk> Requester<T> {
+impl<T: Protocol> Requester<T> {
     // Takes a packet, if one waits, and settles the request that it answers, if it is an answer. One to the request that isn't sent yet is dropped.
     fn take_one(&mut self) -> bool
         requires ready { IsReady self.old.end }
@@ -110,16 +110,16 @@ impl<T: Talk> Requester<T> {
             return false;
         }
         let packet = self.port.last();
-        if !self.talk.is_answer(packet) {
+        if !self.protocol.is_answer(packet) {
             return true;
         }
-        let id = self.talk.id(packet);
+        let id = self.protocol.id(packet);
         if is_waiting_under(self.waiting, id) {
             return true;
         }
-        let before = came_before(&self.talk, &self.port);
+        let before = came_before(&self.protocol, &self.port);
         settle(
-            &self.talk,
+            &self.protocol,
             &mut self.table,
             &mut self.replies,
             before,
@@ -131,21 +131,21 @@ impl<T: Talk> Requester<T> {
     // Passes over the packets that came and are no messages. Whether a message is left that is to be acknowledged.
     fn find_message(&mut self) -> bool
         requires ready { IsReady self.old.end }
-        ensures message { result ≡ true → HasMessage (T.speech self.new.talk) self.new }
+        ensures message { result ≡ true → HasMessage (T.format self.new.protocol) self.new }
         ensures none { result ≡ false → HasAcked self.new }
         ensures same { (self.new.end ≡ self.old.end) × (self.new.seen ≡ self.old.seen) }
         ensures on { AsksOn self.old self.new }
     {
-        self.acked = next_message(&self.talk, &self.port, self.acked);
+        self.acked = next_message(&self.protocol, &self.port, self.acked);
         self.acked < self.port.got_len()
     }
 
     // Acknowledges the message that is next.
     fn acknowledge(&mut self) -> Asked
         requires ready { IsReady self.old.end }
-        requires message { HasMessage (T.speech self.old.talk) self.old }
+        requires message { HasMessage (T.format self.old.protocol) self.old }
         requires unseen { self.old.seen ≡ false }
-        ensures asked { AskedBy (T.speech self.new.talk) (T.asks self.new.talk) result self.new }
+        ensures asked { AskedBy (T.format self.new.protocol) (T.asks self.new.protocol) result self.new }
         ensures unseen { self.new.seen ≡ false }
         ensures cause { AsksOne result self.old.end.state.past self.new.end }
         ensures ready { IsReady self.new.end }
@@ -153,7 +153,8 @@ impl<T: Talk> Requester<T> {
     {
         let came = self.port.got_len();
         prove!(self.acked < came);
-        self.sheet.write_ack(&self.talk, self.port.got(self.acked));
+        self.sheet
+            .write_ack(&self.protocol, self.port.got(self.acked));
         let packet = self.sheet.packet();
         if let Some(room) = self.port.lacks_send(packet) {
             return Asked::Lacks {
@@ -173,10 +174,10 @@ impl<T: Talk> Requester<T> {
     // Gives the next request a free id.
     fn accept(&mut self) -> bool
         requires ready { IsReady self.old.end }
-        requires next { self.old.next < length (T.asks self.old.talk) }
+        requires next { self.old.next < length (T.asks self.old.protocol) }
         requires none { self.old.waiting ≡ None }
         requires alone { self.old.next ≤ self.old.starts → count_by is_some self.old.table ≡ 0 }
-        requires answers { (a : T.Ask) → slice_get (T.asks self.old.talk) self.old.next ≡ Some a → (T.speech self.old.talk).has_answer a ≡ true }
+        requires answers { (a : T.Ask) → slice_get (T.asks self.old.protocol) self.old.next ≡ Some a → (T.format self.old.protocol).has_answer a ≡ true }
         ensures next { (self.new.next ≡ self.old.next) × (self.new.end ≡ self.old.end) × (self.new.seen ≡ self.old.seen) × (self.new.acked ≡ self.old.acked) }
         ensures waits { result ≡ true → (id : ℕ) × (self.new.waiting ≡ Some id) }
         ensures full { result ≡ false → (self.new.waiting ≡ None) × All IsSome self.new.table }
@@ -194,19 +195,19 @@ impl<T: Talk> Requester<T> {
     // Sends the next request, which stands under this id.
     fn send_waiting(&mut self, id: u64) -> Asked
         requires ready { IsReady self.old.end }
-        requires next { self.old.next < length (T.asks self.old.talk) }
+        requires next { self.old.next < length (T.asks self.old.protocol) }
         requires waits { self.old.waiting ≡ Some id }
         requires acked { HasAcked self.old }
         requires unseen { self.old.seen ≡ false }
-        ensures asked { AskedBy (T.speech self.new.talk) (T.asks self.new.talk) result self.new }
+        ensures asked { AskedBy (T.format self.new.protocol) (T.asks self.new.protocol) result self.new }
         ensures unseen { self.new.seen ≡ false }
         ensures cause { AsksOne result self.old.end.state.past self.new.end }
         ensures ready { IsReady self.new.end }
         ensures on { AsksOn self.old self.new }
     {
-        let count = self.talk.count();
+        let count = self.protocol.count();
         prove!(self.next < count);
-        self.sheet.encode(&self.talk, self.next, id);
+        self.sheet.encode(&self.protocol, self.next, id);
         let packet = self.sheet.packet();
         if let Some(room) = self.port.lacks_send(packet) {
             return Asked::Lacks {
@@ -228,21 +229,21 @@ impl<T: Talk> Requester<T> {
     // Sends the next request, which has no answer.
     fn tell(&mut self) -> Asked
         requires ready { IsReady self.old.end }
-        requires next { self.old.next < length (T.asks self.old.talk) }
+        requires next { self.old.next < length (T.asks self.old.protocol) }
         requires none { self.old.waiting ≡ None }
         requires alone { self.old.next ≤ self.old.starts → count_by is_some self.old.table ≡ 0 }
         requires acked { HasAcked self.old }
         requires unseen { self.old.seen ≡ false }
-        requires answers { (a : T.Ask) → slice_get (T.asks self.old.talk) self.old.next ≡ Some a → (T.speech self.old.talk).has_answer a ≡ false }
-        ensures asked { AskedBy (T.speech self.new.talk) (T.asks self.new.talk) result self.new }
+        requires answers { (a : T.Ask) → slice_get (T.asks self.old.protocol) self.old.next ≡ Some a → (T.format self.old.protocol).has_answer a ≡ false }
+        ensures asked { AskedBy (T.format self.new.protocol) (T.asks self.new.protocol) result self.new }
         ensures unseen { self.new.seen ≡ false }
         ensures cause { AsksOne result self.old.end.state.past self.new.end }
         ensures ready { IsReady self.new.end }
         ensures on { AsksOn self.old self.new }
     {
-        let count = self.talk.count();
+        let count = self.protocol.count();
         prove!(self.next < count);
-        self.sheet.encode(&self.talk, self.next, 0);
+        self.sheet.encode(&self.protocol, self.next, 0);
         let packet = self.sheet.packet();
         if let Some(room) = self.port.lacks_send(packet) {
             return Asked::Lacks {
@@ -263,10 +264,10 @@ impl<T: Talk> Requester<T> {
     // Whether there is more to ask.
     fn has_more(&self) -> bool
         requires unmarked { self.now.end.state.machine.marked ≡ false }
-        ensures more { result ≡ true → self.now.next < length (T.asks self.now.talk) }
-        ensures done { result ≡ false → self.now.next ≡ length (T.asks self.now.talk) }
+        ensures more { result ≡ true → self.now.next < length (T.asks self.now.protocol) }
+        ensures done { result ≡ false → self.now.next ≡ length (T.asks self.now.protocol) }
     {
-        self.next < self.talk.count()
+        self.next < self.protocol.count()
     }
 
     // Passes the gate before the next request, if it is one of the script and didn't yet.
@@ -286,8 +287,8 @@ impl<T: Talk> Requester<T> {
         requires ready { IsReady self.old.end }
         requires unseen { self.old.seen ≡ false }
         requires acked { HasAcked self.old }
-        requires open { HasOpen (T.asks self.old.talk) self.old }
-        ensures asked { AskedBy (T.speech self.new.talk) (T.asks self.new.talk) result self.new }
+        requires open { HasOpen (T.asks self.old.protocol) self.old }
+        ensures asked { AskedBy (T.format self.new.protocol) (T.asks self.new.protocol) result self.new }
         ensures unseen { self.new.seen ≡ false }
         ensures cause { AsksOne result self.old.end.state.past self.new.end }
         ensures ready { IsReady self.new.end }
@@ -302,7 +303,7 @@ impl<T: Talk> Requester<T> {
         if self.next <= self.starts && self.table.count() > 0 {
             return Asked::Held(Hold::Answer);
         }
-        if !self.talk.has_answer(self.next) {
+        if !self.protocol.has_answer(self.next) {
             self.pass(gate);
             return self.tell();
         }
@@ -320,8 +321,8 @@ impl<T: Talk> Requester<T> {
     fn rest(&mut self, hold: Hold) -> Turn
         requires ready { IsReady self.old.end }
         requires unseen { self.old.seen ≡ false }
-        requires holds { Holds (T.speech self.old.talk) (T.asks self.old.talk) hold self.old }
-        ensures turns { AskTurns (T.speech self.new.talk) (T.besides self.new.talk) (T.asks self.new.talk) result self.new }
+        requires holds { Holds (T.format self.old.protocol) (T.asks self.old.protocol) hold self.old }
+        ensures turns { AskTurns (T.format self.new.protocol) (T.besides self.new.protocol) (T.asks self.new.protocol) result self.new }
         ensures cause { Arms result self.old.end.state.past self.new.end }
         ensures on { AsksOn self.old self.new }
     {
@@ -339,21 +340,21 @@ impl<T: Talk> Requester<T> {
     // Whether all was asked and answered, once each message is acknowledged. Where all was asked and that isn't so, a request is open.
     fn is_settled(&self) -> bool
         requires acked { HasAcked self.now }
-        ensures settled { result ≡ true → HasSettled (T.asks self.now.talk) self.now }
-        ensures open { result ≡ false → HasOpen (T.asks self.now.talk) self.now }
+        ensures settled { result ≡ true → HasSettled (T.asks self.now.protocol) self.now }
+        ensures open { result ≡ false → HasOpen (T.asks self.now.protocol) self.now }
     {
-        self.next == self.talk.count() && self.table.count() == 0
+        self.next == self.protocol.count() && self.table.count() == 0
     }
 
     // Ends with all settled.
     fn finish(&mut self)
         requires ready { IsReady self.old.end }
-        requires settled { HasSettled (T.asks self.old.talk) self.old }
+        requires settled { HasSettled (T.asks self.old.protocol) self.old }
         requires unseen { self.old.seen ≡ false }
-        ensures ends { AsksBy (T.speech self.new.talk) MarkedEnd (T.asks self.new.talk) self.new.end.state.past self.new.told }
+        ensures ends { AsksBy (T.format self.new.protocol) MarkedEnd (T.asks self.new.protocol) self.new.end.state.past self.new.told }
         ensures none { HasNone self.new.table }
-        ensures sent { AskedWithin (T.speech self.new.talk) (length (T.asks self.new.talk)) self.new.end.state.past }
-        ensures paced { IsPaced (T.speech self.new.talk) self.new.starts (T.asks self.new.talk) self.new.end.state.past }
+        ensures sent { AskedWithin (T.format self.new.protocol) (length (T.asks self.new.protocol)) self.new.end.state.past }
+        ensures paced { IsPaced (T.format self.new.protocol) self.new.starts (T.asks self.new.protocol) self.new.end.state.past }
         ensures on { AsksOn self.old self.new }
     {
         self.port.mark();
@@ -363,10 +364,10 @@ impl<T: Talk> Requester<T> {
     fn give_up(&mut self)
         requires ready { IsReady self.old.end }
         requires drained { is_drained self.old.end.state.past ≡ true }
-        ensures ends { AsksBy (T.speech self.new.talk) PeerMarkedEnd (T.asks self.new.talk) self.new.end.state.past self.new.told }
+        ensures ends { AsksBy (T.format self.new.protocol) PeerMarkedEnd (T.asks self.new.protocol) self.new.end.state.past self.new.told }
         ensures none { HasNone self.new.table }
-        ensures sent { AskedWithin (T.speech self.new.talk) (length (T.asks self.new.talk)) self.new.end.state.past }
-        ensures paced { IsPaced (T.speech self.new.talk) self.new.starts (T.asks self.new.talk) self.new.end.state.past }
+        ensures sent { AskedWithin (T.format self.new.protocol) (length (T.asks self.new.protocol)) self.new.end.state.past }
+        ensures paced { IsPaced (T.format self.new.protocol) self.new.starts (T.asks self.new.protocol) self.new.end.state.past }
         ensures on { AsksOn self.old self.new }
     {
         self.table.rescind_all(&mut self.rescinded);
@@ -377,13 +378,13 @@ impl<T: Talk> Requester<T> {
     fn broken(&self, packets: u64, words: u64) -> Ended
         requires unmarked { self.now.end.state.machine.marked ≡ false }
         requires list { got_of self.now.end.state.past ≡ self.now.end.state.got }
-        requires lacks { AskerLacks (T.speech self.now.talk) (T.asks self.now.talk) packets words self.now }
+        requires lacks { AskerLacks (T.format self.now.protocol) (T.asks self.now.protocol) packets words self.now }
         ensures room { result ≡ RoomEnd packets words 0 }
-        ensures breaks { AskerBreaks (T.speech self.now.talk) (T.asks self.now.talk) self.now.end.state.past self.now.told }
-        ensures reserved { KeepsRoom (room_of (T.besides self.now.talk) (length (T.asks self.now.talk))) self.now.end }
-        ensures over { AskLacksFor (T.speech self.now.talk) (T.besides self.now.talk) (length (T.asks self.now.talk)) (RoomEnd packets words 0) self.now.end.state.past }
-        ensures sent { AskedWithin (T.speech self.now.talk) (length (T.asks self.now.talk)) self.now.end.state.past }
-        ensures paced { IsPaced (T.speech self.now.talk) self.now.starts (T.asks self.now.talk) self.now.end.state.past }
+        ensures breaks { AskerBreaks (T.format self.now.protocol) (T.asks self.now.protocol) self.now.end.state.past self.now.told }
+        ensures reserved { KeepsRoom (room_of (T.besides self.now.protocol) (length (T.asks self.now.protocol))) self.now.end }
+        ensures over { AskLacksFor (T.format self.now.protocol) (T.besides self.now.protocol) (length (T.asks self.now.protocol)) (RoomEnd packets words 0) self.now.end.state.past }
+        ensures sent { AskedWithin (T.format self.now.protocol) (length (T.asks self.now.protocol)) self.now.end.state.past }
+        ensures paced { IsPaced (T.format self.now.protocol) self.now.starts (T.asks self.now.protocol) self.now.end.state.past }
     {
         let _ = &self.next;
         Ended::Room {
@@ -396,9 +397,9 @@ impl<T: Talk> Requester<T> {
     // Acknowledges the message that is next, or rests.
     fn acknowledge_or_rest(&mut self) -> Turn
         requires ready { IsReady self.old.end }
-        requires message { HasMessage (T.speech self.old.talk) self.old }
+        requires message { HasMessage (T.format self.old.protocol) self.old }
         requires unseen { self.old.seen ≡ false }
-        ensures turns { AskTurns (T.speech self.new.talk) (T.besides self.new.talk) (T.asks self.new.talk) result self.new }
+        ensures turns { AskTurns (T.format self.new.protocol) (T.besides self.new.protocol) (T.asks self.new.protocol) result self.new }
         ensures cause { AsksOrArms result self.old.end.state.past self.new.end }
         ensures on { AsksOn self.old self.new }
     {
@@ -414,8 +415,8 @@ impl<T: Talk> Requester<T> {
         requires ready { IsReady self.old.end }
         requires unseen { self.old.seen ≡ false }
         requires acked { HasAcked self.old }
-        requires open { HasOpen (T.asks self.old.talk) self.old }
-        ensures turns { AskTurns (T.speech self.new.talk) (T.besides self.new.talk) (T.asks self.new.talk) result self.new }
+        requires open { HasOpen (T.asks self.old.protocol) self.old }
+        ensures turns { AskTurns (T.format self.new.protocol) (T.besides self.new.protocol) (T.asks self.new.protocol) result self.new }
         ensures cause { AsksOrArms result self.old.end.state.past self.new.end }
         ensures on { AsksOn self.old self.new }
     {
@@ -430,7 +431,7 @@ impl<T: Talk> Requester<T> {
     // message, with all settled it ends, and else it asks the next request. Or it rests.
     fn work<G: Gate>(&mut self, gate: &G) -> Turn
         requires ready { IsReady self.old.end }
-        ensures turns { AskTurns (T.speech self.new.talk) (T.besides self.new.talk) (T.asks self.new.talk) result self.new }
+        ensures turns { AskTurns (T.format self.new.protocol) (T.besides self.new.protocol) (T.asks self.new.protocol) result self.new }
         ensures cause { AskerActs result self.old.end.state.past self.new.end }
         ensures on { AsksOn self.old self.new }
     {
@@ -459,7 +460,7 @@ impl<T: Talk> Requester<T> {
     fn doze(&mut self) -> Turn
         requires asleep { self.old.end.state.machine.asleep ≡ true }
         requires unmarked { self.old.end.state.machine.marked ≡ false }
-        ensures turns { AskTurns (T.speech self.new.talk) (T.besides self.new.talk) (T.asks self.new.talk) result self.new }
+        ensures turns { AskTurns (T.format self.new.protocol) (T.besides self.new.protocol) (T.asks self.new.protocol) result self.new }
         ensures cause { Polls result self.old.end self.new.end }
         ensures on { AsksOn self.old self.new }
     {
@@ -473,7 +474,7 @@ impl<T: Talk> Requester<T> {
     /// for as many messages and what acknowledges them, where there are messages.
     pub fn make(
         alloc: Global,
-        talk: T,
+        protocol: T,
         end: End<TableSeat>,
         side: Side,
         relid: u32,
@@ -483,25 +484,25 @@ impl<T: Talk> Requester<T> {
         requires fresh { end.state ≡ new_end end.state.machine.cells end.state.machine.side }
         requires size { (512 ≤ end.state.machine.cells) × (end.state.machine.cells ≤ 8192) }
         requires side { side ≡ end.state.machine.side }
-        ensures talk { IfOk result (λ w. w.talk ≡ talk) }
+        ensures protocol { IfOk result (λ w. w.protocol ≡ protocol) }
         ensures relid { IfOk result (λ w. w.relid ≡ relid) }
-        ensures starts { IfOk result (λ w. w.starts ≡ T.starts talk) }
+        ensures starts { IfOk result (λ w. w.starts ≡ T.starts protocol) }
         ensures window { IfOk result (λ w. length w.table ≡ window) }
         ensures end { IfOk result (λ w. (w.end.state ≡ end.state) × (w.end.seat ≡ end.seat)) }
     {
-        let count = talk.count();
-        let packets = room_of(talk.besides(), count as u64);
+        let count = protocol.count();
+        let packets = room_of(protocol.besides(), count as u64);
         let port = match Port::with_room(end, packets) {
             Ok(port) => port,
             Err(refused) => {
-                drop(talk);
+                drop(protocol);
                 return Err(refused);
             }
         };
         match Lists::make(alloc, count, window) {
-            Ok(lists) => Ok(Requester::over(talk, port, lists, side, relid)),
+            Ok(lists) => Ok(Requester::over(protocol, port, lists, side, relid)),
             Err(refused) => {
-                drop(talk);
+                drop(protocol);
                 drop(port);
                 Err(refused)
             }
@@ -509,18 +510,18 @@ impl<T: Talk> Requester<T> {
     }
 
     // A worker that has asked nothing, over a port with room and empty lists.
-    fn over(talk: T, port: Port, lists: Lists<T::Reply>, side: Side, relid: u32) -> Requester<T>
+    fn over(protocol: T, port: Port, lists: Lists<T::Reply>, side: Side, relid: u32) -> Requester<T>
         requires fresh { (port.state.past ≡ []) × (port.state.got ≡ []) × (port.state.machine.asleep ≡ false) }
         requires side { side ≡ port.state.machine.side }
-        requires room { KeepsRoom (room_of (T.besides talk) (length (T.asks talk))) port }
+        requires room { KeepsRoom (room_of (T.besides protocol) (length (T.asks protocol))) port }
         requires window { (window : ℕ) × (window ≤ 64) × (lists.table ≡ replicate window None) }
         requires none { lists.replies.items ≡ [] }
-        requires replies { (vec_len lists.replies ≡ 0) × (length (T.asks talk) ≤ vec_capacity lists.replies) }
+        requires replies { (vec_len lists.replies ≡ 0) × (length (T.asks protocol) ≤ vec_capacity lists.replies) }
         requires rescinded { (vec_len lists.rescinded ≡ 0) × (64 ≤ vec_capacity lists.rescinded) }
-        ensures talk { (result.talk ≡ talk) × (result.relid ≡ relid) × (result.starts ≡ T.starts talk) }
+        ensures protocol { (result.protocol ≡ protocol) × (result.relid ≡ relid) × (result.starts ≡ T.starts protocol) }
         ensures parts { (result.end ≡ port) × (result.table ≡ lists.table) }
     {
-        let starts = talk.starts();
+        let starts = protocol.starts();
         let Lists {
             table,
             replies,
@@ -528,7 +529,7 @@ impl<T: Talk> Requester<T> {
             sheet,
         } = lists;
         Requester {
-            talk,
+            protocol,
             port,
             table,
             next: 0,
@@ -549,9 +550,9 @@ impl<T: Talk> Requester<T> {
     /// A turn: an end that is asleep polls its signal. Otherwise the worker takes a packet, asks the next request, ends, or rests.
     pub fn turn<R: Wait, G: Gate>(&mut self, _rt: &R, gate: &G) -> Turn
         requires unmarked { self.old.end.state.machine.marked ≡ false }
-        ensures turns { AskTurns (T.speech self.new.talk) (T.besides self.new.talk) (T.asks self.new.talk) result self.new }
+        ensures turns { AskTurns (T.format self.new.protocol) (T.besides self.new.protocol) (T.asks self.new.protocol) result self.new }
         ensures cause { AskCause result self.old.end self.new.end }
-        ensures room { AskEnds (T.speech self.new.talk) (T.besides self.new.talk) self.new.starts (T.asks self.new.talk) result self.new.end.state.past }
+        ensures room { AskEnds (T.format self.new.protocol) (T.besides self.new.protocol) self.new.starts (T.asks self.new.protocol) result self.new.end.state.past }
         ensures on { AsksOn self.old self.new }
     {
         if self.port.is_asleep() {
@@ -572,12 +573,12 @@ impl<T: Talk> Requester<T> {
 
     /// Gives what it did, once it has ended.
     pub fn done(self, ended: Ended) -> RequesterDone<T>
-        requires { AsksBy (T.speech self.talk) ended (T.asks self.talk) self.end.state.past self.told }
-        ensures ends { AsksBy (T.speech self.talk) result.ended (T.asks self.talk) result.end.state.past result.replies.items }
+        requires { AsksBy (T.format self.protocol) ended (T.asks self.protocol) self.end.state.past self.told }
+        ensures ends { AsksBy (T.format self.protocol) result.ended (T.asks self.protocol) result.end.state.past result.replies.items }
         ensures same { (result.ended ≡ ended) × (result.end ≡ self.end) }
     {
         let Requester {
-            talk,
+            protocol,
             port,
             table,
             next: _,
@@ -593,7 +594,7 @@ impl<T: Talk> Requester<T> {
             side: _,
             relid: _,
         } = self;
-        drop(talk);
+        drop(protocol);
         drop(table);
         drop(sheet);
         drop(rescinded);
@@ -607,11 +608,11 @@ impl<T: Talk> Requester<T> {
     /// Takes turns, and sleeps after a turn that found nothing to do, until the worker has ended.
     pub fn run<R: Wait, G: Gate>(mut self, rt: &R, gate: &G) -> RequesterDone<T>
         requires unmarked { self.end.state.machine.marked ≡ false }
-        ensures ends { AsksBy (T.speech self.talk) result.ended (T.asks self.talk) result.end.state.past result.replies.items }
+        ensures ends { AsksBy (T.format self.protocol) result.ended (T.asks self.protocol) result.end.state.past result.replies.items }
         ensures end { IsSameEnd self.end result.end }
-        ensures sent { AskedWithin (T.speech self.talk) (length (T.asks self.talk)) result.end.state.past }
-        ensures room { AskLacksFor (T.speech self.talk) (T.besides self.talk) (length (T.asks self.talk)) result.ended result.end.state.past }
-        ensures paced { IsPaced (T.speech self.talk) self.starts (T.asks self.talk) result.end.state.past }
+        ensures sent { AskedWithin (T.format self.protocol) (length (T.asks self.protocol)) result.end.state.past }
+        ensures room { AskLacksFor (T.format self.protocol) (T.besides self.protocol) (length (T.asks self.protocol)) result.ended result.end.state.past }
+        ensures paced { IsPaced (T.format self.protocol) self.starts (T.asks self.protocol) result.end.state.past }
     {
         for _ in rt.forever() {
             match self.turn(rt, gate) {

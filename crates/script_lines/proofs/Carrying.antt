@@ -10,7 +10,7 @@ use Rattle.scsi_disk.proofs.BigEndianLaws.{be_number-to_be_bytes_2, be_number-to
 use Rattle.script_lines.specs.declared.disk_ask.DiskAsk.{DiskAsk}
 use Rattle.script_lines.specs.declared.disk_ask.DiskAsk.TheVariants.{Ready, Inquiry, Capacity, Flush, Read, Write}
 use Rattle.script_lines.specs.Faults.{asks_in_range}
-use Rattle.script_lines.specs.Requests.{ten, cdb_of, request_of, command_said, AskInRange, most_moved, bytes_written, IsCarried}
+use Rattle.script_lines.specs.Requests.{ten, cdb_of, request_of, command_said, AskInRange, most_moved, bytes_written, CanBeCarried}
 
 lba_is : (code lba count : ℕ) → lba < 2 ^ 32 → lba_of (ten code lba count) ≡ lba
 lba_is code lba count small = be_number-to_be_bytes_4 lba small
@@ -65,7 +65,7 @@ some_command : (o : Option Command) (c : Command) → o ≡ Some c → IsSome o
 some_command o c is = ap is_some is
 
 -- a command that writes nothing, with no data
-unwritten : (ask : DiskAsk) (c : Command) → command_of (cdb_of ask) ≡ Some c → length (cdb_of ask) ≡ 16 → (request_of ask).out ≡ [] → most_moved (Some c) ≤ 2048 → bytes_written (Some c) ≡ 0 → IsCarried (request_of ask)
+unwritten : (ask : DiskAsk) (c : Command) → command_of (cdb_of ask) ≡ Some c → length (cdb_of ask) ≡ 16 → (request_of ask).out ≡ [] → most_moved (Some c) ≤ 2048 → bytes_written (Some c) ≡ 0 → CanBeCarried (request_of ask)
 unwritten ask c is long empty few none = record {
   bytes = long;
   built = some_command _ c is;
@@ -74,7 +74,7 @@ unwritten ask c is long empty few none = record {
 }
 
 -- a request in its ranges
-pub asks_carried : (ask : DiskAsk) → asks_in_range ask ≡ true → AskInRange ask → IsCarried (request_of ask)
+pub asks_carried : (ask : DiskAsk) → asks_in_range ask ≡ true → AskInRange ask → CanBeCarried (request_of ask)
 asks_carried Ready holds range = unwritten Ready TestUnitReady ready_is refl refl (omega arith) refl
 asks_carried Inquiry holds range = unwritten Inquiry (IsInquiry true 36) inquiry_is refl refl (omega arith) refl
 asks_carried Capacity holds range = unwritten Capacity ReadCapacity capacity_is refl refl (omega arith) refl

@@ -87,7 +87,7 @@ bytes_written (Some (IsWrite lba count)) = 512 * count
 bytes_written _ = 0
 
 -- a request that a disk's channel carries: a built command in 16 bytes, which moves at most 2,048 bytes, with the data that it writes
-pub record IsCarried (request : DiskRequest) : Type 0 where
+pub record CanBeCarried (request : DiskRequest) : Type 0 where
   pub bytes : length request.cdb ≡ 16
   pub built : IsSome (command_of request.cdb)
   pub moves : most_moved (command_of request.cdb) ≤ 2048

@@ -19,7 +19,7 @@ use Rattle.script_lines.specs.declared.offering.Offering.TheVariants.{Beat as Of
 use Rattle.script_lines.specs.declared.said.Said.{Said}
 use Rattle.script_lines.specs.declared.said.Said.TheVariants.{Nothing, Contact, Offer, Bad, Ring, Window, Request, Rescind, Close, Phase}
 use Rattle.script_lines.specs.Lines.{Says, Asks, Rescinds, Shuts, said, contact_of, bad_block, set_as}
-use Rattle.script_lines.specs.Requests.{AskInRange, IsCarried, IsSent}
+use Rattle.script_lines.specs.Requests.{AskInRange, CanBeCarried, IsSent}
 use Rattle.script_lines.specs.Parts.{parts, this_part, offered, offered_by, named_by, asks_in, is_ask, is_settings, rescinds, shuts, rescinded_in, closed_in, channels, channels_of, device_of, kind_of, kind_asked, blocks_at, has_bad}
 
 -- a disk has 1 to 65,536 blocks, and at most 3 channels beside its first one; a network has two addresses of 6 bytes
@@ -48,7 +48,7 @@ IsRight kinds IsPhase = Unit {0}
 -- a request that a channel of its device carries
 abbrev pub CanGo : Ask → Type 0
 CanGo (Ic ask) = Unit {0}
-CanGo (AskDisk request) = IsCarried request
+CanGo (AskDisk request) = CanBeCarried request
 CanGo (AskNet message) = IsSent message
 
 abbrev pub SayGoes : Says → Type 0

@@ -1,3 +1,3 @@
-pub mod DeskLaws
+pub mod ResponderLaws
 pub mod OwnLaws
 pub mod ServeSteps

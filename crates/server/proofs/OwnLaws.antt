@@ -5,12 +5,12 @@ use Rattle.std.proofs.lemmas.List.{map-append}
 use Rattle.std.proofs.lemmas.List.Elements.{filter-append}
 use Rattle.std.proofs.lemmas.List.Sums.{sum_by-cons}
 use Rattle.txn_table.specs.Open.{request_of}
-use Rattle.chan_talk.specs.Listed.{listed_packet}
+use Rattle.channel_protocol.specs.Listed.{listed_packet}
 use Rattle.channel_port.specs.Owed.{is_nil}
-use Rattle.work_model.specs.Acks.{is_in}
-use Rattle.work_model.specs.Speech.{Speech}
-use Rattle.work_model.proofs.Opens.{by_test}
-use Rattle.work_model.proofs.Served.{filter_first, filter_past}
+use Rattle.channel_model.specs.Acks.{is_in}
+use Rattle.channel_model.specs.WireFormat.{WireFormat}
+use Rattle.channel_model.proofs.Opens.{by_test}
+use Rattle.channel_model.proofs.Served.{filter_first, filter_past}
 use Rattle.server.specs.Serving.{IsFull, own_in}
 
 -- the ids of a table are its places, from 1 on
@@ -75,7 +75,7 @@ in_append id (x ∷ xs) ys = ap (λ b. (x == id) || b) (in_append id xs ys) ∙ 
     or_assoc true b c = refl
     or_assoc false b c = refl
 
-module _ {A Q R : Type 0} (s : Speech (List ℕ) A Q R) (id : ℕ) where
+module _ {A Q R : Type 0} (s : WireFormat (List ℕ) A Q R) (id : ℕ) where
   pub both_in : (ps qs : List (List ℕ)) → is_in id (map s.id_of (filter s.is_message (ps ++ qs))) ≡ (is_in id (map s.id_of (filter s.is_message ps)) || is_in id (map s.id_of (filter s.is_message qs)))
   both_in ps qs =
       ap (λ l. is_in id (map s.id_of l)) (filter-append s.is_message ps qs)

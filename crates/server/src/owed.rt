@@ -1,13 +1,13 @@
 //! What the serving end owes for one packet.
 ghost use Rattle.std.specs.Prelude.{◌≡◌, ◌≤◌, [], ◌∷◌, MatchOption, drop, filter, length, map, IfOk, true, false};
 ghost use Rattle.ring_machine.specs.States.{IsPacket};
-ghost use Rattle.chan_talk.specs.Listed.{listed_packet};
+ghost use Rattle.channel_protocol.specs.Listed.{listed_packet};
 ghost use Rattle.channel_port.specs.Owed.{is_nil, FitsReply};
-ghost use Rattle.work_model.specs.Acks.{is_in};
-ghost use Rattle.work_model.specs.Speech.{packets_in, packets_of};
+ghost use Rattle.channel_model.specs.Acks.{is_in};
+ghost use Rattle.channel_model.specs.WireFormat.{packets_in, packets_of};
 
-use chan_talk::Talk;
 use channel_port::Sheet;
+use channel_protocol::Protocol;
 use std::alloc::{AllocError, Global};
 use std::marker::Model;
 
@@ -20,7 +20,7 @@ pub(crate) struct Owed {
 
 impl Model for Owed {
     ghost use Rattle.std.specs.Prelude.{List, ◌++◌, ℕ};
-    ghost use Rattle.chan_talk.specs.Listed.{listed_packet};
+    ghost use Rattle.channel_protocol.specs.Listed.{listed_packet};
 
     ghost Value = { List (List ℕ) };
 
@@ -69,49 +69,50 @@ impl Owed {
 
     // Whether a message is owed that goes under this id.
     #[tactic(auto, using(crate::proofs::OwnLaws::both_in))]
-    pub(crate) fn has_message<T: Talk>(&self, talk: &T, id: u64) -> bool
-        ensures { result ≡ is_in id (map (T.speech talk.now).id_of (filter (T.speech talk.now).is_message self.now)) }
+    pub(crate) fn has_message<T: Protocol>(&self, protocol: &T, id: u64) -> bool
+        ensures { result ≡ is_in id (map (T.format protocol.now).id_of (filter (T.format protocol.now).is_message self.now)) }
     {
-        is_message_under(talk, &self.message, id) || is_message_under(talk, &self.answer, id)
+        is_message_under(protocol, &self.message, id)
+            || is_message_under(protocol, &self.answer, id)
     }
 
     // What goes back for a packet that asks nothing of the device.
-    pub(crate) fn owe_fixed<T: Talk>(&mut self, talk: &T, packet: &[u64], own: u64)
+    pub(crate) fn owe_fixed<T: Protocol>(&mut self, protocol: &T, packet: &[u64], own: u64)
         requires packet { IsPacket packet.now }
-        ensures value { self.new ≡ packets_in own ((T.speech talk.now).fixed packet.now) }
+        ensures value { self.new ≡ packets_in own ((T.format protocol.now).fixed packet.now) }
         ensures few { length self.new ≤ 2 }
     {
-        self.message.write_fixed_message(talk, packet, own);
-        self.answer.write_fixed(talk, packet);
+        self.message.write_fixed_message(protocol, packet, own);
+        self.answer.write_fixed(protocol, packet);
     }
 
     // What goes back with the device's reply.
-    pub(crate) fn owe_reply<T: Talk>(
+    pub(crate) fn owe_reply<T: Protocol>(
         &mut self,
-        talk: &T,
+        protocol: &T,
         packet: &[u64],
         head: &T::Head,
         reply: &T::Reply,
         own: u64,
     )
         requires packet { IsPacket packet.now }
-        requires head { T.is_head talk.now packet.now head.now }
-        requires fits { FitsReply (T.speech talk.now) packet.now reply.now }
-        ensures value { self.new ≡ packets_of own ((T.speech talk.now).gives packet.now reply.now) }
+        requires head { T.is_head protocol.now packet.now head.now }
+        requires fits { FitsReply (T.format protocol.now) packet.now reply.now }
+        ensures value { self.new ≡ packets_of own ((T.format protocol.now).gives packet.now reply.now) }
         ensures few { length self.new ≤ 2 }
     {
-        self.message.write_message(talk, packet, reply, own);
-        self.answer.write_answer(talk, packet, head, reply);
+        self.message.write_message(protocol, packet, reply, own);
+        self.answer.write_answer(protocol, packet, head, reply);
     }
 }
 
 // Whether a packet, if there is one, is a message under this id.
 #[tactic(auto, using(crate::proofs::OwnLaws::none_under, crate::proofs::OwnLaws::one_under))]
-fn is_message_under<T: Talk>(talk: &T, sheet: &Sheet, id: u64) -> bool
-    ensures { result ≡ is_in id (map (T.speech talk.now).id_of (filter (T.speech talk.now).is_message (listed_packet sheet.now))) }
+fn is_message_under<T: Protocol>(protocol: &T, sheet: &Sheet, id: u64) -> bool
+    ensures { result ≡ is_in id (map (T.format protocol.now).id_of (filter (T.format protocol.now).is_message (listed_packet sheet.now))) }
 {
     if sheet.is_empty() {
         return false;
     }
-    talk.is_message(sheet.packet()) && talk.id(sheet.packet()) == id
+    protocol.is_message(sheet.packet()) && protocol.id(sheet.packet()) == id
 }

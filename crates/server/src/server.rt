@@ -9,14 +9,14 @@ ghost use Rattle.channel_port.specs.Line.{IsReady, HasTakeRoom, LacksTake, TookO
 ghost use Rattle.channel_port.specs.Owed.{is_nil, LacksSend, MetFull};
 ghost use Rattle.channel_port.specs.Rooms.{KeepsRoom, OnlyWith, ServeLacksFor, ServedWithin};
 ghost use Rattle.server.specs.Serving.{Closes, EndsBy, HasServed, HasToWait, Lacks, LacksRoom, Turns, GaveOne, ServeEnds, ServesOn, BreaksOff, calls_behind, has_done, lacks_call, marked_by};
-ghost use Rattle.work_model.specs.Acks.{AllOwnOpen};
-ghost use Rattle.work_model.specs.Amounts.{room_of};
+ghost use Rattle.channel_model.specs.Acks.{AllOwnOpen};
+ghost use Rattle.channel_model.specs.Amounts.{room_of};
 ghost use Rattle.channel_port.specs.declared.ended.Ended.TheVariants.{PeerMarked as PeerMarkedEnd, Room as RoomEnd};
 
-use crate::desk::Desk;
 use crate::put::Given;
-use chan_talk::{Seat, Talk};
+use crate::responder::Responder;
 use channel_port::{Ended, Looked, Port, Turn, room_of};
+use channel_protocol::{Device, Protocol};
 use io_edge::{Gate, Side};
 use ring_core::End;
 use ring_seat::TableSeat;
@@ -26,8 +26,8 @@ use std::sync::Wait;
 
 /// The worker of the end that serves: it answers what comes, in order, as its plan says.
 #[derive(Drop)]
-pub struct Server<T: Talk, S: Seat<T>> {
-    desk: Desk<T, S>,
+pub struct Server<T: Protocol, S: Device<T>> {
+    responder: Responder<T, S>,
     port: Port,
     serve: u32,
     stops: bool,
@@ -39,22 +39,22 @@ pub struct Server<T: Talk, S: Seat<T>> {
     want: Option<u32>,
 }
 
-impl<T: Talk, S: Seat<T>> Model for Server<T, S> {
+impl<T: Protocol, S: Device<T>> Model for Server<T, S> {
     ghost use Rattle.std.specs.Prelude.{◌≡◌, ◌+◌, length};
     ghost use Rattle.channel_port.specs.Rooms.{KeepsRoom};
-    ghost use Rattle.work_model.specs.Amounts.{room_of};
+    ghost use Rattle.channel_model.specs.Amounts.{room_of};
     ghost use Rattle.server.specs.Serving.{Serving, IsServing};
 
     ghost Value = { Serving T S T.Request T.Reply };
 
-    ghost view = { λ w. record { desk = w.desk; end = w.port; serve = w.serve; stops = w.stops; starts = w.starts; come = w.come; missing = w.missing; served = w.served; seen = w.seen; want = w.want } };
+    ghost view = { λ w. record { responder = w.responder; end = w.port; serve = w.serve; stops = w.stops; starts = w.starts; come = w.come; missing = w.missing; served = w.served; seen = w.seen; want = w.want } };
 
-    ghost invariant = { λ w. record { live : IsServing (T.speech w.desk.talk) (T.besides w.desk.talk) (record { desk = w.desk; end = w.port; serve = w.serve; stops = w.stops; starts = w.starts; come = w.come; missing = w.missing; served = w.served; seen = w.seen; want = w.want }); room : KeepsRoom (room_of (T.besides w.desk.talk) (w.starts + w.come)) w.port; side : w.desk.side ≡ w.port.state.machine.side } };
+    ghost invariant = { λ w. record { live : IsServing (T.format w.responder.protocol) (T.besides w.responder.protocol) (record { responder = w.responder; end = w.port; serve = w.serve; stops = w.stops; starts = w.starts; come = w.come; missing = w.missing; served = w.served; seen = w.seen; want = w.want }); room : KeepsRoom (room_of (T.besides w.responder.protocol) (w.starts + w.come)) w.port; side : w.responder.side ≡ w.port.state.machine.side } };
 }
 
 /// What a serving worker gives once it has ended.
 #[derive(Drop)]
-pub struct ServerDone<T: Talk, S: Seat<T>> {
+pub struct ServerDone<T: Protocol, S: Device<T>> {
     pub end: End<TableSeat>,
     pub seat: S,
     pub ended: Ended,
@@ -63,17 +63,17 @@ pub struct ServerDone<T: Talk, S: Seat<T>> {
     of: PhantomData<T>,
 }
 
-impl<T: Talk, S: Seat<T>> Server<T, S> {
+impl<T: Protocol, S: Device<T>> Server<T, S> {
     // Sends what is owed first, if there is room.
     fn give(&mut self) -> Given
         requires ready { IsReady self.old.end }
-        requires owed { is_nil self.old.desk.owed ≡ false }
+        requires owed { is_nil self.old.responder.owed ≡ false }
         ensures gave { GaveOne result self.old self.new }
         ensures cause { GivesOne result self.old.end.state.past self.new.end }
         ensures ready { IsReady self.new.end }
         ensures on { ServesOn S.same self.old self.new }
     {
-        let packet = self.desk.first();
+        let packet = self.responder.first();
         if let Some(room) = self.port.lacks_send(packet) {
             return Given::Lacks {
                 packets: room.packets,
@@ -81,7 +81,7 @@ impl<T: Talk, S: Seat<T>> Server<T, S> {
             };
         }
         if self.port.send(packet) {
-            self.desk.pop();
+            self.responder.pop();
             Given::Sent
         } else {
             Given::Full
@@ -91,17 +91,17 @@ impl<T: Talk, S: Seat<T>> Server<T, S> {
     // Serves the next packet of those that came.
     fn serve_next<R: Wait, G: Gate>(&mut self, rt: &R, gate: &G)
         requires ready { IsReady self.old.end }
-        requires owed { self.old.desk.owed ≡ [] }
+        requires owed { self.old.responder.owed ≡ [] }
         requires some { self.old.served < length self.old.end.state.got }
-        requires call { lacks_call (T.speech self.old.desk.talk) self.old ≡ false }
-        requires room { count_by is_some self.old.desk.table < length self.old.desk.table }
+        requires call { lacks_call (T.format self.old.responder.protocol) self.old ≡ false }
+        requires room { count_by is_some self.old.responder.table < length self.old.responder.table }
         ensures end { self.new.end ≡ self.old.end }
         ensures served { self.new.served ≡ self.old.served + 1 }
         ensures on { ServesOn S.same self.old self.new }
     {
         let came = self.port.got_len();
         prove!(self.served < came);
-        self.desk.serve(rt, gate, self.port.got(self.served));
+        self.responder.serve(rt, gate, self.port.got(self.served));
         self.served += 1;
     }
 
@@ -111,8 +111,8 @@ impl<T: Talk, S: Seat<T>> Server<T, S> {
         requires room { HasTakeRoom self.old.end }
         ensures took { TookOne result self.old.end.state self.new.end.state }
         ensures drained { result ≡ false → self.old.seen ≡ true → is_drained self.new.end.state.past ≡ true }
-        ensures kept { (self.new.desk.owed ≡ self.old.desk.owed) × (self.new.served ≡ self.old.served) × (self.new.seen ≡ self.old.seen) }
-        ensures none { result ≡ false → self.new.desk ≡ self.old.desk }
+        ensures kept { (self.new.responder.owed ≡ self.old.responder.owed) × (self.new.served ≡ self.old.served) × (self.new.seen ≡ self.old.seen) }
+        ensures none { result ≡ false → self.new.responder ≡ self.old.responder }
         ensures missing { result ≡ false → self.new.missing ≡ self.old.missing }
         ensures ready { IsReady self.new.end }
         ensures on { ServesOn S.same self.old self.new }
@@ -120,8 +120,8 @@ impl<T: Talk, S: Seat<T>> Server<T, S> {
         if !self.port.take() {
             return false;
         }
-        self.missing = self.desk.missing_after(self.missing, self.port.last());
-        self.desk.close(self.port.last());
+        self.missing = self.responder.missing_after(self.missing, self.port.last());
+        self.responder.close(self.port.last());
         true
     }
 
@@ -129,13 +129,13 @@ impl<T: Talk, S: Seat<T>> Server<T, S> {
     fn stop(&mut self) -> Ended
         requires ready { IsReady self.old.end }
         requires done { has_done self.old ≡ true }
-        requires owed { self.old.desk.owed ≡ [] }
+        requires owed { self.old.responder.owed ≡ [] }
         requires served { self.old.served ≡ length self.old.end.state.got }
-        ensures ends { EndsBy (T.speech self.new.desk.talk) (T.besides self.new.desk.talk) result self.new self.new.end self.new.desk.calls }
-        ensures room { LacksRoom S.left (T.speech self.new.desk.talk) (T.besides self.new.desk.talk) result self.new }
+        ensures ends { EndsBy (T.format self.new.responder.protocol) (T.besides self.new.responder.protocol) result self.new self.new.end self.new.responder.calls }
+        ensures room { LacksRoom S.left (T.format self.new.responder.protocol) (T.besides self.new.responder.protocol) result self.new }
         ensures on { ServesOn S.same self.old self.new }
     {
-        self.desk.rescind_all();
+        self.responder.rescind_all();
         self.port.mark();
         marked_by(self.seen)
     }
@@ -143,40 +143,40 @@ impl<T: Talk, S: Seat<T>> Server<T, S> {
     // Ends after the other end, with nothing owed: all that came is served, or a message is open under each id, which the other end acknowledges no more.
     fn follow(&mut self)
         requires ready { IsReady self.old.end }
-        requires owed { self.old.desk.owed ≡ [] }
-        requires served { HasServed (T.speech self.old.desk.talk) (T.besides self.old.desk.talk) self.old }
+        requires owed { self.old.responder.owed ≡ [] }
+        requires served { HasServed (T.format self.old.responder.protocol) (T.besides self.old.responder.protocol) self.old }
         requires drained { is_drained self.old.end.state.past ≡ true }
-        ensures ends { EndsBy (T.speech self.new.desk.talk) (T.besides self.new.desk.talk) PeerMarkedEnd self.new self.new.end self.new.desk.calls }
-        ensures room { LacksRoom S.left (T.speech self.new.desk.talk) (T.besides self.new.desk.talk) PeerMarkedEnd self.new }
+        ensures ends { EndsBy (T.format self.new.responder.protocol) (T.besides self.new.responder.protocol) PeerMarkedEnd self.new self.new.end self.new.responder.calls }
+        ensures room { LacksRoom S.left (T.format self.new.responder.protocol) (T.besides self.new.responder.protocol) PeerMarkedEnd self.new }
         ensures on { ServesOn S.same self.old self.new }
     {
-        self.desk.rescind_all();
+        self.responder.rescind_all();
         self.port.mark();
     }
 
     // Ends after the other end, and lets go what it owes, for which there is no room: the other end, which has marked itself, makes no more.
     fn let_go(&mut self)
         requires ready { IsReady self.old.end }
-        requires full { MetFull self.old.desk.owed self.old.end }
+        requires full { MetFull self.old.responder.owed self.old.end }
         requires drained { is_drained self.old.end.state.past ≡ true }
-        ensures ends { EndsBy (T.speech self.new.desk.talk) (T.besides self.new.desk.talk) PeerMarkedEnd self.new self.new.end self.new.desk.calls }
-        ensures room { LacksRoom S.left (T.speech self.new.desk.talk) (T.besides self.new.desk.talk) PeerMarkedEnd self.new }
+        ensures ends { EndsBy (T.format self.new.responder.protocol) (T.besides self.new.responder.protocol) PeerMarkedEnd self.new self.new.end self.new.responder.calls }
+        ensures room { LacksRoom S.left (T.format self.new.responder.protocol) (T.besides self.new.responder.protocol) PeerMarkedEnd self.new }
         ensures on { ServesOn S.same self.old self.new }
     {
-        self.desk.rescind_all();
+        self.responder.rescind_all();
         self.port.mark();
     }
 
     // Arms for the room that the packet needs that is owed, and sleeps where nothing is to be done.
     fn rest(&mut self) -> Turn
         requires ready { IsReady self.old.end }
-        requires waits { is_nil self.old.desk.owed ≡ true → HasToWait (T.speech self.old.desk.talk) (T.besides self.old.desk.talk) self.old }
+        requires waits { is_nil self.old.responder.owed ≡ true → HasToWait (T.format self.old.responder.protocol) (T.besides self.old.responder.protocol) self.old }
         requires unseen { self.old.seen ≡ false }
-        ensures turns { Turns S.left (T.speech self.new.desk.talk) (T.besides self.new.desk.talk) result self.new }
+        ensures turns { Turns S.left (T.format self.new.responder.protocol) (T.besides self.new.responder.protocol) result self.new }
         ensures cause { Arms result self.old.end.state.past self.new.end }
         ensures on { ServesOn S.same self.old self.new }
     {
-        let want = self.desk.need();
+        let want = self.responder.need();
         self.want = want;
         match self.port.arm(want) {
             Looked::Nothing => Turn::Idle,
@@ -191,36 +191,36 @@ impl<T: Talk, S: Seat<T>> Server<T, S> {
     // A worker that lacks room or a call gives what it has.
     fn broken(&self, packets: u64, words: u64) -> Ended
         requires list { got_of self.now.end.state.past ≡ self.now.end.state.got }
-        requires lacks { Lacks (T.speech self.now.desk.talk) packets words self.now }
-        ensures room { result ≡ RoomEnd packets words (S.left self.now.desk.seat) }
-        ensures breaks { BreaksOff (T.speech self.now.desk.talk) self.now self.now.end.state.past self.now.desk.calls }
-        ensures reserved { KeepsRoom (room_of (T.besides self.now.desk.talk) (self.now.starts + self.now.come)) self.now.end }
-        ensures over { ServeLacksFor (T.speech self.now.desk.talk) (T.besides self.now.desk.talk) (self.now.starts + self.now.come) self.now.serve self.now.stops (RoomEnd packets words (S.left self.now.desk.seat)) self.now.end.state.past }
-        ensures sent { ServedWithin (T.speech self.now.desk.talk) (T.besides self.now.desk.talk) self.now.end.state.past }
+        requires lacks { Lacks (T.format self.now.responder.protocol) packets words self.now }
+        ensures room { result ≡ RoomEnd packets words (S.left self.now.responder.seat) }
+        ensures breaks { BreaksOff (T.format self.now.responder.protocol) self.now self.now.end.state.past self.now.responder.calls }
+        ensures reserved { KeepsRoom (room_of (T.besides self.now.responder.protocol) (self.now.starts + self.now.come)) self.now.end }
+        ensures over { ServeLacksFor (T.format self.now.responder.protocol) (T.besides self.now.responder.protocol) (self.now.starts + self.now.come) self.now.serve self.now.stops (RoomEnd packets words (S.left self.now.responder.seat)) self.now.end.state.past }
+        ensures sent { ServedWithin (T.format self.now.responder.protocol) (T.besides self.now.responder.protocol) self.now.end.state.past }
     {
         Ended::Room {
             packets,
             words,
-            left: self.desk.left(),
+            left: self.responder.left(),
         }
     }
 
     // Whether the packet that is served next asks the device and no call is left for it: a worker that stops behind its last call lets go what comes
     // then, and any other one breaks off.
     fn lacks_call(&self) -> bool
-        ensures { result ≡ lacks_call (T.speech self.now.desk.talk) self.now }
+        ensures { result ≡ lacks_call (T.format self.now.responder.protocol) self.now }
     {
         !self.stops
-            && self.desk.has_served()
+            && self.responder.has_served()
             && self.has_unserved()
-            && self.desk.is_asked(self.port.got(self.served))
+            && self.responder.is_asked(self.port.got(self.served))
     }
 
     // Whether the worker has done what its plan says, and stops then.
     fn has_done(&self) -> bool
         ensures { result ≡ has_done self.now }
     {
-        self.stops && self.missing == 0 && self.desk.has_served()
+        self.stops && self.missing == 0 && self.responder.has_served()
     }
 
     fn has_unserved(&self) -> bool
@@ -234,9 +234,9 @@ impl<T: Talk, S: Seat<T>> Server<T, S> {
     #[tactic(auto, using(crate::proofs::ServeSteps::wait_served, crate::proofs::ServeSteps::waits_on))]
     fn take_or_rest(&mut self) -> Turn
         requires ready { IsReady self.old.end }
-        requires waits { is_nil self.old.desk.owed ≡ true → HasToWait (T.speech self.old.desk.talk) (T.besides self.old.desk.talk) self.old }
-        requires unseen { is_nil self.old.desk.owed ≡ false → self.old.seen ≡ false }
-        ensures turns { Turns S.left (T.speech self.new.desk.talk) (T.besides self.new.desk.talk) result self.new }
+        requires waits { is_nil self.old.responder.owed ≡ true → HasToWait (T.format self.old.responder.protocol) (T.besides self.old.responder.protocol) self.old }
+        requires unseen { is_nil self.old.responder.owed ≡ false → self.old.seen ≡ false }
+        ensures turns { Turns S.left (T.format self.new.responder.protocol) (T.besides self.new.responder.protocol) result self.new }
         ensures cause { TakesOrArms result self.old.end.state.past self.new.end }
         ensures on { ServesOn S.same self.old self.new }
     {
@@ -247,7 +247,7 @@ impl<T: Talk, S: Seat<T>> Server<T, S> {
         if self.take_one() {
             return Turn::Moved;
         }
-        if seen && self.desk.is_clear() {
+        if seen && self.responder.is_clear() {
             self.follow();
             return Turn::Ended(Ended::PeerMarked);
         }
@@ -257,9 +257,9 @@ impl<T: Talk, S: Seat<T>> Server<T, S> {
     // After the other end's mark: takes what it had sent first, and then sends what is owed. Where that finds no room it is let go, and this end follows.
     fn take_or_give(&mut self) -> Turn
         requires ready { IsReady self.old.end }
-        requires owed { is_nil self.old.desk.owed ≡ false }
+        requires owed { is_nil self.old.responder.owed ≡ false }
         requires seen { self.old.seen ≡ true }
-        ensures turns { Turns S.left (T.speech self.new.desk.talk) (T.besides self.new.desk.talk) result self.new }
+        ensures turns { Turns S.left (T.format self.new.responder.protocol) (T.besides self.new.responder.protocol) result self.new }
         ensures cause { GivesOrTakes result self.old.end.state.past self.new.end }
         ensures on { ServesOn S.same self.old self.new }
     {
@@ -282,8 +282,8 @@ impl<T: Talk, S: Seat<T>> Server<T, S> {
     // Sends what is owed. An end that waits for room goes on taking.
     fn give_or_take(&mut self) -> Turn
         requires ready { IsReady self.old.end }
-        requires owed { is_nil self.old.desk.owed ≡ false }
-        ensures turns { Turns S.left (T.speech self.new.desk.talk) (T.besides self.new.desk.talk) result self.new }
+        requires owed { is_nil self.old.responder.owed ≡ false }
+        ensures turns { Turns S.left (T.format self.new.responder.protocol) (T.besides self.new.responder.protocol) result self.new }
         ensures cause { GivesOrTakes result self.old.end.state.past self.new.end }
         ensures on { ServesOn S.same self.old self.new }
     {
@@ -301,9 +301,9 @@ impl<T: Talk, S: Seat<T>> Server<T, S> {
     #[tactic(auto, using(crate::proofs::ServeSteps::waits_full))]
     fn stop_or_take(&mut self) -> Turn
         requires ready { IsReady self.old.end }
-        requires owed { self.old.desk.owed ≡ [] }
-        requires served { HasServed (T.speech self.old.desk.talk) (T.besides self.old.desk.talk) self.old }
-        ensures turns { Turns S.left (T.speech self.new.desk.talk) (T.besides self.new.desk.talk) result self.new }
+        requires owed { self.old.responder.owed ≡ [] }
+        requires served { HasServed (T.format self.old.responder.protocol) (T.besides self.old.responder.protocol) self.old }
+        ensures turns { Turns S.left (T.format self.new.responder.protocol) (T.besides self.new.responder.protocol) result self.new }
         ensures cause { TakesOrArms result self.old.end.state.past self.new.end }
         ensures on { ServesOn S.same self.old self.new }
     {
@@ -319,24 +319,24 @@ impl<T: Talk, S: Seat<T>> Server<T, S> {
     // Whether a message that goes back would find no free place of its own table.
     fn lacks_place(&self) -> bool
         requires ready { IsReady self.now.end }
-        requires owed { self.now.desk.owed ≡ [] }
-        ensures full { result ≡ true → OnlyWith (T.besides self.now.desk.talk) (AllOwnOpen (T.speech self.now.desk.talk) 64 self.now.end.state.past) }
-        ensures room { result ≡ false → count_by is_some self.now.desk.table < length self.now.desk.table }
+        requires owed { self.now.responder.owed ≡ [] }
+        ensures full { result ≡ true → OnlyWith (T.besides self.now.responder.protocol) (AllOwnOpen (T.format self.now.responder.protocol) 64 self.now.end.state.past) }
+        ensures room { result ≡ false → count_by is_some self.now.responder.table < length self.now.responder.table }
     {
-        self.desk.is_full()
+        self.responder.is_full()
     }
 
     // Serves what came, until something is owed for it, no call is left, or no place of its own table.
     fn serve_on<R: Wait, G: Gate>(&mut self, rt: &R, gate: &G)
         requires ready { IsReady self.old.end }
-        requires owed { self.old.desk.owed ≡ [] }
+        requires owed { self.old.responder.owed ≡ [] }
         ensures end { self.new.end ≡ self.old.end }
-        ensures served { is_nil self.new.desk.owed ≡ true → lacks_call (T.speech self.new.desk.talk) self.new ≡ false → HasServed (T.speech self.new.desk.talk) (T.besides self.new.desk.talk) self.new }
+        ensures served { is_nil self.new.responder.owed ≡ true → lacks_call (T.format self.new.responder.protocol) self.new ≡ false → HasServed (T.format self.new.responder.protocol) (T.besides self.new.responder.protocol) self.new }
         ensures on { ServesOn S.same self.old self.new }
     {
         while self.has_unserved() && !self.lacks_call() && !self.lacks_place() {
             self.serve_next(rt, gate);
-            if !self.desk.is_clear() {
+            if !self.responder.is_clear() {
                 return;
             }
         }
@@ -345,15 +345,15 @@ impl<T: Talk, S: Seat<T>> Server<T, S> {
     // A turn of an end that is awake: what is owed is sent first, and where nothing is what came is served.
     fn work<R: Wait, G: Gate>(&mut self, rt: &R, gate: &G) -> Turn
         requires ready { IsReady self.old.end }
-        ensures turns { Turns S.left (T.speech self.new.desk.talk) (T.besides self.new.desk.talk) result self.new }
+        ensures turns { Turns S.left (T.format self.new.responder.protocol) (T.besides self.new.responder.protocol) result self.new }
         ensures cause { GivesOrTakes result self.old.end.state.past self.new.end }
         ensures on { ServesOn S.same self.old self.new }
     {
-        if !self.desk.is_clear() {
+        if !self.responder.is_clear() {
             return self.give_or_take();
         }
         self.serve_on(rt, gate);
-        if !self.desk.is_clear() {
+        if !self.responder.is_clear() {
             return self.give_or_take();
         }
         if self.lacks_call() {
@@ -367,7 +367,7 @@ impl<T: Talk, S: Seat<T>> Server<T, S> {
     fn doze(&mut self) -> Turn
         requires asleep { self.old.end.state.machine.asleep ≡ true }
         requires unmarked { self.old.end.state.machine.marked ≡ false }
-        ensures turns { Turns S.left (T.speech self.new.desk.talk) (T.besides self.new.desk.talk) result self.new }
+        ensures turns { Turns S.left (T.format self.new.responder.protocol) (T.besides self.new.responder.protocol) result self.new }
         ensures cause { Polls result self.old.end self.new.end }
         ensures on { ServesOn S.same self.old self.new }
     {
@@ -382,7 +382,7 @@ impl<T: Talk, S: Seat<T>> Server<T, S> {
     /// requests, and for as many messages and what acknowledges them, where there are messages. It takes all its memory here.
     pub fn make(
         alloc: Global,
-        talk: T,
+        protocol: T,
         end: End<TableSeat>,
         seat: S,
         side: Side,
@@ -393,28 +393,28 @@ impl<T: Talk, S: Seat<T>> Server<T, S> {
         stops: bool,
         come: u32,
     ) -> Result<Server<T, S>, AllocError>
-        requires serves { S.serves seat talk }
+        requires serves { S.serves seat protocol }
         requires calls { serve ≤ S.left seat }
         requires fresh { end.state ≡ new_end end.state.machine.cells end.state.machine.side }
         requires size { (512 ≤ end.state.machine.cells) × (end.state.machine.cells ≤ 8192) }
         requires side { side ≡ end.state.machine.side }
-        ensures talk { IfOk result (λ w. (w.desk.talk ≡ talk) × (w.desk.seat ≡ seat) × (w.desk.before ≡ S.calls seat)) }
-        ensures relid { IfOk result (λ w. w.desk.relid ≡ relid) }
-        ensures orders { IfOk result (λ w. (w.serve ≡ serve) × (w.desk.held ≡ held) × (w.stops ≡ stops) × (w.starts ≡ starts) × (w.come ≡ come)) }
+        ensures protocol { IfOk result (λ w. (w.responder.protocol ≡ protocol) × (w.responder.seat ≡ seat) × (w.responder.before ≡ S.calls seat)) }
+        ensures relid { IfOk result (λ w. w.responder.relid ≡ relid) }
+        ensures orders { IfOk result (λ w. (w.serve ≡ serve) × (w.responder.held ≡ held) × (w.stops ≡ stops) × (w.starts ≡ starts) × (w.come ≡ come)) }
         ensures end { IfOk result (λ w. (w.end.state ≡ end.state) × (w.end.seat ≡ end.seat)) }
     {
-        let packets = room_of(talk.besides(), starts as u64 + come as u64);
+        let packets = room_of(protocol.besides(), starts as u64 + come as u64);
         let port = match Port::with_room(end, packets) {
             Ok(port) => port,
             Err(refused) => {
-                drop(talk);
+                drop(protocol);
                 drop(seat);
                 return Err(refused);
             }
         };
-        match Desk::make(alloc, talk, seat, side, relid, serve, held) {
-            Ok(desk) => Ok(Server {
-                desk,
+        match Responder::make(alloc, protocol, seat, side, relid, serve, held) {
+            Ok(responder) => Ok(Server {
+                responder,
                 port,
                 serve,
                 stops,
@@ -435,9 +435,9 @@ impl<T: Talk, S: Seat<T>> Server<T, S> {
     /// A turn: an end that is asleep polls its signal. Otherwise the worker sends what it owes, serves what came, takes a packet, ends, or rests.
     pub fn turn<R: Wait, G: Gate>(&mut self, rt: &R, gate: &G) -> Turn
         requires unmarked { self.old.end.state.machine.marked ≡ false }
-        ensures turns { Turns S.left (T.speech self.new.desk.talk) (T.besides self.new.desk.talk) result self.new }
+        ensures turns { Turns S.left (T.format self.new.responder.protocol) (T.besides self.new.responder.protocol) result self.new }
         ensures cause { ServeCause result self.old.end self.new.end }
-        ensures room { ServeEnds (T.speech self.new.desk.talk) (T.besides self.new.desk.talk) result self.new }
+        ensures room { ServeEnds (T.format self.new.responder.protocol) (T.besides self.new.responder.protocol) result self.new }
         ensures on { ServesOn S.same self.old self.new }
     {
         if self.port.is_asleep() {
@@ -458,14 +458,14 @@ impl<T: Talk, S: Seat<T>> Server<T, S> {
 
     /// Gives what it did, once it has ended.
     pub fn done(self, ended: Ended) -> ServerDone<T, S>
-        requires { EndsBy (T.speech self.desk.talk) (T.besides self.desk.talk) ended self self.end self.desk.calls }
-        ensures ends { (result.ended ≡ ended) × EndsBy (T.speech self.desk.talk) (T.besides self.desk.talk) result.ended self result.end self.desk.calls }
-        ensures calls { S.calls result.seat ≡ self.desk.before ++ self.desk.calls }
-        ensures serials { result.serials.items ≡ map (λ c. c.serial) self.desk.calls }
-        ensures same { (result.end ≡ self.end) × (result.seat ≡ self.desk.seat) }
+        requires { EndsBy (T.format self.responder.protocol) (T.besides self.responder.protocol) ended self self.end self.responder.calls }
+        ensures ends { (result.ended ≡ ended) × EndsBy (T.format self.responder.protocol) (T.besides self.responder.protocol) result.ended self result.end self.responder.calls }
+        ensures calls { S.calls result.seat ≡ self.responder.before ++ self.responder.calls }
+        ensures serials { result.serials.items ≡ map (λ c. c.serial) self.responder.calls }
+        ensures same { (result.end ≡ self.end) × (result.seat ≡ self.responder.seat) }
     {
         let Server {
-            desk,
+            responder,
             port,
             serve: _,
             stops: _,
@@ -476,7 +476,7 @@ impl<T: Talk, S: Seat<T>> Server<T, S> {
             seen: _,
             want: _,
         } = self;
-        let (seat, serials) = desk.into_seat();
+        let (seat, serials) = responder.into_seat();
         ServerDone {
             end: port.into_end(),
             seat,
@@ -489,13 +489,13 @@ impl<T: Talk, S: Seat<T>> Server<T, S> {
     /// Takes turns, and sleeps after a turn that found nothing to do, until the worker has ended.
     pub fn run<R: Wait, G: Gate>(mut self, rt: &R, gate: &G) -> ServerDone<T, S>
         requires unmarked { self.end.state.machine.marked ≡ false }
-        ensures ends { EndsBy (T.speech self.desk.talk) (T.besides self.desk.talk) result.ended self result.end (calls_behind self.desk.before (S.calls result.seat)) }
-        ensures before { take (length self.desk.before) (S.calls result.seat) ≡ self.desk.before }
-        ensures serials { result.serials.items ≡ map (λ c. c.serial) (calls_behind self.desk.before (S.calls result.seat)) }
+        ensures ends { EndsBy (T.format self.responder.protocol) (T.besides self.responder.protocol) result.ended self result.end (calls_behind self.responder.before (S.calls result.seat)) }
+        ensures before { take (length self.responder.before) (S.calls result.seat) ≡ self.responder.before }
+        ensures serials { result.serials.items ≡ map (λ c. c.serial) (calls_behind self.responder.before (S.calls result.seat)) }
         ensures end { IsSameEnd self.end result.end }
-        ensures seat { S.same self.desk.seat result.seat }
-        ensures sent { ServedWithin (T.speech self.desk.talk) (T.besides self.desk.talk) result.end.state.past }
-        ensures room { ServeLacksFor (T.speech self.desk.talk) (T.besides self.desk.talk) (self.starts + self.come) self.serve self.stops result.ended result.end.state.past }
+        ensures seat { S.same self.responder.seat result.seat }
+        ensures sent { ServedWithin (T.format self.responder.protocol) (T.besides self.responder.protocol) result.end.state.past }
+        ensures room { ServeLacksFor (T.format self.responder.protocol) (T.besides self.responder.protocol) (self.starts + self.come) self.serve self.stops result.ended result.end.state.past }
     {
         for _ in rt.forever() {
             match self.turn(rt, gate) {

@@ -1,9 +1,9 @@
 -- The packets of a register keep to what the packets of a channel keep to.
 use Rattle.std.specs.Prelude.{◌≡◌, ℕ, Bool, true, false, Option, Some, None}
 use Rattle.std.proofs.Common.{refl, sym, subst}
-use Rattle.work_model.specs.Amounts.{HasNoMessages}
-use Rattle.work_model.specs.Speech.{Keeps}
-use Rattle.uses_workers.specs.Registers.{register_speech}
+use Rattle.channel_model.specs.Amounts.{HasNoMessages}
+use Rattle.channel_model.specs.WireFormat.{Keeps}
+use Rattle.uses_workers.specs.Registers.{register_format}
 
 abbrev IsThere : {X : Type 0} → Option X → Type 0
 IsThere (Some v) = Unit {0}
@@ -13,7 +13,7 @@ abbrev IsTrueOne : Bool → Type 0
 IsTrueOne true = Unit {0}
 IsTrueOne false = ⊥
 
-pub register_keeps : Keeps register_speech
+pub register_keeps : Keeps register_format
 register_keeps = record {
   given = λ p r e. record { besides = tt; one = refl; other = refl; same = refl };
   fixes = λ p e f. absurd (subst IsThere f tt);
@@ -30,5 +30,5 @@ register_keeps = record {
   ack_asks = λ p e. absurd (subst IsTrueOne (sym e) tt);
 }
 
-pub register_silent : HasNoMessages register_speech
+pub register_silent : HasNoMessages register_format
 register_silent = record { gives = λ p r. refl; fixed = λ p b e. absurd (subst IsThere (sym e) tt) }

@@ -1,13 +1,13 @@
 -- A register: a request stores a value, and the reply is the one that it held before. A packet has a head, an id and a value. No messages go back besides the
 -- answers.
 use Rattle.std.specs.Prelude.{ℕ, true, false, List, [], ◌∷◌, slice_index_or, Option, Some, None}
-use Rattle.work_model.specs.Speech.{Speech}
+use Rattle.channel_model.specs.WireFormat.{WireFormat}
 
 abbrev pub register_packet : ℕ → ℕ → List ℕ
 register_packet id value = 12885032966 ∷ id ∷ value ∷ []
 
-abbrev pub register_speech : Speech (List ℕ) ℕ ℕ ℕ
-register_speech = record {
+abbrev pub register_format : WireFormat (List ℕ) ℕ ℕ ℕ
+register_format = record {
   id_of = λ p. slice_index_or p 1 0;
   is_request = λ p. true;
   waits = λ p. true;

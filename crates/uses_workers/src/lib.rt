@@ -2,13 +2,13 @@
 #![tactic(auto)]
 
 mod register;
+mod register_protocol;
 mod register_run;
 mod register_seat;
-mod register_talk;
 #[cfg(test)]
 mod tests;
 
 pub use register::Register;
+pub use register_protocol::RegisterProtocol;
 pub use register_run::{Stored, store_all};
 pub use register_seat::RegisterSeat;
-pub use register_talk::RegisterTalk;

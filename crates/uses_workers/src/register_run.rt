@@ -3,11 +3,11 @@ ghost use Rattle.std.specs.Prelude.{◌≡◌, ◌≤◌, ◌^◌, ◌<◌, fals
 ghost use Rattle.io_edge.specs.declared.side.Side.TheVariants.{Guest as GuestSide, Host as HostSide};
 ghost use Rattle.requester.specs.Asking.{AsksBy};
 ghost use Rattle.ring_seat.specs.Seats.{new_end};
-ghost use Rattle.uses_workers.specs.Registers.{register_speech};
+ghost use Rattle.uses_workers.specs.Registers.{register_format};
 
 use crate::register::Register;
+use crate::register_protocol::RegisterProtocol;
 use crate::register_seat::RegisterSeat;
-use crate::register_talk::RegisterTalk;
 use hist_lock::HistLock;
 use io_edge::{NoGate, Side};
 use requester::{Requester, RequesterDone};
@@ -19,8 +19,8 @@ use std::thread::{Threads, join};
 
 /// What the guest's worker left, and the host's.
 pub type Stored = (
-    RequesterDone<RegisterTalk>,
-    ServerDone<RegisterTalk, RegisterSeat>,
+    RequesterDone<RegisterProtocol>,
+    ServerDone<RegisterProtocol, RegisterSeat>,
 );
 
 // The only place at a register, for so many calls.
@@ -39,14 +39,14 @@ fn guest_worker(
     alloc: Global,
     end: GuestEnd,
     values: Vec<u64>,
-) -> Result<Requester<RegisterTalk>, AllocError>
+) -> Result<Requester<RegisterProtocol>, AllocError>
     requires few { length values.items < 2 ^ 32 }
     requires fresh { end.state ≡ new_end 512 GuestSide }
-    ensures values { IfOk result (λ w. w.talk.values.items ≡ values.items) }
+    ensures values { IfOk result (λ w. w.protocol.values.items ≡ values.items) }
     ensures live { IfOk result (λ w. w.end.state.machine.marked ≡ false) }
 {
-    let talk = RegisterTalk { values, starts: 0 };
-    Requester::make(alloc, talk, end, Side::Guest, 1, 8)
+    let protocol = RegisterProtocol { values, starts: 0 };
+    Requester::make(alloc, protocol, end, Side::Guest, 1, 8)
 }
 
 // The host's worker: it serves so many requests.
@@ -55,18 +55,18 @@ fn host_worker(
     end: HostEnd,
     seat: RegisterSeat,
     count: u32,
-) -> Result<Server<RegisterTalk, RegisterSeat>, AllocError>
+) -> Result<Server<RegisterProtocol, RegisterSeat>, AllocError>
     requires calls { count ≤ seat.seat.left }
     requires fresh { end.state ≡ new_end 512 HostSide }
     ensures live { IfOk result (λ w. w.end.state.machine.marked ≡ false) }
 {
-    let talk = RegisterTalk {
+    let protocol = RegisterProtocol {
         values: Vec::new(alloc),
         starts: 0,
     };
     Server::make(
         alloc,
-        talk,
+        protocol,
         end,
         seat,
         Side::Host,
@@ -82,18 +82,18 @@ fn host_worker(
 // Each worker runs on a thread of its own, and ends after the other one.
 fn run<R: Threads + Wait + Sync>(
     rt: &R,
-    guest: Requester<RegisterTalk>,
-    host: Server<RegisterTalk, RegisterSeat>,
+    guest: Requester<RegisterProtocol>,
+    host: Server<RegisterProtocol, RegisterSeat>,
 ) -> Stored
     requires guest { guest.end.state.machine.marked ≡ false }
     requires host { host.end.state.machine.marked ≡ false }
-    ensures { AsksBy register_speech result.0.ended guest.talk.values.items result.0.end.state.past result.0.replies.items }
+    ensures { AsksBy register_format result.0.ended guest.protocol.values.items result.0.end.state.past result.0.replies.items }
 {
     join(
         rt,
         move ||
             requires { guest.end.state.machine.marked ≡ false }
-            ensures { AsksBy register_speech result.ended guest.talk.values.items result.end.state.past result.replies.items }
+            ensures { AsksBy register_format result.ended guest.protocol.values.items result.end.state.past result.replies.items }
         { guest.run(rt, &NoGate) },
         move ||
             requires { host.end.state.machine.marked ≡ false }
@@ -108,7 +108,7 @@ pub fn store_all<R: Threads + Wait + Sync>(
     values: Vec<u64>,
 ) -> Result<Stored, AllocError>
     requires { length values.items < 2 ^ 32 }
-    ensures asked { IfOk result (λ r. AsksBy register_speech r.0.ended values.items r.0.end.state.past r.0.replies.items) }
+    ensures asked { IfOk result (λ r. AsksBy register_format r.0.ended values.items r.0.end.state.past r.0.replies.items) }
 {
     let count = values.len() as u32;
     let seat = only_seat(alloc, count)?;

@@ -2,8 +2,8 @@
 ghost use Rattle.std.specs.Prelude.{◌≡◌};
 
 use crate::register::Register;
-use crate::register_talk::RegisterTalk;
-use chan_talk::Seat;
+use crate::register_protocol::RegisterProtocol;
+use channel_protocol::Device;
 use hist_lock::HistSeat;
 use std::sync::Wait;
 
@@ -22,7 +22,7 @@ impl RegisterSeat {
     }
 }
 
-impl Seat<RegisterTalk> for RegisterSeat {
+impl Device<RegisterProtocol> for RegisterSeat {
     ghost use Rattle.std.specs.Prelude.{◌≡◌, refl};
     ghost use Rattle.std.proofs.Common.{◌∙◌};
 
@@ -42,7 +42,7 @@ impl Seat<RegisterTalk> for RegisterSeat {
         self.seat.left()
     }
 
-    fn call<R: Wait>(&mut self, rt: &R, _talk: &RegisterTalk, request: u64) -> (u32, u64) {
+    fn call<R: Wait>(&mut self, rt: &R, _protocol: &RegisterProtocol, request: u64) -> (u32, u64) {
         let receipt = self.seat.with(rt, request);
         (receipt.serial, receipt.reply)
     }

@@ -13,7 +13,7 @@ use Rattle.control_model.specs.Openings.{plan_of}
 use Rattle.control_model.proofs.ScriptLaws.{phases_are}
 use Rattle.control_model.specs.Guest.{new_guest}
 use Rattle.control_run.specs.declared.path.ControlPath.{ControlPath}
-use Rattle.control_run.specs.Path.{Rests, Ran}
+use Rattle.control_run.specs.Path.{Rests, RanPart}
 use Rattle.vmbus_main.specs.Between.{part_at, IsBetween}
 
 some_of : {A : Type 0} (b : Bool) (x y : A) → (if b then Some x else Some y) ≡ Some (if b then x else y)
@@ -27,7 +27,7 @@ lt_false : (a b : ℕ) → b ≤ a → nat_lt a b ≡ false
 lt_false a b above = grind (arith, nat_tests)
 
 -- before the first phase
-pub first_between : (lines : List Line) (r : Runner) (old new : ControlPath) → RunsSoFar lines r → r.phase ≡ 0 → Rests old → old.guest ≡ new_guest (plan_of lines) → Ran old new Contact → IsBetween lines r new
+pub first_between : (lines : List Line) (r : Runner) (old new : ControlPath) → RunsSoFar lines r → r.phase ≡ 0 → Rests old → old.guest ≡ new_guest (plan_of lines) → RanPart old new Contact → IsBetween lines r new
 first_between lines r old new so_far none rests fresh ran =
     let plan : old.guest.plan ≡ plan_of lines = ap (λ g. g.plan) fresh in
     let planned : IsPlan (plan_of lines) = subst IsPlan plan rests.guest.planned in
@@ -43,9 +43,9 @@ starts lines r p between more =
     rw between.plan (between.next ∙ ap Some at)
 
 -- behind its start its channels are open
-pub opens : (lines : List Line) (r : Runner) (p q : ControlPath) (phase : ℕ) → IsBetween lines r p → phase ≡ r.phase → Ran p q (PhaseStart phase) → AreOpen lines r.phase q
+pub opens : (lines : List Line) (r : Runner) (p q : ControlPath) (phase : ℕ) → IsBetween lines r p → phase ≡ r.phase → RanPart p q (PhaseStart phase) → AreOpen lines r.phase q
 opens lines r p q phase between is start =
-    let ran : Ran p q (PhaseStart r.phase) = subst (λ (k : ℕ). Ran p q (PhaseStart k)) is start in
+    let ran : RanPart p q (PhaseStart r.phase) = subst (λ (k : ℕ). RanPart p q (PhaseStart k)) is start in
     record {
       rests = ran.rests;
       guest_plan = ran.plan ∙ between.plan;
@@ -57,19 +57,19 @@ opens lines r p q phase between is start =
     }
 
 -- it ends
-pub ends : (old new : ControlPath) (phase : ℕ) → Ran old new (PhaseStart phase) → part_after new.guest.plan new.guest.part ≡ Some (PhaseEnd phase)
+pub ends : (old new : ControlPath) (phase : ℕ) → RanPart old new (PhaseStart phase) → part_after new.guest.plan new.guest.part ≡ Some (PhaseEnd phase)
 ends old new phase ran = rw ran.guest_part refl
 
 -- and then one phase more has run
-pub next_between : (lines : List Line) (r s : Runner) (p q t : ControlPath) → IsBetween lines r p → Ran p q (PhaseStart r.phase) → Ran q t (PhaseEnd r.phase) → RunsSoFar lines s → s.phase ≡ r.phase + 1 → IsBetween lines s t
+pub next_between : (lines : List Line) (r s : Runner) (p q t : ControlPath) → IsBetween lines r p → RanPart p q (PhaseStart r.phase) → RanPart q t (PhaseEnd r.phase) → RunsSoFar lines s → s.phase ≡ r.phase + 1 → IsBetween lines s t
 next_between lines r s p q t between start end so_far more =
     let plan : t.guest.plan ≡ plan_of lines = end.plan ∙ start.plan ∙ between.plan in
     let at : part_after (plan_of lines) (Some (PhaseEnd r.phase)) ≡ Some (part_at (plan_of lines) (r.phase + 1)) = some_of (nat_lt (r.phase + 1) (length (plan_of lines).phases)) (PhaseStart (r.phase + 1)) Unload in
     record { ran = so_far; rests = end.rests; plan = plan; next = rw (end.guest_part, more) at }
 
-pub then_between : (lines : List Line) (r s : Runner) (p q t : ControlPath) (phase : ℕ) → IsBetween lines r p → phase ≡ r.phase → Ran p q (PhaseStart phase) → RunsSoFar lines s → s.phase ≡ r.phase + 1 → Ran q t (PhaseEnd phase) → IsBetween lines s t
+pub then_between : (lines : List Line) (r s : Runner) (p q t : ControlPath) (phase : ℕ) → IsBetween lines r p → phase ≡ r.phase → RanPart p q (PhaseStart phase) → RunsSoFar lines s → s.phase ≡ r.phase + 1 → RanPart q t (PhaseEnd phase) → IsBetween lines s t
 then_between lines r s p q t phase between is start so_far more end =
-    next_between lines r s p q t between (subst (λ (k : ℕ). Ran p q (PhaseStart k)) is start) (subst (λ (k : ℕ). Ran q t (PhaseEnd k)) is end) so_far more
+    next_between lines r s p q t between (subst (λ (k : ℕ). RanPart p q (PhaseStart k)) is start) (subst (λ (k : ℕ). RanPart q t (PhaseEnd k)) is end) so_far more
 
 -- behind the last phase it is the farewell
 pub farewell : (lines : List Line) (r : Runner) (p : ControlPath) → IsBetween lines r p → r.phase ≡ length (parts lines) → part_after p.guest.plan p.guest.part ≡ Some Unload

@@ -9,7 +9,7 @@ ghost use Rattle.vmbus_main.specs.Controls.{AreControls};
 
 use crate::outcome::Controls;
 use bus_model::{ChannelRun, DeviceHistory};
-use bus_run::{Ran, Runner};
+use bus_run::{Runner, ScriptRun};
 use bus_script::{LineResult, Script};
 use contact::Part;
 use control_run::ControlPath;
@@ -44,7 +44,7 @@ pub fn run_script<R: Threads + Wait + Sync, G: Gate>(
     let path = path.run(rt, Part::Unload)?;
     let ran = runner.end(alloc)?;
     let over = path.end(rt);
-    let Ran {
+    let ScriptRun {
         settled,
         histories,
         results,

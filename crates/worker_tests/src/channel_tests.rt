@@ -52,11 +52,11 @@ fn server_of(
     ensures { result.end.state.machine.marked ≡ false }
 {
     let alloc = rt.alloc();
-    let talk = asks(rt, 0);
+    let protocol = asks(rt, 0);
     let seat = EchoSeat::make(alloc, serve).expect(rt, "memory");
     Server::make(
         alloc,
-        talk,
+        protocol,
         end,
         seat,
         Side::Host,

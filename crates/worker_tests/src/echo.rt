@@ -1,7 +1,7 @@
-//! A talk and a seat for the tests: the device's reply is the value that it was asked. It goes back in a message before the answer, and 0 without one.
+//! A protocol and a device for the tests: the device's reply is the value that it was asked. It goes back in a message before the answer, and 0 without one.
 ghost use Rattle.std.specs.Prelude.{◌≡◌, ◌≤◌, ◌<◌, ◌+◌, ◌^◌, ◌∷◌, [], length, take, slice_index_or, IfOk};
 
-use chan_talk::{Seat, Talk};
+use channel_protocol::{Device, Protocol};
 use std::alloc::{AllocError, Global};
 use std::sync::Wait;
 
@@ -37,10 +37,10 @@ fn word(packet: &[u64], i: usize) -> u64
     if i < packet.len() { packet[i] } else { 0 }
 }
 
-impl Talk for Echo {
+impl Protocol for Echo {
     ghost use Rattle.std.specs.Prelude.{true};
-    ghost use Rattle.chan_talk.specs.Echo.{echo_speech};
-    ghost use Rattle.chan_talk.proofs.EchoLaws.{echo_keeps};
+    ghost use Rattle.channel_protocol.specs.Echo.{echo_format};
+    ghost use Rattle.channel_protocol.proofs.EchoLaws.{echo_keeps};
 
     type Ask = u64;
 
@@ -50,7 +50,7 @@ impl Talk for Echo {
 
     type Head = ();
 
-    ghost speech = { λ s. echo_speech };
+    ghost format = { λ s. echo_format };
 
     ghost keeps = { λ s. echo_keeps };
 
@@ -176,9 +176,9 @@ impl EchoSeat {
     }
 }
 
-impl Seat<Echo> for EchoSeat {
+impl Device<Echo> for EchoSeat {
     ghost use Rattle.std.specs.Prelude.{◌≡◌, refl};
-    ghost use Rattle.chan_talk.specs.Echo.{echo_calls};
+    ghost use Rattle.channel_protocol.specs.Echo.{echo_calls};
 
     ghost calls = { λ s. echo_calls s.log.items };
 
@@ -196,7 +196,7 @@ impl Seat<Echo> for EchoSeat {
         self.left
     }
 
-    fn call<R: Wait>(&mut self, _rt: &R, _talk: &Echo, request: u64) -> (u32, u64) {
+    fn call<R: Wait>(&mut self, _rt: &R, _protocol: &Echo, request: u64) -> (u32, u64) {
         self.left -= 1;
         self.log.push_reserved(request);
         (7, request)

@@ -2,16 +2,16 @@
 #![tactic(auto)]
 
 #[cfg(test)]
+mod channel_model_tests;
+#[cfg(test)]
 mod channel_tests;
+#[cfg(test)]
+mod channel_workers_tests;
 #[cfg(test)]
 mod check;
 #[cfg(test)]
 mod echo;
 #[cfg(test)]
-mod end_work_tests;
-#[cfg(test)]
 mod only_seat;
 #[cfg(test)]
 mod phase_run_tests;
-#[cfg(test)]
-mod work_model_tests;

@@ -2,16 +2,16 @@
 ghost use Rattle.std.specs.Prelude.{◌≡◌, ◌≤◌, length, true, vec_len};
 ghost use Rattle.contact.specs.declared.kind.Kind.{Kind as OneKind};
 ghost use Rattle.script_lines.specs.Parts.{kind_asked};
-ghost use Rattle.script_lines.specs.Requests.{IsCarried};
+ghost use Rattle.script_lines.specs.Requests.{CanBeCarried};
 ghost use Rattle.script_lines.specs.WellFormed.{CanGo};
-ghost use Rattle.end_work.specs.Plans.{AllCarried, CanStop, stop_of};
+ghost use Rattle.channel_workers.specs.Plans.{AllCarried, CanStop, stop_of};
 
 use crate::check::check;
 use crate::only_seat::only_seat;
 use bus_script::{Ask, Reply};
 use chan_state::Stop;
+use channel_workers::DeviceSeat;
 use contact::Kind;
-use end_work::DeviceSeat;
 use io_edge::NoGate;
 use phase_run::{Pair, PairDone, open_pair, run_pair, run_phase};
 use ring_core::Packets;
@@ -92,7 +92,7 @@ fn downs(rt: &(impl Abort + AllocGlobal)) -> Pair {
 
 // Whether this is a read or a write that a disk's channel carries.
 fn is_carried(cdb: &[u8; 16], out: &[u8]) -> bool
-    ensures { result ≡ true → IsCarried (record { cdb = cdb.now; out = out.now }) }
+    ensures { result ≡ true → CanBeCarried (record { cdb = cdb.now; out = out.now }) }
 {
     match Command::of(cdb) {
         Some(Command::Write { lba: _, count }) => count <= 4 && out.len() as u64 == 512 * count,

@@ -8,54 +8,54 @@ use Rattle.std.proofs.lemmas.List.{length-map}
 use Rattle.bus_run.proofs.channels.run_channels.Goals as goal
 
 pub reopen_all-requires-clause-can : goal.reopen_all-requires-clause-can
-reopen_all-requires-clause-can g c = subst (λ l. CanOpenAll l c.args.desks.now.items) (sym c.deref.ensures.value) c.requires.can.1.can
+reopen_all-requires-clause-can g c = subst (λ l. CanOpenAll l c.args.slots.now.items) (sym c.deref.ensures.value) c.requires.can.1.can
 
 pub open_all-requires-clause-away : goal.open_all-requires-clause-away
 open_all-requires-clause-away g c =
-    let old = c.args.desks.now.items in
-    (old, c.requires.can.1.can, subst (λ d. AreAway c.args.plan.items old d c.in_ok-seats.seats.items) (sym c.deref-3.ensures.value) (subst (λ l. AreAway l c.args.desks.now.items c.reopen_all.new.desks.items c.in_ok-seats.seats.items) c.deref.ensures.value c.in_ok-seats.ensures))
+    let old = c.args.slots.now.items in
+    (old, c.requires.can.1.can, subst (λ d. AreAway c.args.plan.items old d c.in_ok-seats.seats.items) (sym c.deref-3.ensures.value) (subst (λ l. AreAway l c.args.slots.now.items c.reopen_all.new.slots.items c.in_ok-seats.seats.items) c.deref.ensures.value c.in_ok-seats.ensures))
 
 pub open_all-requires-clause-settings : goal.open_all-requires-clause-settings
 open_all-requires-clause-settings g c = c.requires.settings ∙ (sym c.in_ok-seats.ensures.count ∙ ap length (sym c.deref-3.ensures.value))
 
 pub run_phase-requires-clause-few : goal.run_phase-requires-clause-few
 run_phase-requires-clause-few g c κs within =
-    let old = c.args.desks.now.items in
+    let old = c.args.slots.now.items in
     let can = c.requires.can.1.can in
-    let all = c.in_ok-pairs.ensures old can (subst (λ d. AreAway c.args.plan.items old d c.in_ok-seats.seats.items) (sym c.deref-3.ensures.value) (subst (λ l. AreAway l c.args.desks.now.items c.reopen_all.new.desks.items c.in_ok-seats.seats.items) c.deref.ensures.value c.in_ok-seats.ensures)) in
+    let all = c.in_ok-pairs.ensures old can (subst (λ d. AreAway c.args.plan.items old d c.in_ok-seats.seats.items) (sym c.deref-3.ensures.value) (subst (λ l. AreAway l c.args.slots.now.items c.reopen_all.new.slots.items c.in_ok-seats.seats.items) c.deref.ensures.value c.in_ok-seats.ensures)) in
     let opened = all.opened in
     omega (arith, with_long (OpensAt c.args.settings.now old) opened.given c.in_ok-pairs.pairs.items opened.opens, length-map opened.given (λ g. g.order), ap length opened.planned, can.few)
 
 pub close_all-requires : goal.close_all-requires
 close_all-requires g c =
-    let old = c.args.desks.now.items in
+    let old = c.args.slots.now.items in
     let can = c.requires.can.1.can in
-    let away = (subst (λ l. AreAway l c.args.desks.now.items c.reopen_all.new.desks.items c.in_ok-seats.seats.items) c.deref.ensures.value c.in_ok-seats.ensures) in
+    let away = (subst (λ l. AreAway l c.args.slots.now.items c.reopen_all.new.slots.items c.in_ok-seats.seats.items) c.deref.ensures.value c.in_ok-seats.ensures) in
     let all = c.in_ok-pairs.ensures old can (subst (λ d. AreAway c.args.plan.items old d c.in_ok-seats.seats.items) (sym c.deref-3.ensures.value) away) in
     let dues : c.deref-4.result.now ≡ map due_of c.args.plan.items = (c.deref-4.ensures.value ∙ (c.in_ok-dues.ensures ∙ ap (map due_of) c.deref-2.ensures.value)) in
-    (old, all.opened.given, subst (λ l. AllCome l old all.opened.given c.open_all.new.seats.items c.run_phase.new.done.items) (sym dues) (all_come c.args.settings.now c.args.plan.items old c.reopen_all.new.desks.items c.in_ok-seats.seats.items c.open_all.new.seats.items c.in_ok-pairs.pairs.items c.run_phase.new.done.items can away all c.run_phase.ensures))
+    (old, all.opened.given, subst (λ l. AllCome l old all.opened.given c.open_all.new.seats.items c.run_phase.new.done.items) (sym dues) (all_come c.args.settings.now c.args.plan.items old c.reopen_all.new.slots.items c.in_ok-seats.seats.items c.open_all.new.seats.items c.in_ok-pairs.pairs.items c.run_phase.new.done.items can away all c.run_phase.ensures))
 
-pub close_desks-requires : goal.close_desks-requires
-close_desks-requires g c =
-    let old = c.args.desks.now.items in
+pub close_slots-requires : goal.close_slots-requires
+close_slots-requires g c =
+    let old = c.args.slots.now.items in
     let can = c.requires.can.1.can in
-    let away = (subst (λ l. AreAway l c.args.desks.now.items c.reopen_all.new.desks.items c.in_ok-seats.seats.items) c.deref.ensures.value c.in_ok-seats.ensures) in
+    let away = (subst (λ l. AreAway l c.args.slots.now.items c.reopen_all.new.slots.items c.in_ok-seats.seats.items) c.deref.ensures.value c.in_ok-seats.ensures) in
     let all = c.in_ok-pairs.ensures old can (subst (λ d. AreAway c.args.plan.items old d c.in_ok-seats.seats.items) (sym c.deref-3.ensures.value) away) in
     let dues : c.deref-4.result.now ≡ map due_of c.args.plan.items = (c.deref-4.ensures.value ∙ (c.in_ok-dues.ensures ∙ ap (map due_of) c.deref-2.ensures.value)) in
-    let come = subst (λ l. AllCome l old all.opened.given c.open_all.new.seats.items c.run_phase.new.done.items) (sym dues) (all_come c.args.settings.now c.args.plan.items old c.reopen_all.new.desks.items c.in_ok-seats.seats.items c.open_all.new.seats.items c.in_ok-pairs.pairs.items c.run_phase.new.done.items can away all c.run_phase.ensures) in
+    let come = subst (λ l. AllCome l old all.opened.given c.open_all.new.seats.items c.run_phase.new.done.items) (sym dues) (all_come c.args.settings.now c.args.plan.items old c.reopen_all.new.slots.items c.in_ok-seats.seats.items c.open_all.new.seats.items c.in_ok-pairs.pairs.items c.run_phase.new.done.items can away all c.run_phase.ensures) in
     let closed = c.in_ok-outcomes.ensures old all.opened.given come in (
       old,
       λ k. quotas_of k c.args.plan.items,
       λ k. seats_given k all.opened.given,
-      all_back c.args.settings.now c.args.phase c.args.phase c.args.plan.items old c.reopen_all.new.desks.items c.in_ok-seats.seats.items c.open_all.new.seats.items c.close_all.new.seats.items c.in_ok-pairs.pairs.items c.args.settled.now.items c.close_all.new.settled.items c.in_ok-outcomes.outcomes
+      all_back c.args.settings.now c.args.phase c.args.phase c.args.plan.items old c.reopen_all.new.slots.items c.in_ok-seats.seats.items c.open_all.new.seats.items c.close_all.new.seats.items c.in_ok-pairs.pairs.items c.args.settled.now.items c.close_all.new.settled.items c.in_ok-outcomes.outcomes
           c.requires.ready away all closed,
     )
 
 pub returns-clause-ran : goal.returns-clause-ran
 returns-clause-ran g c p can =
-    let old = c.args.desks.now.items in
-    let away = (subst (λ l. AreAway l c.args.desks.now.items c.reopen_all.new.desks.items c.in_ok-seats.seats.items) c.deref.ensures.value c.in_ok-seats.ensures) in
-    let held = c.reopen_all.new.desks.items in
+    let old = c.args.slots.now.items in
+    let away = (subst (λ l. AreAway l c.args.slots.now.items c.reopen_all.new.slots.items c.in_ok-seats.seats.items) c.deref.ensures.value c.in_ok-seats.ensures) in
+    let held = c.reopen_all.new.slots.items in
     let before = c.in_ok-seats.seats.items in
     let between = c.open_all.new.seats.items in
     let seats = c.close_all.new.seats.items in
@@ -65,16 +65,16 @@ returns-clause-ran g c p can =
     let come = subst (λ l. AllCome l old all.opened.given c.open_all.new.seats.items c.run_phase.new.done.items) (sym dues) (all_come c.args.settings.now c.args.plan.items old held before between pairs c.run_phase.new.done.items can.can away all c.run_phase.ensures) in
     let closed = c.in_ok-outcomes.ensures old all.opened.given come in
     let back = all_back c.args.settings.now c.args.phase c.args.phase c.args.plan.items old held before between seats pairs c.args.settled.now.items c.close_all.new.settled.items c.in_ok-outcomes.outcomes c.requires.ready away all closed in
-    channels_ran c.args.settings.now c.args.phase c.args.plan.items p old held c.close_desks.new.desks.items before between seats pairs c.args.settled.now.items c.close_all.new.settled.items c.in_ok-outcomes.outcomes can away all closed
-    (c.close_desks.ensures old (λ k. quotas_of k c.args.plan.items) (λ k. seats_given k all.opened.given) back)
+    channels_ran c.args.settings.now c.args.phase c.args.plan.items p old held c.close_slots.new.slots.items before between seats pairs c.args.settled.now.items c.close_all.new.settled.items c.in_ok-outcomes.outcomes can away all closed
+    (c.close_slots.ensures old (λ k. quotas_of k c.args.plan.items) (λ k. seats_given k all.opened.given) back)
 
 pub returns-clause-ready : goal.returns-clause-ready
 returns-clause-ready g c =
     let p = c.requires.can.0 in
     let can = c.requires.can.1 in
-    let old = c.args.desks.now.items in
-    let away = (subst (λ l. AreAway l c.args.desks.now.items c.reopen_all.new.desks.items c.in_ok-seats.seats.items) c.deref.ensures.value c.in_ok-seats.ensures) in
-    let held = c.reopen_all.new.desks.items in
+    let old = c.args.slots.now.items in
+    let away = (subst (λ l. AreAway l c.args.slots.now.items c.reopen_all.new.slots.items c.in_ok-seats.seats.items) c.deref.ensures.value c.in_ok-seats.ensures) in
+    let held = c.reopen_all.new.slots.items in
     let before = c.in_ok-seats.seats.items in
     let between = c.open_all.new.seats.items in
     let seats = c.close_all.new.seats.items in
@@ -84,5 +84,5 @@ returns-clause-ready g c =
     let come = subst (λ l. AllCome l old all.opened.given c.open_all.new.seats.items c.run_phase.new.done.items) (sym dues) (all_come c.args.settings.now c.args.plan.items old held before between pairs c.run_phase.new.done.items can.can away all c.run_phase.ensures) in
     let closed = c.in_ok-outcomes.ensures old all.opened.given come in
     let back = all_back c.args.settings.now c.args.phase c.args.phase c.args.plan.items old held before between seats pairs c.args.settled.now.items c.close_all.new.settled.items c.in_ok-outcomes.outcomes c.requires.ready away all closed in
-    still_ready c.args.settings.now c.args.phase c.args.plan.items p old held c.close_desks.new.desks.items before between seats pairs c.args.settled.now.items c.close_all.new.settled.items c.in_ok-outcomes.outcomes can away all closed
-    (c.close_desks.ensures old (λ k. quotas_of k c.args.plan.items) (λ k. seats_given k all.opened.given) back) c.requires.ready
+    still_ready c.args.settings.now c.args.phase c.args.plan.items p old held c.close_slots.new.slots.items before between seats pairs c.args.settled.now.items c.close_all.new.settled.items c.in_ok-outcomes.outcomes can away all closed
+    (c.close_slots.ensures old (λ k. quotas_of k c.args.plan.items) (λ k. seats_given k all.opened.given) back) c.requires.ready

@@ -1,5 +1,5 @@
 use Rattle.std.proofs.Common.{◌≡◌, ◌∙◌, ap, sym, subst, get_or, Some}
-use Rattle.phase_run.specs.Pairs.{Ran}
+use Rattle.phase_run.specs.Pairs.{RanPair}
 use Rattle.bus_run.proofs.Closed.{same_kind}
 use Rattle.bus_run.proofs.closing.close_channel.Goals as goal
 
@@ -7,13 +7,13 @@ pub end_channel-lists-requires : goal.end_channel-lists-requires
 end_channel-lists-requires c =
     let w = c.requires in
     let same : w.2 ≡ c.in-Some.done = ap (λ l. get_or l 0 w.2) (sym w.6 ∙ c.in-Some.ensures.items) in
-    (w.0, w.1, w.4, subst (Ran w.0 w.1) same w.7)
+    (w.0, w.1, w.4, subst (RanPair w.0 w.1) same w.7)
 
 pub give_back-requires : goal.give_back-requires
 give_back-requires c =
     let w = c.requires in
     let same : w.2 ≡ c.in-Some.done = ap (λ l. get_or l 0 w.2) (sym w.6 ∙ c.in-Some.ensures.items) in
-    let ended = c.end_channel-lists.ensures w.0 w.1 w.4 (subst (Ran w.0 w.1) same w.7) in
+    let ended = c.end_channel-lists.ensures w.0 w.1 w.4 (subst (RanPair w.0 w.1) same w.7) in
     w.5 ∙ ap (λ k. Some k) (sym (same_kind w.1 c.end_channel-lists.result.1 ended.same))
 
 pub returns-clause-closed : goal.returns-clause-closed
@@ -22,7 +22,7 @@ returns-clause-closed c order first done rest many are ran =
     record {
       lists = c.end_channel-lists.result.0;
       back = c.end_channel-lists.result.1;
-      ended = c.end_channel-lists.ensures order first many (subst (Ran order first) same ran);
+      ended = c.end_channel-lists.ensures order first many (subst (RanPair order first) same ran);
       seats = c.in_ok-give_back.ensures.seats;
       kind = c.in_ok-give_back.ensures.kind;
       settled_are = c.in_ok-push.ensures.items;

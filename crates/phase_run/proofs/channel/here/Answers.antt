@@ -1,5 +1,5 @@
 use Rattle.std.proofs.Common.{◌≡◌, subst}
-use Rattle.end_work.specs.Leaving.{Leaves}
+use Rattle.channel_workers.specs.Leaving.{Leaves}
 use Rattle.phase_run.specs.Starting.{Comes}
 use Rattle.phase_run.proofs.channel.here.Goals as goal
 

@@ -1,6 +1,6 @@
 use Rattle.std.proofs.Common.{◌≡◌, ◌*◌, ◌∙◌, ap, length, arith}
-use Rattle.end_work.specs.Plans.{Planned, stop_of}
-use Rattle.end_work.specs.Workers.{end_at}
+use Rattle.channel_workers.specs.Plans.{Planned, stop_of}
+use Rattle.channel_workers.specs.Workers.{end_at}
 use Rattle.phase_run.proofs.Making.{opens, on_channel, made_as}
 use Rattle.phase_run.proofs.open.open_pair.Goals as goal
 

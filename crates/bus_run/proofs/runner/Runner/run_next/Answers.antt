@@ -6,7 +6,7 @@ use Rattle.std.proofs.lemmas.List.{with_items_is, places}
 use Rattle.script_lines.specs.Parts.{parts, offered, asks_in, channels_of}
 use Rattle.script_lines.specs.WellFormed.{AllRight, AllGo}
 use Rattle.bus_plan.specs.Endings.{AreEnded}
-use Rattle.bus_run.specs.Desk.{spec_of}
+use Rattle.bus_run.specs.DeviceSlot.{spec_of}
 use Rattle.bus_run.specs.Settings.{HasLimits}
 use Rattle.bus_run.specs.Whole.{IsThis, specs_of, parts_left, behind}
 use Rattle.bus_run.proofs.SettingLines.{have_limits}
@@ -16,24 +16,24 @@ use Rattle.bus_run.proofs.runner.Runner.run_next.Goals as goal
 pub unreachable-requires : goal.unreachable-requires
 unreachable-requires g c = no_next c.args.script.now c.args.self.now.phase c.args.self.now.next c.in_default.is c.requires.so_far.left c.requires.more
 
-pub run_phase-requires-clause-right : goal.run_phase-requires-clause-right
-run_phase-requires-clause-right g c κs asked =
+pub run_script_phase-requires-clause-right : goal.run_script_phase-requires-clause-right
+run_script_phase-requires-clause-right g c κs asked =
     let lines = c.args.script.now in
     let front = c.first_part-next.ensures.front in
     let rest = c.split_at.ensures.back ∙ ap (drop c.in-Some.at) c.lines.ensures.lines in
-    subst (AllRight (map spec_of c.args.self.now.desks.items)) (sym (front.1 ∙ ap (take front.0) rest))
-    (right_take (map spec_of c.args.self.now.desks.items) front.0 (drop c.in-Some.at lines) (right_drop (map spec_of c.args.self.now.desks.items) c.in-Some.at lines
+    subst (AllRight (map spec_of c.args.self.now.slots.items)) (sym (front.1 ∙ ap (take front.0) rest))
+    (right_take (map spec_of c.args.self.now.slots.items) front.0 (drop c.in-Some.at lines) (right_drop (map spec_of c.args.self.now.slots.items) c.in-Some.at lines
     (subst (λ k. AllRight k lines) (sym c.requires.so_far.kinds) c.lines.ensures.script.right)))
 
-pub run_phase-requires-clause-go : goal.run_phase-requires-clause-go
-run_phase-requires-clause-go g c κs asked =
+pub run_script_phase-requires-clause-go : goal.run_script_phase-requires-clause-go
+run_script_phase-requires-clause-go g c κs asked =
     let lines = c.args.script.now in
     let front = c.first_part-next.ensures.front in
     let rest = c.split_at.ensures.back ∙ ap (drop c.in-Some.at) c.lines.ensures.lines in
     subst AllGo (sym (front.1 ∙ ap (take front.0) rest)) (go_take front.0 (drop c.in-Some.at lines) (go_drop c.in-Some.at lines c.lines.ensures.script.go))
 
-pub run_phase-requires-clause-asks : goal.run_phase-requires-clause-asks
-run_phase-requires-clause-asks g c κs asked =
+pub run_script_phase-requires-clause-asks : goal.run_script_phase-requires-clause-asks
+run_script_phase-requires-clause-asks g c κs asked =
     let lines = c.args.script.now in
     let at = c.in-Some.at in
     let rest = c.split_at.ensures.back ∙ ap (drop at) c.lines.ensures.lines in
@@ -43,8 +43,8 @@ run_phase-requires-clause-asks g c κs asked =
     let this = this_phase (parts lines) c.args.self.now.phase part (parts_left lines (behind at next)) (sym cut ∙ ap (parts_left lines) (sym c.in-Some.is) ∙ c.requires.so_far.left) in
     this.1 (λ p. asks_in p ≤ 4096) c.lines.ensures.script.asks
 
-pub run_phase-requires-clause-this : goal.run_phase-requires-clause-this
-run_phase-requires-clause-this g c κs asked =
+pub run_script_phase-requires-clause-this : goal.run_script_phase-requires-clause-this
+run_script_phase-requires-clause-this g c κs asked =
     let lines = c.args.script.now in
     let at = c.in-Some.at in
     let old = c.args.self.now in
@@ -54,25 +54,25 @@ run_phase-requires-clause-this g c κs asked =
     let cut = part_next lines part at next (subst (λ l. MatchOption next (parts l ≡ part ∷ []) (λ n. parts l ≡ part ∷ parts (drop n l))) rest c.first_part-next.ensures.parts) in
     let left = sym cut ∙ (ap (parts_left lines) (sym c.in-Some.is) ∙ c.requires.so_far.left) in
     let p = the_phase lines old.phase in
-    (p, subst (λ e. IsThis old.phase part e (specs_of old.desks.items) old.relid p) (sym c.deref_mut.ensures.value) (next_phase lines old part (parts_left lines (behind at next)) c.requires.so_far c.lines.ensures.script left))
+    (p, subst (λ e. IsThis old.phase part e (specs_of old.slots.items) old.relid p) (sym c.deref_mut.ensures.value) (next_phase lines old part (parts_left lines (behind at next)) c.requires.so_far c.lines.ensures.script left))
 
-pub run_phase-requires-clause-limits : goal.run_phase-requires-clause-limits
-run_phase-requires-clause-limits g c κs asked =
-    subst (All HasLimits) (sym c.deref.ensures.value) (have_limits (offered c.args.script.now) c.args.script.now (length c.args.self.now.desks.items) c.args.self.now.settings.items c.lines.ensures.script.right c.requires.so_far.settings)
+pub run_script_phase-requires-clause-limits : goal.run_script_phase-requires-clause-limits
+run_script_phase-requires-clause-limits g c κs asked =
+    subst (All HasLimits) (sym c.deref.ensures.value) (have_limits (offered c.args.script.now) c.args.script.now (length c.args.self.now.slots.items) c.args.self.now.settings.items c.lines.ensures.script.right c.requires.so_far.settings)
 
-pub run_phase-requires-clause-phase : goal.run_phase-requires-clause-phase
-run_phase-requires-clause-phase g c κs asked = omega (arith, c.requires.more, (count_parts c.args.script.now).1, c.lines.ensures.script.short)
+pub run_script_phase-requires-clause-phase : goal.run_script_phase-requires-clause-phase
+run_script_phase-requires-clause-phase g c κs asked = omega (arith, c.requires.more, (count_parts c.args.script.now).1, c.lines.ensures.script.short)
 
-pub run_phase-requires-clause-room : goal.run_phase-requires-clause-room
-run_phase-requires-clause-room g c κs asked =
+pub run_script_phase-requires-clause-room : goal.run_script_phase-requires-clause-room
+run_script_phase-requires-clause-room g c κs asked =
     omega (arith, c.requires.so_far.relid_few, c.requires.more, (count_parts c.args.script.now).1, c.lines.ensures.script.short)
 
-pub run_phase-requires-clause-subs : goal.run_phase-requires-clause-subs
-run_phase-requires-clause-subs g c κs asked =
+pub run_script_phase-requires-clause-subs : goal.run_script_phase-requires-clause-subs
+run_script_phase-requires-clause-subs g c κs asked =
     subst (AllByRecursion (λ s. subs_of s ≤ 3)) (sym c.requires.so_far.kinds) (all_few (offered c.args.script.now) c.args.script.now c.lines.ensures.script.right)
 
-pub run_phase-requires-clause-channels : goal.run_phase-requires-clause-channels
-run_phase-requires-clause-channels g c κs asked = omega (arith, ap (sum_by channels_of) c.requires.so_far.kinds, c.lines.ensures.script.channels)
+pub run_script_phase-requires-clause-channels : goal.run_script_phase-requires-clause-channels
+run_script_phase-requires-clause-channels g c κs asked = omega (arith, ap (sum_by channels_of) c.requires.so_far.kinds, c.lines.ensures.script.channels)
 
 pub overflow_add-self : goal.overflow_add-self
 overflow_add-self g c =
@@ -90,10 +90,10 @@ returns-clause-so_far g c =
     let split = subst (λ l. MatchOption next (parts l ≡ part ∷ []) (λ n. parts l ≡ part ∷ parts (drop n l))) rest c.first_part-next.ensures.parts in
     let within = subst (λ l. MatchOption next ⊤ (λ n. n ≤ length l)) rest c.first_part-next.ensures.within in
     let before = c.deref_mut.ensures.value in
-    let whole = with_items_is old.ended c.run_phase.new.ended (search (rules, places)) in
-    let ran = c.in_ok-run_phase.ensures in
+    let whole = with_items_is old.ended c.run_script_phase.new.ended (search (rules, places)) in
+    let ran = c.in_ok-run_script_phase.ensures in
     go_on lines part old _ at next c.requires.so_far c.lines.ensures.script c.in-Some.is split within
-    (λ p this. ran.ran p (subst (λ e. IsThis old.phase part e (specs_of old.desks.items) old.relid p) (sym before) this))
-    (λ p this. ran.relid p (subst (λ e. IsThis old.phase part e (specs_of old.desks.items) old.relid p) (sym before) this)) ran.few
+    (λ p this. ran.ran p (subst (λ e. IsThis old.phase part e (specs_of old.slots.items) old.relid p) (sym before) this))
+    (λ p this. ran.relid p (subst (λ e. IsThis old.phase part e (specs_of old.slots.items) old.relid p) (sym before) this)) ran.few
     (λ earlier marked. subst (AreEnded (earlier ++ part)) (sym whole) (ran.ended earlier (subst (AreEnded earlier) (sym before) marked)))
     (ap length whole ∙ ran.count ∙ ap length before) ran.ready refl c.behind-self.ensures refl

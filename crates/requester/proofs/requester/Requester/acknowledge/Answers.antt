@@ -9,11 +9,11 @@ pub invariant_of-self-2 : goal.invariant_of-self-2
 invariant_of-self-2 g c =
     let v = c.self.view_is in
     let l = c.self.invariant (ap (λ w. w.end.state.machine.marked) v ∙ c.requires.ready.unmarked) in
-    let m = subst (λ w. HasMessage (g.T.Talk.speech w.talk) w) (sym v) c.requires.message in
-    let is = message_here (g.T.Talk.speech c.self.inside.talk) c.self.inside.port.state.got c.self.inside.acked m.0 c.got.result.now m.1 m.2 c.got.ensures.value in
+    let m = subst (λ w. HasMessage (g.T.Protocol.format w.protocol) w) (sym v) c.requires.message in
+    let is = message_here (g.T.Protocol.format c.self.inside.protocol) c.self.inside.port.state.got c.self.inside.acked m.0 c.got.result.now m.1 m.2 c.got.ensures.value in
     let made = c.packet-packet.ensures.value ∙ c.write_ack.ensures.value in
     λ _. record {
-      live = acked_kept (g.T.Talk.speech c.self.inside.talk) (g.T.Talk.keeps c.self.inside.talk) (g.T.Talk.asks c.self.inside.talk) _ _ c.got.result.now c.packet-packet.result.now c.got.ensures.value is made c.if-not-send.ensures.past c.send.ensures.got.0 c.send.ensures.ready.awake (ap (λ w. w.seen) v ∙ c.requires.unseen) l.live;
+      live = acked_kept (g.T.Protocol.format c.self.inside.protocol) (g.T.Protocol.keeps c.self.inside.protocol) (g.T.Protocol.asks c.self.inside.protocol) _ _ c.got.result.now c.packet-packet.result.now c.got.ensures.value is made c.if-not-send.ensures.past c.send.ensures.got.0 c.send.ensures.ready.awake (ap (λ w. w.seen) v ∙ c.requires.unseen) l.live;
       replies = l.replies;
       spare = l.spare;
       size = l.size;
@@ -24,6 +24,6 @@ invariant_of-self-2 g c =
 pub returns-then-not-send-clause-asked : goal.returns-then-not-send-clause-asked
 returns-then-not-send-clause-asked g c =
     let v = c.self.view_is in
-    let m = subst (λ w. HasMessage (g.T.Talk.speech w.talk) w) (sym v) c.requires.message in
-    let is = message_here (g.T.Talk.speech c.self.inside.talk) c.self.inside.port.state.got c.self.inside.acked m.0 c.got.result.now m.1 m.2 c.got.ensures.value in
+    let m = subst (λ w. HasMessage (g.T.Protocol.format w.protocol) w) (sym v) c.requires.message in
+    let is = message_here (g.T.Protocol.format c.self.inside.protocol) c.self.inside.port.state.got c.self.inside.acked m.0 c.got.result.now m.1 m.2 c.got.ensures.value in
     (c.got.result.now, ap (λ l. slice_get l c.self.inside.acked) c.send.ensures.got.0 ∙ c.got.ensures.value, is, c.need.ensures.value ∙ ap (λ p. 8 * length p + 8) c.write_ack.ensures.value, c.need.ensures.most.0, c.need.ensures.most.1)

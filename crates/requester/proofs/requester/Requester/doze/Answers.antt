@@ -10,8 +10,8 @@ invariant_of-self-2 g c =
     let l = c.self.invariant (ap (λ w. w.end.state.machine.marked) v ∙ c.requires.unmarked) in
     let r = l.live.rests (ap (λ w. w.end.state.machine.asleep) v ∙ c.requires.asleep) in
     λ _. record {
-      live = still_kept (g.T.Talk.speech c.self.inside.talk) (g.T.Talk.keeps c.self.inside.talk) (g.T.Talk.asks c.self.inside.talk) (record {
-        talk = c.self.inside.talk;
+      live = still_kept (g.T.Protocol.format c.self.inside.protocol) (g.T.Protocol.keeps c.self.inside.protocol) (g.T.Protocol.asks c.self.inside.protocol) (record {
+        protocol = c.self.inside.protocol;
         end = c.self.inside.port;
         table = c.self.inside.table;
         next = c.self.inside.next;
@@ -23,8 +23,8 @@ invariant_of-self-2 g c =
         hold = c.self.inside.hold;
         relid = c.self.inside.relid;
       }) _ c.self.inside.hold c.if-poll.ensures.past c.poll.ensures.lists.0 (λ _. (
-        holds_on (g.T.Talk.speech c.self.inside.talk) (g.T.Talk.keeps c.self.inside.talk) (g.T.Talk.asks c.self.inside.talk) (record {
-          talk = c.self.inside.talk;
+        holds_on (g.T.Protocol.format c.self.inside.protocol) (g.T.Protocol.keeps c.self.inside.protocol) (g.T.Protocol.asks c.self.inside.protocol) (record {
+          protocol = c.self.inside.protocol;
           end = c.self.inside.port;
           table = c.self.inside.table;
           next = c.self.inside.next;
@@ -53,8 +53,8 @@ returns-clause-turns g c =
     let r = l.live.rests (ap (λ w. w.end.state.machine.asleep) v ∙ c.requires.asleep) in (
       c.if-poll.ensures.unmarked,
       c.if-poll.ensures.asleep,
-      holds_on (g.T.Talk.speech c.self.inside.talk) (g.T.Talk.keeps c.self.inside.talk) (g.T.Talk.asks c.self.inside.talk) (record {
-        talk = c.self.inside.talk;
+      holds_on (g.T.Protocol.format c.self.inside.protocol) (g.T.Protocol.keeps c.self.inside.protocol) (g.T.Protocol.asks c.self.inside.protocol) (record {
+        protocol = c.self.inside.protocol;
         end = c.self.inside.port;
         table = c.self.inside.table;
         next = c.self.inside.next;

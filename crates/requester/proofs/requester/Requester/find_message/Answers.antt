@@ -8,7 +8,7 @@ invariant_of-self g c =
     let v = c.self.view_is in
     let l = c.self.invariant (ap (λ w. w.end.state.machine.marked) v ∙ c.requires.ready.unmarked) in
     λ _. record {
-      live = skipped_kept (g.T.Talk.speech c.self.inside.talk) (g.T.Talk.keeps c.self.inside.talk) (g.T.Talk.asks c.self.inside.talk) _ c.next_message-self-inside.result c.next_message-self-inside.ensures (ap (λ w. w.end.state.machine.asleep) v ∙ c.requires.ready.awake) l.live;
+      live = skipped_kept (g.T.Protocol.format c.self.inside.protocol) (g.T.Protocol.keeps c.self.inside.protocol) (g.T.Protocol.asks c.self.inside.protocol) _ c.next_message-self-inside.result c.next_message-self-inside.ensures (ap (λ w. w.end.state.machine.asleep) v ∙ c.requires.ready.awake) l.live;
       replies = l.replies;
       spare = l.spare;
       size = l.size;
@@ -18,4 +18,4 @@ invariant_of-self g c =
 
 pub returns-clause-message : goal.returns-clause-message
 returns-clause-message g c less =
-    found_next (g.T.Talk.speech c.self.inside.talk) c.self.inside.port.state.got c.self.inside.acked c.next_message-self-inside.result c.got_len.result c.got_len.ensures less c.next_message-self-inside.ensures
+    found_next (g.T.Protocol.format c.self.inside.protocol) c.self.inside.port.state.got c.self.inside.acked c.next_message-self-inside.result c.got_len.result c.got_len.ensures less c.next_message-self-inside.ensures

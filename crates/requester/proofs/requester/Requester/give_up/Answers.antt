@@ -11,8 +11,8 @@ returns-clause-ends g c =
     let v = c.self.view_is in
     let l = c.self.invariant (ap (λ w. w.end.state.machine.marked) v ∙ c.requires.ready.unmarked) in
     let drained = ap (λ w. is_drained w.end.state.past) v ∙ c.requires.drained in (
-      marks_drained (g.T.Talk.speech c.self.inside.talk) (g.T.Talk.keeps c.self.inside.talk) (g.T.Talk.asks c.self.inside.talk) (record {
-        talk = c.self.inside.talk;
+      marks_drained (g.T.Protocol.format c.self.inside.protocol) (g.T.Protocol.keeps c.self.inside.protocol) (g.T.Protocol.asks c.self.inside.protocol) (record {
+        protocol = c.self.inside.protocol;
         end = c.self.inside.port;
         table = c.self.inside.table;
         next = c.self.inside.next;
@@ -32,10 +32,10 @@ pub returns-clause-sent : goal.returns-clause-sent
 returns-clause-sent g c =
     let v = c.self.view_is in
     let l = c.self.invariant (ap (λ w. w.end.state.machine.marked) v ∙ c.requires.ready.unmarked) in
-    let sent = asked_so_far (g.T.Talk.speech c.self.inside.talk) (g.T.Talk.keeps c.self.inside.talk) (g.T.Talk.asks c.self.inside.talk) _ l.live l.room.sent.short in
-    asked_marked (g.T.Talk.speech c.self.inside.talk) (length (g.T.Talk.asks c.self.inside.talk)) c.self.inside.port _ c.mark.ensures.past sent
+    let sent = asked_so_far (g.T.Protocol.format c.self.inside.protocol) (g.T.Protocol.keeps c.self.inside.protocol) (g.T.Protocol.asks c.self.inside.protocol) _ l.live l.room.sent.short in
+    asked_marked (g.T.Protocol.format c.self.inside.protocol) (length (g.T.Protocol.asks c.self.inside.protocol)) c.self.inside.port _ c.mark.ensures.past sent
 
 pub returns-clause-paced : goal.returns-clause-paced
 returns-clause-paced g c =
     let l = c.self.invariant (ap (λ w. w.end.state.machine.marked) c.self.view_is ∙ c.requires.ready.unmarked) in
-    subst (IsPaced (g.T.Talk.speech c.self.inside.talk) c.self.inside.starts (g.T.Talk.asks c.self.inside.talk)) (sym c.mark.ensures.past) l.live.paced
+    subst (IsPaced (g.T.Protocol.format c.self.inside.protocol) c.self.inside.starts (g.T.Protocol.asks c.self.inside.protocol)) (sym c.mark.ensures.past) l.live.paced

@@ -1,7 +1,7 @@
 use Rattle.std.proofs.Common.{◌≡◌, ℕ, ap, sym, ◌∙◌, length, subst, None, Option}
 use Rattle.std.proofs.lemmas.List.{length-replicate}
 use Rattle.channel_port.specs.Rooms.{KeepsRoom}
-use Rattle.work_model.specs.Amounts.{room_of}
+use Rattle.channel_model.specs.Amounts.{room_of}
 use Rattle.requester.proofs.requester.Requester.make.Goals as goal
 
 pub over-requires-clause-fresh : goal.over-requires-clause-fresh
@@ -12,8 +12,8 @@ over-requires-clause-side g c = c.requires.side ∙ sym (ap (λ s. s.machine.sid
 
 pub over-requires-clause-room : goal.over-requires-clause-room
 over-requires-clause-room g c =
-    let p : c.room_of-packets.result ≡ room_of (g.T.Talk.besides c.args.talk) (length (g.T.Talk.asks c.args.talk)) =
-    c.room_of-packets.ensures.value ∙ (ap (λ b. room_of b c.count-count.result) c.besides.ensures ∙ ap (room_of (g.T.Talk.besides c.args.talk)) c.count-count.ensures) in
+    let p : c.room_of-packets.result ≡ room_of (g.T.Protocol.besides c.args.protocol) (length (g.T.Protocol.asks c.args.protocol)) =
+    c.room_of-packets.ensures.value ∙ (ap (λ b. room_of b c.count-count.result) c.besides.ensures ∙ ap (room_of (g.T.Protocol.besides c.args.protocol)) c.count-count.ensures) in
     subst (λ n. KeepsRoom n c.in-Ok.port) p c.in-Ok.ensures.room
 
 pub over-requires-clause-window : goal.over-requires-clause-window

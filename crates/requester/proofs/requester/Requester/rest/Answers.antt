@@ -11,8 +11,8 @@ invariant_of-self g c =
     let v = c.self.view_is in
     let l = c.self.invariant (ap (λ w. w.end.state.machine.marked) v ∙ c.requires.ready.unmarked) in
     λ _. record {
-      live = still_kept (g.T.Talk.speech c.self.inside.talk) (g.T.Talk.keeps c.self.inside.talk) (g.T.Talk.asks c.self.inside.talk) (record {
-        talk = c.self.inside.talk;
+      live = still_kept (g.T.Protocol.format c.self.inside.protocol) (g.T.Protocol.keeps c.self.inside.protocol) (g.T.Protocol.asks c.self.inside.protocol) (record {
+        protocol = c.self.inside.protocol;
         end = c.self.inside.port;
         table = c.self.inside.table;
         next = c.self.inside.next;
@@ -24,8 +24,8 @@ invariant_of-self g c =
         hold = c.self.inside.hold;
         relid = c.self.inside.relid;
       }) _ c.args.hold c.in-Nothing.ensures.past c.arm.ensures.lists.0 (λ _. (
-        holds_on (g.T.Talk.speech c.self.inside.talk) (g.T.Talk.keeps c.self.inside.talk) (g.T.Talk.asks c.self.inside.talk) (record {
-          talk = c.self.inside.talk;
+        holds_on (g.T.Protocol.format c.self.inside.protocol) (g.T.Protocol.keeps c.self.inside.protocol) (g.T.Protocol.asks c.self.inside.protocol) (record {
+          protocol = c.self.inside.protocol;
           end = c.self.inside.port;
           table = c.self.inside.table;
           next = c.self.inside.next;
@@ -36,7 +36,7 @@ invariant_of-self g c =
           seen = c.self.inside.seen;
           hold = c.self.inside.hold;
           relid = c.self.inside.relid;
-        }) c.arm.new.self c.args.hold c.args.hold c.arm.ensures.lists.0 (subst (λ w. Holds (g.T.Talk.speech w.talk) (g.T.Talk.asks w.talk) c.args.hold w) (sym v) c.requires.holds),
+        }) c.arm.new.self c.args.hold c.args.hold c.arm.ensures.lists.0 (subst (λ w. Holds (g.T.Protocol.format w.protocol) (g.T.Protocol.asks w.protocol) c.args.hold w) (sym v) c.requires.holds),
         record { asleep = c.in-Nothing.ensures.asleep; want_is = c.arm.ensures.want c.in-Nothing.ensures.asleep ∙ ap want_of c.want_for.ensures },
         ap (λ w. w.seen) v ∙ c.requires.unseen,
       )) l.live;
@@ -52,8 +52,8 @@ returns-in-Nothing-clause-turns g c =
     let v = c.self.view_is in (
       c.arm.ensures.unmarked,
       c.in-Nothing.ensures.asleep,
-      holds_on (g.T.Talk.speech c.self.inside.talk) (g.T.Talk.keeps c.self.inside.talk) (g.T.Talk.asks c.self.inside.talk) (record {
-        talk = c.self.inside.talk;
+      holds_on (g.T.Protocol.format c.self.inside.protocol) (g.T.Protocol.keeps c.self.inside.protocol) (g.T.Protocol.asks c.self.inside.protocol) (record {
+        protocol = c.self.inside.protocol;
         end = c.self.inside.port;
         table = c.self.inside.table;
         next = c.self.inside.next;
@@ -64,7 +64,7 @@ returns-in-Nothing-clause-turns g c =
         seen = c.self.inside.seen;
         hold = c.self.inside.hold;
         relid = c.self.inside.relid;
-      }) c.arm.new.self c.args.hold c.args.hold c.arm.ensures.lists.0 (subst (λ w. Holds (g.T.Talk.speech w.talk) (g.T.Talk.asks w.talk) c.args.hold w) (sym v) c.requires.holds),
+      }) c.arm.new.self c.args.hold c.args.hold c.arm.ensures.lists.0 (subst (λ w. Holds (g.T.Protocol.format w.protocol) (g.T.Protocol.asks w.protocol) c.args.hold w) (sym v) c.requires.holds),
       record { asleep = c.in-Nothing.ensures.asleep; want_is = c.arm.ensures.want c.in-Nothing.ensures.asleep ∙ ap want_of c.want_for.ensures },
       ap (λ w. w.seen) v ∙ c.requires.unseen,
     )

@@ -13,8 +13,8 @@ invariant_of-self-2 g c =
     let at = l.live.asked c.args.id waits in
     let made = c.packet-packet.ensures.value ∙ c.encode.ensures.value at.0 at.1 in
     λ _. record {
-      live = sent_kept (g.T.Talk.speech c.self.inside.talk) (g.T.Talk.keeps c.self.inside.talk) (g.T.Talk.asks c.self.inside.talk) _ _ c.args.id at.0 c.packet-packet.result.now at.1 waits made c.if-not-send.ensures.past c.send.ensures.got.0 c.send.ensures.ready.awake (ap (λ w. w.seen) v ∙ c.requires.unseen) l.live;
-      replies = omega (arith, l.replies, slice_get_within (g.T.Talk.asks c.self.inside.talk) c.self.inside.next at.0 at.1, ap pending waits);
+      live = sent_kept (g.T.Protocol.format c.self.inside.protocol) (g.T.Protocol.keeps c.self.inside.protocol) (g.T.Protocol.asks c.self.inside.protocol) _ _ c.args.id at.0 c.packet-packet.result.now at.1 waits made c.if-not-send.ensures.past c.send.ensures.got.0 c.send.ensures.ready.awake (ap (λ w. w.seen) v ∙ c.requires.unseen) l.live;
+      replies = omega (arith, l.replies, slice_get_within (g.T.Protocol.asks c.self.inside.protocol) c.self.inside.next at.0 at.1, ap pending waits);
       spare = l.spare;
       size = l.size;
       room = room_sent _ c.packet-packet.result.now _ _ c.packet-packet.ensures.most (got_same _ _ c.send.ensures.got.0 c.send.ensures.got.1) c.send.ensures.stays.cells c.send.ensures.into c.if-not-send.ensures.past l.room;
@@ -27,4 +27,4 @@ returns-then-not-send-clause-asked g c =
     let l = c.self.invariant (ap (λ w. w.end.state.machine.marked) v ∙ c.requires.ready.unmarked) in
     let waits = ap (λ w. w.waiting) v ∙ c.requires.waits in
     let at = l.live.asked c.args.id waits in
-    (at.0, at.1, ap is_some waits ∙ sym at.2, c.need.ensures.value ∙ ap (λ p. 8 * length p + 8) (c.encode.ensures.value at.0 at.1 ∙ ap (λ o. (g.T.Talk.speech c.self.inside.talk).encode (id_in o) at.0) (sym waits)), c.need.ensures.most.0, c.need.ensures.most.1, ap (λ w. w.acked) v ∙ (c.requires.acked ∙ (ap (λ w. length w.end.state.got) (sym v) ∙ ap length (sym c.send.ensures.got.0))))
+    (at.0, at.1, ap is_some waits ∙ sym at.2, c.need.ensures.value ∙ ap (λ p. 8 * length p + 8) (c.encode.ensures.value at.0 at.1 ∙ ap (λ o. (g.T.Protocol.format c.self.inside.protocol).encode (id_in o) at.0) (sym waits)), c.need.ensures.most.0, c.need.ensures.most.1, ap (λ w. w.acked) v ∙ (c.requires.acked ∙ (ap (λ w. length w.end.state.got) (sym v) ∙ ap length (sym c.send.ensures.got.0))))

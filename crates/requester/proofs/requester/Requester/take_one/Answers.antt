@@ -1,6 +1,6 @@
 use Rattle.std.proofs.Common.{◌++◌, refl, ap, sym, ◌∙◌, arith, None}
 use Rattle.std.specs.Prelude.{if◌then◌else◌, ◌==◌}
-use Rattle.chan_talk.specs.Listed.{packet_in}
+use Rattle.channel_protocol.specs.Listed.{packet_in}
 use Rattle.txn_table.specs.Open.{request_of}
 use Rattle.chan_run.specs.Runs.{sent_of}
 use Rattle.requester.specs.Asking.{waits_under, answer_of, asked_in}
@@ -11,12 +11,12 @@ use Rattle.requester.proofs.requester.Requester.take_one.Goals as goal
 pub invariant_of-self-then-not-is_answer : goal.invariant_of-self-then-not-is_answer
 invariant_of-self-then-not-is_answer g c =
     let l = c.self.invariant (ap (λ w. w.end.state.machine.marked) c.self.view_is ∙ c.requires.ready.unmarked) in
-    let s = g.T.Talk.speech c.self.inside.talk in
+    let s = g.T.Protocol.format c.self.inside.protocol in
     let t = c.if-not-take.ensures.took in
     let same = c.last-packet.ensures.value c.self.inside.port.state.got t.0 t.2 in
     let other = ap s.is_answer (sym same) ∙ (sym c.is_answer.ensures ∙ c.if-not-is_answer.true) in
     λ _. record {
-      live = came_kept s (g.T.Talk.keeps c.self.inside.talk) (g.T.Talk.asks c.self.inside.talk) _ _ t.0 other t.1 t.2 c.take.ensures.ready.awake l.live;
+      live = came_kept s (g.T.Protocol.keeps c.self.inside.protocol) (g.T.Protocol.asks c.self.inside.protocol) _ _ t.0 other t.1 t.2 c.take.ensures.ready.awake l.live;
       replies = l.replies;
       spare = l.spare;
       size = l.size;
@@ -27,13 +27,13 @@ invariant_of-self-then-not-is_answer g c =
 pub invariant_of-self-then-is_waiting_under : goal.invariant_of-self-then-is_waiting_under
 invariant_of-self-then-is_waiting_under g c =
     let l = c.self.invariant (ap (λ w. w.end.state.machine.marked) c.self.view_is ∙ c.requires.ready.unmarked) in
-    let s = g.T.Talk.speech c.self.inside.talk in
+    let s = g.T.Protocol.format c.self.inside.protocol in
     let t = c.if-not-take.ensures.took in
     let same = c.last-packet.ensures.value c.self.inside.port.state.got t.0 t.2 in
     let answers = ap s.is_answer (sym same) ∙ (sym c.is_answer.ensures ∙ c.if-not-is_answer.false) in
     let e = ap (waits_under c.self.inside.waiting) (sym (c.id-id.ensures ∙ ap s.id_of same)) ∙ (sym c.is_waiting_under.ensures ∙ c.if-is_waiting_under.true) in
     λ _. record {
-      live = stray_by s (g.T.Talk.keeps c.self.inside.talk) (g.T.Talk.asks c.self.inside.talk) _ c.self.inside.waiting refl _ t.0 answers e t.1 t.2 c.take.ensures.ready.awake l.live;
+      live = stray_by s (g.T.Protocol.keeps c.self.inside.protocol) (g.T.Protocol.asks c.self.inside.protocol) _ c.self.inside.waiting refl _ t.0 answers e t.1 t.2 c.take.ensures.ready.awake l.live;
       replies = l.replies;
       spare = l.spare;
       size = l.size;
@@ -44,20 +44,20 @@ invariant_of-self-then-is_waiting_under g c =
 pub settle-requires-clause-room : goal.settle-requires-clause-room
 settle-requires-clause-room g c =
     let l = c.self.invariant (ap (λ w. w.end.state.machine.marked) c.self.view_is ∙ c.requires.ready.unmarked) in
-    reply_room (g.T.Talk.speech c.self.inside.talk) (g.T.Talk.keeps c.self.inside.talk) (g.T.Talk.asks c.self.inside.talk) _ _ _ _ l.replies l.live
+    reply_room (g.T.Protocol.format c.self.inside.protocol) (g.T.Protocol.keeps c.self.inside.protocol) (g.T.Protocol.asks c.self.inside.protocol) _ _ _ _ l.replies l.live
 
 pub invariant_of-self-2 : goal.invariant_of-self-2
 invariant_of-self-2 g c =
     let l = c.self.invariant (ap (λ w. w.end.state.machine.marked) c.self.view_is ∙ c.requires.ready.unmarked) in
-    let s = g.T.Talk.speech c.self.inside.talk in
-    let asks = g.T.Talk.asks c.self.inside.talk in
+    let s = g.T.Protocol.format c.self.inside.protocol in
+    let asks = g.T.Protocol.asks c.self.inside.protocol in
     let t = c.if-not-take.ensures.took in
     let same = c.last-packet.ensures.value c.self.inside.port.state.got t.0 t.2 in
     let answers = ap s.is_answer (sym same) ∙ (sym c.is_answer.ensures ∙ c.if-not-is_answer.false) in
     let before = c.came_before-before.ensures.value c.self.inside.port.state.got t.0 t.2 in
     let e = ap (waits_under c.self.inside.waiting) (sym (c.id-id.ensures ∙ ap s.id_of same)) ∙ (sym c.is_waiting_under.ensures ∙ c.if-is_waiting_under.false) in
     λ _. record {
-      live = took_kept s (g.T.Talk.keeps c.self.inside.talk) asks _ _ _ _ t.0 answers c.take.ensures.list t.1 t.2 c.take.ensures.ready.awake e (λ j. c.settle.ensures.closed j ∙ ap (λ q. if j == s.id_of q then None else request_of c.self.inside.table j) same)
+      live = took_kept s (g.T.Protocol.keeps c.self.inside.protocol) asks _ _ _ _ t.0 answers c.take.ensures.list t.1 t.2 c.take.ensures.ready.awake e (λ j. c.settle.ensures.closed j ∙ ap (λ q. if j == s.id_of q then None else request_of c.self.inside.table j) same)
           (c.settle.ensures.told ∙ (ap (λ q. c.self.inside.replies.items ++ answer_of s (asked_in asks c.self.inside.table (s.id_of q)) (packet_in c.came_before-before.result.now) q) same
           ∙ ap (λ b. c.self.inside.replies.items ++ answer_of s (asked_in asks c.self.inside.table (s.id_of t.0)) b t.0) before)) l.live;
       replies = omega (arith, l.replies, c.settle.ensures.room, c.settle.ensures.capacity);

@@ -12,11 +12,11 @@ pub invariant_of-self-2 : goal.invariant_of-self-2
 invariant_of-self-2 g c =
     let v = c.self.view_is in
     let l = c.self.invariant (ap (λ w. w.end.state.machine.marked) v ∙ c.requires.ready.unmarked) in
-    let at = at_least (g.T.Talk.asks c.self.inside.talk) c.self.inside.next (subst (λ w. w.next < length (g.T.Talk.asks w.talk)) (sym v) c.requires.next) in
+    let at = at_least (g.T.Protocol.asks c.self.inside.protocol) c.self.inside.next (subst (λ w. w.next < length (g.T.Protocol.asks w.protocol)) (sym v) c.requires.next) in
     let made = c.packet-packet.ensures.value ∙ c.encode.ensures.value at.0 at.1 in
     λ _. record {
-      live = told_kept (g.T.Talk.speech c.self.inside.talk) (g.T.Talk.keeps c.self.inside.talk) (g.T.Talk.asks c.self.inside.talk) _ _ at.0 c.packet-packet.result.now at.1 (ap (λ w. w.waiting) v ∙ c.requires.none) (subst (λ w. w.next ≤ w.starts → count_by is_some w.table ≡ 0) (sym v) c.requires.alone) (subst (λ w. (a : g.row.T-Ask.Denot) → slice_get (g.T.Talk.asks w.talk) w.next ≡ Some a → (g.T.Talk.speech w.talk).has_answer a ≡ false) (sym v) c.requires.answers at.0 at.1) made c.if-not-send.ensures.past c.send.ensures.got.0 c.send.ensures.ready.awake (ap (λ w. w.seen) v ∙ c.requires.unseen) l.live;
-      replies = omega (arith, l.replies, slice_get_within (g.T.Talk.asks c.self.inside.talk) c.self.inside.next at.0 at.1);
+      live = told_kept (g.T.Protocol.format c.self.inside.protocol) (g.T.Protocol.keeps c.self.inside.protocol) (g.T.Protocol.asks c.self.inside.protocol) _ _ at.0 c.packet-packet.result.now at.1 (ap (λ w. w.waiting) v ∙ c.requires.none) (subst (λ w. w.next ≤ w.starts → count_by is_some w.table ≡ 0) (sym v) c.requires.alone) (subst (λ w. (a : g.row.T-Ask.Denot) → slice_get (g.T.Protocol.asks w.protocol) w.next ≡ Some a → (g.T.Protocol.format w.protocol).has_answer a ≡ false) (sym v) c.requires.answers at.0 at.1) made c.if-not-send.ensures.past c.send.ensures.got.0 c.send.ensures.ready.awake (ap (λ w. w.seen) v ∙ c.requires.unseen) l.live;
+      replies = omega (arith, l.replies, slice_get_within (g.T.Protocol.asks c.self.inside.protocol) c.self.inside.next at.0 at.1);
       spare = l.spare;
       size = l.size;
       room = room_sent _ c.packet-packet.result.now _ _ c.packet-packet.ensures.most (got_same _ _ c.send.ensures.got.0 c.send.ensures.got.1) c.send.ensures.stays.cells c.send.ensures.into c.if-not-send.ensures.past l.room;
@@ -27,16 +27,16 @@ pub returns-then-not-send-clause-asked : goal.returns-then-not-send-clause-asked
 returns-then-not-send-clause-asked g c =
     let v = c.self.view_is in
     let l = c.self.invariant (ap (λ w. w.end.state.machine.marked) v ∙ c.requires.ready.unmarked) in
-    let at = at_least (g.T.Talk.asks c.self.inside.talk) c.self.inside.next (subst (λ w. w.next < length (g.T.Talk.asks w.talk)) (sym v) c.requires.next) in
+    let at = at_least (g.T.Protocol.asks c.self.inside.protocol) c.self.inside.next (subst (λ w. w.next < length (g.T.Protocol.asks w.protocol)) (sym v) c.requires.next) in
     let none = ap (λ w. w.waiting) v ∙ c.requires.none in
-    let answers = subst (λ w. (a : g.row.T-Ask.Denot) → slice_get (g.T.Talk.asks w.talk) w.next ≡ Some a → (g.T.Talk.speech w.talk).has_answer a ≡ false) (sym v) c.requires.answers at.0 at.1 in
-    (at.0, at.1, ap is_some none ∙ sym answers, c.need.ensures.value ∙ ap (λ p. 8 * length p + 8) (c.encode.ensures.value at.0 at.1 ∙ ap (λ o. (g.T.Talk.speech c.self.inside.talk).encode (id_in o) at.0) (sym none)), c.need.ensures.most.0, c.need.ensures.most.1, ap (λ w. w.acked) v ∙ (c.requires.acked ∙ (ap (λ w. length w.end.state.got) (sym v) ∙ ap length (sym c.send.ensures.got.0))))
+    let answers = subst (λ w. (a : g.row.T-Ask.Denot) → slice_get (g.T.Protocol.asks w.protocol) w.next ≡ Some a → (g.T.Protocol.format w.protocol).has_answer a ≡ false) (sym v) c.requires.answers at.0 at.1 in
+    (at.0, at.1, ap is_some none ∙ sym answers, c.need.ensures.value ∙ ap (λ p. 8 * length p + 8) (c.encode.ensures.value at.0 at.1 ∙ ap (λ o. (g.T.Protocol.format c.self.inside.protocol).encode (id_in o) at.0) (sym none)), c.need.ensures.most.0, c.need.ensures.most.1, ap (λ w. w.acked) v ∙ (c.requires.acked ∙ (ap (λ w. length w.end.state.got) (sym v) ∙ ap length (sym c.send.ensures.got.0))))
 
 pub returns-in-Some-clause-asked : goal.returns-in-Some-clause-asked
 returns-in-Some-clause-asked g c =
     let v = c.self.view_is in
-    let at = at_least (g.T.Talk.asks c.self.inside.talk) c.self.inside.next (subst (λ w. w.next < length (g.T.Talk.asks w.talk)) (sym v) c.requires.next) in
+    let at = at_least (g.T.Protocol.asks c.self.inside.protocol) c.self.inside.next (subst (λ w. w.next < length (g.T.Protocol.asks w.protocol)) (sym v) c.requires.next) in
     let none = ap (λ w. w.waiting) v ∙ c.requires.none in
-    let answers = subst (λ w. (a : g.row.T-Ask.Denot) → slice_get (g.T.Talk.asks w.talk) w.next ≡ Some a → (g.T.Talk.speech w.talk).has_answer a ≡ false) (sym v) c.requires.answers at.0 at.1 in
-    let made = c.packet-packet.ensures.value ∙ (c.encode.ensures.value at.0 at.1 ∙ ap (λ o. (g.T.Talk.speech c.self.inside.talk).encode (id_in o) at.0) (sym none)) in
+    let answers = subst (λ w. (a : g.row.T-Ask.Denot) → slice_get (g.T.Protocol.asks w.protocol) w.next ≡ Some a → (g.T.Protocol.format w.protocol).has_answer a ≡ false) (sym v) c.requires.answers at.0 at.1 in
+    let made = c.packet-packet.ensures.value ∙ (c.encode.ensures.value at.0 at.1 ∙ ap (λ o. (g.T.Protocol.format c.self.inside.protocol).encode (id_in o) at.0) (sym none)) in
     (inr (at.0, at.1, ap is_some none ∙ sym answers, subst (λ p. LacksSendOf c.in-Some.room.packets c.in-Some.room.words p c.self.inside.port) made c.in-Some.ensures.lacks), c.in-Some.ensures.got)

@@ -1,27 +1,27 @@
 use Rattle.std.proofs.Common.{◌+◌, subst}
 use Rattle.channel_port.specs.Rooms.{KeepsRoom, ServedWithin}
-use Rattle.work_model.specs.Amounts.{room_of}
+use Rattle.channel_model.specs.Amounts.{room_of}
 use Rattle.server.specs.Serving.{IsServing}
 use Rattle.server.proofs.ServeSteps.{asked_over, on_either}
 use Rattle.channel_port.proofs.RoomLaws.{serve_over, served_so_far}
 use Rattle.server.proofs.server.Server.broken.Goals as goal
 
 pub returns-clause-reserved : goal.returns-clause-reserved
-returns-clause-reserved g c = subst (λ w. KeepsRoom (room_of (g.T.Talk.besides w.desk.talk) (w.starts + w.come)) w.end) c.self.view_is c.self.invariant.room
+returns-clause-reserved g c = subst (λ w. KeepsRoom (room_of (g.T.Protocol.besides w.responder.protocol) (w.starts + w.come)) w.end) c.self.view_is c.self.invariant.room
 
 pub returns-clause-over : goal.returns-clause-over
 returns-clause-over g c =
     let v = c.self.view_is in
     let w = c.args.self.now in
-    let live = subst (λ w. IsServing (g.T.Talk.speech w.desk.talk) (g.T.Talk.besides w.desk.talk) w) v c.self.invariant.live in
+    let live = subst (λ w. IsServing (g.T.Protocol.format w.responder.protocol) (g.T.Protocol.besides w.responder.protocol) w) v c.self.invariant.live in
     on_either
-    (λ l. serve_over (g.T.Talk.speech w.desk.talk) (g.T.Talk.keeps w.desk.talk) (g.T.Talk.besides w.desk.talk) w.desk.held w.serve (w.starts + w.come) c.args.packets c.args.words w.desk.owed _ _ _ w.end (g.T.Talk.may w.desk.talk) live.kept c.requires.list
-    (subst (λ w. KeepsRoom (room_of (g.T.Talk.besides w.desk.talk) (w.starts + w.come)) w.end) v c.self.invariant.room) l)
-    (λ l. asked_over (g.T.Talk.speech w.desk.talk) (g.T.Talk.keeps w.desk.talk) (g.T.Talk.besides w.desk.talk) w c.requires.list live l.lacks)
+    (λ l. serve_over (g.T.Protocol.format w.responder.protocol) (g.T.Protocol.keeps w.responder.protocol) (g.T.Protocol.besides w.responder.protocol) w.responder.held w.serve (w.starts + w.come) c.args.packets c.args.words w.responder.owed _ _ _ w.end (g.T.Protocol.may w.responder.protocol) live.kept c.requires.list
+    (subst (λ w. KeepsRoom (room_of (g.T.Protocol.besides w.responder.protocol) (w.starts + w.come)) w.end) v c.self.invariant.room) l)
+    (λ l. asked_over (g.T.Protocol.format w.responder.protocol) (g.T.Protocol.keeps w.responder.protocol) (g.T.Protocol.besides w.responder.protocol) w c.requires.list live l.lacks)
     c.requires.lacks
 
 pub returns-clause-sent : goal.returns-clause-sent
 returns-clause-sent g c =
-    subst (λ w. ServedWithin (g.T.Talk.speech w.desk.talk) (g.T.Talk.besides w.desk.talk) w.end.state.past) c.self.view_is
-    (served_so_far (g.T.Talk.speech c.self.inside.desk.talk) (g.T.Talk.keeps c.self.inside.desk.talk) (g.T.Talk.besides c.self.inside.desk.talk) c.self.inside.desk.held c.self.inside.serve _ _ _ _ _ c.self.inside.port (g.T.Talk.may c.self.inside.desk.talk)
+    subst (λ w. ServedWithin (g.T.Protocol.format w.responder.protocol) (g.T.Protocol.besides w.responder.protocol) w.end.state.past) c.self.view_is
+    (served_so_far (g.T.Protocol.format c.self.inside.responder.protocol) (g.T.Protocol.keeps c.self.inside.responder.protocol) (g.T.Protocol.besides c.self.inside.responder.protocol) c.self.inside.responder.held c.self.inside.serve _ _ _ _ _ c.self.inside.port (g.T.Protocol.may c.self.inside.responder.protocol)
     c.self.invariant.live.kept c.self.invariant.room)

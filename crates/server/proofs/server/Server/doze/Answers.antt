@@ -8,8 +8,8 @@ pub invariant_of-self-2 : goal.invariant_of-self-2
 invariant_of-self-2 g c =
     let r = c.self.invariant.live.rests (ap (λ w. w.end.state.machine.asleep) c.self.view_is ∙ c.requires.asleep) in
     record {
-      live = still_kept (g.T.Talk.speech c.self.inside.desk.talk) (g.T.Talk.keeps c.self.inside.desk.talk) (g.T.Talk.besides c.self.inside.desk.talk) _ _ c.self.inside.want c.if-poll.ensures.past c.if-poll.ensures.lists.0 (λ _. rests_at (g.T.Talk.speech c.self.inside.desk.talk) (g.T.Talk.keeps c.self.inside.desk.talk) (g.T.Talk.besides c.self.inside.desk.talk) (record {
-        desk = c.self.inside.desk;
+      live = still_kept (g.T.Protocol.format c.self.inside.responder.protocol) (g.T.Protocol.keeps c.self.inside.responder.protocol) (g.T.Protocol.besides c.self.inside.responder.protocol) _ _ c.self.inside.want c.if-poll.ensures.past c.if-poll.ensures.lists.0 (λ _. rests_at (g.T.Protocol.format c.self.inside.responder.protocol) (g.T.Protocol.keeps c.self.inside.responder.protocol) (g.T.Protocol.besides c.self.inside.responder.protocol) (record {
+        responder = c.self.inside.responder;
         end = c.self.inside.port;
         serve = c.self.inside.serve;
         stops = c.self.inside.stops;
@@ -29,8 +29,8 @@ returns-clause-turns g c =
     let r = c.self.invariant.live.rests (ap (λ w. w.end.state.machine.asleep) c.self.view_is ∙ c.requires.asleep) in (
       c.if-poll.ensures.unmarked,
       c.if-poll.ensures.asleep,
-      rests_at (g.T.Talk.speech c.self.inside.desk.talk) (g.T.Talk.keeps c.self.inside.desk.talk) (g.T.Talk.besides c.self.inside.desk.talk) (record {
-        desk = c.self.inside.desk;
+      rests_at (g.T.Protocol.format c.self.inside.responder.protocol) (g.T.Protocol.keeps c.self.inside.responder.protocol) (g.T.Protocol.besides c.self.inside.responder.protocol) (record {
+        responder = c.self.inside.responder;
         end = c.self.inside.port;
         serve = c.self.inside.serve;
         stops = c.self.inside.stops;

@@ -2,20 +2,20 @@ use Rattle.std.proofs.Common.{ap, sym, ◌∙◌, ◌+◌, subst}
 use Rattle.chan_run.specs.Runs.{sent_of, has_marked, has_seen, is_drained}
 use Rattle.chan_run.proofs.Pasts.{drained_seen}
 use Rattle.channel_port.specs.Rooms.{KeepsRoom}
-use Rattle.work_model.specs.Amounts.{room_of}
-use Rattle.work_model.specs.Acks.{OwnFrom}
+use Rattle.channel_model.specs.Amounts.{room_of}
+use Rattle.channel_model.specs.Acks.{OwnFrom}
 use Rattle.server.specs.Serving.{HasServed}
 use Rattle.channel_port.specs.declared.ended.Ended.TheVariants.{PeerMarked}
 use Rattle.server.proofs.OwnLaws.{none_requested}
-use Rattle.server.proofs.ServeSteps.{marked_by_talk, ends_gone, room_gone, follows_off, marks_drained}
+use Rattle.server.proofs.ServeSteps.{marked_by_protocol, ends_gone, room_gone, follows_off, marks_drained}
 use Rattle.channel_port.proofs.RoomLaws.{room_quiet, got_same, served_marked, served_so_far}
 use Rattle.server.proofs.server.Server.follow.Goals as goal
 
 pub invariant_of-self : goal.invariant_of-self
 invariant_of-self g c =
     record {
-      live = marked_by_talk g.T.Talk.speech g.T.Talk.keeps g.T.Talk.besides _ _ c.rescind_all.new.self c.mark.ensures.past c.mark.ensures.lists.0 c.mark.ensures.awake c.mark.ensures.marked c.rescind_all.ensures.same c.self.invariant.live;
-      room = subst (λ d. KeepsRoom (room_of (g.T.Talk.besides d.talk) (c.self.inside.starts + c.self.inside.come)) c.mark.new.self) (sym c.rescind_all.ensures.same)
+      live = marked_by_protocol g.T.Protocol.format g.T.Protocol.keeps g.T.Protocol.besides _ _ c.rescind_all.new.self c.mark.ensures.past c.mark.ensures.lists.0 c.mark.ensures.awake c.mark.ensures.marked c.rescind_all.ensures.same c.self.invariant.live;
+      room = subst (λ d. KeepsRoom (room_of (g.T.Protocol.besides d.protocol) (c.self.inside.starts + c.self.inside.come)) c.mark.new.self) (sym c.rescind_all.ensures.same)
           (room_quiet _ _ _ (got_same _ _ c.mark.ensures.lists.0 c.mark.ensures.lists.1) c.mark.ensures.stays.cells c.mark.ensures.lists.2 (ap sent_of c.mark.ensures.past) c.self.invariant.room);
       side = ap (λ d. d.side) c.rescind_all.ensures.same ∙ (c.self.invariant.side ∙ sym c.mark.ensures.stays.same.side);
     }
@@ -24,10 +24,10 @@ pub returns-clause-ends : goal.returns-clause-ends
 returns-clause-ends g c =
     let v = c.self.view_is in
     let drained = ap (λ w. is_drained w.end.state.past) v ∙ c.requires.drained in
-    let left = follows_off (g.T.Talk.speech c.self.inside.desk.talk) (g.T.Talk.keeps c.self.inside.desk.talk) (g.T.Talk.besides c.self.inside.desk.talk) _ _ c.mark.ensures.past c.mark.ensures.lists.0 c.mark.ensures.awake c.mark.ensures.marked c.mark.ensures.got (ap (λ w. w.desk.owed) v ∙ c.requires.owed)
-    (subst (λ w. HasServed (g.T.Talk.speech w.desk.talk) (g.T.Talk.besides w.desk.talk) w) (sym v) c.requires.served) c.self.invariant.live in
-    ends_gone g.T.Talk.speech g.T.Talk.keeps g.T.Talk.besides (record {
-      desk = c.self.inside.desk;
+    let left = follows_off (g.T.Protocol.format c.self.inside.responder.protocol) (g.T.Protocol.keeps c.self.inside.responder.protocol) (g.T.Protocol.besides c.self.inside.responder.protocol) _ _ c.mark.ensures.past c.mark.ensures.lists.0 c.mark.ensures.awake c.mark.ensures.marked c.mark.ensures.got (ap (λ w. w.responder.owed) v ∙ c.requires.owed)
+    (subst (λ w. HasServed (g.T.Protocol.format w.responder.protocol) (g.T.Protocol.besides w.responder.protocol) w) (sym v) c.requires.served) c.self.invariant.live in
+    ends_gone g.T.Protocol.format g.T.Protocol.keeps g.T.Protocol.besides (record {
+      responder = c.self.inside.responder;
       end = c.self.inside.port;
       serve = c.self.inside.serve;
       stops = c.self.inside.stops;
@@ -38,9 +38,9 @@ returns-clause-ends g c =
       seen = c.self.inside.seen;
       want = c.self.inside.want;
     }) PeerMarked c.mark.new.self c.rescind_all.new.self c.rescind_all.ensures.same (
-      marks_drained (g.T.Talk.speech c.self.inside.desk.talk) (g.T.Talk.keeps c.self.inside.desk.talk) (g.T.Talk.besides c.self.inside.desk.talk) _ _ c.mark.ensures.past c.mark.ensures.lists.0 c.mark.ensures.awake c.mark.ensures.marked drained c.mark.ensures.first c.self.invariant.live,
+      marks_drained (g.T.Protocol.format c.self.inside.responder.protocol) (g.T.Protocol.keeps c.self.inside.responder.protocol) (g.T.Protocol.besides c.self.inside.responder.protocol) _ _ c.mark.ensures.past c.mark.ensures.lists.0 c.mark.ensures.awake c.mark.ensures.marked drained c.mark.ensures.first c.self.invariant.live,
       left.0,
-      (subst (OwnFrom (g.T.Talk.speech c.self.inside.desk.talk) 64) (sym c.mark.ensures.past) c.self.invariant.live.from),
+      (subst (OwnFrom (g.T.Protocol.format c.self.inside.responder.protocol) 64) (sym c.mark.ensures.past) c.self.invariant.live.from),
       ap has_marked c.mark.ensures.past,
       ap has_seen c.mark.ensures.past ∙ drained_seen c.self.inside.port.state.past drained,
     )
@@ -48,10 +48,10 @@ returns-clause-ends g c =
 pub returns-clause-room : goal.returns-clause-room
 returns-clause-room g c =
     let v = c.self.view_is in
-    let left = follows_off (g.T.Talk.speech c.self.inside.desk.talk) (g.T.Talk.keeps c.self.inside.desk.talk) (g.T.Talk.besides c.self.inside.desk.talk) _ _ c.mark.ensures.past c.mark.ensures.lists.0 c.mark.ensures.awake c.mark.ensures.marked c.mark.ensures.got (ap (λ w. w.desk.owed) v ∙ c.requires.owed)
-    (subst (λ w. HasServed (g.T.Talk.speech w.desk.talk) (g.T.Talk.besides w.desk.talk) w) (sym v) c.requires.served) c.self.invariant.live in
-    room_gone g.T.Talk.speech g.T.Talk.keeps g.T.Talk.besides (record {
-      desk = c.self.inside.desk;
+    let left = follows_off (g.T.Protocol.format c.self.inside.responder.protocol) (g.T.Protocol.keeps c.self.inside.responder.protocol) (g.T.Protocol.besides c.self.inside.responder.protocol) _ _ c.mark.ensures.past c.mark.ensures.lists.0 c.mark.ensures.awake c.mark.ensures.marked c.mark.ensures.got (ap (λ w. w.responder.owed) v ∙ c.requires.owed)
+    (subst (λ w. HasServed (g.T.Protocol.format w.responder.protocol) (g.T.Protocol.besides w.responder.protocol) w) (sym v) c.requires.served) c.self.invariant.live in
+    room_gone g.T.Protocol.format g.T.Protocol.keeps g.T.Protocol.besides (record {
+      responder = c.self.inside.responder;
       end = c.self.inside.port;
       serve = c.self.inside.serve;
       stops = c.self.inside.stops;
@@ -61,10 +61,10 @@ returns-clause-room g c =
       served = c.self.inside.served;
       seen = c.self.inside.seen;
       want = c.self.inside.want;
-    }) g.S.Seat.left PeerMarked c.mark.new.self c.rescind_all.new.self c.rescind_all.ensures.same (
+    }) g.S.Device.left PeerMarked c.mark.new.self c.rescind_all.new.self c.rescind_all.ensures.same (
       λ id. none_requested 64 id,
-      (served_marked (g.T.Talk.speech c.self.inside.desk.talk) (g.T.Talk.besides c.self.inside.desk.talk) c.self.inside.port _ c.mark.ensures.past
-          (served_so_far (g.T.Talk.speech c.self.inside.desk.talk) (g.T.Talk.keeps c.self.inside.desk.talk) (g.T.Talk.besides c.self.inside.desk.talk) c.self.inside.desk.held c.self.inside.serve _ _ _ _ _ c.self.inside.port
-          (g.T.Talk.may c.self.inside.desk.talk) c.self.invariant.live.kept c.self.invariant.room)),
+      (served_marked (g.T.Protocol.format c.self.inside.responder.protocol) (g.T.Protocol.besides c.self.inside.responder.protocol) c.self.inside.port _ c.mark.ensures.past
+          (served_so_far (g.T.Protocol.format c.self.inside.responder.protocol) (g.T.Protocol.keeps c.self.inside.responder.protocol) (g.T.Protocol.besides c.self.inside.responder.protocol) c.self.inside.responder.held c.self.inside.serve _ _ _ _ _ c.self.inside.port
+          (g.T.Protocol.may c.self.inside.responder.protocol) c.self.invariant.live.kept c.self.invariant.room)),
       left.1,
     )

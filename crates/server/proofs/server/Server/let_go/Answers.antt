@@ -2,20 +2,20 @@ use Rattle.std.proofs.Common.{ap, sym, ◌∙◌, ◌+◌, subst, inl, inr}
 use Rattle.chan_run.specs.Runs.{sent_of, has_marked, has_seen, is_drained}
 use Rattle.chan_run.proofs.Pasts.{drained_seen}
 use Rattle.channel_port.specs.Rooms.{KeepsRoom}
-use Rattle.work_model.specs.Amounts.{room_of}
+use Rattle.channel_model.specs.Amounts.{room_of}
 use Rattle.channel_port.specs.Owed.{MetFull}
-use Rattle.work_model.specs.Acks.{OwnFrom}
+use Rattle.channel_model.specs.Acks.{OwnFrom}
 use Rattle.channel_port.specs.declared.ended.Ended.TheVariants.{PeerMarked}
 use Rattle.server.proofs.OwnLaws.{none_requested}
-use Rattle.server.proofs.ServeSteps.{marked_by_talk, ends_gone, room_gone, marks_drained, marks_gone, full_still}
+use Rattle.server.proofs.ServeSteps.{marked_by_protocol, ends_gone, room_gone, marks_drained, marks_gone, full_still}
 use Rattle.channel_port.proofs.RoomLaws.{room_quiet, got_same, served_marked, served_so_far}
 use Rattle.server.proofs.server.Server.let_go.Goals as goal
 
 pub invariant_of-self : goal.invariant_of-self
 invariant_of-self g c =
     record {
-      live = marked_by_talk g.T.Talk.speech g.T.Talk.keeps g.T.Talk.besides _ _ c.rescind_all.new.self c.mark.ensures.past c.mark.ensures.lists.0 c.mark.ensures.awake c.mark.ensures.marked c.rescind_all.ensures.same c.self.invariant.live;
-      room = subst (λ d. KeepsRoom (room_of (g.T.Talk.besides d.talk) (c.self.inside.starts + c.self.inside.come)) c.mark.new.self) (sym c.rescind_all.ensures.same)
+      live = marked_by_protocol g.T.Protocol.format g.T.Protocol.keeps g.T.Protocol.besides _ _ c.rescind_all.new.self c.mark.ensures.past c.mark.ensures.lists.0 c.mark.ensures.awake c.mark.ensures.marked c.rescind_all.ensures.same c.self.invariant.live;
+      room = subst (λ d. KeepsRoom (room_of (g.T.Protocol.besides d.protocol) (c.self.inside.starts + c.self.inside.come)) c.mark.new.self) (sym c.rescind_all.ensures.same)
           (room_quiet _ _ _ (got_same _ _ c.mark.ensures.lists.0 c.mark.ensures.lists.1) c.mark.ensures.stays.cells c.mark.ensures.lists.2 (ap sent_of c.mark.ensures.past) c.self.invariant.room);
       side = ap (λ d. d.side) c.rescind_all.ensures.same ∙ (c.self.invariant.side ∙ sym c.mark.ensures.stays.same.side);
     }
@@ -23,9 +23,9 @@ invariant_of-self g c =
 pub returns-clause-ends : goal.returns-clause-ends
 returns-clause-ends g c =
     let drained = ap (λ w. is_drained w.end.state.past) c.self.view_is ∙ c.requires.drained in
-    let full = subst (λ w. MetFull w.desk.owed w.end) (sym c.self.view_is) c.requires.full in
-    ends_gone g.T.Talk.speech g.T.Talk.keeps g.T.Talk.besides (record {
-      desk = c.self.inside.desk;
+    let full = subst (λ w. MetFull w.responder.owed w.end) (sym c.self.view_is) c.requires.full in
+    ends_gone g.T.Protocol.format g.T.Protocol.keeps g.T.Protocol.besides (record {
+      responder = c.self.inside.responder;
       end = c.self.inside.port;
       serve = c.self.inside.serve;
       stops = c.self.inside.stops;
@@ -36,18 +36,18 @@ returns-clause-ends g c =
       seen = c.self.inside.seen;
       want = c.self.inside.want;
     }) PeerMarked c.mark.new.self c.rescind_all.new.self c.rescind_all.ensures.same (
-      marks_drained (g.T.Talk.speech c.self.inside.desk.talk) (g.T.Talk.keeps c.self.inside.desk.talk) (g.T.Talk.besides c.self.inside.desk.talk) _ _ c.mark.ensures.past c.mark.ensures.lists.0 c.mark.ensures.awake c.mark.ensures.marked drained c.mark.ensures.first c.self.invariant.live,
-      inl (inr (marks_gone (g.T.Talk.speech c.self.inside.desk.talk) (g.T.Talk.keeps c.self.inside.desk.talk) (g.T.Talk.besides c.self.inside.desk.talk) _ _ c.mark.ensures.past c.mark.ensures.lists.0 c.mark.ensures.awake c.mark.ensures.marked (full_still c.self.inside.desk.owed _ _ c.mark.ensures.found full) c.self.invariant.live)),
-      (subst (OwnFrom (g.T.Talk.speech c.self.inside.desk.talk) 64) (sym c.mark.ensures.past) c.self.invariant.live.from),
+      marks_drained (g.T.Protocol.format c.self.inside.responder.protocol) (g.T.Protocol.keeps c.self.inside.responder.protocol) (g.T.Protocol.besides c.self.inside.responder.protocol) _ _ c.mark.ensures.past c.mark.ensures.lists.0 c.mark.ensures.awake c.mark.ensures.marked drained c.mark.ensures.first c.self.invariant.live,
+      inl (inr (marks_gone (g.T.Protocol.format c.self.inside.responder.protocol) (g.T.Protocol.keeps c.self.inside.responder.protocol) (g.T.Protocol.besides c.self.inside.responder.protocol) _ _ c.mark.ensures.past c.mark.ensures.lists.0 c.mark.ensures.awake c.mark.ensures.marked (full_still c.self.inside.responder.owed _ _ c.mark.ensures.found full) c.self.invariant.live)),
+      (subst (OwnFrom (g.T.Protocol.format c.self.inside.responder.protocol) 64) (sym c.mark.ensures.past) c.self.invariant.live.from),
       ap has_marked c.mark.ensures.past,
       ap has_seen c.mark.ensures.past ∙ drained_seen c.self.inside.port.state.past drained,
     )
 
 pub returns-clause-room : goal.returns-clause-room
 returns-clause-room g c =
-    let full = subst (λ w. MetFull w.desk.owed w.end) (sym c.self.view_is) c.requires.full in
-    room_gone g.T.Talk.speech g.T.Talk.keeps g.T.Talk.besides (record {
-      desk = c.self.inside.desk;
+    let full = subst (λ w. MetFull w.responder.owed w.end) (sym c.self.view_is) c.requires.full in
+    room_gone g.T.Protocol.format g.T.Protocol.keeps g.T.Protocol.besides (record {
+      responder = c.self.inside.responder;
       end = c.self.inside.port;
       serve = c.self.inside.serve;
       stops = c.self.inside.stops;
@@ -57,10 +57,10 @@ returns-clause-room g c =
       served = c.self.inside.served;
       seen = c.self.inside.seen;
       want = c.self.inside.want;
-    }) g.S.Seat.left PeerMarked c.mark.new.self c.rescind_all.new.self c.rescind_all.ensures.same (
+    }) g.S.Device.left PeerMarked c.mark.new.self c.rescind_all.new.self c.rescind_all.ensures.same (
       λ id. none_requested 64 id,
-      (served_marked (g.T.Talk.speech c.self.inside.desk.talk) (g.T.Talk.besides c.self.inside.desk.talk) c.self.inside.port _ c.mark.ensures.past
-          (served_so_far (g.T.Talk.speech c.self.inside.desk.talk) (g.T.Talk.keeps c.self.inside.desk.talk) (g.T.Talk.besides c.self.inside.desk.talk) c.self.inside.desk.held c.self.inside.serve _ _ _ _ _ c.self.inside.port
-          (g.T.Talk.may c.self.inside.desk.talk) c.self.invariant.live.kept c.self.invariant.room)),
-      inl (inr (full_still c.self.inside.desk.owed _ _ c.mark.ensures.found full, c.self.invariant.live.few)),
+      (served_marked (g.T.Protocol.format c.self.inside.responder.protocol) (g.T.Protocol.besides c.self.inside.responder.protocol) c.self.inside.port _ c.mark.ensures.past
+          (served_so_far (g.T.Protocol.format c.self.inside.responder.protocol) (g.T.Protocol.keeps c.self.inside.responder.protocol) (g.T.Protocol.besides c.self.inside.responder.protocol) c.self.inside.responder.held c.self.inside.serve _ _ _ _ _ c.self.inside.port
+          (g.T.Protocol.may c.self.inside.responder.protocol) c.self.invariant.live.kept c.self.invariant.room)),
+      inl (inr (full_still c.self.inside.responder.owed _ _ c.mark.ensures.found full, c.self.invariant.live.few)),
     )

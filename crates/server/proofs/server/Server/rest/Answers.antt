@@ -10,8 +10,8 @@ pub invariant_of-self : goal.invariant_of-self
 invariant_of-self g c =
     let v = c.self.view_is in
     record {
-      live = still_kept (g.T.Talk.speech c.self.inside.desk.talk) (g.T.Talk.keeps c.self.inside.desk.talk) (g.T.Talk.besides c.self.inside.desk.talk) _ _ c.need-want.result c.in-Nothing.ensures.past c.arm.ensures.lists.0 (λ _. rests_at (g.T.Talk.speech c.self.inside.desk.talk) (g.T.Talk.keeps c.self.inside.desk.talk) (g.T.Talk.besides c.self.inside.desk.talk) (record {
-        desk = c.self.inside.desk;
+      live = still_kept (g.T.Protocol.format c.self.inside.responder.protocol) (g.T.Protocol.keeps c.self.inside.responder.protocol) (g.T.Protocol.besides c.self.inside.responder.protocol) _ _ c.need-want.result c.in-Nothing.ensures.past c.arm.ensures.lists.0 (λ _. rests_at (g.T.Protocol.format c.self.inside.responder.protocol) (g.T.Protocol.keeps c.self.inside.responder.protocol) (g.T.Protocol.besides c.self.inside.responder.protocol) (record {
+        responder = c.self.inside.responder;
         end = c.self.inside.port;
         serve = c.self.inside.serve;
         stops = c.self.inside.stops;
@@ -21,7 +21,7 @@ invariant_of-self g c =
         served = c.self.inside.served;
         seen = c.self.inside.seen;
         want = c.self.inside.want;
-      }) _ c.need-want.result c.need-want.ensures.value (record { asleep = c.in-Nothing.ensures.asleep; want_is = c.arm.ensures.want c.in-Nothing.ensures.asleep }) c.arm.ensures.lists.0 (subst (λ w. is_nil w.desk.owed ≡ true → HasToWait (g.T.Talk.speech w.desk.talk) (g.T.Talk.besides w.desk.talk) w) (sym v) c.requires.waits) c.in-Nothing.ensures.past (ap (λ w. w.seen) v ∙ c.requires.unseen)) (ap (λ w. w.end.state.machine.marked) c.self.view_is ∙ c.requires.ready.unmarked) c.self.invariant.live;
+      }) _ c.need-want.result c.need-want.ensures.value (record { asleep = c.in-Nothing.ensures.asleep; want_is = c.arm.ensures.want c.in-Nothing.ensures.asleep }) c.arm.ensures.lists.0 (subst (λ w. is_nil w.responder.owed ≡ true → HasToWait (g.T.Protocol.format w.responder.protocol) (g.T.Protocol.besides w.responder.protocol) w) (sym v) c.requires.waits) c.in-Nothing.ensures.past (ap (λ w. w.seen) v ∙ c.requires.unseen)) (ap (λ w. w.end.state.machine.marked) c.self.view_is ∙ c.requires.ready.unmarked) c.self.invariant.live;
       room = room_quiet _ _ _ (got_same _ _ c.arm.ensures.lists.0 c.arm.ensures.lists.1) c.arm.ensures.stays.cells c.arm.ensures.lists.2 (ap sent_of c.in-Nothing.ensures.past) c.self.invariant.room;
       side = c.self.invariant.side ∙ sym c.arm.ensures.stays.same.side;
     }
@@ -29,7 +29,7 @@ invariant_of-self g c =
 pub invariant_of-self-in-Mark : goal.invariant_of-self-in-Mark
 invariant_of-self-in-Mark g c =
     record {
-      live = saw_kept (g.T.Talk.speech c.self.inside.desk.talk) (g.T.Talk.keeps c.self.inside.desk.talk) (g.T.Talk.besides c.self.inside.desk.talk) _ _ c.need-want.result c.in-Mark.ensures.past c.arm.ensures.lists.0 c.in-Mark.ensures.asleep (ap (λ w. w.end.state.machine.marked) c.self.view_is ∙ c.requires.ready.unmarked) c.self.invariant.live;
+      live = saw_kept (g.T.Protocol.format c.self.inside.responder.protocol) (g.T.Protocol.keeps c.self.inside.responder.protocol) (g.T.Protocol.besides c.self.inside.responder.protocol) _ _ c.need-want.result c.in-Mark.ensures.past c.arm.ensures.lists.0 c.in-Mark.ensures.asleep (ap (λ w. w.end.state.machine.marked) c.self.view_is ∙ c.requires.ready.unmarked) c.self.invariant.live;
       room = room_quiet _ _ _ (got_same _ _ c.arm.ensures.lists.0 c.arm.ensures.lists.1) c.arm.ensures.stays.cells c.arm.ensures.lists.2 (ap sent_of c.in-Mark.ensures.past) c.self.invariant.room;
       side = c.self.invariant.side ∙ sym c.arm.ensures.stays.same.side;
     }
@@ -39,8 +39,8 @@ returns-in-Nothing-clause-turns g c =
     let v = c.self.view_is in (
       c.arm.ensures.unmarked,
       c.in-Nothing.ensures.asleep,
-      rests_at (g.T.Talk.speech c.self.inside.desk.talk) (g.T.Talk.keeps c.self.inside.desk.talk) (g.T.Talk.besides c.self.inside.desk.talk) (record {
-        desk = c.self.inside.desk;
+      rests_at (g.T.Protocol.format c.self.inside.responder.protocol) (g.T.Protocol.keeps c.self.inside.responder.protocol) (g.T.Protocol.besides c.self.inside.responder.protocol) (record {
+        responder = c.self.inside.responder;
         end = c.self.inside.port;
         serve = c.self.inside.serve;
         stops = c.self.inside.stops;
@@ -50,5 +50,5 @@ returns-in-Nothing-clause-turns g c =
         served = c.self.inside.served;
         seen = c.self.inside.seen;
         want = c.self.inside.want;
-      }) _ c.need-want.result c.need-want.ensures.value (record { asleep = c.in-Nothing.ensures.asleep; want_is = c.arm.ensures.want c.in-Nothing.ensures.asleep }) c.arm.ensures.lists.0 (subst (λ w. is_nil w.desk.owed ≡ true → HasToWait (g.T.Talk.speech w.desk.talk) (g.T.Talk.besides w.desk.talk) w) (sym v) c.requires.waits) c.in-Nothing.ensures.past (ap (λ w. w.seen) v ∙ c.requires.unseen),
+      }) _ c.need-want.result c.need-want.ensures.value (record { asleep = c.in-Nothing.ensures.asleep; want_is = c.arm.ensures.want c.in-Nothing.ensures.asleep }) c.arm.ensures.lists.0 (subst (λ w. is_nil w.responder.owed ≡ true → HasToWait (g.T.Protocol.format w.responder.protocol) (g.T.Protocol.besides w.responder.protocol) w) (sym v) c.requires.waits) c.in-Nothing.ensures.past (ap (λ w. w.seen) v ∙ c.requires.unseen),
     )

@@ -1,6 +1,0 @@
-use Rattle.std.proofs.Common.{sym, ◌∙◌}
-use Rattle.bus_talk.proofs.CameLaws.{and_waits}
-use Rattle.bus_talk.proofs.kind_talk.waits.Goals as goal
-
-pub returns-in-Net : goal.returns-in-Net
-returns-in-Net c = rw (c.in-Net.is) (c.is_net_request.ensures.value ∙ sym (and_waits c.args.packet.now))

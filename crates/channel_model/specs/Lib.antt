@@ -1,0 +1,11 @@
+pub mod WireFormat
+pub mod Asker
+pub mod Server
+pub mod Acks
+pub mod Settled
+pub mod Channel
+pub mod Outcome
+pub mod Roles
+pub mod Workers
+pub mod Amounts
+pub mod Lift

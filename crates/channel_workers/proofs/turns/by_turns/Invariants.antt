@@ -1,0 +1,16 @@
+use Rattle.std.proofs.Common.{◌≡◌}
+use Rattle.requester.specs.Asking.{AsksOn}
+use Rattle.server.specs.Serving.{ServesOn}
+use Rattle.channel_workers.specs.Seats.{device_place}
+use Rattle.channel_workers.specs.Leaving.{StandsAsking, StandsServing}
+use Rattle.channel_workers.proofs.turns.by_turns.Given as goal
+
+abbrev pub invariant-loop : goal.invariant-loop
+invariant-loop g l = record {
+  can : (goal.iterator-loop g).can_next l.iterator';
+  ends : (goal.iterator-loop g).is_finite l.iterator';
+  asks : StandsAsking l.asked l.asker;
+  asker : AsksOn l.fn.asker l.asker;
+  serves : StandsServing l.served l.server;
+  server : ServesOn (λ s t. device_place t ≡ device_place s) l.fn.server l.server;
+}

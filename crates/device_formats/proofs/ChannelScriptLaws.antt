@@ -1,0 +1,155 @@
+-- What the end that asks has to ask, one by one.
+use Rattle.std.proofs.Common.{◌≡◌, ℕ, zero, suc, ◌+◌, ◌-◌, ◌<◌, ◌≤◌, true, List, [], ◌∷◌, ◌++◌, length, Option, Some, None, slice_get, length-append, cond, refl, sym, ap, subst, ◌∙◌, arith}
+use Rattle.std.specs.Prelude.{map, is_some}
+use Rattle.std.specs.List.{AllByRecursion}
+use Rattle.std.proofs.lemmas.List.{length-map}
+use Rattle.contact.specs.declared.kind.Kind.{Kind}
+use Rattle.contact.specs.declared.kind.Kind.TheVariants.{Beat, Down, Disk, Net}
+use Rattle.rndis_msg.specs.declared.rndis.Rndis.{Rndis}
+use Rattle.script_lines.specs.declared.line.Ask.{Ask}
+use Rattle.script_lines.specs.declared.line.Ask.TheVariants.{Ic as AskIc, Disk as AskDisk, Net as AskNet}
+use Rattle.bus_script.specs.declared.outcome.Reply.{Reply}
+use Rattle.channel_protocol.specs.Listed.{listed_packet}
+use Rattle.device_formats.specs.declared.want.Want.{Want}
+use Rattle.device_formats.specs.declared.want.Want.TheVariants.{Starts, Script}
+use Rattle.channel_model.specs.Lift.{mapped}
+use Rattle.device_formats.specs.Codecs.{Codec, result_in}
+use Rattle.device_formats.specs.Services.{service_fixed, service_codec}
+use Rattle.device_formats.specs.Disks.{done_packet, disk_fixed, disk_codec}
+use Rattle.device_formats.specs.Nets.{rndis_packet, net_done, init_done, net_said}
+use Rattle.device_formats.specs.Kinds.{net_request, services, disks, nets}
+use Rattle.device_formats.specs.Wants.{startup, start_answered, step_at, CanBe, IsNetAsk, IsAskable}
+use Rattle.device_formats.specs.Formats.{asked_as, said_on, has_answer_on, format_of}
+use Rattle.device_formats.specs.ChannelScript.{ChannelScript, asks_of, CanAsk}
+use Rattle.device_formats.proofs.FormatLaws.{keeps, step_read, asked_is, script_waits, start_answers}
+
+-- the start-up is part of what is asked
+pub starts_within : (kind : Kind) (sub subs : ℕ) (asks : List Want) → length (startup kind sub subs) ≤ length (startup kind sub subs ++ asks)
+starts_within kind sub subs asks = omega (arith, length-append (startup kind sub subs) asks)
+
+-- a start-up has few steps
+pub few_starts : (kind : Kind) (sub subs : ℕ) → length (startup kind sub subs) ≤ 5
+few_starts Beat zero subs = omega arith
+few_starts Down zero subs = omega arith
+few_starts Disk zero zero = omega arith
+few_starts Disk zero (suc n) = omega arith
+few_starts Net zero subs = omega arith
+few_starts Beat (suc s) subs = omega arith
+few_starts Down (suc s) subs = omega arith
+few_starts Disk (suc s) subs = omega arith
+few_starts Net (suc s) subs = omega arith
+
+-- what stands at a place of the start-up
+start_at : (kind : Kind) (sub subs : ℕ) (asks : List Want) (k : ℕ) (a : Want) → k < length (startup kind sub subs) → slice_get (startup kind sub subs ++ asks) k ≡ Some a → a ≡ Starts (step_at subs k)
+start_at Beat zero subs asks zero a lt h = cc
+start_at Beat zero subs asks (suc k) a lt h = absurd (omega arith)
+start_at Down zero subs asks zero a lt h = cc
+start_at Down zero subs asks (suc k) a lt h = absurd (omega arith)
+start_at Disk zero subs asks zero a lt h = cc
+start_at Disk zero subs asks (suc zero) a lt h = cc
+start_at Disk zero subs asks (suc (suc zero)) a lt h = cc
+start_at Disk zero subs asks (suc (suc (suc zero))) a lt h = cc
+start_at Disk zero zero asks (suc (suc (suc (suc k)))) a lt h = absurd (omega arith)
+start_at Disk zero (suc n) asks (suc (suc (suc (suc zero)))) a lt h = let is : Some (Starts (3 + suc n)) ≡ Some a = h in let e : Starts (3 + suc n) ≡ a = cc in sym e
+start_at Disk zero (suc n) asks (suc (suc (suc (suc (suc k))))) a lt h = absurd (omega arith)
+start_at Net zero subs asks zero a lt h = cc
+start_at Net zero subs asks (suc zero) a lt h = cc
+start_at Net zero subs asks (suc (suc zero)) a lt h = cc
+start_at Net zero subs asks (suc (suc (suc k))) a lt h = absurd (omega arith)
+start_at Beat (suc s) subs asks k a lt h = absurd (omega arith)
+start_at Down (suc s) subs asks k a lt h = absurd (omega arith)
+start_at Disk (suc s) subs asks k a lt h = absurd (omega arith)
+start_at Net (suc s) subs asks k a lt h = absurd (omega arith)
+
+behind : (xs ys : List Want) (j : ℕ) → slice_get (xs ++ ys) (length xs + j) ≡ slice_get ys j
+behind [] ys j = let e : length {A = Want} [] + j ≡ j = omega arith in ap (slice_get ys) e
+behind (x ∷ xs) ys j =
+    let e : length (x ∷ xs) + j ≡ suc (length xs + j) = omega arith in
+    ap (slice_get (x ∷ (xs ++ ys))) e ∙ behind xs ys j
+
+found : (asks : List Ask) (j : ℕ) (a : Want) → slice_get (map Script asks) j ≡ Some a → (ask : Ask) × (slice_get asks j ≡ Some ask) × (a ≡ Script ask)
+found [] j a h = cc
+found (x ∷ asks) zero a h = let same : Script x ≡ a = cc in (x, refl, sym same)
+found (x ∷ asks) (suc j) a h = found asks j a h
+
+all_at : (P : Ask → Type 0) (asks : List Ask) (j : ℕ) (ask : Ask) → AllByRecursion P asks → slice_get asks j ≡ Some ask → P ask
+all_at P [] j ask all h = cc
+all_at P (x ∷ asks) zero ask all h = let same : x ≡ ask = cc in subst P same all.0
+all_at P (x ∷ asks) (suc j) ask all h = all_at P asks j ask all.1 h
+
+-- what an answer says to a request
+some_mapped : {X Y : Type 0} (f : X → Y) (o : Option X) (y : Y) → mapped f o ≡ Some y → is_some o ≡ true
+some_mapped f None y h = cc
+some_mapped f (Some x) y h = refl
+
+says_so : {A Q R : Type 0} (x : Codec A Q R) (request : Q → Ask) (reply : R → Reply) (a : A) (before : Option (List ℕ)) (p : List ℕ) (ask : Ask) → mapped request (x.read (x.encode 0 a)) ≡ Some ask → mapped reply (result_in x a before p) ≡ mapped reply (x.said p)
+says_so x request reply a before p ask h = rw (some_mapped request (x.read (x.encode 0 a)) ask h) refl
+
+net_says : (ask : Ask) (before : Option (List ℕ)) (p : List ℕ) → CanBe IsNetAsk (net_request ask) → (format_of Net).result (Script ask) before p ≡ said_on Net before p
+net_says (AskIc q) before p can = absurd can
+net_says (AskDisk q) before p can = absurd can
+net_says (AskNet m) before p can = ap (λ t. mapped nets.reply (cond t (net_said before p) None)) can
+
+answer_says : (kind : Kind) (ask : Ask) (before : Option (List ℕ)) (p : List ℕ) → IsAskable kind ask → (format_of kind).result (Script ask) before p ≡ said_on kind before p
+answer_says Beat ask before p can = says_so (service_codec Beat) services.request services.reply (services.ask (Script ask)) before p (asked_as 0 ask) (asked_is Beat 0 ask can)
+answer_says Down ask before p can = says_so (service_codec Down) services.request services.reply (services.ask (Script ask)) before p (asked_as 0 ask) (asked_is Down 0 ask can)
+answer_says Disk ask before p can = says_so disk_codec disks.request disks.reply (disks.ask (Script ask)) before p (asked_as 0 ask) (asked_is Disk 0 ask can)
+answer_says Net ask before p can = net_says ask before p can
+
+module _ (t : ChannelScript) (can : CanAsk t.kind t.asks) where
+  pub length-asks : length (asks_of t) ≡ length (startup t.kind t.sub t.subs) + length t.asks
+  length-asks = omega (arith, length-append (startup t.kind t.sub t.subs) (map Script t.asks), length-map t.asks Script)
+
+  -- a place of the start-up, or one of the script
+  pub at_start : (k : ℕ) (a : Want) → k < length (startup t.kind t.sub t.subs) → slice_get (asks_of t) k ≡ Some a → a ≡ Starts (step_at t.subs k)
+  at_start k a lt h = start_at t.kind t.sub t.subs (map Script t.asks) k a lt h
+
+  pub at_script : (k : ℕ) (a : Want) → length (startup t.kind t.sub t.subs) ≤ k → slice_get (asks_of t) k ≡ Some a → (ask : Ask) × (slice_get t.asks (k - length (startup t.kind t.sub t.subs)) ≡ Some ask) × (a ≡ Script ask)
+  at_script k a le h =
+      let j = k - length (startup t.kind t.sub t.subs) in
+      let place : length (startup t.kind t.sub t.subs) + j ≡ k = omega arith in
+      found t.asks j a (sym (behind (startup t.kind t.sub t.subs) (map Script t.asks) j) ∙ (ap (slice_get (asks_of t)) place ∙ h))
+
+  pub can_at : (j : ℕ) (ask : Ask) → slice_get t.asks j ≡ Some ask → IsAskable t.kind ask
+  can_at j ask h = all_at (IsAskable t.kind) t.asks j ask can.can h
+
+  -- an answer says nothing to a request of the start-up
+  pub start_says_nothing : (k : ℕ) (a : Want) (before : Option (List ℕ)) (p : List ℕ) → k < length (startup t.kind t.sub t.subs) → slice_get (asks_of t) k ≡ Some a → (format_of t.kind).result a before p ≡ None
+  start_says_nothing k a before p lt h =
+      ap (λ x. (format_of t.kind).result x before p) (at_start k a lt h) ∙ (keeps t.kind).no_result 0 (Starts (step_at t.subs k)) before p (step_read t.kind 0 (step_at t.subs k))
+
+  -- to one of the script it says what the answer says
+  pub script_says : (k : ℕ) (a : Want) (before : Option (List ℕ)) (p : List ℕ) → length (startup t.kind t.sub t.subs) ≤ k → slice_get (asks_of t) k ≡ Some a → (format_of t.kind).result a before p ≡ said_on t.kind before p
+  script_says k a before p le h =
+      let at = at_script k a le h in
+      ap (λ x. (format_of t.kind).result x before p) at.2 ∙ answer_says t.kind at.0 before p (can_at (k - length (startup t.kind t.sub t.subs)) at.0 at.1)
+
+  -- a step of the start-up has an answer or has none, and each request of the script has one
+  pub start_waits_at : (k : ℕ) (a : Want) → k < length (startup t.kind t.sub t.subs) → slice_get (asks_of t) k ≡ Some a → has_answer_on t.kind a ≡ start_answered t.kind (step_at t.subs k)
+  start_waits_at k a lt h = ap (has_answer_on t.kind) (at_start k a lt h) ∙ start_answers t.kind (step_at t.subs k)
+
+  pub script_waits_at : (k : ℕ) (a : Want) → length (startup t.kind t.sub t.subs) ≤ k → slice_get (asks_of t) k ≡ Some a → has_answer_on t.kind a ≡ true
+  script_waits_at k a le h =
+      let at = at_script k a le h in ap (has_answer_on t.kind) at.2 ∙ script_waits t.kind at.0 (can_at (k - length (startup t.kind t.sub t.subs)) at.0 at.1)
+
+-- packets have words
+
+pub listed_service : (kind : Kind) (p : List ℕ) → listed_packet (service_fixed kind p) ≡ service_fixed kind p ∷ []
+unfolding service_fixed
+listed_service kind p = refl
+
+pub listed_disk : (p : List ℕ) → listed_packet (disk_fixed p) ≡ disk_fixed p ∷ []
+unfolding disk_fixed done_packet
+listed_disk p = refl
+
+pub listed_rndis : (id : ℕ) (m : Rndis) → listed_packet (rndis_packet id m) ≡ rndis_packet id m ∷ []
+unfolding rndis_packet
+listed_rndis id m = refl
+
+pub listed_net_done : (id status : ℕ) → listed_packet (net_done id status) ≡ net_done id status ∷ []
+unfolding net_done
+listed_net_done id status = refl
+
+pub listed_init_done : (p : List ℕ) → listed_packet (init_done p) ≡ init_done p ∷ []
+unfolding init_done
+listed_init_done p = refl

@@ -1,0 +1,207 @@
+-- The disk's reply is read in the answer that carries it.
+use Rattle.std.proofs.Common.{◌≡◌, ℕ, ◌<◌, ◌≤◌, ◌==◌, Bool, true, false, cond, not, ◌&&◌, nat_lt, List, [], ◌∷◌, ◌++◌, length, Option, Some, None, Result, Ok, Err, refl, sym, ap, subst, ◌∙◌, lit<, lit≤, arith, length-append}
+use Rattle.std.specs.Prelude.{nat_le, is_none}
+use Rattle.std.specs.List.{AllByRecursion, list_all}
+use Rattle.std.proofs.lemmas.Bool.Decides.{nat_tests}
+use Rattle.wire_table.proofs.RowLaws.{IsBytes}
+use Rattle.pkt_desc.specs.Packets.{id_of, kind_of, completion_packet}
+use Rattle.scsi_disk.specs.Commands.{command_of}
+use Rattle.scsi_disk.specs.DiskModel.{most_back, IsSized}
+use Rattle.scsi_disk.specs.declared.command.Command.{Command}
+use Rattle.scsi_disk.specs.declared.command.Command.TheVariants.{TestUnitReady, Inquiry, ReadCapacity, Read as ReadBlocks, Write, SynchronizeCache}
+use Rattle.scsi_disk.specs.declared.request.DiskRequest.{DiskRequest}
+use Rattle.scsi_disk.specs.declared.reply.DiskReply.{DiskReply}
+use Rattle.scsi_disk.specs.declared.reply.DiskReply.TheVariants.{Good, Check}
+use Rattle.stor_proto.specs.Fields.{number_at, with_number}
+use Rattle.stor_proto.specs.Packets.{vstor_bytes, vstor_fault, InForm, IsAllowed}
+use Rattle.stor_proto.specs.Srbs.{cdb_in, names_disk, data_for, request_of, moved_by, sense_of, reply_of, done_of}
+use Rattle.stor_proto.specs.declared.vstor.Vstor.{Vstor}
+use Rattle.stor_proto.specs.declared.stop.SrbStop.{SrbStop}
+use Rattle.stor_proto.proofs.PacketLaws.{vstor_found}
+use Rattle.stor_proto.proofs.SrbLaws.{good_read_back, good_read_more, check_read_back}
+use Rattle.device_formats.specs.Packets.{is_of, is_inband, is_completion, content_of}
+use Rattle.device_formats.specs.Disks.{vstor_of, data_of, has_vstor, done_packet, disk_waits, asked_by, disk_asked, disk_read, back_of, disk_answer, disk_result, disk_fits}
+use Rattle.device_formats.proofs.ByteLaws.{from_all, with_number_bytes, with_bytes_bytes, all_from_test, test_from_all}
+use Rattle.device_formats.proofs.PacketLaws.{content_bytes, is_of_kept, right}
+use Rattle.device_formats.proofs.VstorLaws.{Formed, formed, in_form, read_again, zeros_behind, length-vstor, length-with_bytes, number_put}
+use Rattle.device_formats.proofs.DiskLaws.{cond_some}
+
+-- what it means that a packet asks the disk
+pub record Asks (p : List ℕ) (q : DiskRequest) : Type 0 where
+  pub waits : disk_waits p ≡ true
+  pub srb : (vstor_of p).operation ≡ 3
+  pub request : request_of (vstor_of p) (data_of p) ≡ Ok q
+  pub few : most_back (command_of q.cdb) ≤ 2048
+
+asked_some : (r : Result DiskRequest SrbStop) (q : DiskRequest) → asked_by r ≡ Some q → (r ≡ Ok q) × (most_back (command_of q.cdb) ≤ 2048)
+asked_some (Err stop) q h = cc
+asked_some (Ok z) q h =
+    let two = cond_some (nat_le (most_back (command_of z.cdb)) 2048) (Some z) q h in
+    let some = two.1 in
+    let same : z ≡ q = cc in
+    let few : most_back (command_of z.cdb) ≤ 2048 = grind (arith, nat_tests, two.0) in
+    (ap Ok same, subst (λ x. most_back (command_of x.cdb) ≤ 2048) same few)
+
+pub asks : (p : List ℕ) (q : DiskRequest) → disk_read p ≡ Some q → Asks p q
+unfolding disk_read disk_asked
+asks p q h =
+    let v = vstor_of p in
+    let one = cond_some (disk_waits p) (disk_asked v (data_of p)) q h in
+    let two = cond_some (v.operation == 3) (asked_by (request_of v (data_of p))) q one.1 in
+    let three = asked_some (request_of v (data_of p)) q two.1 in
+    record { waits = one.0; srb = grind (arith, nat_tests, two.0); request = three.0; few = three.1 }
+
+none_is : {X : Type 0} (o : Option X) → is_none o ≡ true → o ≡ None
+none_is None h = refl
+none_is (Some x) h = cc
+
+-- a packet that has a storage packet has one in its form
+pub vstor_form : (p : List ℕ) → has_vstor p ≡ true → InForm (vstor_of p) × IsAllowed (vstor_of p)
+unfolding has_vstor vstor_of
+vstor_form p h =
+    let found = vstor_found (content_of p) (content_bytes p) (none_is (vstor_fault (content_of p)) h) in
+    (found.0, found.1)
+
+pub waits_has : (p : List ℕ) → disk_waits p ≡ true → has_vstor p ≡ true
+unfolding disk_waits
+waits_has p h = right (is_inband p) (has_vstor p) h
+
+ok_from : (b : Bool) (e : SrbStop) (x : Result DiskRequest SrbStop) (q : DiskRequest) → cond b (Err e) x ≡ Ok q → x ≡ Ok q
+ok_from true e x q h = cc
+ok_from false e x q h = h
+
+abbrev ok_of : DiskRequest → Result DiskRequest SrbStop
+ok_of x = Ok x
+
+ok_cdb : (x q : DiskRequest) → ok_of x ≡ ok_of q → q.cdb ≡ x.cdb
+ok_cdb x q h = let same : x ≡ q = cc in ap (λ z. z.cdb) (sym same)
+
+pub cdb_read : (v : Vstor) (behind : List ℕ) (q : DiskRequest) → request_of v behind ≡ Ok q → q.cdb ≡ cdb_in v
+cdb_read v behind q h =
+    let last : Result DiskRequest SrbStop = Ok (record { cdb = cdb_in v; out = data_for (command_of (cdb_in v)) (number_at 12 4 v.rest) behind }) in
+    let one = ok_from (not (names_disk v)) (record { status = 0x20 }) (cond (nat_lt 16 (number_at 8 1 v.rest)) (Err (record { status = 4 })) last) q h in
+    ok_cdb (record { cdb = cdb_in v; out = data_for (command_of (cdb_in v)) (number_at 12 4 v.rest) behind }) q (ok_from (nat_lt 16 (number_at 8 1 v.rest)) (record { status = 4 }) last q one)
+
+both : (a b : Bool) → (a && b) ≡ true → (a ≡ true) × (b ≡ true)
+both true true h = (refl, refl)
+both true false h = cc
+both false b h = cc
+
+-- a fitting reply
+
+pub good_fits : (q : DiskRequest) (bytes : List ℕ) → disk_fits q (Good bytes) ≡ true → (length bytes ≤ most_back (command_of q.cdb)) × AllByRecursion (λ b. b < 256) bytes
+unfolding disk_fits
+good_fits q bytes h =
+    let two = both (nat_le (length bytes) (most_back (command_of q.cdb))) (list_all (λ b. nat_lt b 256) bytes) h in
+    (grind (arith, nat_tests, two.0), all_from_test bytes two.1)
+
+pub check_fits : (q : DiskRequest) (key asc ascq : ℕ) → disk_fits q (Check key asc ascq) ≡ true → (key < 256) × (asc < 256) × (ascq < 256)
+unfolding disk_fits
+check_fits q key asc ascq h =
+    let one = both (nat_lt key 256 && nat_lt asc 256) (nat_lt ascq 256) h in
+    let two = both (nat_lt key 256) (nat_lt asc 256) one.0 in
+    (grind (arith, nat_tests, two.0), grind (arith, nat_tests, two.1), grind (arith, nat_tests, one.1))
+
+-- each reply of the disk fits
+pub sized_fits : (q : DiskRequest) (r : DiskReply) → IsSized q r → disk_fits q r ≡ true
+unfolding disk_fits
+sized_fits q (Good bytes) h =
+    let few : nat_le (length bytes) (most_back (command_of q.cdb)) ≡ true = grind (arith, nat_tests, h.0) in
+    rw (few, test_from_all bytes h.1) refl
+sized_fits q (Check key asc ascq) h =
+    let k : nat_lt key 256 ≡ true = grind (arith, nat_tests, h.0) in
+    let a : nat_lt asc 256 ≡ true = grind (arith, nat_tests, h.1) in
+    let b : nat_lt ascq 256 ≡ true = grind (arith, nat_tests, h.2) in
+    rw (k, a, b) refl
+
+pub back_fits : (q : DiskRequest) (r : DiskReply) → disk_fits q r ≡ true → (length (back_of r) ≤ most_back (command_of q.cdb)) × IsBytes (back_of r)
+back_fits q (Good bytes) h = let g = good_fits q bytes h in (g.0, from_all bytes g.1)
+back_fits q (Check key asc ascq) h = (omega arith, λ i. omega arith)
+
+sense_bytes : (key asc ascq : ℕ) → key < 256 → asc < 256 → ascq < 256 → IsBytes (sense_of key asc ascq)
+sense_bytes key asc ascq k a q =
+    let z : 0 < 256 = lit< tt in
+    from_all (sense_of key asc ascq) (lit< tt, (z, (k, (z, (z, (z, (z, (lit< tt, (z, (z, (z, (z, (a, (q, (z, (z, (z, (z, tt))))))))))))))))))
+
+reply_formed : (v : Vstor) (q : DiskRequest) (r : DiskReply) → Formed v → disk_fits q r ≡ true → Formed (reply_of v r)
+reply_formed v q (Good bytes) f h =
+    let m = moved_by (command_of (cdb_in v)) (length bytes) in
+    let r1 = with_number 2 1 1 v.rest in
+    let r2 = with_number 3 1 0 r1 in
+    let l1 = number_put 2 1 1 v.rest (lit≤ tt) f.len in
+    let l2 = number_put 3 1 0 r1 (lit≤ tt) l1 in
+    record {
+      operation = omega arith;
+      flags = f.flags;
+      status = f.status;
+      len = number_put 12 4 m r2 (lit≤ tt) l2;
+      bytes = with_number_bytes 12 4 m r2 (with_number_bytes 3 1 0 r1 (with_number_bytes 2 1 1 v.rest f.bytes));
+    }
+reply_formed v q (Check key asc ascq) f h =
+    let c = check_fits q key asc ascq h in
+    let r1 = with_number 2 1 0x84 v.rest in
+    let r2 = with_number 3 1 2 r1 in
+    let r3 = with_number 9 1 18 r2 in
+    let r4 = with_number 12 4 0 r3 in
+    let l1 = number_put 2 1 0x84 v.rest (lit≤ tt) f.len in
+    let l2 = number_put 3 1 2 r1 (lit≤ tt) l1 in
+    let l3 = number_put 9 1 18 r2 (lit≤ tt) l2 in
+    let l4 = number_put 12 4 0 r3 (lit≤ tt) l3 in
+    let all = with_number_bytes 12 4 0 r3 (with_number_bytes 9 1 18 r2 (with_number_bytes 3 1 2 r1 (with_number_bytes 2 1 0x84 v.rest f.bytes))) in
+    record {
+      operation = omega arith;
+      flags = f.flags;
+      status = f.status;
+      len = length-with_bytes 16 (sense_of key asc ascq) r4 (omega (arith, l4)) ∙ l4;
+      bytes = with_bytes_bytes 16 (sense_of key asc ascq) r4 (sense_bytes key asc ascq c.0 c.1 c.2) all;
+    }
+
+write_done : (v : Vstor) → length v.rest ≡ 52 → (bytes : List ℕ) → length bytes ≤ 0 → done_of (reply_of v (Good bytes)) (bytes ++ zeros_behind (length bytes)) ≡ Some (Good bytes)
+write_done v len [] le = good_read_back v len [] (lit≤ tt) (omega arith)
+write_done v len (x ∷ xs) le = absurd (omega arith)
+
+good_done : (v : Vstor) → length v.rest ≡ 52 → (bytes : List ℕ) (k : Option Command) → command_of (cdb_in v) ≡ k → length bytes ≤ most_back k → most_back k ≤ 2048 → done_of (reply_of v (Good bytes)) (bytes ++ zeros_behind (length bytes)) ≡ Some (Good bytes)
+good_done v len bytes None is le few = good_read_more v len bytes (zeros_behind (length bytes)) (omega arith) (ap (λ c. moved_by c (length bytes)) is)
+good_done v len bytes (Some TestUnitReady) is le few = good_read_more v len bytes (zeros_behind (length bytes)) (omega arith) (ap (λ c. moved_by c (length bytes)) is)
+good_done v len bytes (Some (Inquiry s a)) is le few = good_read_more v len bytes (zeros_behind (length bytes)) (omega arith) (ap (λ c. moved_by c (length bytes)) is)
+good_done v len bytes (Some ReadCapacity) is le few = good_read_more v len bytes (zeros_behind (length bytes)) (omega arith) (ap (λ c. moved_by c (length bytes)) is)
+good_done v len bytes (Some (ReadBlocks l k)) is le few = good_read_more v len bytes (zeros_behind (length bytes)) (omega (arith, le, few)) (ap (λ c. moved_by c (length bytes)) is)
+good_done v len bytes (Some (Write l k)) is le few = write_done v len bytes le
+good_done v len bytes (Some SynchronizeCache) is le few = good_read_more v len bytes (zeros_behind (length bytes)) (omega arith) (ap (λ c. moved_by c (length bytes)) is)
+
+reply_done : (v : Vstor) (behind : List ℕ) (q : DiskRequest) (r : DiskReply) → length v.rest ≡ 52 → request_of v behind ≡ Ok q → most_back (command_of q.cdb) ≤ 2048 → disk_fits q r ≡ true
+    → done_of (reply_of v r) (back_of r ++ zeros_behind (length (back_of r))) ≡ Some r
+reply_done v behind q (Good bytes) len is few h =
+    good_done v len bytes (command_of q.cdb) (ap command_of (sym (cdb_read v behind q is))) (good_fits q bytes h).0 few
+reply_done v behind q (Check key asc ascq) len is few h = check_read_back v len key asc ascq ([] ++ zeros_behind 0)
+
+-- what the answer with the disk's reply says is that reply
+pub reply_read : (p : List ℕ) (q : DiskRequest) (r : DiskReply) → disk_read p ≡ Some q → disk_fits q r ≡ true → disk_result (disk_answer p r) ≡ Some r
+unfolding disk_result disk_answer done_packet is_completion
+reply_read p q r h fits =
+    let read = asks p q h in
+    let v = vstor_of p in
+    let f = formed v (vstor_form p (waits_has p read.waits)).0 in
+    let w = reply_of v r in
+    let form = in_form w (reply_formed v q r f fits) in
+    let back = back_fits q r fits in
+    let a = completion_packet (id_of p) (vstor_bytes w ++ back_of r) in
+    let again = read_again 11 (id_of p) 0 w (back_of r) (lit< tt) form (refl, λ other. absurd (other refl)) back.1 in
+    let len = length-append (vstor_bytes w) (back_of r) in
+    let comes : is_of 11 a ≡ true = is_of_kept 11 (id_of p) 0 (vstor_bytes w ++ back_of r) (lit< tt) (omega (arith, len, length-vstor w form, back.0, read.few)) in
+    let op : ((vstor_of a).operation == 1) ≡ true = ap (λ x. x.operation == 1) again.vstor in
+    let test : (is_of 11 a && has_vstor a && ((vstor_of a).operation == 1)) ≡ true = rw (comes, again.has, op) refl in
+    ap (λ b. cond b (done_of (vstor_of a) (data_of a)) None) test ∙ ap (λ x. done_of x (data_of a)) again.vstor ∙ ap (done_of w) again.behind
+    ∙ reply_done v (data_of p) q r f.len read.request read.few fits
+
+-- a packet that asks the disk is short
+pub asks_short : (p : List ℕ) → disk_waits p ≡ true → length p ≤ 384
+unfolding disk_waits is_inband
+asks_short p h =
+    let one = both (is_of 6 p) (has_vstor p) h in
+    let le = right (kind_of p == 6) (nat_le (length p) 384) one.0 in
+    grind (arith, nat_tests, le)
+
+-- the disk's reply to what a packet asks is short
+pub back_short : (p : List ℕ) (q : DiskRequest) (r : DiskReply) → disk_read p ≡ Some q → disk_fits q r ≡ true → length (back_of r) ≤ 2048
+back_short p q r h fits = omega (arith, (asks p q h).few, (back_fits q r fits).0)

@@ -1,0 +1,11 @@
+pub mod ByteLaws
+pub mod PacketLaws
+pub mod VstorLaws
+pub mod DiskLaws
+pub mod DoneLaws
+pub mod ServiceLaws
+pub mod CodecLaws
+pub mod KindLaws
+pub mod FormatLaws
+pub mod ChannelScriptLaws
+pub mod NetLaws

@@ -1,0 +1,9 @@
+pub mod Packets
+pub mod Codecs
+pub mod Services
+pub mod Disks
+pub mod Nets
+pub mod Kinds
+pub mod Wants
+pub mod Formats
+pub mod ChannelScript

@@ -1,0 +1,80 @@
+-- What can be asked on a channel of each kind, and what its start-up asks.
+use Rattle.std.specs.Prelude.{ℕ, ◌≡◌, zero, suc, ◌+◌, ◌<◌, ◌^◌, ◌==◌, Bool, true, not, if◌then◌else◌, List, [], ◌∷◌, ◌++◌, Option, Some, None}
+use Rattle.contact.specs.declared.kind.Kind.{Kind}
+use Rattle.contact.specs.declared.kind.Kind.TheVariants.{Beat, Down, Disk, Net}
+use Rattle.util_ic.specs.declared.ic.IcAsk.{IcAsk}
+use Rattle.util_ic.specs.declared.ic.IcAsk.TheVariants.{Beat as AskBeat, Down as AskDown}
+use Rattle.rndis_msg.specs.declared.rndis.Rndis.{Rndis}
+use Rattle.script_lines.specs.declared.line.Ask.{Ask}
+use Rattle.device_formats.specs.declared.want.Want.{Want}
+use Rattle.device_formats.specs.declared.want.Want.TheVariants.{Starts}
+use Rattle.stor_proto.specs.Fields.{number_at}
+use Rattle.stor_proto.specs.Opening.{answer_of}
+use Rattle.device_formats.specs.Disks.{start_vstor, IsDiskAsk}
+use Rattle.device_formats.specs.Nets.{can_ask}
+use Rattle.device_formats.specs.Kinds.{ic_request, disk_request, net_request}
+
+-- a utility service negotiates its versions, a disk starts up in four steps, and a network in three
+abbrev pub first_steps : Kind → List Want
+first_steps Beat = Starts 0 ∷ []
+first_steps Down = Starts 0 ∷ []
+first_steps Disk = Starts 0 ∷ Starts 1 ∷ Starts 2 ∷ Starts 3 ∷ []
+first_steps Net = Starts 0 ∷ Starts 1 ∷ Starts 2 ∷ []
+
+-- each step has an answer, but for the second one of a network, which tells the host a version
+abbrev pub start_answered : Kind → ℕ → Bool
+start_answered Beat k = true
+start_answered Down k = true
+start_answered Disk k = true
+start_answered Net k = not (k == 1)
+
+-- behind them a disk with sub-channels is asked for them: the step that asks for so many has a number of its own
+abbrev pub subs_asked : Kind → ℕ → List Want
+subs_asked Beat subs = []
+subs_asked Down subs = []
+subs_asked Disk zero = []
+subs_asked Disk (suc n) = Starts (3 + suc n) ∷ []
+subs_asked Net subs = []
+
+-- the start-up of a channel, which has this number among its device's channels, where so many are beside the first one: a sub-channel has none
+abbrev pub startup : Kind → ℕ → ℕ → List Want
+startup kind zero subs = first_steps kind ++ subs_asked kind subs
+startup kind (suc n) subs = []
+
+-- a disk's first channel asks for so many sub-channels behind the four steps: the packet of operation 13 has their number, and the answer to it has status 0
+-- and the number too
+pub record AsksForSubs (subs : ℕ) : Type 0 where
+  pub last : startup Disk 0 subs ≡ startup Disk 0 0 ++ Starts (3 + subs) ∷ []
+  pub operation : (start_vstor (3 + subs)).operation ≡ 13
+  pub asked : number_at 0 2 (start_vstor (3 + subs)).rest ≡ subs
+  pub status : (answer_of (start_vstor (3 + subs))).status ≡ 0
+  pub granted : number_at 0 2 (answer_of (start_vstor (3 + subs))).rest ≡ subs
+
+-- the number of the step at a place of a start-up, where so many sub-channels are beside the first channel
+abbrev pub step_at : ℕ → ℕ → ℕ
+step_at subs k = if k == 4 then 3 + subs else k
+
+-- a heartbeat and a shutdown whose numbers fit their fields
+abbrev pub IsBeatAsk : IcAsk → Type 0
+IsBeatAsk (AskBeat seq) = seq < 2 ^ 64
+IsBeatAsk (AskDown reason timeout flags) = ⊥
+
+abbrev pub IsDownAsk : IcAsk → Type 0
+IsDownAsk (AskBeat seq) = ⊥
+IsDownAsk (AskDown reason timeout flags) = (reason < 2 ^ 32) × (timeout < 2 ^ 32) × (flags < 2 ^ 32)
+
+-- a message that can be asked of an adapter
+abbrev pub IsNetAsk : Rndis → Type 0
+IsNetAsk message = can_ask message ≡ true
+
+-- there is a request of this kind, and it can be asked
+abbrev pub CanBe : {Q : Type 0} → (Q → Type 0) → Option Q → Type 0
+CanBe Can None = ⊥
+CanBe Can (Some q) = Can q
+
+-- this can be asked on a channel of this kind
+abbrev pub IsAskable : Kind → Ask → Type 0
+IsAskable Beat ask = CanBe IsBeatAsk (ic_request ask)
+IsAskable Down ask = CanBe IsDownAsk (ic_request ask)
+IsAskable Disk ask = CanBe IsDiskAsk (disk_request ask)
+IsAskable Net ask = CanBe IsNetAsk (net_request ask)

@@ -1,0 +1,144 @@
+-- What the network message at the front of a packet says of it.
+use Rattle.std.proofs.Common.{◌≡◌, ℕ, Bool, true, false, cond, ◌&&◌, ◌==◌, ◌<◌, ◌≤◌, ◌^◌, List, length, drop, Option, Some, None, Result, Ok, Err, refl, sym, ap, subst, ◌∙◌, arith}
+use Rattle.std.specs.Prelude.{nat_le, nat_lt, IfErr, slice_range}
+use Rattle.std.proofs.lemmas.Bool.Decides.{nat_tests}
+use Rattle.wire_table.specs.Little.{number_of}
+use Rattle.wire_table.specs.Rows.{nth_number}
+use Rattle.pkt_desc.specs.Packets.{kind_of}
+use Rattle.rndis_msg.specs.declared.rndis.Rndis.{Rndis}
+use Rattle.rndis_msg.specs.declared.fault.RndisFault.{RndisFault}
+use Rattle.rndis_msg.specs.Messages.{values_of, body_of}
+use Rattle.rndis_msg.specs.Reading.{message_in}
+use Rattle.std.specs.List.{AllByRecursion}
+use Rattle.net_dev.specs.declared.nvsp.Nvsp.{Nvsp}
+use Rattle.net_dev.specs.declared.nvsp.Nvsp.TheVariants.{Init, RndisPacket, RndisPacketComplete}
+use Rattle.net_dev.specs.declared.fault.NvspFault.{NvspFault}
+use Rattle.net_dev.specs.declared.fault.NvspFault.TheVariants.{Short}
+use Rattle.net_dev.specs.declared.reply.NetReply.{NetReply}
+use Rattle.net_dev.specs.Nvsp.{type_of, kinds_of, type_in, IsNvsp, unknown, nvsp_fault}
+use Rattle.device_formats.specs.Packets.{is_inband, is_completion, content_of}
+use Rattle.device_formats.specs.Nets.{has_nvsp, is_init, carries_rndis, rndis_in, net_waits, is_request_type, can_ask, back_in, net_said}
+use Rattle.device_formats.proofs.DiskLaws.{by_test}
+use Rattle.device_formats.proofs.NetLaws.{has_kind, formed_test, net_keeps}
+use Rattle.device_protocols.specs.Came.{IsCame, status_in}
+use Rattle.device_protocols.specs.declared.nets.Came.TheVariants.{Init as CameInit, Rndis as CameRndis, Other}
+
+and_right : (a b : Bool) → b ≡ false → (a && b) ≡ false
+and_right true b h = h
+and_right false b h = refl
+
+none_some : {X Y : Type 0} (x : X) → None ≡ Some x → Y
+none_some x h = absurd (cc)
+
+-- bytes with a fault begin with no message of a type that is known
+no_kind : (p : List ℕ) (k : ℕ) (e : NvspFault) → unknown k (kinds_of k) ≡ None → nvsp_fault (content_of p) ≡ Some e → has_nvsp k p ≡ false
+unfolding nvsp_fault has_nvsp
+no_kind p k e known fault =
+    let b = content_of p in
+    by_test (nat_lt (length b) 40)
+    (λ short. let few : nat_le 40 (length b) ≡ false = grind (arith, nat_tests, short) in ap (λ t. t && (type_in b == k)) few)
+    (λ long.
+    let none : unknown (type_in b) (kinds_of (type_in b)) ≡ Some e = sym (ap (λ t. cond t (Some (Short (length b) 40)) (unknown (type_in b) (kinds_of (type_in b)))) long) ∙ fault in
+    by_test (type_in b == k)
+    (λ same. let is : type_in b ≡ k = grind (arith, nat_tests, same) in none_some e (sym known ∙ (sym (ap (λ j. unknown j (kinds_of j)) is) ∙ none)))
+    (λ other. and_right (nat_le 40 (length b)) (type_in b == k) other))
+
+faulty : (p b : List ℕ) (r : Result Nvsp NvspFault) (k : ℕ) → b ≡ content_of p → ((m : Nvsp) → r ≡ Ok m → ⊥) → IfErr r (λ e. nvsp_fault b ≡ Some e) → unknown k (kinds_of k) ≡ None → has_nvsp k p ≡ false
+faulty p b (Ok m) k same not fault known = absurd (not m refl)
+faulty p b (Err e) k same not fault known = no_kind p k e known (sym (ap nvsp_fault same) ∙ fault)
+
+pub came_not : (p : List ℕ) → is_inband p ≡ false → IsCame Other p
+unfolding is_init carries_rndis
+came_not p h = (ap (λ t. t && has_nvsp 1 p) h, ap (λ t. t && has_nvsp 107 p) h)
+
+pub came_faulty : (p b : List ℕ) (r : Result Nvsp NvspFault) → b ≡ content_of p → ((m : Nvsp) → r ≡ Ok m → ⊥) → IfErr r (λ e. nvsp_fault b ≡ Some e) → IsCame Other p
+unfolding is_init carries_rndis
+came_faulty p b r same not fault =
+    (and_right (is_inband p) (has_nvsp 1 p) (faulty p b r 1 same not fault refl), and_right (is_inband p) (has_nvsp 107 p) (faulty p b r 107 same not fault refl))
+
+-- the message at the front
+at_front : (p b : List ℕ) (m n : Nvsp) → b ≡ content_of p → IsNvsp m b → m ≡ n → IsNvsp n (content_of p)
+at_front p b m n same is eq = subst (λ x. IsNvsp x (content_of p)) eq (subst (IsNvsp m) same is)
+
+pub came_init : (p b : List ℕ) (m : Nvsp) (min max : ℕ) → is_inband p ≡ true → b ≡ content_of p → IsNvsp m b → m ≡ Init min max → IsCame (CameInit min max) p
+unfolding is_init carries_rndis
+came_init p b m min max inband same is eq =
+    let at = at_front p b m (Init min max) same is eq in
+    let init : (is_inband p && has_nvsp 1 p) ≡ true = ap (λ t. t && has_nvsp 1 p) inband ∙ has_kind p (Init min max) 1 at in
+    let none : (is_inband p && has_nvsp 107 p) ≡ false = ap (λ t. t && has_nvsp 107 p) inband ∙ has_kind p (Init min max) 107 at in
+    (init, none, sym (ap (nth_number 0) at.fields), sym (ap (nth_number 1) at.fields))
+
+pub came_rndis : (p b : List ℕ) (m : Nvsp) (a i s : ℕ) (rest : List ℕ) (r : Result Rndis RndisFault) → is_inband p ≡ true → b ≡ content_of p → IsNvsp m b → m ≡ RndisPacket a i s → rest ≡ drop 40 b → r ≡ message_in rest
+    → IsCame (CameRndis r) p
+unfolding is_init carries_rndis rndis_in
+came_rndis p b m a i s rest r inband same is eq behind read =
+    let at = at_front p b m (RndisPacket a i s) same is eq in
+    let none : (is_inband p && has_nvsp 1 p) ≡ false = ap (λ t. t && has_nvsp 1 p) inband ∙ has_kind p (RndisPacket a i s) 1 at in
+    let carries : (is_inband p && has_nvsp 107 p) ≡ true = ap (λ t. t && has_nvsp 107 p) inband ∙ has_kind p (RndisPacket a i s) 107 at in
+    (none, carries, read ∙ ap message_in (behind ∙ ap (drop 40) same))
+
+neither_type : (m : Nvsp) → ((min max : ℕ) → m ≡ Init min max → ⊥) → ((a i s : ℕ) → m ≡ RndisPacket a i s → ⊥) → ((type_of m == 1) ≡ false) × ((type_of m == 107) ≡ false)
+neither_type (Init min max) init rndis = absurd (init min max refl)
+neither_type (RndisPacket a i s) init rndis = absurd (rndis a i s refl)
+neither_type m init rndis = (refl, refl)
+
+pub came_other : (p b : List ℕ) (m : Nvsp) → b ≡ content_of p → IsNvsp m b → ((min max : ℕ) → m ≡ Init min max → ⊥) → ((a i s : ℕ) → m ≡ RndisPacket a i s → ⊥) → IsCame Other p
+unfolding is_init carries_rndis
+came_other p b m same is init rndis =
+    let at = at_front p b m m same is refl in
+    let two = neither_type m init rndis in
+    (and_right (is_inband p) (has_nvsp 1 p) (has_kind p m 1 at ∙ two.0), and_right (is_inband p) (has_nvsp 107 p) (has_kind p m 107 at ∙ two.1))
+
+-- completions
+
+status_by : (p : List ℕ) (t : Bool) → (is_completion p && has_nvsp 108 p) ≡ t → status_in p ≡ cond t (Some (number_of (slice_range (content_of p) 4 8))) None
+status_by p t is = ap (λ u. cond u (Some (number_of (slice_range (content_of p) 4 8))) None) is
+
+pub status_not : (p : List ℕ) → is_completion p ≡ false → status_in p ≡ None
+status_not p h = status_by p false (ap (λ t. t && has_nvsp 108 p) h)
+
+pub status_faulty : (p b : List ℕ) (r : Result Nvsp NvspFault) → b ≡ content_of p → ((m : Nvsp) → r ≡ Ok m → ⊥) → IfErr r (λ e. nvsp_fault b ≡ Some e) → status_in p ≡ None
+status_faulty p b r same not fault = status_by p false (and_right (is_completion p) (has_nvsp 108 p) (faulty p b r 108 same not fault refl))
+
+other_type : (m : Nvsp) → ((status : ℕ) → m ≡ RndisPacketComplete status → ⊥) → (type_of m == 108) ≡ false
+other_type (RndisPacketComplete status) not = absurd (not status refl)
+other_type (Init min max) not = refl
+other_type m not = refl
+
+pub status_other : (p b : List ℕ) (m : Nvsp) → b ≡ content_of p → IsNvsp m b → ((status : ℕ) → m ≡ RndisPacketComplete status → ⊥) → status_in p ≡ None
+status_other p b m same is not =
+    status_by p false (and_right (is_completion p) (has_nvsp 108 p) (has_kind p m 108 (at_front p b m m same is refl) ∙ other_type m not))
+
+pub status_is : (p b : List ℕ) (m : Nvsp) (status : ℕ) → is_completion p ≡ true → b ≡ content_of p → IsNvsp m b → m ≡ RndisPacketComplete status → status_in p ≡ Some status
+status_is p b m status comes same is eq =
+    let at = at_front p b m (RndisPacketComplete status) same is eq in
+    let test : (is_completion p && has_nvsp 108 p) ≡ true = ap (λ t. t && has_nvsp 108 p) comes ∙ has_kind p (RndisPacketComplete status) 108 at in
+    status_by p true test ∙ ap Some (ap (nth_number 0) at.fields)
+
+-- what is said, by the status
+said_by : (before : Option (List ℕ)) (p : List ℕ) (t : Bool) → (is_completion p && has_nvsp 108 p) ≡ t → net_said before p ≡ cond t (Some (record { status = number_of (slice_range (content_of p) 4 8); back = back_in before })) None
+unfolding net_said
+said_by before p t is = ap (λ u. cond u (Some (record { status = number_of (slice_range (content_of p) 4 8); back = back_in before })) None) is
+
+pub said_none : (before : Option (List ℕ)) (p : List ℕ) → status_in p ≡ None → net_said before p ≡ None
+said_none before p none = by_test (is_completion p && has_nvsp 108 p)
+    (λ e. none_some (number_of (slice_range (content_of p) 4 8)) (sym none ∙ status_by p true e))
+    (λ e. said_by before p false e)
+
+pub said_some : (before : Option (List ℕ)) (p : List ℕ) (status : ℕ) → status_in p ≡ Some status → net_said before p ≡ Some (record { status = status; back = back_in before })
+said_some before p status some =
+    let F : ℕ → NetReply = λ s. record { status = s; back = back_in before } in
+    by_test (is_completion p && has_nvsp 108 p)
+    (λ e. let same_some : Some (number_of (slice_range (content_of p) 4 8)) ≡ Some status = sym (status_by p true e) ∙ some in let same : number_of (slice_range (content_of p) 4 8) ≡ status = cc in said_by before p true e ∙ ap (λ s. Some (F s)) same)
+    (λ e. none_some status (sym (status_by p false e) ∙ some))
+
+-- a packet that waits is in-band
+pub and_waits : (p : List ℕ) → ((kind_of p == 6) && net_waits p) ≡ net_waits p
+and_waits p = by_test (kind_of p == 6)
+    (λ e. ap (λ t. t && net_waits p) e)
+    (λ e. ap (λ t. t && net_waits p) e ∙ sym (net_keeps.asks p e))
+
+-- a message of a type that is asked, whose numbers and bytes fit
+pub can_asked : (m : Rndis) → is_request_type m ≡ true → AllByRecursion (λ v. v < 2 ^ 32) (values_of m) → length (body_of m) ≤ 1514 → AllByRecursion (λ b. b < 256) (body_of m) → can_ask m ≡ true
+unfolding can_ask
+can_asked m kind fields few bytes = rw (kind, formed_test m (record { fields = fields; few = few }) bytes) refl

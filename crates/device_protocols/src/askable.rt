@@ -1,0 +1,113 @@
+//! What can be asked on a channel.
+ghost use Rattle.std.specs.Prelude.{◌≡◌, ◌≤◌, ◌<◌, ◌^◌, true, Some};
+ghost use Rattle.std.specs.List.{AllByRecursion};
+ghost use Rattle.stor_proto.specs.Srbs.{bytes_moved};
+ghost use Rattle.device_formats.specs.Disks.{IsDiskAsk};
+ghost use Rattle.device_formats.specs.Nets.{can_ask};
+ghost use Rattle.device_formats.specs.Wants.{IsBeatAsk, IsDownAsk, IsAskable};
+
+use bus_script::Ask;
+use contact::Kind;
+use rndis_msg::Rndis;
+use scsi_disk::Command;
+use util_ic::IcAsk;
+
+/// Whether this can be asked on a channel of this kind: a heartbeat, a shutdown, or of a disk a built command that moves at most 2,048 bytes, with data
+/// exactly where it is a write, and of an adapter a frame, a query, a set, a reset or a keepalive.
+pub fn is_askable(kind: Kind, ask: &Ask) -> bool
+    ensures { result ≡ true → IsAskable kind ask.now }
+{
+    match (kind, ask) {
+        (Kind::Beat, Ask::Ic(ask)) => is_beat_ask(*ask),
+        (Kind::Down, Ask::Ic(ask)) => is_down_ask(*ask),
+        (Kind::Disk, Ask::Disk(request)) => is_disk_ask(&request.cdb, request.out.bytes()),
+        (Kind::Net, Ask::Net(message)) => is_net_ask(message),
+        _ => false,
+    }
+}
+
+/// Whether a heartbeat is asked.
+fn is_beat_ask(ask: IcAsk) -> bool
+    ensures { result ≡ true → IsBeatAsk ask }
+{
+    matches!(ask, IcAsk::Beat { .. })
+}
+
+/// Whether a shutdown is asked.
+fn is_down_ask(ask: IcAsk) -> bool
+    ensures { result ≡ true → IsDownAsk ask }
+{
+    matches!(ask, IcAsk::Down { .. })
+}
+
+/// Whether this command with this data can be asked of a disk.
+fn is_disk_ask(cdb: &[u8; 16], out: &[u8]) -> bool
+    ensures { result ≡ true → IsDiskAsk (record { cdb = cdb.now; out = out.now }) }
+{
+    are_bytes(cdb);
+    match Command::of(cdb) {
+        Some(Command::Write { .. }) => out.len() <= 2_048,
+        Some(command) => out.is_empty() && gives_few(command),
+        None => false,
+    }
+}
+
+/// Whether this message can be asked of an adapter.
+fn is_net_ask(message: &Rndis) -> bool
+    ensures { result ≡ true → can_ask message.now ≡ true }
+{
+    match message {
+        Rndis::Packet { body } => {
+            let _bytes = body.bytes();
+            true
+        }
+        Rndis::Query {
+            request_id,
+            oid,
+            body,
+        } => {
+            fits(*request_id);
+            fits(*oid);
+            let _bytes = body.bytes();
+            true
+        }
+        Rndis::Set {
+            request_id,
+            oid,
+            body,
+        } => {
+            fits(*request_id);
+            fits(*oid);
+            let _bytes = body.bytes();
+            true
+        }
+        Rndis::Reset => true,
+        Rndis::Keepalive { request_id } => {
+            fits(*request_id);
+            true
+        }
+        _ => false,
+    }
+}
+
+/// A number of 32 bits is below 2^32. It does nothing.
+fn fits(_number: u32)
+    ensures { _number < 2 ^ 32 }
+{}
+
+/// Bytes are below 256. It does nothing.
+fn are_bytes(bytes: &[u8])
+    ensures { AllByRecursion (λ b. b < 256) bytes.now }
+{
+    let _len = bytes.len();
+}
+
+/// Whether at most 2,048 bytes come back for a command that takes none.
+fn gives_few(command: Command) -> bool
+    ensures { result ≡ true → bytes_moved (Some command) 0 ≤ 2048 }
+{
+    match command {
+        Command::Read { count, .. } => count <= 4,
+        _ => true,
+    }
+}

@@ -1,0 +1,599 @@
+//! The protocol of a channel of any kind.
+ghost use Rattle.std.specs.Prelude.{◌≡◌, ◌≤◌, ◌<◌, ◌^◌, ◌&&◌, ◌==◌, ◌⊎◌, ◌∷◌, ◌+◌, ◌++◌, [], length, take, true, false, Some, None, IsSome, MatchOption, is_some, vec_len, vec_capacity};
+ghost use Rattle.std.specs.List.{AllByRecursion};
+ghost use Rattle.ring_machine.specs.States.{IsPacket};
+ghost use Rattle.channel_protocol.specs.Listed.{answer_in, has_message_in, listed_packet, message_in, packet_in};
+ghost use Rattle.channel_model.specs.Lift.{or_else};
+ghost use Rattle.channel_model.specs.WireFormat.{listed, under_own};
+ghost use Rattle.pkt_desc.specs.Packets.{id_of, kind_of};
+ghost use Rattle.net_dev.specs.Station.{not_served};
+ghost use Rattle.script_lines.specs.declared.line.Ask.{Ask as OneAsk};
+ghost use Rattle.device_formats.specs.declared.want.Want.{Want as OneWant};
+ghost use Rattle.device_formats.specs.declared.want.Want.TheVariants.{Starts, Script};
+ghost use Rattle.device_formats.specs.Kinds.{ic_request as ic_of, disk_request as disk_of, net_request as net_of, disk_reply as disk_reply_of, net_reply as net_reply_of};
+ghost use Rattle.device_formats.specs.Wants.{first_steps, start_answered, subs_asked, startup, step_at, IsAskable};
+ghost use Rattle.device_formats.specs.Formats.{besides_on, encode_on, waits_on, read_on, fits_on, answer_on, said_on, format_of};
+ghost use Rattle.device_formats.specs.Nets.{message_of};
+ghost use Rattle.device_formats.specs.ChannelScript.{asks_of};
+ghost use Rattle.device_protocols.specs.Heads.{srb_in, IsHead};
+
+use crate::Head;
+use crate::disks::{
+    disk_head, is_disk_request, keep_disk_said, read_disk, write_disk_answer, write_disk_ask,
+    write_disk_fixed, write_start,
+};
+use crate::nets::{
+    asks_net, has_net_message, is_net_request, keep_net_said, read_net, write_done, write_net_ask,
+    write_net_fixed, write_net_fixed_message, write_net_message, write_net_start,
+};
+use crate::packets::{COMPLETION, INBAND, is_inband};
+use crate::services::{
+    asks_service, keep_said as keep_service_said, read_service, write_ask, write_negotiate,
+    write_service_answer, write_service_fixed,
+};
+use bus_script::{Ask, Reply};
+use channel_protocol::Protocol;
+use contact::Kind;
+use device_formats::Want;
+use rndis_msg::Rndis;
+use scsi_disk::{DiskReply, DiskRequest};
+use std::marker::Model;
+use stor_proto::Vstor;
+use util_ic::IcAsk;
+
+/// The part of an end in the protocol of a channel: the kind of the channel, its number among the device's channels, how many are beside the first one, and
+/// what the script asks on it. The end that serves asks nothing.
+///
+/// A network starts up with three: an init, a version that has no answer, and an initialize. A utility service starts up with one request, which negotiates its versions, and a disk with four: it begins, version 6.2 is asked for, then the
+/// properties, and it ends. A fifth one asks for the sub-channels, where the disk has some. A sub-channel has no start-up. Linux asks for version 6.0 and then for 5.1 where one is refused; between the two ends of this program none is, so the list
+/// is fixed.
+#[derive(Drop)]
+pub struct DeviceProtocol {
+    kind: Kind,
+    sub: u32,
+    subs: u32,
+    asks: Vec<Ask>,
+}
+
+impl Model for DeviceProtocol {
+    ghost use Rattle.std.specs.Prelude.{◌≤◌};
+    ghost use Rattle.device_formats.specs.ChannelScript.{ChannelScript, CanAsk};
+
+    ghost Value = { ChannelScript };
+
+    ghost view = { λ t. record { kind = t.kind; sub = t.sub; subs = t.subs; asks = t.asks.items } };
+
+    ghost invariant = { λ t. CanAsk t.kind t.asks.items × (t.subs ≤ 3) };
+}
+
+impl DeviceProtocol {
+    /// The protocol of a channel of this kind on which this is asked.
+    pub fn make(kind: Kind, sub: u32, subs: u32, asks: Vec<Ask>) -> DeviceProtocol
+        requires subs { subs ≤ 3 }
+        requires can { AllByRecursion (IsAskable kind) asks.items }
+        requires few { length asks.items < 2 ^ 31 }
+        ensures { result ≡ record { kind = kind; sub = sub; subs = subs; asks = asks.items } }
+    {
+        DeviceProtocol {
+            kind,
+            sub,
+            subs,
+            asks,
+        }
+    }
+
+    /// The kind of the channel.
+    pub fn kind(&self) -> Kind
+        ensures { result ≡ self.now.kind }
+    {
+        self.kind
+    }
+}
+
+/// Whether messages go back besides the answers: a disk and a service give one packet for each request, and a network may give two.
+fn besides_on(kind: Kind) -> bool
+    ensures { result ≡ besides_on kind }
+{
+    match kind {
+        Kind::Beat | Kind::Down | Kind::Disk => false,
+        Kind::Net => true,
+    }
+}
+
+/// Whether a step of the start-up has an answer.
+fn start_answered(kind: Kind, step: u32) -> bool
+    ensures { result ≡ start_answered kind step }
+{
+    match kind {
+        Kind::Beat | Kind::Down | Kind::Disk => true,
+        Kind::Net => step != 1,
+    }
+}
+
+/// How many requests each start-up of a channel of this kind begins with.
+fn count_first(kind: Kind) -> u32
+    ensures value { result ≡ length (first_steps kind) }
+    ensures few { result ≤ 4 }
+{
+    match kind {
+        Kind::Beat | Kind::Down => 1,
+        Kind::Disk => 4,
+        Kind::Net => 3,
+    }
+}
+
+/// How many ask for sub-channels behind them, of which there are so many.
+fn count_asking(kind: Kind, subs: u32) -> u32
+    ensures value { result ≡ length (subs_asked kind subs) }
+    ensures few { result ≤ 1 }
+{
+    match kind {
+        Kind::Disk => if subs == 0 { 0 } else { 1 },
+        Kind::Beat | Kind::Down | Kind::Net => 0,
+    }
+}
+
+/// How many requests the start-up of a channel has.
+fn count_starts(kind: Kind, sub: u32, subs: u32) -> u32
+    ensures value { result ≡ length (startup kind sub subs) }
+    ensures few { result ≤ 5 }
+{
+    if sub == 0 {
+        count_first(kind) + count_asking(kind, subs)
+    } else {
+        0
+    }
+}
+
+/// The number of the k-th step of a start-up.
+fn step_at(subs: u32, k: u32) -> u32
+    requires { subs ≤ 3 }
+    ensures { result ≡ step_at subs k }
+{
+    if k == 4 { 3 + subs } else { k }
+}
+
+/// Writes the k-th packet of the start-up under an id: its words.
+fn encode_start(kind: Kind, sub: u32, subs: u32, k: u32, id: u64, out: &mut [u64]) -> usize
+    requires some { k < length (startup kind sub subs) }
+    requires subs { subs ≤ 3 }
+    requires out { length out.old ≡ 384 }
+    ensures packet { take result out.new ≡ encode_on kind id (Starts (step_at subs k)) }
+    ensures is_packet { IsPacket (take result out.new) }
+    ensures most { result ≤ 384 }
+{
+    match kind {
+        Kind::Beat | Kind::Down => write_negotiate(kind, id, out),
+        Kind::Disk => write_start(step_at(subs, k), id, out),
+        Kind::Net => write_net_start(step_at(subs, k), id, out),
+    }
+}
+
+/// The request of a service.
+fn ic_request(ask: &Ask) -> &IcAsk
+    requires { is_some (ic_of ask.now) ≡ true }
+    ensures { ic_of ask.now ≡ Some result.now }
+{
+    let Ask::Ic(request) = ask else {
+        unreachable!()
+    };
+    request
+}
+
+/// The request of a disk.
+fn disk_request(ask: &Ask) -> &DiskRequest
+    requires { is_some (disk_of ask.now) ≡ true }
+    ensures { disk_of ask.now ≡ Some result.now }
+{
+    let Ask::Disk(request) = ask else {
+        unreachable!()
+    };
+    request
+}
+
+/// The message for an adapter.
+fn net_request(ask: &Ask) -> &Rndis
+    requires { is_some (net_of ask.now) ≡ true }
+    ensures { net_of ask.now ≡ Some result.now }
+{
+    let Ask::Net(message) = ask else {
+        unreachable!()
+    };
+    message
+}
+
+/// The reply of a disk.
+fn disk_reply(reply: &Reply) -> &DiskReply
+    requires { is_some (disk_reply_of reply.now) ≡ true }
+    ensures { disk_reply_of reply.now ≡ Some result.now }
+{
+    let Reply::Disk(reply) = reply else {
+        unreachable!()
+    };
+    reply
+}
+
+/// Writes the packet that asks this under an id: its words.
+fn encode_ask(kind: Kind, ask: &Ask, id: u64, out: &mut [u64]) -> usize
+    requires can { IsAskable kind ask.now }
+    requires out { length out.old ≡ 384 }
+    ensures packet { take result out.new ≡ encode_on kind id (Script ask.now) }
+    ensures is_packet { IsPacket (take result out.new) }
+    ensures most { result ≤ 384 }
+{
+    match kind {
+        Kind::Beat | Kind::Down => write_ask(ic_request(ask), id, out),
+        Kind::Disk => write_disk_ask(disk_request(ask), id, out),
+        Kind::Net => write_net_ask(net_request(ask), id, out),
+    }
+}
+
+/// Whether a packet is a request that has an answer.
+fn waits(kind: Kind, packet: &[u64]) -> bool
+    requires { IsPacket packet.now }
+    ensures { result ≡ ((format_of kind).is_request packet.now && waits_on kind packet.now) }
+{
+    match kind {
+        Kind::Beat | Kind::Down => is_inband(packet),
+        Kind::Disk => is_disk_request(packet),
+        Kind::Net => is_net_request(packet),
+    }
+}
+
+/// The head of a packet of which nothing is decoded, if it asks its device.
+fn plain(asks: bool) -> Option<Head>
+    ensures { MatchOption result (asks ≡ false) (λ h. (asks ≡ true) × (srb_in h ≡ None)) }
+{
+    if asks { Some(Head::Plain) } else { None }
+}
+
+/// Decodes a packet that asks the device: of a disk's, its storage packet.
+fn head(kind: Kind, packet: &[u64]) -> Option<Head>
+    requires { IsPacket packet.now }
+    ensures { MatchOption result (read_on kind packet.now ≡ None) (λ h. IsSome (read_on kind packet.now) × IsHead kind packet.now h) }
+{
+    match kind {
+        Kind::Beat | Kind::Down => plain(asks_service(kind, packet)),
+        Kind::Disk => match disk_head(packet) {
+            Some(v) => Some(Head::Srb(v)),
+            None => None,
+        },
+        Kind::Net => plain(asks_net(packet)),
+    }
+}
+
+/// The storage packet of a disk's head.
+fn srb(head: &Head) -> &Vstor
+    requires { IsSome (srb_in head.now) }
+    ensures { srb_in head.now ≡ Some result.now }
+{
+    let Head::Srb(v) = head else { unreachable!() };
+    v
+}
+
+/// What a packet with this head asks of the device.
+fn read(kind: Kind, packet: &[u64], head: &Head) -> Ask
+    requires packet { IsPacket packet.now }
+    requires head { IsHead kind packet.now head.now }
+    requires asks { IsSome (read_on kind packet.now) }
+    ensures { read_on kind packet.now ≡ Some result }
+{
+    match kind {
+        Kind::Beat | Kind::Down => Ask::Ic(read_service(kind, packet)),
+        Kind::Disk => Ask::Disk(read_disk(packet, srb(head))),
+        Kind::Net => Ask::Net(read_net(packet)),
+    }
+}
+
+/// Writes the answer to a request that asks nothing of the device, if the packet is one: its words.
+fn write_fixed_on(kind: Kind, packet: &[u64], out: &mut [u64]) -> usize
+    requires packet { IsPacket packet.now }
+    requires out { length out.old ≡ 384 }
+    ensures value { listed_packet (take result out.new) ≡ listed (answer_in ((format_of kind).fixed packet.now)) }
+    ensures written { 0 < result → IsPacket (take result out.new) }
+    ensures most { result ≤ 384 }
+{
+    match kind {
+        Kind::Beat | Kind::Down => write_service_fixed(kind, packet, out),
+        Kind::Disk => write_disk_fixed(packet, out),
+        Kind::Net => write_net_fixed(packet, out),
+    }
+}
+
+/// Writes the answer with the device's reply: its words.
+fn write_answer_on(kind: Kind, packet: &[u64], head: &Head, reply: &Reply, out: &mut [u64]) -> usize
+    requires packet { IsPacket packet.now }
+    requires head { IsHead kind packet.now head.now }
+    requires fits { (q : OneAsk) × (read_on kind packet.now ≡ Some q) × (fits_on kind q reply.now ≡ true) }
+    requires out { length out.old ≡ 384 }
+    ensures packet { take result out.new ≡ answer_on kind packet.now reply.now }
+    ensures is_packet { IsPacket (take result out.new) }
+    ensures most { result ≤ 384 }
+{
+    match kind {
+        Kind::Beat | Kind::Down => write_service_answer(kind, packet, out),
+        Kind::Disk => write_disk_answer(packet, srb(head), disk_reply(reply), out),
+        Kind::Net => write_done(packet[1], net_status(reply), out),
+    }
+}
+
+/// Whether a packet is of a type.
+fn is_type(packet: &[u64], kind: u64) -> bool
+    requires { IsPacket packet.now }
+    ensures { result ≡ (kind_of packet.now == kind) }
+{
+    packet[0] % 0x1_0000 == kind
+}
+
+/// Whether a packet of the end that asks acknowledges a message.
+fn is_ack(kind: Kind, packet: &[u64]) -> bool
+    requires { IsPacket packet.now }
+    ensures { result ≡ (format_of kind).is_ack packet.now }
+{
+    match kind {
+        Kind::Beat | Kind::Down | Kind::Disk => false,
+        Kind::Net => is_type(packet, COMPLETION),
+    }
+}
+
+/// Whether a packet of the end that serves is an answer.
+fn is_answer(kind: Kind, packet: &[u64]) -> bool
+    requires { IsPacket packet.now }
+    ensures { result ≡ (format_of kind).is_answer packet.now }
+{
+    match kind {
+        Kind::Beat | Kind::Down | Kind::Disk => true,
+        Kind::Net => is_type(packet, COMPLETION),
+    }
+}
+
+/// Whether a packet of the end that serves is a message.
+fn is_message(kind: Kind, packet: &[u64]) -> bool
+    requires { IsPacket packet.now }
+    ensures { result ≡ (format_of kind).is_message packet.now }
+{
+    match kind {
+        Kind::Beat | Kind::Down | Kind::Disk => false,
+        Kind::Net => is_type(packet, INBAND),
+    }
+}
+
+/// Writes what acknowledges a message: its words.
+fn write_ack_on(kind: Kind, packet: &[u64], out: &mut [u64]) -> usize
+    requires packet { IsPacket packet.now }
+    requires out { length out.old ≡ 384 }
+    ensures value { (format_of kind).is_message packet.now ≡ true → take result out.new ≡ (format_of kind).ack packet.now }
+    ensures written { (format_of kind).is_message packet.now ≡ true → IsPacket (take result out.new) }
+    ensures most { result ≤ 384 }
+{
+    match kind {
+        Kind::Beat | Kind::Down | Kind::Disk => 0,
+        Kind::Net => write_done(packet[1], 1, out),
+    }
+}
+
+/// Whether a message goes back besides a fixed answer.
+#[tactic(auto, using(device_formats::proofs::FormatLaws::none_fixed))]
+fn has_fixed_message_on(kind: Kind, packet: &[u64]) -> bool
+    requires { IsPacket packet.now }
+    ensures { result ≡ has_message_in ((format_of kind).fixed packet.now) }
+{
+    match kind {
+        Kind::Beat | Kind::Down | Kind::Disk => false,
+        Kind::Net => has_net_message(packet),
+    }
+}
+
+/// Writes that message, if there is one, under an id of the serving end's own: its words.
+#[tactic(auto, using(device_formats::proofs::FormatLaws::none_fixed_in))]
+fn write_fixed_message_on(kind: Kind, packet: &[u64], own: u64, out: &mut [u64]) -> usize
+    requires packet { IsPacket packet.now }
+    requires out { length out.old ≡ 384 }
+    ensures value { listed_packet (take result out.new) ≡ listed (message_in own ((format_of kind).fixed packet.now)) }
+    ensures written { 0 < result → IsPacket (take result out.new) }
+    ensures most { result ≤ 384 }
+{
+    match kind {
+        Kind::Beat | Kind::Down | Kind::Disk => 0,
+        Kind::Net => write_net_fixed_message(packet, own, out),
+    }
+}
+
+/// Whether a message came back with an adapter's reply. A reply of another device has none.
+fn has_back(reply: &Reply) -> bool
+    ensures { result ≡ is_some (or_else not_served (net_reply_of reply.now)).back }
+{
+    match reply {
+        Reply::Net { back, .. } => back.is_some(),
+        Reply::Ic(_) | Reply::Disk(_) => false,
+    }
+}
+
+/// Writes it, if one did, under an id of the serving end's own: its words.
+fn write_back(reply: &Reply, own: u64, out: &mut [u64]) -> usize
+    requires out { length out.old ≡ 384 }
+    ensures value { listed_packet (take result out.new) ≡ listed (under_own own (message_of (or_else not_served (net_reply_of reply.now)).back)) }
+    ensures written { 0 < result → IsPacket (take result out.new) }
+    ensures most { result ≤ 384 }
+{
+    match reply {
+        Reply::Net { back, .. } => write_net_message(back, own, out),
+        Reply::Ic(_) | Reply::Disk(_) => 0,
+    }
+}
+
+/// The status of an adapter's reply. A reply of another device counts as one to what isn't served.
+fn net_status(reply: &Reply) -> u32
+    ensures { result ≡ (or_else not_served (net_reply_of reply.now)).status }
+{
+    match reply {
+        Reply::Net { status, .. } => *status,
+        Reply::Ic(_) | Reply::Disk(_) => 2,
+    }
+}
+
+/// Whether a message goes back with a reply besides the answer.
+fn has_message_on(kind: Kind, packet: &[u64], reply: &Reply) -> bool
+    ensures { result ≡ is_some ((format_of kind).gives packet.now reply.now).message }
+{
+    match kind {
+        Kind::Beat | Kind::Down | Kind::Disk => false,
+        Kind::Net => has_back(reply),
+    }
+}
+
+/// Writes that message, if there is one, under an id of the serving end's own: its words.
+fn write_message_on(kind: Kind, packet: &[u64], reply: &Reply, own: u64, out: &mut [u64]) -> usize
+    requires out { length out.old ≡ 384 }
+    ensures value { listed_packet (take result out.new) ≡ listed (under_own own ((format_of kind).gives packet.now reply.now).message) }
+    ensures written { 0 < result → IsPacket (take result out.new) }
+    ensures most { result ≤ 384 }
+{
+    match kind {
+        Kind::Beat | Kind::Down | Kind::Disk => 0,
+        Kind::Net => write_back(reply, own, out),
+    }
+}
+
+/// Puts what an answer says at the end of the replies, with the message that came just before it, where one did.
+fn keep_said(kind: Kind, before: &[u64], packet: &[u64], replies: &mut Vec<Reply>)
+    requires before { before.now ≡ [] ⊎ IsPacket before.now }
+    requires packet { IsPacket packet.now }
+    requires room { vec_len replies.old < vec_capacity replies.old }
+    ensures told { replies.new.items ≡ replies.old.items ++ listed (said_on kind (packet_in before.now) packet.now) }
+    ensures one { vec_len replies.new ≤ vec_len replies.old + 1 }
+    ensures capacity { vec_capacity replies.new ≡ vec_capacity replies.old }
+{
+    match kind {
+        Kind::Beat | Kind::Down => keep_service_said(kind, packet, replies),
+        Kind::Disk => keep_disk_said(packet, replies),
+        Kind::Net => keep_net_said(before, packet, replies),
+    }
+}
+
+impl Protocol for DeviceProtocol {
+    ghost use Rattle.std.specs.Prelude.{length, map};
+    ghost use Rattle.device_formats.specs.Formats.{besides_on, format_of};
+    ghost use Rattle.device_formats.specs.ChannelScript.{asks_of};
+    ghost use Rattle.device_formats.specs.Wants.{startup};
+    ghost use Rattle.device_formats.specs.declared.want.Want.TheVariants.{Script};
+    ghost use Rattle.device_formats.proofs.FormatLaws.{keeps, may_have};
+    ghost use Rattle.device_formats.proofs.ChannelScriptLaws.{starts_within};
+    ghost use Rattle.device_protocols.specs.Heads.{IsHead};
+
+    type Ask = Want;
+
+    type Request = Ask;
+
+    type Reply = Reply;
+
+    type Head = Head;
+
+    ghost is_head = { λ s p h. IsHead s.kind p h };
+
+    ghost format = { λ s. format_of s.kind };
+
+    ghost keeps = { λ s. keeps s.kind };
+
+    ghost besides = { λ s. besides_on s.kind };
+
+    ghost may = { λ s. may_have s.kind };
+
+    ghost asks = { asks_of };
+
+    ghost starts = { λ s. length (startup s.kind s.sub s.subs) };
+
+    ghost within = { λ s. starts_within s.kind s.sub s.subs (map Script s.asks) };
+
+    fn count(&self) -> u32 {
+        count_starts(self.kind, self.sub, self.subs) + self.asks.len() as u32
+    }
+
+    fn starts(&self) -> u32 {
+        count_starts(self.kind, self.sub, self.subs)
+    }
+
+    fn besides(&self) -> bool {
+        besides_on(self.kind)
+    }
+
+    /// Each request of a script has one, which can be asked, and so has each step of a start-up but the second one of a network.
+    fn has_answer(&self, k: u32) -> bool {
+        if k < count_starts(self.kind, self.sub, self.subs) {
+            return start_answered(self.kind, step_at(self.subs, k));
+        }
+        true
+    }
+
+    fn encode(&self, k: u32, id: u64, out: &mut [u64]) -> usize {
+        let starts = count_starts(self.kind, self.sub, self.subs);
+        if k < starts {
+            return encode_start(self.kind, self.sub, self.subs, k, id, out);
+        }
+        encode_ask(self.kind, &self.asks[(k - starts) as usize], id, out)
+    }
+
+    #[tactic(auto, using(device_formats::proofs::FormatLaws::id_is))]
+    fn id(&self, packet: &[u64]) -> u64 {
+        packet[1]
+    }
+
+    fn is_waiting(&self, packet: &[u64]) -> bool {
+        waits(self.kind, packet)
+    }
+
+    fn is_ack(&self, packet: &[u64]) -> bool {
+        is_ack(self.kind, packet)
+    }
+
+    fn is_answer(&self, packet: &[u64]) -> bool {
+        is_answer(self.kind, packet)
+    }
+
+    fn is_message(&self, packet: &[u64]) -> bool {
+        is_message(self.kind, packet)
+    }
+
+    fn write_ack(&self, packet: &[u64], out: &mut [u64]) -> usize {
+        write_ack_on(self.kind, packet, out)
+    }
+
+    fn head(&self, packet: &[u64]) -> Option<Head> {
+        head(self.kind, packet)
+    }
+
+    fn read(&self, packet: &[u64], head: &Head) -> Ask {
+        read(self.kind, packet, head)
+    }
+
+    fn has_fixed_message(&self, packet: &[u64]) -> bool {
+        has_fixed_message_on(self.kind, packet)
+    }
+
+    fn write_fixed_message(&self, packet: &[u64], own: u64, out: &mut [u64]) -> usize {
+        write_fixed_message_on(self.kind, packet, own, out)
+    }
+
+    fn write_fixed(&self, packet: &[u64], out: &mut [u64]) -> usize {
+        write_fixed_on(self.kind, packet, out)
+    }
+
+    fn has_message(&self, packet: &[u64], reply: &Reply) -> bool {
+        has_message_on(self.kind, packet, reply)
+    }
+
+    fn write_message(&self, packet: &[u64], reply: &Reply, own: u64, out: &mut [u64]) -> usize {
+        write_message_on(self.kind, packet, reply, own, out)
+    }
+
+    fn write_answer(&self, packet: &[u64], head: &Head, reply: &Reply, out: &mut [u64]) -> usize {
+        write_answer_on(self.kind, packet, head, reply, out)
+    }
+
+    /// A request of the start-up asks nothing of the device.
+    fn keep_result(&self, k: u32, before: &[u64], packet: &[u64], replies: &mut Vec<Reply>) {
+        if k >= count_starts(self.kind, self.sub, self.subs) {
+            keep_said(self.kind, before, packet, replies);
+        }
+    }
+}

@@ -1,0 +1,390 @@
+//! Packets of each kind of channel against those that Linux's own structs make, and back.
+ghost use Rattle.std.specs.Prelude.{◌≡◌, ◌≤◌, length, IfOk};
+ghost use Rattle.contact.specs.declared.kind.Kind.TheVariants.{Beat, Down, Disk as DiskKind};
+
+use crate::check::check;
+use crate::said::said;
+use bus_script::{Ask, Reply};
+use channel_protocol::Protocol;
+use contact::Kind;
+use device_protocols::{DeviceProtocol, is_askable};
+use hist_lock::Machine;
+use scsi_disk::{Chunk, Disk, DiskReply, DiskRequest};
+use std::alloc::Global;
+use std::process::Abort;
+use std::test::Fail;
+use util_ic::{BeatMachine, DownMachine, IcAsk};
+use vm_page::bytes_of;
+
+/// The protocol of a channel on which this one thing is asked.
+fn protocol_of(rt: &impl Abort, alloc: Global, kind: Kind, ask: Ask) -> Result<DeviceProtocol, Fail>
+    ensures { IfOk result (λ t. t.kind ≡ kind) }
+{
+    if !is_askable(kind, &ask) {
+        panic!(rt; "it can't be asked");
+    }
+    let mut asks = Vec::with_capacity(alloc, 1)?;
+    asks.push(ask)?;
+    Ok(DeviceProtocol::make(kind, 0, 0, asks))
+}
+
+/// Wants a packet of this first word and id with these first bytes of its payload, and zeros behind them up to 64 bytes.
+fn is_packet(rt: &impl Abort, packet: &[u64], first: u64, id: u64, front: &[u8])
+    requires { length front.now ≤ 64 }
+{
+    check(rt, packet.len() >= 10);
+    check(rt, (packet[0], packet[1]) == (first, id));
+    let mut want = [0; 64];
+    want[..front.len()].copy_from_slice(front);
+    let mut bytes = [0; 64];
+    bytes_of(&packet[2..10], &mut bytes);
+    check(rt, bytes == want);
+}
+
+/// In-band data with flag 1, and a completion, both of 64 bytes: 10 words.
+const ASKS: u64 = 0x0001_000a_0002_0006;
+
+const DONE: u64 = 0x000a_0002_000b;
+
+/// The k-th packet of a disk's start-up begins with these bytes, and what comes back with those.
+fn starts(
+    rt: &impl Abort,
+    alloc: Global,
+    protocol: &DeviceProtocol,
+    k: u32,
+    asked: [u8; 14],
+    back: &[u8],
+)
+    requires { length back.now ≤ 64 }
+{
+    check(rt, protocol.count() == protocol.starts());
+    check(rt, k < protocol.starts());
+    let mut words = [0; 384];
+    let len = protocol.encode(k, 40, &mut words);
+    let packet = &words[..len];
+    is_packet(rt, packet, ASKS, 40, &asked);
+    check(
+        rt,
+        protocol.is_waiting(packet) && protocol.head(packet).is_none(),
+    );
+    let mut out = [0; 384];
+    let len = protocol.write_fixed(packet, &mut out);
+    check(rt, len > 0);
+    is_packet(rt, &out[..len], DONE, 40, back);
+    check(rt, said(rt, alloc, protocol, k, &[], &out[..len]).is_none());
+}
+
+#[test]
+fn disks_start_up(rt: HostRuntime) -> Result<(), Fail> {
+    let protocol = DeviceProtocol::make(Kind::Disk, 0, 0, Vec::with_capacity(rt.alloc(), 0)?);
+    check(&rt, protocol.starts() == 4);
+    let t = &protocol;
+    starts(
+        &rt,
+        rt.alloc(),
+        t,
+        0,
+        [7, 0, 0, 0, 1, 0, 0, 0, 0, 0, 0, 0, 0, 0],
+        &[1, 0, 0, 0, 1],
+    );
+    let version = [1, 0, 0, 0, 1, 0, 0, 0, 0, 0, 0, 0, 2, 6];
+    starts(
+        &rt,
+        rt.alloc(),
+        t,
+        1,
+        [9, 0, 0, 0, 1, 0, 0, 0, 0, 0, 0, 0, 2, 6],
+        &version,
+    );
+    // At most 3 sub-channels, flags 1, at most 4,096 bytes.
+    let most = [
+        1, 0, 0, 0, 1, 0, 0, 0, 0, 0, 0, 0, 0, 0, 0, 0, 3, 0, 0, 0, 1, 0, 0, 0, 0, 16,
+    ];
+    starts(
+        &rt,
+        rt.alloc(),
+        t,
+        2,
+        [10, 0, 0, 0, 1, 0, 0, 0, 0, 0, 0, 0, 0, 0],
+        &most,
+    );
+    starts(
+        &rt,
+        rt.alloc(),
+        t,
+        3,
+        [8, 0, 0, 0, 1, 0, 0, 0, 0, 0, 0, 0, 0, 0],
+        &[1, 0, 0, 0, 1],
+    );
+    Ok(())
+}
+
+// The first channel asks for the sub-channels in the end, and a sub-channel asks for nothing.
+#[test]
+fn disks_ask_for_sub_channels(rt: HostRuntime) -> Result<(), Fail> {
+    let first = DeviceProtocol::make(Kind::Disk, 0, 3, Vec::with_capacity(rt.alloc(), 0)?);
+    check(&rt, first.starts() == 5);
+    starts(
+        &rt,
+        rt.alloc(),
+        &first,
+        3,
+        [8, 0, 0, 0, 1, 0, 0, 0, 0, 0, 0, 0, 0, 0],
+        &[1, 0, 0, 0, 1],
+    );
+    starts(
+        &rt,
+        rt.alloc(),
+        &first,
+        4,
+        [13, 0, 0, 0, 1, 0, 0, 0, 0, 0, 0, 0, 3, 0],
+        &[1, 0, 0, 0, 1, 0, 0, 0, 0, 0, 0, 0, 3],
+    );
+    let other = DeviceProtocol::make(Kind::Disk, 2, 3, Vec::with_capacity(rt.alloc(), 0)?);
+    check(&rt, (other.count(), other.starts()) == (0, 0));
+    Ok(())
+}
+
+/// What is asked of a disk under the id 77, and what the guest reads in the answer. The request's packet stays in `words`.
+fn disk_round(
+    rt: &impl Abort,
+    alloc: Global,
+    disk: &mut Disk,
+    protocol: &DeviceProtocol,
+    words: &mut [u64],
+) -> Option<Reply>
+    requires kind { protocol.now.kind ≡ DiskKind }
+    requires words { length words.old ≡ 384 }
+{
+    check(rt, (protocol.count(), protocol.starts()) == (5, 4));
+    check(rt, protocol.has_answer(4));
+    let len = protocol.encode(4, 77, words);
+    let packet = &words[..len];
+    check(rt, protocol.id(packet) == 77);
+    check(rt, protocol.is_waiting(packet));
+    let Some(head) = protocol.head(packet) else {
+        panic!(rt; "nothing is asked")
+    };
+    let asked = protocol.read(packet, &head);
+    let Ask::Disk(request) = asked else {
+        panic!(rt; "no disk is asked")
+    };
+    let reply = Reply::Disk(disk.apply(&request));
+    let mut out = [0; 384];
+    check(rt, protocol.write_fixed(packet, &mut out) == 0);
+    let back = protocol.write_answer(packet, &head, &reply, &mut out);
+    check(rt, back > 0);
+    check(rt, protocol.id(&out[..back]) == 77);
+    said(rt, alloc, protocol, 4, &[], &out[..back])
+}
+
+/// A command for a disk with this data.
+fn command(front: [u8; 10], out: &[u8]) -> Ask
+    requires { length out.now ≤ 4096 }
+{
+    let mut cdb = [0; 16];
+    cdb[..10].copy_from_slice(&front);
+    Ask::Disk(DiskRequest {
+        cdb,
+        out: Chunk::of(out),
+    })
+}
+
+/// The protocol of a disk's channel on which this command is asked.
+fn disk_protocol(rt: &impl Abort, alloc: Global, front: [u8; 10], out: &[u8]) -> DeviceProtocol
+    requires { length out.now ≤ 4096 }
+    ensures { result.kind ≡ DiskKind }
+{
+    match protocol_of(rt, alloc, Kind::Disk, command(front, out)) {
+        Ok(protocol) => protocol,
+        Err(_) => panic!(rt; "no memory"),
+    }
+}
+
+/// What the guest reads in the answer is these bytes.
+fn gives(
+    rt: &impl Abort,
+    alloc: Global,
+    disk: &mut Disk,
+    protocol: &DeviceProtocol,
+    words: &mut [u64],
+    want: &[u8],
+)
+    requires kind { protocol.now.kind ≡ DiskKind }
+    requires words { length words.old ≡ 384 }
+{
+    match disk_round(rt, alloc, disk, protocol, words) {
+        Some(Reply::Disk(DiskReply::Good(back))) => check(rt, back.bytes() == want),
+        _ => panic!(rt; "no good reply"),
+    }
+}
+
+/// What the guest reads in the answer is the check of a block that can't be read.
+fn fails(rt: &impl Abort, alloc: Global, disk: &mut Disk, protocol: &DeviceProtocol)
+    requires { protocol.now.kind ≡ DiskKind }
+{
+    let mut words = [0; 384];
+    match disk_round(rt, alloc, disk, protocol, &mut words) {
+        Some(Reply::Disk(DiskReply::Check { key, asc, ascq })) => {
+            check(rt, (key, asc, ascq) == (3, 0x11, 0));
+        }
+        _ => panic!(rt; "no check"),
+    }
+}
+
+/// A block is written.
+fn writes(rt: &impl Abort, alloc: Global, disk: &mut Disk, protocol: &DeviceProtocol)
+    requires { protocol.now.kind ≡ DiskKind }
+{
+    let mut words = [0; 384];
+    gives(rt, alloc, disk, protocol, &mut words, &[]);
+    // 64 bytes and 512 of data are 72 words.
+    let front = [
+        3, 0, 0, 0, 1, 0, 0, 0, 0, 0, 0, 0, 52, 0, 0, 0, 0, 0, 0, 0, 10, 20, 0, 0, 0, 2, 0, 0,
+        0x2a, 0, 0, 0, 0, 3, 0, 0, 1,
+    ];
+    is_packet(rt, &words, 0x0001_004a_0002_0006, 77, &front);
+    check(rt, words[10] == 0x0909_0909_0909_0909);
+    check(rt, words[73] == 0x0909_0909_0909_0909);
+}
+
+/// The block that was written is read.
+fn reads(rt: &impl Abort, alloc: Global, disk: &mut Disk, protocol: &DeviceProtocol)
+    requires { protocol.now.kind ≡ DiskKind }
+{
+    let mut words = [0; 384];
+    gives(rt, alloc, disk, protocol, &mut words, &[9; 512]);
+}
+
+#[test]
+fn disks_write_and_read(rt: HostRuntime) -> Result<(), Fail> {
+    let mut disk = Disk::make(rt.alloc(), 64, &[5])?;
+    let write = [0x2a, 0, 0, 0, 0, 3, 0, 0, 1, 0];
+    writes(
+        &rt,
+        rt.alloc(),
+        &mut disk,
+        &disk_protocol(&rt, rt.alloc(), write, &[9; 512]),
+    );
+    let read = [0x28, 0, 0, 0, 0, 3, 0, 0, 1, 0];
+    reads(
+        &rt,
+        rt.alloc(),
+        &mut disk,
+        &disk_protocol(&rt, rt.alloc(), read, &[]),
+    );
+    let bad = [0x28, 0, 0, 0, 0, 5, 0, 0, 1, 0];
+    fails(
+        &rt,
+        rt.alloc(),
+        &mut disk,
+        &disk_protocol(&rt, rt.alloc(), bad, &[]),
+    );
+    Ok(())
+}
+
+#[test]
+fn some_commands_are_not_asked(rt: HostRuntime) {
+    let long = command([0x28, 0, 0, 0, 0, 5, 0, 0, 5, 0], &[]);
+    check(&rt, !is_askable(Kind::Disk, &long));
+    check(&rt, !is_askable(Kind::Beat, &command([0; 10], &[])));
+}
+
+/// A channel's start-up is answered, whatever else is asked.
+fn negotiates(rt: &impl Abort, alloc: Global, protocol: &DeviceProtocol) {
+    check(rt, (protocol.count(), protocol.starts()) == (2, 1));
+    let mut words = [0; 384];
+    let len = protocol.encode(0, 4, &mut words);
+    let packet = &words[..len];
+    check(
+        rt,
+        protocol.is_waiting(packet) && protocol.head(packet).is_none(),
+    );
+    let mut out = [0; 384];
+    let back = protocol.write_fixed(packet, &mut out);
+    check(rt, back > 0);
+    check(rt, protocol.id(&out[..back]) == 4);
+    check(
+        rt,
+        said(rt, alloc, protocol, 0, &[], &out[..back]).is_none(),
+    );
+}
+
+/// A heartbeat's sequence number comes back one greater.
+#[test]
+fn heartbeats(rt: HostRuntime) -> Result<(), Fail> {
+    let protocol = protocol_of(
+        &rt,
+        rt.alloc(),
+        Kind::Beat,
+        Ask::Ic(IcAsk::Beat { seq: 41 }),
+    )?;
+    negotiates(&rt, rt.alloc(), &protocol);
+    match beat_round(&rt, rt.alloc(), &protocol) {
+        Some(Reply::Ic(answer)) => check(&rt, (answer.status, answer.seq) == (0, 42)),
+        _ => panic!(rt; "no reply"),
+    }
+    Ok(())
+}
+
+/// What is asked of a heartbeat service, and what the host reads in the answer.
+fn beat_round(rt: &impl Abort, alloc: Global, protocol: &DeviceProtocol) -> Option<Reply>
+    requires { protocol.now.kind ≡ Beat }
+{
+    let mut words = [0; 384];
+    check(rt, protocol.count() == 2);
+    let len = protocol.encode(1, 5, &mut words);
+    let packet = &words[..len];
+    let Some(head) = protocol.head(packet) else {
+        panic!(rt; "nothing is asked")
+    };
+    let asked = protocol.read(packet, &head);
+    let Ask::Ic(ask) = asked else {
+        panic!(rt; "a disk is asked")
+    };
+    let reply = Reply::Ic(BeatMachine::make().apply(&ask));
+    let mut out = [0; 384];
+    let back = protocol.write_answer(packet, &head, &reply, &mut out);
+    check(rt, back > 0);
+    check(rt, protocol.id(&out[..back]) == 5);
+    said(rt, alloc, protocol, 1, &[], &out[..back])
+}
+
+/// A guest refuses to hibernate.
+#[test]
+fn shutdowns(rt: HostRuntime) -> Result<(), Fail> {
+    let ask = Ask::Ic(IcAsk::Down {
+        reason: 1,
+        timeout: 2,
+        flags: 4,
+    });
+    let protocol = protocol_of(&rt, rt.alloc(), Kind::Down, ask)?;
+    negotiates(&rt, rt.alloc(), &protocol);
+    match down_round(&rt, rt.alloc(), &protocol) {
+        Some(Reply::Ic(answer)) => check(&rt, answer.status == 0x8000_4005),
+        _ => panic!(rt; "no reply"),
+    }
+    Ok(())
+}
+
+/// What is asked of a shutdown service, and what the host reads in the answer.
+fn down_round(rt: &impl Abort, alloc: Global, protocol: &DeviceProtocol) -> Option<Reply>
+    requires { protocol.now.kind ≡ Down }
+{
+    let mut words = [0; 384];
+    check(rt, protocol.count() == 2);
+    let len = protocol.encode(1, 5, &mut words);
+    let packet = &words[..len];
+    let Some(head) = protocol.head(packet) else {
+        panic!(rt; "nothing is asked")
+    };
+    let asked = protocol.read(packet, &head);
+    let Ask::Ic(ask) = asked else {
+        panic!(rt; "a disk is asked")
+    };
+    let reply = Reply::Ic(DownMachine::make().apply(&ask));
+    let mut out = [0; 384];
+    let back = protocol.write_answer(packet, &head, &reply, &mut out);
+    check(rt, back > 0);
+    said(rt, alloc, protocol, 1, &[], &out[..back])
+}

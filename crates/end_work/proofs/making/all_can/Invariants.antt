@@ -1,7 +1,0 @@
-use Rattle.std.proofs.Common.{take}
-use Rattle.std.specs.List.{AllByRecursion}
-use Rattle.bus_speech.specs.Wants.{IsAskable}
-use Rattle.end_work.proofs.making.all_can.Given as goal
-
-abbrev pub invariant-loop-ask : goal.invariant-loop-ask
-invariant-loop-ask l = AllByRecursion (IsAskable l.kind) (take l.ask-index l.asks)

@@ -1,5 +1,0 @@
-use Rattle.work_model.proofs.Acking as laws
-use Rattle.work_model.proofs.laws.few_open.Goals as goal
-
-pub returns : goal.returns
-returns g c = laws.few_own

@@ -1,5 +1,0 @@
-use Rattle.work_model.proofs.Lifting as laws
-use Rattle.work_model.proofs.lifts.keeps_lifted.Goals as goal
-
-pub returns : goal.returns
-returns g c = laws.lifts
