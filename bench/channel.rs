@@ -1,25 +1,24 @@
-//! The channels of the plain loads: two rings on atomic words each, and an end that may sleep. Each request is a packet of a descriptor, a storage packet and the
-//! data.
+//! The channels of the plain loads, two rings on atomic words each, and the loops of both ends. Each request is a packet of a descriptor, a storage packet and the data.
 
 use std::sync::atomic::{AtomicBool, AtomicU64, AtomicUsize, Ordering::SeqCst};
 use std::sync::OnceLock;
 use std::thread::{self, Thread};
 
 pub const CHANNELS: usize = 4;
-pub const WINDOW: usize = 4;
+const WINDOW: usize = 4;
 pub const BLOCK: usize = 512;
-pub const CELLS: usize = 512;
-pub const HEAD: usize = 10; // words of the descriptor and of the storage packet
+const CELLS: usize = 512;
+const HEAD: usize = 10; // words of the descriptor and of the storage packet
 
 /// One ring: cells, and the indices of its producer and its consumer, which count words.
-pub struct Ring {
-    pub cells: Vec<AtomicU64>,
-    pub write: AtomicUsize,
-    pub read: AtomicUsize,
+struct Ring {
+    cells: Vec<AtomicU64>,
+    write: AtomicUsize,
+    read: AtomicUsize,
 }
 
 impl Ring {
-    pub fn new() -> Ring {
+    fn new() -> Ring {
         Ring {
             cells: (0..CELLS).map(|_| AtomicU64::new(0)).collect(),
             write: AtomicUsize::new(0),
@@ -27,12 +26,12 @@ impl Ring {
         }
     }
 
-    pub fn used(write: usize, read: usize) -> usize {
+    fn used(write: usize, read: usize) -> usize {
         (write + CELLS - read) % CELLS
     }
 
     /// Sends a packet and its trailer, where there is room.
-    pub fn send(&self, packet: &[u64]) -> bool {
+    fn send(&self, packet: &[u64]) -> bool {
         let (write, read) = (self.write.load(SeqCst), self.read.load(SeqCst));
         if Ring::used(write, read) + packet.len() + 1 >= CELLS {
             return false;
@@ -46,7 +45,7 @@ impl Ring {
     }
 
     /// Takes the next packet, where there is one.
-    pub fn take(&self, packet: &mut Vec<u64>) -> bool {
+    fn take(&self, packet: &mut Vec<u64>) -> bool {
         let (write, read) = (self.write.load(SeqCst), self.read.load(SeqCst));
         if write == read {
             return false;
@@ -65,14 +64,14 @@ impl Ring {
 
 /// An end that may sleep, and the thread to wake then.
 #[derive(Default)]
-pub struct Sleeper {
+struct Sleeper {
     asleep: AtomicBool,
     thread: OnceLock<Thread>,
 }
 
 impl Sleeper {
     /// Sleeps, unless a second look finds something to do.
-    pub fn sleep(&self, busy: impl Fn() -> bool) {
+    fn sleep(&self, busy: impl Fn() -> bool) {
         self.thread.get_or_init(thread::current);
         self.asleep.store(true, SeqCst);
         if !busy() {
@@ -81,7 +80,7 @@ impl Sleeper {
         self.asleep.store(false, SeqCst);
     }
 
-    pub fn wake(&self) {
+    fn wake(&self) {
         if self.asleep.load(SeqCst) {
             self.thread.get().unwrap().unpark();
         }
@@ -89,11 +88,11 @@ impl Sleeper {
 }
 
 pub struct Channel {
-    pub to_host: Ring,
-    pub to_guest: Ring,
-    pub guest: Sleeper,
-    pub host: Sleeper,
-    pub over: AtomicBool,
+    to_host: Ring,
+    to_guest: Ring,
+    guest: Sleeper,
+    host: Sleeper,
+    over: AtomicBool,
 }
 
 impl Channel {
@@ -122,4 +121,61 @@ pub fn packet(kind: u16, id: u64, block: u32, writes: bool, data: &[u8]) -> Vec<
 
 pub fn data_of(words: &[u64]) -> Vec<u8> {
     words[HEAD..].iter().flat_map(|w| w.to_le_bytes()).collect()
+}
+
+/// The host's end: serves each request, whose packet `answer` makes the answer of, until the guest is done.
+pub fn serve(channel: &Channel, mut answer: impl FnMut(&[u64]) -> Vec<u64>) {
+    let mut words = Vec::new();
+    let mut owed: Option<Vec<u64>> = None;
+    loop {
+        if let Some(answer) = owed.take() {
+            if !channel.to_guest.send(&answer) {
+                owed = Some(answer);
+                channel.host.sleep(|| {
+                    let ring = &channel.to_guest;
+                    Ring::used(ring.write.load(SeqCst), ring.read.load(SeqCst)) + HEAD + BLOCK / 8 + 1 < CELLS
+                });
+                continue;
+            }
+            channel.guest.wake();
+        }
+        if channel.to_host.take(&mut words) {
+            channel.guest.wake();
+            owed = Some(answer(&words));
+        } else if channel.over.load(SeqCst) {
+            return;
+        } else {
+            let ring = &channel.to_host;
+            channel.host.sleep(|| ring.write.load(SeqCst) != ring.read.load(SeqCst) || channel.over.load(SeqCst));
+        }
+    }
+}
+
+/// The guest's end: sends so many requests, of which at most a window are open at once, and settles each by its answer. `request` makes the packet of each.
+pub fn ask(channel: &Channel, count: usize, request: impl Fn(usize) -> Vec<u64>, mut settle: impl FnMut(&[u64])) {
+    let mut words = Vec::new();
+    let (mut next, mut settled) = (0, 0);
+    while settled < count {
+        let mut moved = false;
+        while next < count && next - settled < WINDOW {
+            if !channel.to_host.send(&request(next)) {
+                break;
+            }
+            channel.host.wake();
+            next += 1;
+            moved = true;
+        }
+        while channel.to_guest.take(&mut words) {
+            channel.host.wake();
+            settle(&words);
+            settled += 1;
+            moved = true;
+        }
+        if !moved {
+            let ring = &channel.to_guest;
+            channel.guest.sleep(|| ring.write.load(SeqCst) != ring.read.load(SeqCst));
+        }
+    }
+    channel.over.store(true, SeqCst);
+    channel.host.wake();
 }

@@ -4,8 +4,7 @@
 
 mod channel;
 
-use channel::{data_of, packet, Channel, Ring, BLOCK, CELLS, CHANNELS, HEAD, WINDOW};
-use std::sync::atomic::Ordering::SeqCst;
+use channel::{ask, data_of, packet, serve, Channel, BLOCK, CHANNELS};
 use std::sync::Mutex;
 use std::thread;
 
@@ -29,81 +28,34 @@ struct Disk {
     history: Vec<Entry>,
 }
 
-/// The host's end: serves each request under the disk's lock, and answers it.
-fn serve(channel: &Channel, seat: usize, disk: &Mutex<Disk>) {
-    let mut words = Vec::new();
-    let mut owed: Option<Vec<u64>> = None;
-    loop {
-        if let Some(answer) = owed.take() {
-            if !channel.to_guest.send(&answer) {
-                owed = Some(answer);
-                channel.host.sleep(|| {
-                    let ring = &channel.to_guest;
-                    Ring::used(ring.write.load(SeqCst), ring.read.load(SeqCst)) + HEAD + BLOCK / 8 + 1 < CELLS
-                });
-                continue;
-            }
-            channel.guest.wake();
-        }
-        if channel.to_host.take(&mut words) {
-            channel.guest.wake();
-            let data = data_of(&words);
-            let ask = Ask {
-                block: words[5] as u32,
-                fill: data.first().copied(),
-            };
-            let back = {
-                let mut disk = disk.lock().unwrap();
-                let back = if data.is_empty() {
-                    disk.blocks[ask.block as usize].to_vec()
-                } else {
-                    disk.blocks[ask.block as usize].copy_from_slice(&data);
-                    Vec::new()
-                };
-                let data = if data.is_empty() { back.clone() } else { data };
-                disk.history.push(Entry { seat, ask, data });
-                back
-            };
-            owed = Some(packet(11, words[1], ask.block, ask.fill.is_some(), &back));
-        } else if channel.over.load(SeqCst) {
-            return;
-        } else {
-            let ring = &channel.to_host;
-            channel.host.sleep(|| ring.write.load(SeqCst) != ring.read.load(SeqCst) || channel.over.load(SeqCst));
-        }
-    }
+/// The answer to a request: it is served under the disk's lock, which keeps it.
+fn serve_request(disk: &Mutex<Disk>, seat: usize, words: &[u64]) -> Vec<u64> {
+    let data = data_of(words);
+    let ask = Ask {
+        block: words[5] as u32,
+        fill: data.first().copied(),
+    };
+    let mut disk = disk.lock().unwrap();
+    let back = if data.is_empty() {
+        disk.blocks[ask.block as usize].to_vec()
+    } else {
+        disk.blocks[ask.block as usize].copy_from_slice(&data);
+        Vec::new()
+    };
+    let data = if data.is_empty() { back.clone() } else { data };
+    disk.history.push(Entry { seat, ask, data });
+    drop(disk);
+    packet(11, words[1], ask.block, ask.fill.is_some(), &back)
 }
 
-/// The guest's end: has at most a window of requests open, and settles each by its answer. What came back, request by request.
-fn ask(channel: &Channel, asks: &[Ask]) -> Vec<Vec<u8>> {
+/// What comes back of each of these requests.
+fn ask_all(channel: &Channel, asks: &[Ask]) -> Vec<Vec<u8>> {
     let mut back = vec![Vec::new(); asks.len()];
-    let mut words = Vec::new();
-    let (mut next, mut settled) = (0, 0);
-    while settled < asks.len() {
-        let mut moved = false;
-        while next < asks.len() && next - settled < WINDOW {
-            let ask = asks[next];
-            let data = ask.fill.map_or(Vec::new(), |fill| vec![fill; BLOCK]);
-            if !channel.to_host.send(&packet(6, next as u64, ask.block, ask.fill.is_some(), &data)) {
-                break;
-            }
-            channel.host.wake();
-            next += 1;
-            moved = true;
-        }
-        while channel.to_guest.take(&mut words) {
-            channel.host.wake();
-            back[words[1] as usize] = data_of(&words);
-            settled += 1;
-            moved = true;
-        }
-        if !moved {
-            let ring = &channel.to_guest;
-            channel.guest.sleep(|| ring.write.load(SeqCst) != ring.read.load(SeqCst));
-        }
-    }
-    channel.over.store(true, SeqCst);
-    channel.host.wake();
+    let request = |k: usize| {
+        let data = asks[k].fill.map_or(Vec::new(), |fill| vec![fill; BLOCK]);
+        packet(6, k as u64, asks[k].block, asks[k].fill.is_some(), &data)
+    };
+    ask(channel, asks.len(), request, |words| back[words[1] as usize] = data_of(words));
     back
 }
 
@@ -113,9 +65,9 @@ fn phase(disk: &Mutex<Disk>, asks: &[Ask]) -> Vec<Vec<u8>> {
     let dealt: Vec<Vec<Ask>> = (0..CHANNELS).map(|c| asks.iter().skip(c).step_by(CHANNELS).copied().collect()).collect();
     thread::scope(|scope| {
         for (seat, channel) in channels.iter().enumerate() {
-            scope.spawn(move || serve(channel, seat, disk));
+            scope.spawn(move || serve(channel, |words| serve_request(disk, seat, words)));
         }
-        let guests: Vec<_> = channels.iter().zip(&dealt).map(|(channel, asks)| scope.spawn(move || ask(channel, asks))).collect();
+        let guests: Vec<_> = channels.iter().zip(&dealt).map(|(channel, asks)| scope.spawn(move || ask_all(channel, asks))).collect();
         guests.into_iter().flat_map(|guest| guest.join().unwrap()).collect()
     })
 }

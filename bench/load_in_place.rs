@@ -3,8 +3,7 @@
 
 mod channel;
 
-use channel::{data_of, packet, Channel, Ring, BLOCK, CELLS, CHANNELS, HEAD, WINDOW};
-use std::sync::atomic::Ordering::SeqCst;
+use channel::{ask, data_of, packet, serve, Channel, BLOCK, CHANNELS};
 use std::sync::Mutex;
 use std::thread;
 
@@ -73,73 +72,26 @@ impl Disk {
     }
 }
 
-/// The host's end: serves each request under the disk's lock, and answers it.
-fn serve(channel: &Channel, seat: usize, disk: &Mutex<Disk>) {
-    let mut words = Vec::new();
-    let mut owed: Option<Vec<u64>> = None;
-    loop {
-        if let Some(answer) = owed.take() {
-            if !channel.to_guest.send(&answer) {
-                owed = Some(answer);
-                channel.host.sleep(|| {
-                    let ring = &channel.to_guest;
-                    Ring::used(ring.write.load(SeqCst), ring.read.load(SeqCst)) + HEAD + BLOCK / 8 + 1 < CELLS
-                });
-                continue;
-            }
-            channel.guest.wake();
-        }
-        if channel.to_host.take(&mut words) {
-            channel.guest.wake();
-            let ask = Ask {
-                block: words[5] as u32,
-                out: Chunk::of(&data_of(&words)),
-            };
-            let reply = {
-                let mut disk = disk.lock().unwrap();
-                let reply = disk.apply(&ask);
-                disk.history.push(Entry { seat, ask, reply });
-                reply
-            };
-            owed = Some(packet(11, words[1], ask.block, ask.out.len != 0, reply.bytes()));
-        } else if channel.over.load(SeqCst) {
-            return;
-        } else {
-            let ring = &channel.to_host;
-            channel.host.sleep(|| ring.write.load(SeqCst) != ring.read.load(SeqCst) || channel.over.load(SeqCst));
-        }
-    }
+/// The answer to a request: it is served under the disk's lock, which keeps it.
+fn serve_request(disk: &Mutex<Disk>, seat: usize, words: &[u64]) -> Vec<u64> {
+    let ask = Ask {
+        block: words[5] as u32,
+        out: Chunk::of(&data_of(words)),
+    };
+    let reply = {
+        let mut disk = disk.lock().unwrap();
+        let reply = disk.apply(&ask);
+        disk.history.push(Entry { seat, ask, reply });
+        reply
+    };
+    packet(11, words[1], ask.block, ask.out.len != 0, reply.bytes())
 }
 
-/// The guest's end: has at most a window of requests open, and settles each by its answer. What came back, request by request.
-fn ask(channel: &Channel, asks: Vec<Ask>) -> Vec<Chunk> {
+/// The replies to these requests.
+fn ask_all(channel: &Channel, asks: Vec<Ask>) -> Vec<Chunk> {
     let mut back = Vec::with_capacity(asks.len());
-    let mut words = Vec::new();
-    let (mut next, mut settled) = (0, 0);
-    while settled < asks.len() {
-        let mut moved = false;
-        while next < asks.len() && next - settled < WINDOW {
-            let ask = &asks[next];
-            if !channel.to_host.send(&packet(6, next as u64, ask.block, ask.out.len != 0, ask.out.bytes())) {
-                break;
-            }
-            channel.host.wake();
-            next += 1;
-            moved = true;
-        }
-        while channel.to_guest.take(&mut words) {
-            channel.host.wake();
-            back.push(Chunk::of(&data_of(&words)));
-            settled += 1;
-            moved = true;
-        }
-        if !moved {
-            let ring = &channel.to_guest;
-            channel.guest.sleep(|| ring.write.load(SeqCst) != ring.read.load(SeqCst));
-        }
-    }
-    channel.over.store(true, SeqCst);
-    channel.host.wake();
+    let request = |k: usize| packet(6, k as u64, asks[k].block, asks[k].out.len != 0, asks[k].out.bytes());
+    ask(channel, asks.len(), request, |words| back.push(Chunk::of(&data_of(words))));
     back
 }
 
@@ -150,9 +102,9 @@ fn phase(disk: &Mutex<Disk>, lines: &[Line], results: &mut Vec<LineResult>) {
     disk.lock().unwrap().history.reserve(lines.len());
     let back: Vec<Vec<Chunk>> = thread::scope(|scope| {
         for (seat, channel) in channels.iter().enumerate() {
-            scope.spawn(move || serve(channel, seat, disk));
+            scope.spawn(move || serve(channel, |words| serve_request(disk, seat, words)));
         }
-        let guests: Vec<_> = channels.iter().zip(dealt).map(|(channel, asks)| scope.spawn(move || ask(channel, asks))).collect();
+        let guests: Vec<_> = channels.iter().zip(dealt).map(|(channel, asks)| scope.spawn(move || ask_all(channel, asks))).collect();
         guests.into_iter().map(|guest| guest.join().unwrap()).collect()
     });
     let mut replies: Vec<_> = back.into_iter().map(Vec::into_iter).collect();
