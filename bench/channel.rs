@@ -179,3 +179,16 @@ pub fn ask(channel: &Channel, count: usize, request: impl Fn(usize) -> Vec<u64>,
     channel.over.store(true, SeqCst);
     channel.host.wake();
 }
+
+/// One phase: a channel for each of these lists of requests, with a host's and a guest's thread. What each guest gives, in order.
+pub fn run_phase<A: Send, B: Send>(dealt: Vec<A>, host: impl Fn(&Channel, usize) + Sync, guest: impl Fn(&Channel, A) -> B + Sync) -> Vec<B> {
+    let channels: Vec<Channel> = dealt.iter().map(|_| Channel::new()).collect();
+    let (host, guest) = (&host, &guest);
+    thread::scope(|scope| {
+        for (seat, channel) in channels.iter().enumerate() {
+            scope.spawn(move || host(channel, seat));
+        }
+        let guests: Vec<_> = channels.iter().zip(dealt).map(|(channel, asks)| scope.spawn(move || guest(channel, asks))).collect();
+        guests.into_iter().map(|guest| guest.join().unwrap()).collect()
+    })
+}

@@ -4,9 +4,8 @@
 
 mod channel;
 
-use channel::{ask, data_of, packet, serve, Channel, BLOCK, CHANNELS};
+use channel::{ask, data_of, packet, run_phase, serve, Channel, BLOCK, CHANNELS};
 use std::sync::Mutex;
-use std::thread;
 
 /// A request: its block, and what fills it where it writes.
 #[derive(Clone, Copy)]
@@ -49,7 +48,7 @@ fn serve_request(disk: &Mutex<Disk>, seat: usize, words: &[u64]) -> Vec<u64> {
 }
 
 /// What comes back of each of these requests.
-fn ask_all(channel: &Channel, asks: &[Ask]) -> Vec<Vec<u8>> {
+fn ask_all(channel: &Channel, asks: Vec<Ask>) -> Vec<Vec<u8>> {
     let mut back = vec![Vec::new(); asks.len()];
     let request = |k: usize| {
         let data = asks[k].fill.map_or(Vec::new(), |fill| vec![fill; BLOCK]);
@@ -61,15 +60,9 @@ fn ask_all(channel: &Channel, asks: &[Ask]) -> Vec<Vec<u8>> {
 
 /// One phase: the requests are dealt to the channels in turn, and each channel has two threads.
 fn phase(disk: &Mutex<Disk>, asks: &[Ask]) -> Vec<Vec<u8>> {
-    let channels: Vec<Channel> = (0..CHANNELS).map(|_| Channel::new()).collect();
     let dealt: Vec<Vec<Ask>> = (0..CHANNELS).map(|c| asks.iter().skip(c).step_by(CHANNELS).copied().collect()).collect();
-    thread::scope(|scope| {
-        for (seat, channel) in channels.iter().enumerate() {
-            scope.spawn(move || serve(channel, |words| serve_request(disk, seat, words)));
-        }
-        let guests: Vec<_> = channels.iter().zip(&dealt).map(|(channel, asks)| scope.spawn(move || ask_all(channel, asks))).collect();
-        guests.into_iter().flat_map(|guest| guest.join().unwrap()).collect()
-    })
+    let host = |channel: &Channel, seat| serve(channel, |words| serve_request(disk, seat, words));
+    run_phase(dealt, host, ask_all).into_iter().flatten().collect()
 }
 
 fn main() {

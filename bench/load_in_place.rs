@@ -3,9 +3,8 @@
 
 mod channel;
 
-use channel::{ask, data_of, packet, serve, Channel, BLOCK, CHANNELS};
+use channel::{ask, data_of, packet, run_phase, serve, Channel, BLOCK, CHANNELS};
 use std::sync::Mutex;
-use std::thread;
 
 /// At most 4,096 bytes, held in place.
 #[derive(Clone, Copy)]
@@ -97,16 +96,10 @@ fn ask_all(channel: &Channel, asks: Vec<Ask>) -> Vec<Chunk> {
 
 /// One phase: the requests are dealt to the channels in turn, each channel has two threads, and the outcomes stand in the order of the lines.
 fn phase(disk: &Mutex<Disk>, lines: &[Line], results: &mut Vec<LineResult>) {
-    let channels: Vec<Channel> = (0..CHANNELS).map(|_| Channel::new()).collect();
     let dealt: Vec<Vec<Ask>> = (0..CHANNELS).map(|c| lines.iter().skip(c).step_by(CHANNELS).map(|line| line.ask).collect()).collect();
     disk.lock().unwrap().history.reserve(lines.len());
-    let back: Vec<Vec<Chunk>> = thread::scope(|scope| {
-        for (seat, channel) in channels.iter().enumerate() {
-            scope.spawn(move || serve(channel, |words| serve_request(disk, seat, words)));
-        }
-        let guests: Vec<_> = channels.iter().zip(dealt).map(|(channel, asks)| scope.spawn(move || ask_all(channel, asks))).collect();
-        guests.into_iter().map(|guest| guest.join().unwrap()).collect()
-    });
+    let host = |channel: &Channel, seat| serve(channel, |words| serve_request(disk, seat, words));
+    let back = run_phase(dealt, host, ask_all);
     let mut replies: Vec<_> = back.into_iter().map(Vec::into_iter).collect();
     for i in 0..lines.len() {
         results.push(LineResult {
