@@ -13,3 +13,4 @@ pub mod Amounts
 pub mod Ends
 pub mod Example
 pub mod Lifting
+pub mod Carrying

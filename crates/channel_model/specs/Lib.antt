@@ -9,3 +9,4 @@ pub mod Roles
 pub mod Workers
 pub mod Amounts
 pub mod Lift
+pub mod Carried

@@ -1,42 +1,137 @@
 -- An end that sleeps or wakes keeps what its worker knows of it.
 use Rattle.std.proofs.Common.{◌≡◌, ◌≤◌, ◌+◌, ◌*◌, ℕ, zero, suc, List, [], ◌∷◌, ◌++◌, length, Option, Some, None, Bool, true, false, cond, eqb, refl, sym, ap, ◌∙◌, subst, arith, length-append}
-use Rattle.std.specs.Prelude.{slice_get, not, leb, ltb, Result, is_ok}
+use Rattle.std.specs.Prelude.{slice_get, not, leb, ltb, Result, Ok, Err, is_some}
 use Rattle.std.proofs.lemmas.Bool.Decides.{nat_tests}
+use Rattle.chan_run.specs.declared.event.Event.{Event}
 use Rattle.chan_run.specs.Runs.{got_of, has_marked}
 use Rattle.ring_machine.specs.declared.last.Armed.{Armed}
 use Rattle.ring_machine.specs.declared.last.Armed.TheVariants.{Asleep, Work}
 use Rattle.ring_machine.specs.declared.machine.Ending.{Ending}
 use Rattle.ring_machine.specs.declared.machine.Ending.TheVariants.{FellAsleep, FoundWork, NoSignal, Woke, Full, BadPeer, SentQuiet, SentRaised}
-use Rattle.ring_machine.specs.Endings.{is_asleep, is_dozed, want_of, send_answer, is_honest_send}
+use Rattle.ring_machine.specs.Endings.{Leaves, LeavesBy, is_asleep, is_dozed, want_of, send_answer, is_honest_send}
 use Rattle.ring_machine.specs.declared.last.Signalled.{Signalled}
 use Rattle.ring_machine.specs.declared.last.SendRefusal.{SendRefusal}
+use Rattle.ring_machine.specs.declared.last.SendRefusal.TheVariants.{Full as SendFull}
+use Rattle.channel_port.specs.declared.found.Tried.{Tried}
+use Rattle.channel_port.specs.declared.found.Tried.TheVariants.{Sent as TriedSent, Full as TriedFull, Broken as TriedBroken}
 use Rattle.ring_core.specs.Seen.{Seen}
 use Rattle.ring_machine.specs.declared.machine.Machine.{Machine}
 use Rattle.ring_machine.specs.declared.machine.Stage.{Stage}
 use Rattle.ring_machine.specs.declared.machine.Stage.TheVariants.{Idle, Stopped, SendRead, SendCell, SendWrite, SendMask, SendLook, SendRaise, ArmPending, ArmMask, ArmWrite, ArmRead, ArmMark, ArmUndoMask, ArmUndoPending, PollSignal, PollMask, PollPending, MarkStore, MarkRaise}
 use Rattle.ring_machine.specs.declared.state.EndState.{EndState}
 use Rattle.ring_machine.specs.Places.{low, free, is_index, cell_of}
-use Rattle.ring_machine.specs.States.{afters, entered}
-use Rattle.ring_machine.specs.EndCalls.{Arm, Poll}
-use Rattle.ring_machine.specs.Steps.{arm_begun, call_by, fed_at, finds_room, mark_begun, poll_begun, send_begun}
+use Rattle.ring_machine.specs.States.{afters, entered, past_of}
+use Rattle.ring_machine.specs.EndCalls.{Arm, Poll, Send}
+use Rattle.ring_machine.specs.Steps.{is_broken, is_busy_at, is_sent, arm_begun, call_by, fed_at, finds_room, mark_begun, poll_begun, send_begun}
 use Rattle.ring_machine.proofs.Sound.{at_cond}
 use Rattle.ring_core.specs.declared.told.Told.{Told}
 use Rattle.ring_core.specs.Told.{Memory, Ran}
-use Rattle.ring_seat.specs.declared.table_seat.TableSeat.{TableSeat}
-use Rattle.ring_seat.specs.Sleeping.{Sleeps}
-use Rattle.ring_seat.specs.Seats.{new_end}
-use Rattle.channel_port.specs.Line.{IsLine, armed_by, look_of, polled_by}
+use Rattle.end_sleep.proofs.Telling.{tells_on, told_of}
+use Rattle.end_sleep.specs.Sleeping.{Sleeps}
+use Rattle.channel_port.specs.Line.{IsLine, Tries, new_end, past_tried, tried_of, armed_by, look_of, polled_by}
 
-pub slept_line : (old new : Seen TableSeat) → Sleeps old new → old.state.machine.marked ≡ false → new.state.machine.marked ≡ false → IsLine old → IsLine new
-slept_line old new s before after h = record {
-  idle = s.idle;
+pub slept_line : {S C : Type 0} (channel : S → C) (told : S → Option Told) (old new : Seen S) → Sleeps channel told old new → old.state.machine.marked ≡ false → new.state.machine.marked ≡ false → IsLine told old → IsLine told new
+slept_line channel told old new s before after h = record {
+  rests = ap is_busy_at s.idle;
+  dozes = λ _. s.idle;
+  honest = λ _. s.idle;
   got = ap got_of s.past ∙ (h.got ∙ sym s.kept.got);
   packets = λ i p e. h.packets i p (ap (λ l. slice_get l i) (sym s.kept.got) ∙ e);
   committed = s.start ∙ (h.committed ∙ sym s.read);
   mark = after ∙ (sym before ∙ (h.mark ∙ ap has_marked (sym s.past)));
-  size = subst (λ n. (512 ≤ n) × (n ≤ 8192)) (sym s.cells) h.size;
+  size = subst (λ n. (512 ≤ n) × (n ≤ 16777216)) (sym s.cells) h.size;
   bare = ap (λ k. k.count) s.kept.pages ∙ h.bare;
 }
+
+-- a send adds nothing that came, and no mark
+sent_got : (how : Ending) (saw : Bool) (p : List ℕ) (past : List (Event (List ℕ))) → call_by how ≡ Send → got_of (past_of how saw p past) ≡ got_of past
+sent_got SentQuiet saw p past e = refl
+sent_got SentRaised saw p past e = refl
+sent_got Full saw p past e = refl
+sent_got BadPeer saw p past e = refl
+sent_got _ saw p past e = absurd (cc)
+
+sent_mark : (how : Ending) (saw : Bool) (p : List ℕ) (past : List (Event (List ℕ))) → call_by how ≡ Send → has_marked (past_of how saw p past) ≡ has_marked past
+sent_mark SentQuiet saw p past e = refl
+sent_mark SentRaised saw p past e = refl
+sent_mark Full saw p past e = refl
+sent_mark BadPeer saw p past e = refl
+sent_mark _ saw p past e = absurd (cc)
+
+rests_by : (b : Bool) → is_busy_at (cond b Stopped Idle) ≡ false
+rests_by true = refl
+rests_by false = refl
+
+awake_dozes : {X : Type 0} (b : Bool) → b ≡ false → b ≡ true → X
+awake_dozes b e f = absurd (cc)
+
+-- after a send
+pub sent_line : {S : Type 0} (told : S → Option Told) (old new : Seen S) (p : List ℕ) → is_some (told new.seat) ≡ is_some (told old.seat) → ((u : Told) → told old.seat ≡ Some u → new.state.machine.stage ≡ Idle)
+    → Leaves old.state.machine new.state.machine → call_by new.state.machine.ended ≡ Send
+    → LeavesBy Send old.state.machine new.state.machine → new.state.past ≡ past_of new.state.machine.ended new.state.machine.saw p old.state.past → new.state.got ≡ old.state.got → new.state.machine.cells ≡ old.state.machine.cells
+    → new.state.pages.count ≡ old.state.pages.count → old.state.machine.marked ≡ false → IsLine told old → IsLine told new
+sent_line told old new p tells honest leaves call after past got cells count unmarked h = record {
+  rests = ap is_busy_at leaves.stage ∙ rests_by (is_broken new.state.machine.ended);
+  dozes = λ e. awake_dozes new.state.machine.asleep (after.awake (λ e. cc) (λ e. cc)) e;
+  honest = λ e. let o = told_of (told old.seat) (sym tells ∙ e) in honest o.0 o.1;
+  got = ap got_of past ∙ (sent_got new.state.machine.ended new.state.machine.saw p old.state.past call ∙ (h.got ∙ sym got));
+  packets = λ i q e. h.packets i q (ap (λ l. slice_get l i) (sym got) ∙ e);
+  committed = after.start (λ e. cc) ∙ (h.committed ∙ sym (after.read (λ e. cc)));
+  mark = after.unmarked (λ e. cc) ∙ (sym unmarked ∙ (h.mark ∙ sym (ap has_marked past ∙ sent_mark new.state.machine.ended new.state.machine.saw p old.state.past call)));
+  size = subst (λ n. (512 ≤ n) × (n ≤ 16777216)) (sym cells) h.size;
+  bare = count ∙ h.bare;
+}
+
+abbrev tried_stage : Tried → Stage
+tried_stage TriedBroken = Stopped
+tried_stage _ = Idle
+
+-- how a send ended, by its answer
+pub tried_past : (how : Ending) (m : Machine) (saw : Bool) (p : List ℕ) (past : List (Event (List ℕ))) (r : Result Signalled SendRefusal) → call_by how ≡ Send → r ≡ send_answer how m → past_of how saw p past ≡ past_tried (tried_of r) p past
+tried_past SentQuiet m saw p past r call is = ap (λ x. past_tried (tried_of x) p past) (sym is)
+tried_past SentRaised m saw p past r call is = ap (λ x. past_tried (tried_of x) p past) (sym is)
+tried_past Full m saw p past r call is = ap (λ x. past_tried (tried_of x) p past) (sym is)
+tried_past BadPeer m saw p past r call is = ap (λ x. past_tried (tried_of x) p past) (sym is)
+tried_past _ m saw p past r call is = absurd (cc)
+
+stage_tried : (how : Ending) (m : Machine) (r : Result Signalled SendRefusal) → call_by how ≡ Send → r ≡ send_answer how m → cond (is_broken how) Stopped Idle ≡ tried_stage (tried_of r)
+stage_tried SentQuiet m r call is = ap (λ x. tried_stage (tried_of x)) (sym is)
+stage_tried SentRaised m r call is = ap (λ x. tried_stage (tried_of x)) (sym is)
+stage_tried Full m r call is = ap (λ x. tried_stage (tried_of x)) (sym is)
+stage_tried BadPeer m r call is = ap (λ x. tried_stage (tried_of x)) (sym is)
+stage_tried _ m r call is = absurd (cc)
+
+tries_at : {S : Type 0} (t : Tried) (e : Seen S) → e.state.machine.stage ≡ tried_stage t → e.state.machine.asleep ≡ false → e.state.machine.marked ≡ false → Tries t e
+tries_at TriedSent e at awake unmarked = record { idle = at; awake = awake; unmarked = unmarked }
+tries_at TriedFull e at awake unmarked = record { idle = at; awake = awake; unmarked = unmarked }
+tries_at TriedBroken e at awake unmarked = record { stopped = at; awake = awake; unmarked = unmarked }
+
+pub tries : {S : Type 0} (old : Machine) (e : Seen S) (r : Result Signalled SendRefusal) → Leaves old e.state.machine → call_by e.state.machine.ended ≡ Send → r ≡ send_answer e.state.machine.ended e.state.machine → e.state.machine.asleep ≡ false
+    → e.state.machine.marked ≡ false → Tries (tried_of r) e
+tries old e r leaves call is awake unmarked = tries_at (tried_of r) e (leaves.stage ∙ stage_tried e.state.machine.ended e.state.machine r call is) awake unmarked
+
+pub not_sent : (how : Ending) (m : Machine) (r : Result Signalled SendRefusal) → call_by how ≡ Send → r ≡ send_answer how m → (tried_of r ≡ TriedSent → ⊥) → is_sent how ≡ false
+not_sent SentQuiet m r call is none = absurd (none (ap tried_of is))
+not_sent SentRaised m r call is none = absurd (none (ap tried_of is))
+not_sent Full m r call is none = refl
+not_sent BadPeer m r call is none = refl
+not_sent _ m r call is none = absurd (cc)
+
+abbrev is_full_try : Tried → Bool
+is_full_try TriedFull = true
+is_full_try _ = false
+
+pub full_tried : (how : Ending) (m : Machine) (r : Result Signalled SendRefusal) → call_by how ≡ Send → r ≡ send_answer how m → tried_of r ≡ TriedFull → how ≡ Full
+full_tried SentQuiet m r call is full = let bad : false ≡ true = ap (λ x. is_full_try (tried_of x)) (sym is) ∙ ap is_full_try full in absurd (cc)
+full_tried SentRaised m r call is full = let bad : false ≡ true = ap (λ x. is_full_try (tried_of x)) (sym is) ∙ ap is_full_try full in absurd (cc)
+full_tried Full m r call is full = refl
+full_tried BadPeer m r call is full = let bad : false ≡ true = ap (λ x. is_full_try (tried_of x)) (sym is) ∙ ap is_full_try full in absurd (cc)
+full_tried _ m r call is full = absurd (cc)
+
+pub honest_tried : (r : Result Signalled SendRefusal) → is_honest_send r ≡ true → tried_of r ≡ TriedBroken → ⊥
+honest_tried (Ok how) honest broken = absurd (cc)
+honest_tried (Err (SendFull free need)) honest broken = absurd (cc)
+honest_tried (Err why) honest broken = absurd (cc)
 
 -- what stands last
 pub last_is : (xs : List (List ℕ)) (p q : List ℕ) (i : ℕ) → i + 1 ≡ length (xs ++ p ∷ []) → slice_get (xs ++ p ∷ []) i ≡ Some q → q ≡ p
@@ -196,20 +291,12 @@ send_finds n p s t told told' memory memory' ran idle =
     subst (λ (st : Stage). SendsAt n st t.machine) idle
     (subst (λ (u : EndState). SendsAt n u.machine.stage u.machine) (sym ran.state) (steps_send (entered s (send_begun s.machine n) p) n refl ran.values))
 
--- a send of an honest peer that sent nothing found too little room
-pub full_by : (how : Ending) (m : Machine) (r : Result Signalled SendRefusal) → r ≡ send_answer how m → is_honest_send r ≡ true → is_ok r ≡ false → how ≡ Full
-full_by how m r is honest none = by how (subst (λ x. is_honest_send x ≡ true) is honest) (subst (λ x. is_ok x ≡ false) is none)
-  where
-    by : (how : Ending) → is_honest_send (send_answer how m) ≡ true → is_ok (send_answer how m) ≡ false → how ≡ Full
-    by Full h n = refl
-    by SentQuiet h n = absurd (cc)
-    by SentRaised h n = absurd (cc)
-    by _ h n = absurd (cc)
-
 -- a new end is between two calls
-pub new_line : (e : Seen TableSeat) → e.state ≡ new_end e.state.machine.cells e.state.machine.side → (512 ≤ e.state.machine.cells) × (e.state.machine.cells ≤ 8192) → IsLine e
-new_line e fresh size = record {
-  idle = ap (λ s. s.machine.stage) fresh;
+pub new_line : {S : Type 0} (told : S → Option Told) (e : Seen S) → e.state ≡ new_end e.state.machine.cells e.state.machine.side → (512 ≤ e.state.machine.cells) × (e.state.machine.cells ≤ 16777216) → IsLine told e
+new_line told e fresh size = record {
+  rests = ap (λ s. is_busy_at s.machine.stage) fresh;
+  dozes = λ _. ap (λ s. s.machine.stage) fresh;
+  honest = λ _. ap (λ s. s.machine.stage) fresh;
   got = ap (λ s. got_of s.past) fresh ∙ sym (ap (λ s. s.got) fresh);
   packets = λ i p at. none p (ap (λ s. slice_get s.got i) (sym fresh) ∙ at);
   committed = ap (λ s. s.machine.start) fresh ∙ sym (ap (λ s. s.machine.read) fresh);

@@ -2,7 +2,6 @@
 use Rattle.std.specs.Prelude.{ℕ, ◌≡◌, ◌<◌, ◌≤◌, ◌+◌, ◌*◌, ◌⊎◌, Bool, true, false, List, [], ◌∷◌, length, take, Option, Some, None}
 use Rattle.ring_machine.specs.States.{IsPacket}
 use Rattle.ring_core.specs.Seen.{Seen}
-use Rattle.ring_seat.specs.declared.table_seat.TableSeat.{TableSeat}
 use Rattle.channel_model.specs.WireFormat.{WireFormat}
 
 abbrev pub is_nil : {P : Type 0} → List P → Bool
@@ -25,24 +24,24 @@ need_of [] = None
 need_of (p ∷ ps) = Some (8 * length p + 8)
 
 -- a packet, which has at most 384 words, lacks the room of the list of what was sent
-pub record LacksSendOf (packets words : ℕ) (p : List ℕ) (e : Seen TableSeat) : Type 0 where
+pub record LacksSendOf {S : Type 0} (packets words : ℕ) (p : List ℕ) (e : Seen S) : Type 0 where
   pub most : length p ≤ 384
   pub packets_is : packets ≡ e.spare_sent.packets
   pub words_is : words ≡ e.spare_sent.words
   pub lacks : (packets ≡ 0) ⊎ (words < length p)
 
 -- the first of these packets lacks it
-pub record LacksSend (packets words : ℕ) (owed : List (List ℕ)) (e : Seen TableSeat) : Type 0 where
+pub record LacksSend {S : Type 0} (packets words : ℕ) (owed : List (List ℕ)) (e : Seen S) : Type 0 where
   pub packet : List ℕ
   pub rest : List (List ℕ)
   pub first : owed ≡ packet ∷ rest
   pub room : LacksSendOf packets words packet e
 
-abbrev pub HasSendRoom : List ℕ → Seen TableSeat → Type 0
+abbrev pub HasSendRoom : {S : Type 0} → List ℕ → Seen S → Type 0
 HasSendRoom p e = (0 < e.spare_sent.packets) × (length p ≤ e.spare_sent.words)
 
 -- the first of these packets found too little room in the ring: no more free cells than its words and its trailer take
-pub record MetFull (owed : List (List ℕ)) (e : Seen TableSeat) : Type 0 where
+pub record MetFull {S : Type 0} (owed : List (List ℕ)) (e : Seen S) : Type 0 where
   pub packet : List ℕ
   pub rest : List (List ℕ)
   pub first : owed ≡ packet ∷ rest

@@ -4,11 +4,10 @@ use Rattle.chan_run.specs.declared.event.Event.{Event}
 use Rattle.chan_run.specs.Laws.{AreOfOneRun}
 use Rattle.chan_run.specs.Runs.{sent_of, got_of}
 use Rattle.ring_core.specs.Seen.{Seen}
-use Rattle.ring_seat.specs.declared.table_seat.TableSeat.{TableSeat}
 use Rattle.channel_model.specs.WireFormat.{WireFormat}
 use Rattle.channel_model.specs.Amounts.{room_of, besides_of, AsksAtMost, ServesAtMost}
 use Rattle.channel_port.specs.declared.ended.Ended.{Ended}
-use Rattle.channel_port.specs.declared.ended.Ended.TheVariants.{Marked, PeerMarked, Room}
+use Rattle.channel_port.specs.declared.ended.Ended.TheVariants.{Marked, PeerMarked, Room, Broken}
 
 -- the words of these packets
 abbrev pub words_in : List (List ℕ) → ℕ
@@ -30,28 +29,28 @@ AskedOver asks serve past = serve < length (filter asks (got_of past))
 
 -- the room that was reserved for what comes, some of which is used up by what came: one packet more than so many, and the words of a whole ring besides
 -- 384 for each
-pub record HasReserved (room : ℕ) (e : Seen TableSeat) : Type 0 where
+pub record HasReserved {S : Type 0} (room : ℕ) (e : Seen S) : Type 0 where
   pub packets : room + 1 ≤ e.spare_got.packets + length e.state.got
   pub words : 384 * room + e.state.machine.cells ≤ e.spare_got.words + words_in e.state.got
 
 -- the room that was reserved for what goes, some of which is used up by what went
-pub record HasReservedSent (room : ℕ) (e : Seen TableSeat) : Type 0 where
+pub record HasReservedSent {S : Type 0} (room : ℕ) (e : Seen S) : Type 0 where
   pub packets : room ≤ e.spare_sent.packets + length (sent_of e.state.past)
   pub words : 384 * room ≤ e.spare_sent.words + words_in (sent_of e.state.past)
   pub short : AreShort (sent_of e.state.past)
 
 -- a worker keeps within its room: as many packets come and go
-pub record KeepsRoom (room : ℕ) (e : Seen TableSeat) : Type 0 where
+pub record KeepsRoom {S : Type 0} (room : ℕ) (e : Seen S) : Type 0 where
   pub got : HasReserved room e
   pub sent : HasReservedSent room e
 
 -- what is left of the room for what comes shrinks by what came alone
-pub record GotInto (old new : Seen TableSeat) : Type 0 where
+pub record GotInto {S : Type 0} (old new : Seen S) : Type 0 where
   pub packets : old.spare_got.packets + length old.state.got ≤ new.spare_got.packets + length new.state.got
   pub words : old.spare_got.words + words_in old.state.got ≤ new.spare_got.words + words_in new.state.got
 
 -- a packet that is sent takes its room at most
-pub record SentInto (words : ℕ) (old new : Seen TableSeat) : Type 0 where
+pub record SentInto {S : Type 0} (words : ℕ) (old new : Seen S) : Type 0 where
   pub packets : old.spare_sent.packets ≤ new.spare_sent.packets + 1
   pub words_is : old.spare_sent.words ≤ new.spare_sent.words + words
 
@@ -60,6 +59,7 @@ abbrev pub has_room : Ended → Bool
 has_room Marked = true
 has_room PeerMarked = true
 has_room (Room packets words left) = false
+has_room Broken = true
 
 -- what holds where messages may go back besides the answers, and else not
 abbrev pub OnlyWith : Bool → Type 0 → Type 0
@@ -86,12 +86,14 @@ module _ {A Q R : Type 0} (s : WireFormat (List ℕ) A Q R) where
   AskLacksFor besides asks Marked past = Unit {0}
   AskLacksFor besides asks PeerMarked past = Unit {0}
   AskLacksFor besides asks (Room packets words left) past = CameOver s.is_message (besides_of besides asks) (room_of besides asks) past
+  AskLacksFor besides asks Broken past = Unit {0}
 
   -- and one that serves, with room for so many requests, there, or where more was asked of the device than it serves and it doesn't stop behind that
   abbrev pub ServeLacksFor : Bool → ℕ → ℕ → Bool → Ended → List (Event (List ℕ)) → Type 0
   ServeLacksFor besides most serve stops Marked past = Unit {0}
   ServeLacksFor besides most serve stops PeerMarked past = Unit {0}
   ServeLacksFor besides most serve stops (Room packets words left) past = CameOver s.is_request most (room_of besides most) past ⊎ ((stops ≡ false) × AskedOver is_asked serve past)
+  ServeLacksFor besides most serve stops Broken past = Unit {0}
 
   -- Two ends of one run. The one that asks made room for its asks, and the one that serves for as many or more, and each for the messages and what acknowledges
   -- them, where there are messages; it asked no more of the device than the other one serves, unless that one stops. Then neither ended for want of room, or

@@ -3,12 +3,14 @@
 #![tactic(auto)]
 
 mod ended;
+mod found;
 pub mod laws;
 mod port;
 mod room;
 mod sheet;
 
 pub use ended::{Ended, Turn};
+pub use found::{Found, Tried};
 pub use port::{Looked, Port};
 pub use room::room_of;
 pub use sheet::Sheet;

@@ -1,16 +1,19 @@
 //! One end of a channel, as its worker uses it.
-ghost use Rattle.std.specs.Prelude.{◌≡◌, ◌<◌, ◌≤◌, ◌+◌, ◌*◌, ◌^◌, ◌++◌, [], ◌∷◌, ℕ, List, true, false, not, length, slice_get, Some, IfOk, OnOk, MatchOption, if◌then◌else◌};
-ghost use Rattle.chan_run.specs.declared.event.Event.TheVariants.{Sent, Marked};
+ghost use Rattle.std.specs.Prelude.{◌≡◌, ◌≢◌, ◌<◌, ◌≤◌, ◌+◌, ◌*◌, ◌^◌, ◌++◌, [], ◌∷◌, ℕ, List, true, false, not, length, slice_get, is_some, Some, IfOk, OnOk, MatchOption, if◌then◌else◌};
+ghost use Rattle.chan_run.specs.declared.event.Event.TheVariants.{Marked};
 ghost use Rattle.chan_run.specs.Runs.{got_of, has_marked};
 ghost use Rattle.ring_machine.specs.Endings.{want_of};
+ghost use Rattle.ring_machine.specs.declared.machine.Stage.TheVariants.{Idle};
+ghost use Rattle.channel_port.specs.declared.found.Tried.TheVariants.{Sent as SentTry, Full as FullTry, Broken as BrokenTry};
+ghost use Rattle.channel_port.specs.declared.found.Found.TheVariants.{Packet as PacketFind, Broken as BrokenFind};
 ghost use Rattle.ring_machine.specs.States.{IsPacket};
-ghost use Rattle.ring_seat.specs.Seats.{new_end};
 ghost use Rattle.channel_port.specs.Owed.{HasSendRoom, IsNeed, LacksSendOf};
 ghost use Rattle.channel_port.specs.Rooms.{GotInto, KeepsRoom, SentInto};
-ghost use Rattle.channel_port.specs.Line.{IsReady, Stays, TookOne, looked, look_of, is_asleep, armed_by, polled_by, PolledOnce, HasTakeRoom, LacksTake};
+ghost use Rattle.channel_port.specs.Line.{new_end, IsBroken, IsReady, Tries, Finds, past_tried, Stays, TookOne, looked, look_of, is_asleep, armed_by, polled_by, PolledOnce, HasTakeRoom, LacksTake};
 
+use crate::found::{Found, Tried, found_by, has_packet, tried_by};
+use end_sleep::{Parks, sleep};
 use ring_core::{Armed, End, Room};
-use ring_seat::{Sleeper, TableSeat};
 use std::alloc::AllocError;
 use std::marker::Model;
 use std::sync::Wait;
@@ -28,27 +31,26 @@ pub enum Looked {
 
 /// An end of a channel whose peer is one of this program's. It gives the cells of a packet back as soon as it took it.
 #[derive(Drop)]
-pub struct Port {
-    end: End<TableSeat>,
+pub struct Port<S: Parks> {
+    end: End<S>,
 }
 
-impl Model for Port {
+impl<S: Parks> Model for Port<S> {
     ghost use Rattle.ring_core.specs.Seen.{Seen};
-    ghost use Rattle.ring_seat.specs.declared.table_seat.TableSeat.{TableSeat};
     ghost use Rattle.channel_port.specs.Line.{IsLine};
 
-    ghost Value = { Seen TableSeat };
+    ghost Value = { Seen S };
 
     ghost view = { λ p. p.end };
 
-    ghost invariant = { λ p. IsLine p.end };
+    ghost invariant = { λ p. IsLine S.told p.end };
 }
 
-impl Port {
-    // A port over a new end, whose rings have 512 to 8,192 cells.
-    fn over(end: End<TableSeat>) -> Port
+impl<S: Parks + Drop> Port<S> {
+    // A port over a new end, whose rings have 512 to 16,777,216 cells.
+    fn over(end: End<S>) -> Port<S>
         requires fresh { end.state ≡ new_end end.state.machine.cells end.state.machine.side }
-        requires size { (512 ≤ end.state.machine.cells) × (end.state.machine.cells ≤ 8192) }
+        requires size { (512 ≤ end.state.machine.cells) × (end.state.machine.cells ≤ 16777216) }
         ensures { result ≡ end }
     {
         Port { end }
@@ -62,11 +64,11 @@ impl Port {
         self.end.reserve(sent, got)
     }
 
-    /// A port over a new end, whose rings have 512 to 8,192 cells. It makes room for so many packets each way, and of what comes for one more, and the words
+    /// A port over a new end, whose rings have 512 to 16,777,216 cells. It makes room for so many packets each way, and of what comes for one more, and the words
     /// of a whole ring besides 384 for each. Afterwards neither `send` nor `take` allocates.
-    pub fn with_room(end: End<TableSeat>, packets: u64) -> Result<Port, AllocError>
+    pub fn with_room(end: End<S>, packets: u64) -> Result<Port<S>, AllocError>
         requires fresh { end.state ≡ new_end end.state.machine.cells end.state.machine.side }
-        requires size { (512 ≤ end.state.machine.cells) × (end.state.machine.cells ≤ 8192) }
+        requires size { (512 ≤ end.state.machine.cells) × (end.state.machine.cells ≤ 16777216) }
         requires few { packets ≤ 2 ^ 34 }
         ensures end { IfOk result (λ p. (p.state ≡ end.state) × (p.seat ≡ end.seat)) }
         ensures room { IfOk result (λ p. KeepsRoom packets p) }
@@ -123,10 +125,20 @@ impl Port {
         None
     }
 
+    /// Whether it is broken, where it neither sleeps nor is marked.
+    pub fn is_broken(&self) -> bool
+        requires awake { (self.now.state.machine.asleep ≡ false) × (self.now.state.machine.marked ≡ false) }
+        ensures broken { result ≡ true → IsBroken self.now }
+        ensures ready { result ≡ false → IsReady self.now }
+        ensures honest { is_some (S.told self.now.seat) ≡ true → result ≡ false }
+    {
+        !self.end.is_ready()
+    }
+
     // The cells of each ring.
     fn cells(&self) -> u32
         ensures value { result ≡ self.now.state.machine.cells }
-        ensures most { result ≤ 8192 }
+        ensures most { result ≤ 16777216 }
     {
         self.end.cells()
     }
@@ -166,41 +178,46 @@ impl Port {
         self.got(self.got_len() - 1)
     }
 
-    /// Sends a packet, if the ring has room for it: false where it has not. The signal is raised where the peer waits for it.
-    pub fn send(&mut self, packet: &[u64]) -> bool
+    /// Sends a packet, if the ring has room for it. The signal is raised where the peer waits for it. Where the peer's read index is in no form the end is broken,
+    /// which can't be where the seat tells its end's state.
+    pub fn send(&mut self, packet: &[u64]) -> Tried
         requires ready { IsReady self.old }
         requires packet { IsPacket packet.now }
         requires most { length packet.now ≤ 384 }
         requires room { HasSendRoom packet.now self.old }
-        ensures past { self.new.state.past ≡ (if result then Sent packet.now ∷ self.old.state.past else self.old.state.past) }
-        ensures ready { IsReady self.new }
-        ensures stays { Stays self.old self.new }
+        ensures past { self.new.state.past ≡ past_tried result packet.now self.old.state.past }
+        ensures tries { Tries result self.new }
+        ensures honest { is_some (S.told self.old.seat) ≡ true → result ≢ BrokenTry }
+        ensures stays { Stays S.channel S.told self.old self.new }
         ensures got { (self.new.state.got ≡ self.old.state.got) × (self.new.spare_got ≡ self.old.spare_got) }
         ensures unmarked { has_marked self.old.state.past ≡ false }
-        ensures full { result ≡ false → self.new.spare_sent ≡ self.old.spare_sent }
-        ensures found { result ≡ false → (self.new.state.machine.room ≤ length packet.now + 1) × (self.new.state.machine.words ≡ length packet.now) }
+        ensures unsent { result ≢ SentTry → self.new.spare_sent ≡ self.old.spare_sent }
+        ensures found { result ≡ FullTry → (self.new.state.machine.room ≤ length packet.now + 1) × (self.new.state.machine.words ≡ length packet.now) }
         ensures into { SentInto (length packet.now) self.old self.new }
     {
-        self.end.send(packet).is_ok()
+        tried_by(self.end.send(packet))
     }
 
-    /// Takes the first packet that waits, if one does, and gives its cells back: false where none waits.
-    pub fn take(&mut self) -> bool
+    /// Takes the first packet that waits, if one does, and gives its cells back. Where what it loads is no packet the end is broken, which can't be where the
+    /// seat tells its end's state.
+    pub fn take(&mut self) -> Found
         requires ready { IsReady self.old }
         requires room { (0 < self.old.spare_got.packets) × (self.old.state.machine.cells ≤ self.old.spare_got.words) }
         ensures list { got_of self.old.state.past ≡ self.old.state.got }
         ensures took { TookOne result self.old.state self.new.state }
-        ensures ready { IsReady self.new }
-        ensures stays { Stays self.old self.new }
+        ensures finds { Finds result self.new }
+        ensures honest { is_some (S.told self.old.seat) ≡ true → result ≢ BrokenFind }
+        ensures stays { Stays S.channel S.told self.old self.new }
         ensures sent { self.new.spare_sent ≡ self.old.spare_sent }
-        ensures none { result ≡ false → (self.new.state.got ≡ self.old.state.got) × (self.new.spare_got ≡ self.old.spare_got) }
+        ensures none { result ≢ PacketFind → (self.new.state.got ≡ self.old.state.got) × (self.new.spare_got ≡ self.old.spare_got) }
         ensures into { GotInto self.old self.new }
     {
-        if self.end.take_in().is_err() {
-            return false;
+        let found = found_by(self.end.take_in());
+        if !has_packet(found) {
+            return found;
         }
         self.end.commit();
-        true
+        found
     }
 
     /// Arms the signal, and looks once more for packets, for the room in bytes that is wanted, and for the peer's mark. Where it finds none of these the end
@@ -211,10 +228,11 @@ impl Port {
         requires want { IsNeed want }
         ensures past { self.new.state.past ≡ looked result self.old.state.past }
         ensures asleep { self.new.state.machine.asleep ≡ is_asleep result }
+        ensures idle { self.new.state.machine.stage ≡ Idle }
         ensures ended { self.new.state.machine.ended ≡ armed_by result }
         ensures unmarked { self.new.state.machine.marked ≡ false }
         ensures want { self.new.state.machine.asleep ≡ true → self.new.state.machine.want ≡ want_of want }
-        ensures stays { Stays self.old self.new }
+        ensures stays { Stays S.channel S.told self.old self.new }
         ensures lists { (self.new.state.got ≡ self.old.state.got) × (self.new.spare_got ≡ self.old.spare_got) × (self.new.spare_sent ≡ self.old.spare_sent) }
     {
         let found = self.end.arm(want);
@@ -227,12 +245,13 @@ impl Port {
         requires asleep { self.old.state.machine.asleep ≡ true }
         requires unmarked { self.old.state.machine.marked ≡ false }
         ensures asleep { self.new.state.machine.asleep ≡ not result }
+        ensures idle { self.new.state.machine.stage ≡ Idle }
         ensures ended { self.new.state.machine.ended ≡ polled_by result }
-        ensures polled { PolledOnce self.old self.new }
+        ensures polled { PolledOnce S.told S.memory self.old self.new }
         ensures want { self.new.state.machine.asleep ≡ true → self.new.state.machine.want ≡ self.old.state.machine.want }
         ensures unmarked { self.new.state.machine.marked ≡ false }
         ensures past { self.new.state.past ≡ self.old.state.past }
-        ensures stays { Stays self.old self.new }
+        ensures stays { Stays S.channel S.told self.old self.new }
         ensures lists { (self.new.state.got ≡ self.old.state.got) × (self.new.spare_got ≡ self.old.spare_got) × (self.new.spare_sent ≡ self.old.spare_sent) }
     {
         self.end.poll_signal()
@@ -244,10 +263,10 @@ impl Port {
         requires unmarked { self.old.state.machine.marked ≡ false }
         ensures ready { IsReady self.new }
         ensures past { self.new.state.past ≡ self.old.state.past }
-        ensures stays { Stays self.old self.new }
+        ensures stays { Stays S.channel S.told self.old self.new }
         ensures lists { (self.new.state.got ≡ self.old.state.got) × (self.new.spare_got ≡ self.old.spare_got) × (self.new.spare_sent ≡ self.old.spare_sent) }
     {
-        self.end.sleep(rt);
+        sleep(&mut self.end, rt);
     }
 
     /// Says that this end sends nothing more.
@@ -259,14 +278,14 @@ impl Port {
         ensures first { has_marked self.old.state.past ≡ false }
         ensures found { (self.new.state.machine.room ≡ self.old.state.machine.room) × (self.new.state.machine.words ≡ self.old.state.machine.words) }
         ensures got { got_of self.new.state.past ≡ self.new.state.got }
-        ensures stays { Stays self.old self.new }
+        ensures stays { Stays S.channel S.told self.old self.new }
         ensures lists { (self.new.state.got ≡ self.old.state.got) × (self.new.spare_got ≡ self.old.spare_got) × (self.new.spare_sent ≡ self.old.spare_sent) }
     {
         self.end.mark();
     }
 
     /// The end that it stands over.
-    pub fn into_end(self) -> End<TableSeat>
+    pub fn into_end(self) -> End<S>
         ensures { result ≡ self }
     {
         let Port { end } = self;

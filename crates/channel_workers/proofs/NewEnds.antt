@@ -19,7 +19,7 @@ fresh e side new = new.3 ∙ ap (λ s. new_end s.machine.cells s.machine.side) (
 pub its_side : (e : Seen TableSeat) (side : Side) → IsNewEnd side e → side ≡ e.state.machine.side
 its_side e side new = sym (ap (λ s. s.machine.side) new.3)
 
-pub its_size : (e : Seen TableSeat) (side : Side) → IsNewEnd side e → (512 ≤ e.state.machine.cells) × (e.state.machine.cells ≤ 8192)
+pub its_size : (e : Seen TableSeat) (side : Side) → IsNewEnd side e → (512 ≤ e.state.machine.cells) × (e.state.machine.cells ≤ 16777216)
 its_size e side new =
     let cells : e.state.machine.cells ≡ new.0 = ap (λ s. s.machine.cells) new.3 in
     (omega (arith, cells, new.1), omega (arith, cells, new.2))

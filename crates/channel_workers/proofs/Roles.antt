@@ -22,7 +22,7 @@ unstopped None e = refl
 unstopped (Some k) e = absurd (cc)
 
 -- what is made for one plan agrees: the one that serves made room for all that the other one asks, and has a call for each request
-pub plans_agree : (p : Planned) (seat : DeviceSeat) (a : Asking ChannelScript Reply) (s : Serving ChannelScript DeviceSeat Ask Reply) → p.count ≡ length p.asks → AsksFor p a → ServesFor p seat s → PlansAgree a s
+pub plans_agree : (p : Planned) (seat : DeviceSeat) (a : Asking ChannelScript TableSeat Reply) (s : Serving ChannelScript DeviceSeat TableSeat Ask Reply) → p.count ≡ length p.asks → AsksFor p a → ServesFor p seat s → PlansAgree a s
 plans_agree p seat a s count asked served = record {
   kind = ap (λ (t : ChannelScript). t.kind) asked.protocol ∙ sym served.answers;
   room = omega (arith, asks_length p.kind p.sub p.subs p.asks a.protocol asked.protocol, served.come, count);

@@ -18,7 +18,7 @@ use Rattle.channel_workers.specs.declared.worker.Worker.{Worker}
 use Rattle.channel_workers.specs.declared.worker.Worker.TheVariants.{Asks, Serves}
 
 -- what the one asks is what the other one made room for, and has calls for, unless it stops before: they are of one kind of device
-pub record PlansAgree (a : Asking ChannelScript Reply) (s : Serving ChannelScript DeviceSeat Ask Reply) : Type 0 where
+pub record PlansAgree (a : Asking ChannelScript TableSeat Reply) (s : Serving ChannelScript DeviceSeat TableSeat Ask Reply) : Type 0 where
   pub kind : a.protocol.kind ≡ s.responder.protocol.kind
   pub room : length (asks_of a.protocol) ≤ s.starts + s.come
   pub calls : s.stops ≡ false → length a.protocol.asks ≤ s.serve
@@ -44,4 +44,4 @@ AreMadeAt Host p seat guest host = IsMade p (Some seat) guest × IsMade p None h
 
 -- a new end of this side, of rings of 1 to 16 pages
 abbrev pub IsNewEnd : Side → Seen TableSeat → Type 0
-IsNewEnd side e = (cells : ℕ) × (512 ≤ cells) × (cells ≤ 8192) × (e.state ≡ new_end cells side)
+IsNewEnd side e = (cells : ℕ) × (512 ≤ cells) × (cells ≤ 16777216) × (e.state ≡ new_end cells side)

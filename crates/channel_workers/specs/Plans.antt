@@ -1,5 +1,6 @@
 -- What the workers of a channel are made for.
 use Rattle.std.specs.Prelude.{ℕ, zero, suc, ◌≡◌, ◌≤◌, ◌+◌, Bool, true, List, [], ◌∷◌, length, map, filter, Option, Some, None, is_some}
+use Rattle.ring_seat.specs.declared.table_seat.TableSeat.{TableSeat}
 use Rattle.std.specs.List.{AllByRecursion}
 use Rattle.script_lines.specs.Parts.{kind_asked}
 use Rattle.script_lines.specs.WellFormed.{CanGo}
@@ -94,7 +95,7 @@ HasSeat side p None = side ≡ side_that_asks p.kind
 HasSeat side p (Some s) = (kind_at s ≡ p.kind) × (p.count ≤ left_at s)
 
 -- a worker that asks was made for this plan: its start-up is that of the plan's channel, and its table has a place for each request that may be open
-pub record AsksFor (p : Planned) (w : Asking ChannelScript Reply) : Type 0 where
+pub record AsksFor (p : Planned) (w : Asking ChannelScript TableSeat Reply) : Type 0 where
   pub can : AllByRecursion (IsAskable p.kind) p.asks
   pub protocol : w.protocol ≡ record { kind = p.kind; sub = p.sub; subs = p.subs; asks = p.asks }
   pub relid : w.relid ≡ p.relid
@@ -102,7 +103,7 @@ pub record AsksFor (p : Planned) (w : Asking ChannelScript Reply) : Type 0 where
   pub window : length w.table ≡ p.window
 
 -- and one that serves, with this seat: it awaits the start-up's requests that have answers, and makes room for them all and for each request
-pub record ServesFor (p : Planned) (seat : DeviceSeat) (w : Serving ChannelScript DeviceSeat Ask Reply) : Type 0 where
+pub record ServesFor (p : Planned) (seat : DeviceSeat) (w : Serving ChannelScript DeviceSeat TableSeat Ask Reply) : Type 0 where
   pub answers : w.responder.protocol.kind ≡ p.kind
   pub relid : w.responder.relid ≡ p.relid
   pub seat_is : w.responder.seat ≡ seat

@@ -5,6 +5,7 @@ use Rattle.device_formats.specs.Formats.{besides_on, format_of}
 use Rattle.device_formats.specs.ChannelScript.{asks_of}
 use Rattle.ring_core.specs.Seen.{Seen}
 use Rattle.ring_seat.specs.declared.table_seat.TableSeat.{TableSeat}
+use Rattle.ring_seat.specs.Seats.{told_in}
 use Rattle.requester.specs.Asking.{AskTurns, AskEnds, AsksOn}
 use Rattle.requester.specs.Causes.{AskCause}
 use Rattle.server.specs.Causes.{ServeCause}
@@ -51,14 +52,14 @@ Turned turn (Serves w) = Turns left_at (format_of w.responder.protocol.kind) (be
 
 -- why it went so: what the worker did in it
 abbrev pub Caused : Turn → Worker → Worker → Type 0
-Caused turn (Asks v) (Asks w) = AskCause turn v.end w.end
+Caused turn (Asks v) (Asks w) = AskCause (λ (s : TableSeat). Some (told_in s.seat.me.0)) (λ (s : TableSeat). None) turn v.end w.end
 Caused turn (Asks v) (Serves w) = ⊥
 Caused turn (Serves v) (Asks w) = ⊥
-Caused turn (Serves v) (Serves w) = ServeCause turn v.end w.end
+Caused turn (Serves v) (Serves w) = ServeCause (λ (s : TableSeat). Some (told_in s.seat.me.0)) (λ (s : TableSeat). None) turn v.end w.end
 
 -- the same worker later
 abbrev pub GoesOn : Worker → Worker → Type 0
-GoesOn (Asks v) (Asks w) = AsksOn v w
+GoesOn (Asks v) (Asks w) = AsksOn (λ (s : TableSeat). s.seat.table_id) v w
 GoesOn (Asks v) (Serves w) = ⊥
 GoesOn (Serves v) (Asks w) = ⊥
-GoesOn (Serves v) (Serves w) = ServesOn (λ s t. device_place t ≡ device_place s) v w
+GoesOn (Serves v) (Serves w) = ServesOn (λ s t. device_place t ≡ device_place s) (λ (s : TableSeat). s.seat.table_id) v w

@@ -45,7 +45,7 @@ impl GuestWorker {
         requires plan { CanPlan GuestSide (guest_planned plan) }
         requires seat { HasSeat GuestSide (guest_planned plan) (at_guest seat) }
         requires fresh { end.state ≡ new_end end.state.machine.cells GuestSide }
-        requires size { (512 ≤ end.state.machine.cells) × (end.state.machine.cells ≤ 8192) }
+        requires size { (512 ≤ end.state.machine.cells) × (end.state.machine.cells ≤ 16777216) }
         ensures made { IfOk result (IsMade (guest_planned plan) (at_guest seat)) }
         ensures end { IfOk result (λ w. ((end_at w).state ≡ end.state) × ((end_at w).seat ≡ end.seat)) }
     {

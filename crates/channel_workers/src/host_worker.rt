@@ -45,7 +45,7 @@ impl HostWorker {
         requires plan { CanPlan HostSide (host_planned plan) }
         requires seat { HasSeat HostSide (host_planned plan) (at_host seat) }
         requires fresh { end.state ≡ new_end end.state.machine.cells HostSide }
-        requires size { (512 ≤ end.state.machine.cells) × (end.state.machine.cells ≤ 8192) }
+        requires size { (512 ≤ end.state.machine.cells) × (end.state.machine.cells ≤ 16777216) }
         ensures made { IfOk result (IsMade (host_planned plan) (at_host seat)) }
         ensures end { IfOk result (λ w. ((end_at w).state ≡ end.state) × ((end_at w).seat ≡ end.seat)) }
     {

@@ -147,7 +147,7 @@ pub(crate) fn make_asker(
     requires few { length asks.items ≤ 4096 }
     requires asks { AllCarried kind asks.items }
     requires fresh { end.state ≡ new_end end.state.machine.cells end.state.machine.side }
-    requires size { (512 ≤ end.state.machine.cells) × (end.state.machine.cells ≤ 8192) }
+    requires size { (512 ≤ end.state.machine.cells) × (end.state.machine.cells ≤ 16777216) }
     requires side { side ≡ end.state.machine.side }
     ensures can { IfOk result (λ w. AllByRecursion (IsAskable kind) asks.items) }
     ensures protocol { IfOk result (λ w. w.protocol ≡ record { kind = kind; sub = sub; subs = subs; asks = asks.items }) }
@@ -211,7 +211,7 @@ pub(crate) fn make_server(
     requires left { count ≤ left_at seat }
     requires few { count ≤ 4096 }
     requires fresh { end.state ≡ new_end end.state.machine.cells end.state.machine.side }
-    requires size { (512 ≤ end.state.machine.cells) × (end.state.machine.cells ≤ 8192) }
+    requires size { (512 ≤ end.state.machine.cells) × (end.state.machine.cells ≤ 16777216) }
     requires side { side ≡ end.state.machine.side }
     ensures relid { IfOk result (λ w. w.responder.relid ≡ relid) }
     ensures protocol { IfOk result (λ w. (w.responder.protocol.kind ≡ kind) × (w.responder.seat ≡ seat) × (w.responder.before ≡ served_at seat)) }
@@ -255,7 +255,7 @@ pub(crate) fn make_worker(
     requires seat { HasSeat side (planned plan asks.items) seat }
     requires side { IsAt side seat }
     requires fresh { end.state ≡ new_end end.state.machine.cells side }
-    requires size { (512 ≤ end.state.machine.cells) × (end.state.machine.cells ≤ 8192) }
+    requires size { (512 ≤ end.state.machine.cells) × (end.state.machine.cells ≤ 16777216) }
     ensures made { IfOk result (IsMade (planned plan asks.items) seat) }
     ensures end { IfOk result (λ w. ((end_at w).state ≡ end.state) × ((end_at w).seat ≡ end.seat)) }
     ensures side { IfOk result (IsOfSide side) }

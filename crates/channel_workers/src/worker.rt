@@ -8,14 +8,15 @@ use channel_port::Turn;
 use device_protocols::DeviceProtocol;
 use io_edge::Gate;
 use requester::{Requester, RequesterDone};
+use ring_seat::TableSeat;
 use server::{Server, ServerDone};
 use std::sync::Wait;
 
 /// The worker of the end that asks.
-pub(crate) type ChannelRequester = Requester<DeviceProtocol>;
+pub(crate) type ChannelRequester = Requester<DeviceProtocol, TableSeat>;
 
 /// The worker of the end that serves.
-pub(crate) type ChannelServer = Server<DeviceProtocol, DeviceSeat>;
+pub(crate) type ChannelServer = Server<DeviceProtocol, DeviceSeat, TableSeat>;
 
 /// The worker of one end of a channel, by what it does there.
 #[derive(Drop)]
@@ -25,7 +26,7 @@ pub enum Worker {
 }
 
 /// What a worker leaves that asked.
-pub(crate) fn asked(done: RequesterDone<DeviceProtocol>) -> WorkerDone
+pub(crate) fn asked(done: RequesterDone<DeviceProtocol, TableSeat>) -> WorkerDone
     ensures end { (result.end ≡ done.end) × (result.ended ≡ done.ended) }
     ensures replies { result.replies.items ≡ done.replies.items }
     ensures others { (result.seat ≡ None) × (result.serials.items ≡ []) }
@@ -41,7 +42,7 @@ pub(crate) fn asked(done: RequesterDone<DeviceProtocol>) -> WorkerDone
 }
 
 /// What a worker leaves that served.
-pub(crate) fn served(done: ServerDone<DeviceProtocol, DeviceSeat>) -> WorkerDone
+pub(crate) fn served(done: ServerDone<DeviceProtocol, DeviceSeat, TableSeat>) -> WorkerDone
     ensures end { (result.end ≡ done.end) × (result.ended ≡ done.ended) }
     ensures seat { result.seat ≡ Some done.seat }
     ensures serials { result.serials.items ≡ done.serials.items }

@@ -1,5 +1,5 @@
 -- What the rule of pages says, in plain words, and that each move keeps it.
-use Rattle.std.specs.Prelude.{◌≡◌, ℕ, ◌+◌, ◌^◌, ◌<◌, ◌≤◌, ◌==◌, ◌*◌, false, length, List, [], ◌∷◌, ◌++◌, Some, slice_set}
+use Rattle.std.specs.Prelude.{◌≡◌, ℕ, ◌+◌, ◌^◌, ◌<◌, ◌≤◌, ◌==◌, ◌*◌, false, length, List, [], ◌∷◌, ◌++◌, Some, None, slice_set}
 use Rattle.io_edge.specs.declared.side.Side.{Side}
 use Rattle.page_kept.specs.declared.due.Due.TheVariants.{Clear, Loads}
 use Rattle.page_kept.specs.declared.item.Item.{Item}
@@ -62,6 +62,15 @@ pub record Says (l : Layout) (s : Side) (W : ℕ → ℕ → ℕ) (x y : Keeper)
   pub words_kept : (q t n : ℕ) → x.owner q ≡ Lent t n → (w : ℕ) → n ≤ w → W q w ≡ x.copy q w
   pub got : y.due ≡ Clear → GotWhole x y
   pub got_all : y.due ≡ Clear → y.took ≡ packets x.sent → y.got ≡ x.sent
+
+-- What an end that has nothing to load knows of its peer's requests by itself
+pub record HoldsOpen (l : Layout) (y : Keeper) : Type 0 where
+  -- a request that it got, that lends a page, and that it hasn't completed has that page here, and all its words
+  pub held : (t k : ℕ) (i : Item) (a : Loan) → nth (is_ask t) k y.got ≡ Some i → l.lends i.packet ≡ Some a → ended t y ≤ k → (y.owner a.page ≡ Held t a.words) × (length i.words ≡ a.words)
+  -- one that lends no page of the channel has no page words
+  pub bare : (t k : ℕ) (i : Item) → nth (is_ask t) k y.got ≡ Some i → l.lends i.packet ≡ None → i.words ≡ []
+  -- no two pages are held under one id
+  pub one : (t q r m n : ℕ) → y.owner q ≡ Held t m → y.owner r ≡ Held t n → q ≡ r
 
 -- Each move of an end with data pages keeps the rule, whatever its peer does: a packet is sent, a packet is taken, a page word is stored, a due word is
 -- loaded. The words of the pages stand in a list from this place on

@@ -1,12 +1,13 @@
 //! Laws of pages: each function does nothing, and its contract is a law.
 ghost use Rattle.std.specs.Prelude.{◌≡◌, ℕ, List, Some};
+ghost use Rattle.page_kept.specs.declared.due.Due.TheVariants.{Clear};
 ghost use Rattle.io_edge.specs.declared.side.Side.{Side};
 ghost use Rattle.io_edge.specs.declared.side.Side.TheVariants.{Guest};
 ghost use Rattle.page_kept.specs.declared.kept.Kept.{Kept};
 ghost use Rattle.page_kept.specs.Layouts.{other_end, Layout, layout};
 ghost use Rattle.page_kept.specs.Keepers.{Keeper, MaySend};
 ghost use Rattle.page_rule.specs.Pages.{PagesOwned};
-ghost use Rattle.page_rule.specs.Laws.{new_keeper, small_request, Says, Keeps};
+ghost use Rattle.page_rule.specs.Laws.{new_keeper, small_request, Says, HoldsOpen, Keeps};
 
 /// Each packet that an end sends or takes, and each page word that it stores or loads, keeps the rule of pages.
 pub fn moves_keep_the_rule()
@@ -23,6 +24,12 @@ pub fn new_channels_meet_it()
 /// with nothing to load got the front of its peer's items, with their page words.
 pub fn rule_says()
     ensures { (l : Layout) (s : Side) (W : ℕ → ℕ → ℕ) (x y : Keeper) → PagesOwned l s W x y → Says l s W x y }
+{}
+
+/// What the rule tells of one end alone, where that has nothing to load: each request of its peer that lends a page and isn't completed has that page here,
+/// and all its words came with it.
+pub fn open_is_held()
+    ensures { (l : Layout) (s : Side) (W : ℕ → ℕ → ℕ) (x y : Keeper) → PagesOwned l s W x y → y.due ≡ Clear → HoldsOpen l y }
 {}
 
 /// The guest of a new channel with a page may send a packet that lends the page: what a send asks can be met.

@@ -1,6 +1,7 @@
 -- What a packet makes of the pages of an end, by the page that it names or brings back.
 use Rattle.std.proofs.Common.{◌≡◌, ◌≢◌, ℕ, zero, suc, ◌+◌, ◌*◌, ◌<◌, ◌≤◌, ◌==◌, Bool, true, false, cond, List, [], ◌∷◌, ◌++◌, length, get_or, set, Option, Some, None, refl, sym, ap, ◌∙◌, subst, arith, ⊎_elim, length-append}
 use Rattle.std.proofs.lemmas.Bool.Decides.{nat_tests}
+use Rattle.std.specs.Prelude.{MatchOption}
 use Rattle.std.specs.List.{position, position_from}
 use Rattle.std.proofs.lemmas.Iterator.Adapters.{position_from-zero}
 use Rattle.std.proofs.lemmas.List.Quantifiers.{position-Some}
@@ -14,7 +15,7 @@ use Rattle.page_kept.specs.Kept.{first_owner, is_held, is_lent, first_page, lent
 use Rattle.page_kept.specs.Layouts.{layout}
 use Rattle.pkt_desc.specs.Packets.{kind_of, id_of}
 use Rattle.page_table.specs.declared.loan.Loan.{Loan as Part}
-use Rattle.page_table.specs.Table.{Table, IsTable, Fits, KeepsPages, GoesBack, Lends, Holds, named_in, loan_of, sent_by, took_by, first_owners}
+use Rattle.page_table.specs.Table.{Table, IsTable, Fits, KeepsPages, GoesBack, Lends, Holds, named_in, loan_of, loans, held_part, part_in, IsHeldPart, sent_by, took_by, first_owners}
 
 -- the first page that passes, by either count
 from_is : (f : Owner → Bool) (q : ℕ) (os : List Owner) → first_page f q os ≡ position_from f q os
@@ -98,6 +99,35 @@ module _ (k : Kept) (t : Table) (p : List ℕ) (keeps : KeepsPages k t) where
 
   pub holds : (os : List Owner) (o : Option Part) → kind_of p ≢ 11 → Holds (id_of p) p t.owners os o → pages_took (layout k.count) k p ≡ took_by k p os o
   holds os o kind g = request_took (let z : (kind_of p == 11) ≡ false = grind (arith, nat_tests, kind) in z) ∙ held os o g
+
+held_whole : (t : ℕ) (o : Owner) → is_held t o ≡ true → o ≡ Held t (lent_words o)
+held_whole t Has e = absurd (cc)
+held_whole t (Lent u n) e = absurd (cc)
+held_whole t (Held u n) e = (let z : u ≡ t = grind (arith, nat_tests, e) in ap (λ (k : ℕ). Held k n) z)
+held_whole t Away e = absurd (cc)
+
+-- the page that was found is held under the id
+pub found_owner : (t q : ℕ) (os : List Owner) → position (is_held t) os ≡ Some q → get_or os q Away ≡ Held t (lent_words (get_or os q Away))
+found_owner t q os e = held_whole t (get_or os q Away) (position-Some (is_held t) os q Away e).1
+
+-- the part that goes along with a completion, and with another packet
+held_loans : (t : ℕ) (os : List Owner) (o : Option Part) → IsHeldPart t os o → loans o ≡ held_part os (position (is_held t) os)
+held_loans t os None h = sym (ap (held_part os) h)
+held_loans t os (Some a) h = (λ i. Some (record { page = a.page; words = h.1 i })) ∙ sym (ap (held_part os) h.0)
+
+named_loans : (os : List Owner) (p : List ℕ) (o : Option Part) → MatchOption o (named_in os p ≡ None) (λ a. named_in os p ≡ Some (loan_of a)) → loans o ≡ named_in os p
+named_loans os p None h = sym h
+named_loans os p (Some a) h = sym h
+
+pub part_done : (os : List Owner) (p : List ℕ) (o : Option Part) → kind_of p ≡ 11 → IsHeldPart (id_of p) os o → loans o ≡ part_in os p
+part_done os p o kind h =
+    held_loans (id_of p) os o h
+    ∙ (ap (held_part os) (sym (first_is (is_held (id_of p)) os)) ∙ sym (ap (λ (b : Bool). cond b (held_part os (first_page (is_held (id_of p)) 0 os)) (named_in os p)) (ap (λ (n : ℕ). n == 11) kind)))
+
+pub part_ask : (os : List Owner) (p : List ℕ) (o : Option Part) → kind_of p ≢ 11 → MatchOption o (named_in os p ≡ None) (λ a. named_in os p ≡ Some (loan_of a)) → loans o ≡ part_in os p
+part_ask os p o kind h =
+    named_loans os p o h
+    ∙ sym (ap (λ (b : Bool). cond b (held_part os (first_page (is_held (id_of p)) 0 os)) (named_in os p)) (let z : (kind_of p == 11) ≡ false = grind (arith, nat_tests, kind) in z))
 
 -- an owner that fits, put in place of another one
 pub fit_set : (os : List Owner) (q : ℕ) (o : Owner) → ((i : ℕ) → Fits (get_or os i Away)) → Fits o → (i : ℕ) → Fits (get_or (set os q o) i Away)

@@ -1,12 +1,13 @@
 -- The pages of one end, and what a packet that it sends or takes makes of them.
-use Rattle.std.specs.Prelude.{◌≡◌, ◌≢◌, ◌⊎◌, ℕ, zero, suc, ◌+◌, ◌*◌, ◌<◌, ◌≤◌, Bool, true, false, ltb, cond, List, [], ◌∷◌, ◌++◌, length, slice_index, slice_index_or, slice_set, Option, Some, None, MatchOption}
+use Rattle.std.specs.Prelude.{◌≡◌, ◌≢◌, ◌⊎◌, ℕ, zero, suc, ◌+◌, ◌*◌, ◌<◌, ◌≤◌, Bool, true, false, ◌==◌, ltb, cond, List, [], ◌∷◌, ◌++◌, length, slice_index, slice_index_or, slice_set, Option, Some, None, MatchOption}
 use Rattle.std.specs.List.{position}
 use Rattle.page_kept.specs.Items.{item_of, values}
 use Rattle.io_edge.specs.declared.side.Side.{Side}
 use Rattle.page_kept.specs.declared.kept.Kept.{Kept}
 use Rattle.page_kept.specs.declared.owner.Owner.{Owner}
 use Rattle.page_kept.specs.declared.owner.Owner.TheVariants.{Has, Lent, Held, Away}
-use Rattle.page_kept.specs.Kept.{first_owner, lent_words, may_hold, copy_in, with_sent, with_due}
+use Rattle.page_kept.specs.Kept.{first_owner, first_page, is_held, lent_words, may_hold, copy_in, with_sent, with_due}
+use Rattle.pkt_desc.specs.Packets.{kind_of, id_of}
 use Rattle.page_kept.specs.Layouts.{Loan, layout}
 use Rattle.page_table.specs.declared.loan.Loan.{Loan as Part}
 
@@ -65,6 +66,23 @@ loan_of a = record { page = a.page; words = a.words }
 -- what a packet names in a channel with these pages
 abbrev pub named_in : List Owner → List ℕ → Option Loan
 named_in owners p = (layout (length owners)).lends p
+
+abbrev pub loans : Option Part → Option Loan
+loans None = None
+loans (Some a) = Some (loan_of a)
+
+-- the page that is held, with all its words
+abbrev pub held_part : List Owner → Option ℕ → Option Loan
+held_part owners None = None
+held_part owners (Some q) = Some record { page = q; words = lent_words (slice_index_or owners q Away) }
+
+-- the part of a page that goes along with a packet, if that is sent: the first page that is held under a completion's id, or what any other packet names
+abbrev pub part_in : List Owner → List ℕ → Option Loan
+part_in owners p = cond (kind_of p == 11) (held_part owners (first_page (is_held (id_of p)) 0 owners)) (named_in owners p)
+
+-- the page that is held under this id, with all its words
+abbrev pub IsHeldPart : ℕ → List Owner → Option Part → Type 0
+IsHeldPart t owners result = MatchOption result (position (is_held t) owners ≡ None) (λ a. (position (is_held t) owners ≡ Some a.page) × (a.words ≡ lent_words (slice_index_or owners a.page Away)))
 
 -- the page that passes goes back, or comes back, to be this: the first one, if any
 abbrev pub GoesBack : (Owner → Bool) → Owner → List Owner → List Owner → Option Part → Type 0

@@ -7,7 +7,7 @@ ghost use Rattle.page_kept.specs.Keepers.{CanStore};
 ghost use Rattle.page_kept.specs.Layouts.{layout, Loan as Lending};
 ghost use Rattle.page_kept.specs.declared.owner.Owner.TheVariants.{Has, Lent, Held, Away};
 ghost use Rattle.pkt_desc.specs.Packets.{IsPacket, kind_of, id_of};
-ghost use Rattle.page_table.specs.Table.{Fits, KeepsPages, word_of, is_had, owned_in, named_in, first_owners, sent_by, took_by, loan_of, GoesBack, Lends, Holds, IsPart};
+ghost use Rattle.page_table.specs.Table.{Fits, KeepsPages, word_of, is_had, owned_in, named_in, first_owners, sent_by, took_by, loan_of, GoesBack, Lends, Holds, IsPart, IsHeldPart, loans, part_in};
 
 use crate::loan::Loan;
 use crate::owners::{
@@ -95,9 +95,10 @@ impl PageTable {
         Some(had(owners[loan.page as usize]))
     }
 
-    /// Whatever is lent or held is 1 to 512 words. The call does nothing: its contract is a law.
+    /// Whatever is lent or held is 1 to 512 words, and the copy has 512 for each page. The call does nothing: its contract is a law.
     pub fn lends_in_bounds(&self)
         ensures fit { (q : ℕ) → Fits (slice_index_or self.now.owners q Away) }
+        ensures copied { length self.now.copy ≡ 512 * length self.now.owners }
     {
         let _owners = self.owners.as_slice();
     }
@@ -119,6 +120,21 @@ impl PageTable {
         ensures { self.new ≡ record self.old { copy = slice_set self.old.copy (512 * page + word) value } }
     {
         self.copy[WORDS * page as usize + word as usize] = value;
+    }
+
+    /// The part of a page that goes along with a packet, if that is sent now: the page that is held under a completion's id, and what any other packet names.
+    /// Nothing changes.
+    pub fn part_of(&self, packet: &[u64]) -> Option<Loan>
+        requires packet { IsPacket packet.now }
+        ensures part { loans result ≡ part_in self.now.owners packet.now }
+        ensures loan { IfSome result (λ a. IsPart self.now.owners a) }
+        ensures held { kind_of packet.now ≡ 11 → IfSome result (λ a. slice_index_or self.now.owners a.page Away ≡ Held (id_of packet.now) a.words) }
+    {
+        if packet[0] % 65536 == COMPLETION {
+            self.held_under(packet[1])
+        } else {
+            self.named(packet)
+        }
     }
 
     /// A packet was sent. A completion gives back the page that is held under its id, and any other packet lends what it names: the words that go along.
@@ -169,6 +185,21 @@ impl PageTable {
         Some(Loan {
             page: named.page,
             words: (named.bytes + 7) / 8,
+        })
+    }
+
+    // The page that is held under this id.
+    fn held_under(&self, tid: u64) -> Option<Loan>
+        ensures held { IsHeldPart tid self.now.owners result }
+        ensures loan { IfSome result (λ a. IsPart self.now.owners a) }
+        ensures owner { IfSome result (λ a. slice_index_or self.now.owners a.page Away ≡ Held tid a.words) }
+    {
+        let Some(page) = first_held(self.owners.as_slice(), tid) else {
+            return None;
+        };
+        Some(Loan {
+            page: page as u32,
+            words: words_in(self.owners[page]),
         })
     }
 

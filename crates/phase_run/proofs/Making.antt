@@ -28,7 +28,7 @@ abbrev pub ordered : Planned → Order
 ordered p = record { kind = p.kind; sub = p.sub; subs = p.subs; asks = p.asks; stop = p.stop }
 
 -- workers that were made for it were made for that order
-made_for : (p : Planned) (seat : DeviceSeat) (a : Asking ChannelScript Reply) (s : Serving ChannelScript DeviceSeat Ask Reply) → p.count ≡ length p.asks → served_at seat ≡ [] → AsksFor p a → ServesFor p seat s → MadeFor (ordered p) seat a s
+made_for : (p : Planned) (seat : DeviceSeat) (a : Asking ChannelScript TableSeat Reply) (s : Serving ChannelScript DeviceSeat TableSeat Ask Reply) → p.count ≡ length p.asks → served_at seat ≡ [] → AsksFor p a → ServesFor p seat s → MadeFor (ordered p) seat a s
 made_for p seat a s count fresh asked served = record {
   can = asked.can;
   protocol = asked.protocol;

@@ -52,7 +52,7 @@ pub record Joins (asker server : Seen TableSeat) (lists : Lists) (side : Side) :
   pub server_got : got_by (other side) lists ≡ got_of server.state.past
 
 -- both workers have ended, and their ends were joined
-pub record BothLeave (a : Asking ChannelScript Reply) (s : Serving ChannelScript DeviceSeat Ask Reply) (asked served : WorkerDone) (lists : Lists) (side : Side) : Type 0 where
+pub record BothLeave (a : Asking ChannelScript TableSeat Reply) (s : Serving ChannelScript DeviceSeat TableSeat Ask Reply) (asked served : WorkerDone) (lists : Lists) (side : Side) : Type 0 where
   pub agree : PlansAgree a s
   pub asker_leaves : LeavesAsked a asked
   pub server_leaves : LeavesServed s served
@@ -64,14 +64,14 @@ is_whole_of PeerMarked is = refl
 is_whole_of (Room packets words left) is = absurd (cc (is))
 
 -- the one that asks asks no more of the device than the other one has calls for, unless that one stops
-few_for : (a : Asking ChannelScript Reply) (s : Serving ChannelScript DeviceSeat Ask Reply) (asked : WorkerDone) → PlansAgree a s → LeavesAsked a asked → s.stops ≡ false → length (filter (is_asked (format_of s.responder.protocol.kind)) (sent_of asked.end.state.past)) ≤ s.serve
+few_for : (a : Asking ChannelScript TableSeat Reply) (s : Serving ChannelScript DeviceSeat TableSeat Ask Reply) (asked : WorkerDone) → PlansAgree a s → LeavesAsked a asked → s.stops ≡ false → length (filter (is_asked (format_of s.responder.protocol.kind)) (sent_of asked.end.state.past)) ≤ s.serve
 few_for a s asked agree leaves go =
     let kind = a.protocol.kind in
     let few = few_asked (format_of kind) (keeps kind) asked.ended (startup kind a.protocol.sub a.protocol.subs) (map Script a.protocol.asks) asked.end.state.past asked.replies.items (start_is_fixed kind a.protocol.sub a.protocol.subs) leaves.asks in
     omega (arith, ap (λ k. length (filter (is_asked (format_of k)) (sent_of asked.end.state.past))) agree.kind, few, length-map a.protocol.asks Script, agree.calls go)
 
 -- neither ended for want of room, or of a call
-both_whole : (a : Asking ChannelScript Reply) (s : Serving ChannelScript DeviceSeat Ask Reply) (asked served : WorkerDone) (lists : Lists) (side : Side) → BothLeave a s asked served lists side → (is_whole asked.ended ≡ true) × (is_whole served.ended ≡ true)
+both_whole : (a : Asking ChannelScript TableSeat Reply) (s : Serving ChannelScript DeviceSeat TableSeat Ask Reply) (asked served : WorkerDone) (lists : Lists) (side : Side) → BothLeave a s asked served lists side → (is_whole asked.ended ≡ true) × (is_whole served.ended ≡ true)
 both_whole a s asked served lists side both =
     let kind = s.responder.protocol.kind in
     let count = length (asks_of a.protocol) in
@@ -85,7 +85,7 @@ asks_all s Marked asks past told whole by = by.0
 asks_all s PeerMarked asks past told whole by = by.0
 asks_all s (Room packets words left) asks past told whole by = absurd (cc (whole))
 
-ends_all : (s : WireFormat (List ℕ) Want Ask Reply) (besides : Bool) (how : Ended) (w : Serving ChannelScript DeviceSeat Ask Reply) (e : Seen TableSeat) (calls : List Served) → is_whole how ≡ true → EndsBy s besides how w e calls → EndsAll s w e.state.past calls
+ends_all : (s : WireFormat (List ℕ) Want Ask Reply) (besides : Bool) (how : Ended) (w : Serving ChannelScript DeviceSeat TableSeat Ask Reply) (e : Seen TableSeat) (calls : List Served) → is_whole how ≡ true → EndsBy s besides how w e calls → EndsAll s w e.state.past calls
 ends_all s besides Marked w e calls whole by = by.0
 ends_all s besides PeerMarked w e calls whole by = by.0
 ends_all s besides (Room packets words left) w e calls whole by = absurd (cc (whole))
@@ -96,7 +96,7 @@ asker_ends : (order : Order) (protocol : ChannelScript) (past : List (Event (Lis
 asker_ends order protocol past told is all = subst (λ (t : ChannelScript). AsksAll (format_of t.kind) (asks_of t) past told) is all (plan_of order) refl
 
 -- and the one that serves
-server_ends : (order : Order) (seat : DeviceSeat) (a : Asking ChannelScript Reply) (s : Serving ChannelScript DeviceSeat Ask Reply) (past : List (Event (List ℕ))) (calls : List Served) → MadeFor order seat a s
+server_ends : (order : Order) (seat : DeviceSeat) (a : Asking ChannelScript TableSeat Reply) (s : Serving ChannelScript DeviceSeat TableSeat Ask Reply) (past : List (Event (List ℕ))) (calls : List Served) → MadeFor order seat a s
     → EndsAll (format_of s.responder.protocol.kind) s past calls → ServerEnds (format_of order.kind) (plan_of order) past calls
 server_ends order seat a s past calls made all =
     subst (λ k. EndsAll (format_of k) s past calls) made.answers all (plan_of order) (record {
@@ -121,7 +121,7 @@ pub record RanBy (order : Order) (seat back : DeviceSeat) (lists : Lists) (asked
   pub serials : served.serials.items ≡ map (λ s. s.serial) (served_at back)
   pub replies : asked.replies.items ≡ map (λ s. s.reply) (replies_to order (served_at back))
 
-ran : (order : Order) (seat : DeviceSeat) (a : Asking ChannelScript Reply) (s : Serving ChannelScript DeviceSeat Ask Reply) (asked served : WorkerDone) (lists : Lists) (side : Side) → side_that_asks order.kind ≡ side → MadeFor order seat a s
+ran : (order : Order) (seat : DeviceSeat) (a : Asking ChannelScript TableSeat Reply) (s : Serving ChannelScript DeviceSeat TableSeat Ask Reply) (asked served : WorkerDone) (lists : Lists) (side : Side) → side_that_asks order.kind ≡ side → MadeFor order seat a s
     → (both : BothLeave a s asked served lists side) → RanBy order seat both.server_leaves.back lists asked served
 ran order seat a s asked served lists side at_side made ended =
     let told = asked.replies.items in
@@ -145,7 +145,7 @@ ran order seat a s asked served lists side at_side made ended =
     }
 
 -- the seat that comes back
-comes_back : (s : Serving ChannelScript DeviceSeat Ask Reply) (served : WorkerDone) (seat : Option DeviceSeat) → seat ≡ served.seat → LeavesServed s served → ComesBack s.responder.seat seat
+comes_back : (s : Serving ChannelScript DeviceSeat TableSeat Ask Reply) (served : WorkerDone) (seat : Option DeviceSeat) → seat ≡ served.seat → LeavesServed s served → ComesBack s.responder.seat seat
 comes_back s served seat is leaves = record {
   same = leaves.back;
   is_back = is ∙ leaves.seat;
@@ -175,7 +175,7 @@ none_before {A} all front back is none = is ∙ ap (λ (l : List A). l ++ back) 
 none_after : {A : Type 0} (all front back : List A) → all ≡ front ++ back → back ≡ [] → all ≡ front
 none_after {A} all front back is none = is ∙ ap (λ (l : List A). front ++ l) none ∙ append-nil front
 
-guest_asks : (a : Asking ChannelScript Reply) (s : Serving ChannelScript DeviceSeat Ask Reply) (guest host : WorkerDone) (done : PairDone) → Closes (Asks a) (Serves s) guest host done → BothLeave a s guest host done.settled Guest
+guest_asks : (a : Asking ChannelScript TableSeat Reply) (s : Serving ChannelScript DeviceSeat TableSeat Ask Reply) (guest host : WorkerDone) (done : PairDone) → Closes (Asks a) (Serves s) guest host done → BothLeave a s guest host done.settled Guest
 guest_asks a s guest host done closes = record {
   agree = closes.pair.roles;
   asker_leaves = closes.guest_leaves;
@@ -183,7 +183,7 @@ guest_asks a s guest host done closes = record {
   joins = record { one = closes.run; asker_sent = closes.guest_sent; asker_got = closes.guest_got; server_sent = closes.host_sent; server_got = closes.host_got };
 }
 
-host_asks : (a : Asking ChannelScript Reply) (s : Serving ChannelScript DeviceSeat Ask Reply) (guest host : WorkerDone) (done : PairDone) → Closes (Serves s) (Asks a) guest host done → BothLeave a s host guest done.settled Host
+host_asks : (a : Asking ChannelScript TableSeat Reply) (s : Serving ChannelScript DeviceSeat TableSeat Ask Reply) (guest host : WorkerDone) (done : PairDone) → Closes (Serves s) (Asks a) guest host done → BothLeave a s host guest done.settled Host
 host_asks a s guest host done closes = record {
   agree = closes.pair.roles;
   asker_leaves = closes.host_leaves;

@@ -1,5 +1,6 @@
 -- The two workers of a channel, and what they come to.
 use Rattle.std.specs.Prelude.{ℕ, ◌≡◌, Bool, true, false, List, [], ◌∷◌, length, map, filter, Option, Some, None, is_some}
+use Rattle.ring_seat.specs.declared.table_seat.TableSeat.{TableSeat}
 use Rattle.std.specs.List.{AllByRecursion, filter_map}
 use Rattle.bus_model.specs.Orders.{Order, startup_of}
 use Rattle.bus_model.specs.Channel.{IsChannelRun, served_count, is_held, replies_to}
@@ -37,7 +38,7 @@ pub record IsPaired (p : Pairing) : Type 0 where
 
 -- The workers were made for this order of a channel, whose device has this seat: the one asks what is ordered, and the other serves as many
 -- requests, holds the answer to the last one where the order says so, and stops where the order does
-pub record MadeFor (order : Order) (seat : DeviceSeat) (asker : Asking ChannelScript Reply) (server : Serving ChannelScript DeviceSeat Ask Reply) : Type 0 where
+pub record MadeFor (order : Order) (seat : DeviceSeat) (asker : Asking ChannelScript TableSeat Reply) (server : Serving ChannelScript DeviceSeat TableSeat Ask Reply) : Type 0 where
   pub can : AllByRecursion (IsAskable order.kind) order.asks
   pub protocol : asker.protocol ≡ record { kind = order.kind; sub = order.sub; subs = order.subs; asks = order.asks }
   pub answers : server.responder.protocol.kind ≡ order.kind

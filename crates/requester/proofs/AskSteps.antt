@@ -9,7 +9,7 @@ use Rattle.chan_run.specs.declared.event.Event.TheVariants.{Sent, Got, Empty, Ma
 use Rattle.chan_run.specs.Runs.{sent_of, got_of, has_marked, has_seen, is_drained}
 use Rattle.chan_run.proofs.Pasts.{drained_seen, follows_unmarked}
 use Rattle.ring_core.specs.Seen.{Seen}
-use Rattle.ring_seat.specs.declared.table_seat.TableSeat.{TableSeat}
+use Rattle.ring_core.specs.declared.told.Told.{Told}
 use Rattle.txn_table.specs.Open.{request_of}
 use Rattle.channel_model.specs.WireFormat.{WireFormat, Keeps}
 use Rattle.channel_model.specs.Asker.{Encoded, opened, said, since, under, without, open_of, requests_of}
@@ -115,7 +115,7 @@ module _ {A Q R : Type 0} (s : WireFormat (List ℕ) A Q R) where
   pub message_here : (got : List (List ℕ)) (k : ℕ) (m p : List ℕ) → slice_get got k ≡ Some m → s.is_message m ≡ true → slice_get got k ≡ Some p → s.is_message p ≡ true
   message_here got k m p at is here = ap s.is_message (some_same p m (sym here ∙ at)) ∙ is
 
-module _ {T A Q R : Type 0} (s : WireFormat (List ℕ) A Q R) (asks : List A) (w : Asking T R) where
+module _ {T S A Q R : Type 0} (s : WireFormat (List ℕ) A Q R) (asks : List A) (w : Asking T S R) where
   -- as many requests were sent as stand before the next one
   sent_next : IsAsking s asks w → length (requests_of s w.end.state.past) ≡ w.next
   sent_next h =
@@ -126,7 +126,7 @@ module _ {T A Q R : Type 0} (s : WireFormat (List ℕ) A Q R) (asks : List A) (w
   none_stands : IsAsking s asks w → count_by is_some w.table ≡ 0 → open_of s asks w.end.state.past ≡ []
   none_stands h none = none_left s (open_of s asks w.end.state.past) (waits_in (drop w.next asks) w.waiting) (λ id. sym (h.kept.opens id) ∙ ap (ask_at asks) (none_open w.table none id))
 
-module _ {T A Q R : Type 0} (s : WireFormat (List ℕ) A Q R) (keeps : Keeps s) (asks : List A) (w : Asking T R) where
+module _ {T S A Q R : Type 0} (s : WireFormat (List ℕ) A Q R) (keeps : Keeps s) (asks : List A) (w : Asking T S R) where
   -- the table as a map, and what waits
   abbrev tabled : ℕ → Option A
   tabled = asked_in asks w.table
@@ -142,7 +142,7 @@ module _ {T A Q R : Type 0} (s : WireFormat (List ℕ) A Q R) (keeps : Keeps s) 
   looked_more : (got' : List (List ℕ)) (p : List ℕ) → got' ≡ w.end.state.got ++ p ∷ [] → IsAsking s asks w → w.acked ≤ length got'
   looked_more got' p more h = omega (arith, h.looked, ap length more, length-append w.end.state.got (p ∷ []))
 
-  pub empty_kept : (end' : Seen TableSeat) → end'.state.past ≡ Empty ∷ w.end.state.past → end'.state.got ≡ w.end.state.got → end'.state.machine.asleep ≡ false → IsAsking s asks w → IsAsking s asks (record w { end = end' })
+  pub empty_kept : (end' : Seen S) → end'.state.past ≡ Empty ∷ w.end.state.past → end'.state.got ≡ w.end.state.got → end'.state.machine.asleep ≡ false → IsAsking s asks w → IsAsking s asks (record w { end = end' })
   empty_kept end' is got awake h = record {
     kept = rw is (asker_empty s asks w.end.state.past todo (waits_in todo w.waiting) tabled w.told h.kept);
     acks = rw (is, got) (acks_quiet s w.end.state.past Empty (drop w.acked w.end.state.got) refl refl h.acks);
@@ -157,7 +157,7 @@ module _ {T A Q R : Type 0} (s : WireFormat (List ℕ) A Q R) (keeps : Keeps s) 
     alone = λ id e few. ap (open_of s asks) is ∙ h.alone id e few;
   }
 
-  pub saw_kept : (end' : Seen TableSeat) (hold' : Hold) → end'.state.past ≡ Saw ∷ w.end.state.past → end'.state.got ≡ w.end.state.got → end'.state.machine.asleep ≡ false → IsAsking s asks w → IsAsking s asks (record w { end = end'; seen = true; hold = hold' })
+  pub saw_kept : (end' : Seen S) (hold' : Hold) → end'.state.past ≡ Saw ∷ w.end.state.past → end'.state.got ≡ w.end.state.got → end'.state.machine.asleep ≡ false → IsAsking s asks w → IsAsking s asks (record w { end = end'; seen = true; hold = hold' })
   saw_kept end' hold' is got awake h = record {
     kept = rw is (asker_saw s asks w.end.state.past todo (waits_in todo w.waiting) tabled w.told h.kept);
     acks = rw (is, got) (acks_quiet s w.end.state.past Saw (drop w.acked w.end.state.got) refl refl h.acks);
@@ -173,7 +173,7 @@ module _ {T A Q R : Type 0} (s : WireFormat (List ℕ) A Q R) (keeps : Keeps s) 
   }
 
   -- nothing was done that the peer sees
-  pub still_kept : (end' : Seen TableSeat) (hold' : Hold) → end'.state.past ≡ w.end.state.past → end'.state.got ≡ w.end.state.got → (end'.state.machine.asleep ≡ true → Holds s asks hold' (record w { end = end'; hold = hold' }) × SleepsFor (want_by hold') end' × (w.seen ≡ false))
+  pub still_kept : (end' : Seen S) (hold' : Hold) → end'.state.past ≡ w.end.state.past → end'.state.got ≡ w.end.state.got → (end'.state.machine.asleep ≡ true → Holds s asks hold' (record w { end = end'; hold = hold' }) × SleepsFor (want_by hold') end' × (w.seen ≡ false))
       → IsAsking s asks w → IsAsking s asks (record w { end = end'; hold = hold' })
   still_kept end' hold' is got rests h = record {
     kept = rw is h.kept;
@@ -190,7 +190,7 @@ module _ {T A Q R : Type 0} (s : WireFormat (List ℕ) A Q R) (keeps : Keeps s) 
   }
 
   -- an answer was taken: the packet that came just before it is read with it, where that was none
-  pub took_kept : (end' : Seen TableSeat) (table' : List (Option ℕ)) (told' : List R) (p : List ℕ) → s.is_answer p ≡ true → got_of w.end.state.past ≡ w.end.state.got → end'.state.past ≡ Got p ∷ w.end.state.past
+  pub took_kept : (end' : Seen S) (table' : List (Option ℕ)) (told' : List R) (p : List ℕ) → s.is_answer p ≡ true → got_of w.end.state.past ≡ w.end.state.got → end'.state.past ≡ Got p ∷ w.end.state.past
       → end'.state.got ≡ w.end.state.got ++ p ∷ [] → end'.state.machine.asleep ≡ false → waits_under w.waiting (s.id_of p) ≡ false
       → ((j : ℕ) → request_of table' j ≡ (if j == s.id_of p then None else request_of w.table j)) → told' ≡ w.told ++ answer_of s (asked_in asks w.table (s.id_of p)) (since s None w.end.state.got) p → IsAsking s asks w
       → IsAsking s asks (record w { end = end'; table = table'; told = told' })
@@ -217,7 +217,7 @@ module _ {T A Q R : Type 0} (s : WireFormat (List ℕ) A Q R) (keeps : Keeps s) 
       }
 
   -- a packet was taken that is no answer
-  pub came_kept : (end' : Seen TableSeat) (p : List ℕ) → s.is_answer p ≡ false → end'.state.past ≡ Got p ∷ w.end.state.past → end'.state.got ≡ w.end.state.got ++ p ∷ [] → end'.state.machine.asleep ≡ false → IsAsking s asks w
+  pub came_kept : (end' : Seen S) (p : List ℕ) → s.is_answer p ≡ false → end'.state.past ≡ Got p ∷ w.end.state.past → end'.state.got ≡ w.end.state.got ++ p ∷ [] → end'.state.machine.asleep ≡ false → IsAsking s asks w
       → IsAsking s asks (record w { end = end' })
   came_kept end' p none is more awake h = record {
     kept = rw is (asker_came s asks w.end.state.past todo (waits_in todo w.waiting) tabled w.told p none h.kept);
@@ -250,7 +250,7 @@ module _ {T A Q R : Type 0} (s : WireFormat (List ℕ) A Q R) (keeps : Keeps s) 
   }
 
   -- the next message was acknowledged
-  pub acked_kept : (end' : Seen TableSeat) (m p : List ℕ) → slice_get w.end.state.got w.acked ≡ Some m → s.is_message m ≡ true → p ≡ s.ack m → end'.state.past ≡ Sent p ∷ w.end.state.past → end'.state.got ≡ w.end.state.got
+  pub acked_kept : (end' : Seen S) (m p : List ℕ) → slice_get w.end.state.got w.acked ≡ Some m → s.is_message m ≡ true → p ≡ s.ack m → end'.state.past ≡ Sent p ∷ w.end.state.past → end'.state.got ≡ w.end.state.got
       → end'.state.machine.asleep ≡ false → w.seen ≡ false → IsAsking s asks w → IsAsking s asks (record w { end = end'; acked = w.acked + 1 })
   acked_kept end' m p at is_message made is got awake unseen h =
       let silent : s.is_request (s.ack m) ≡ false = keeps.ack_asks (s.ack m) (keeps.acks m is_message).0 in
@@ -271,9 +271,9 @@ module _ {T A Q R : Type 0} (s : WireFormat (List ℕ) A Q R) (keeps : Keeps s) 
         alone = λ id e few. ap (open_of s asks) (is ∙ ap (λ q. Sent q ∷ w.end.state.past) made) ∙ (opens ∙ h.alone id e few);
       }
 
-module _ {T A Q R : Type 0} (s : WireFormat (List ℕ) A Q R) (keeps : Keeps s) (asks : List A) (w : Asking T R) where
+module _ {T S A Q R : Type 0} (s : WireFormat (List ℕ) A Q R) (keeps : Keeps s) (asks : List A) (w : Asking T S R) where
   -- an answer to the request that isn't sent yet was dropped
-  pub stray_kept : (end' : Seen TableSeat) (p : List ℕ) (id : ℕ) → s.is_answer p ≡ true → w.waiting ≡ Some id → end'.state.past ≡ Got p ∷ w.end.state.past → end'.state.got ≡ w.end.state.got ++ p ∷ [] → end'.state.machine.asleep ≡ false → (id == s.id_of p) ≡ true → IsAsking s asks w
+  pub stray_kept : (end' : Seen S) (p : List ℕ) (id : ℕ) → s.is_answer p ≡ true → w.waiting ≡ Some id → end'.state.past ≡ Got p ∷ w.end.state.past → end'.state.got ≡ w.end.state.got ++ p ∷ [] → end'.state.machine.asleep ≡ false → (id == s.id_of p) ≡ true → IsAsking s asks w
       → IsAsking s asks (record w { end = end' })
   stray_kept end' p id answers waits is more awake same h =
       let a = h.asked id waits in
@@ -322,7 +322,7 @@ module _ {T A Q R : Type 0} (s : WireFormat (List ℕ) A Q R) (keeps : Keeps s) 
       }
 
   -- it was sent
-  pub sent_kept : (end' : Seen TableSeat) (id : ℕ) (a : A) (p : List ℕ) → slice_get asks w.next ≡ Some a → w.waiting ≡ Some id → p ≡ s.encode id a → end'.state.past ≡ Sent p ∷ w.end.state.past → end'.state.got ≡ w.end.state.got → end'.state.machine.asleep ≡ false
+  pub sent_kept : (end' : Seen S) (id : ℕ) (a : A) (p : List ℕ) → slice_get asks w.next ≡ Some a → w.waiting ≡ Some id → p ≡ s.encode id a → end'.state.past ≡ Sent p ∷ w.end.state.past → end'.state.got ≡ w.end.state.got → end'.state.machine.asleep ≡ false
       → w.seen ≡ false → IsAsking s asks w → IsAsking s asks (record w { end = end'; next = w.next + 1; waiting = None })
   sent_kept end' id a p at waits made is got awake unseen h =
       let asked = h.asked id waits in
@@ -353,7 +353,7 @@ module _ {T A Q R : Type 0} (s : WireFormat (List ℕ) A Q R) (keeps : Keeps s) 
       }
 
   -- a request that has no answer was sent
-  pub told_kept : (end' : Seen TableSeat) (a : A) (p : List ℕ) → slice_get asks w.next ≡ Some a → w.waiting ≡ None → (w.next ≤ w.starts → count_by is_some w.table ≡ 0) → s.has_answer a ≡ false → p ≡ s.encode 0 a → end'.state.past ≡ Sent p ∷ w.end.state.past → end'.state.got ≡ w.end.state.got → end'.state.machine.asleep ≡ false
+  pub told_kept : (end' : Seen S) (a : A) (p : List ℕ) → slice_get asks w.next ≡ Some a → w.waiting ≡ None → (w.next ≤ w.starts → count_by is_some w.table ≡ 0) → s.has_answer a ≡ false → p ≡ s.encode 0 a → end'.state.past ≡ Sent p ∷ w.end.state.past → end'.state.got ≡ w.end.state.got → end'.state.machine.asleep ≡ false
       → w.seen ≡ false → IsAsking s asks w → IsAsking s asks (record w { end = end'; next = w.next + 1 })
   told_kept end' a p at none alone silent made is got awake unseen h =
       let first = first_of asks w.next a at in
@@ -398,7 +398,7 @@ module _ {T A Q R : Type 0} (s : WireFormat (List ℕ) A Q R) (keeps : Keeps s) 
       let k = subst (λ l. AskerKept s l (Marked ∷ w.end.state.past) (drop w.next asks) (waits_in (drop w.next asks) w.waiting) (asked_in asks w.table) w.told) (sym same) (marked_kept h) in
       rw is (asker_stopped s plan (Marked ∷ w.end.state.past) (drop w.next asks) (waits_in (drop w.next asks) w.waiting) (asked_in asks w.table) w.told (drop w.acked w.end.state.got) k (marked_acks h) drained (drained_seen w.end.state.past drained, follows_unmarked w.end.state.past unmarked))
 
-  pub drains : (end' : Seen TableSeat) → end'.state.past ≡ Empty ∷ w.end.state.past → IsAsking s asks w → w.seen ≡ true → is_drained end'.state.past ≡ true
+  pub drains : (end' : Seen S) → end'.state.past ≡ Empty ∷ w.end.state.past → IsAsking s asks w → w.seen ≡ true → is_drained end'.state.past ≡ true
   drains end' is h seen = ap is_drained is ∙ ap (λ b. b || is_drained w.end.state.past) (h.saw ∙ seen)
 
   pub breaks : IsAsking s asks w → AskerBreaks s asks w.end.state.past w.told
@@ -430,7 +430,7 @@ module _ {T A Q R : Type 0} (s : WireFormat (List ℕ) A Q R) (keeps : Keeps s) 
   lacks_by besides packets words line h room (inl l) = takes_over s.is_message (besides_of besides (length asks)) (room_of besides (length asks)) packets words w.end room.got line l
   lacks_by besides packets words line h room (inr l) = next_over besides packets words h room.sent l
 
-  pub stray_by : (o : Option ℕ) → w.waiting ≡ o → (end' : Seen TableSeat) (p : List ℕ) → s.is_answer p ≡ true → waits_under o (s.id_of p) ≡ true → end'.state.past ≡ Got p ∷ w.end.state.past → end'.state.got ≡ w.end.state.got ++ p ∷ []
+  pub stray_by : (o : Option ℕ) → w.waiting ≡ o → (end' : Seen S) (p : List ℕ) → s.is_answer p ≡ true → waits_under o (s.id_of p) ≡ true → end'.state.past ≡ Got p ∷ w.end.state.past → end'.state.got ≡ w.end.state.got ++ p ∷ []
       → end'.state.machine.asleep ≡ false → IsAsking s asks w → IsAsking s asks (record w { end = end' })
   stray_by None waits end' p answers e is more awake h = absurd (cc)
   stray_by (Some id) waits end' p answers e is more awake h = stray_kept end' p id answers waits is more awake e h
@@ -459,7 +459,7 @@ module _ {T A Q R : Type 0} (s : WireFormat (List ℕ) A Q R) (keeps : Keeps s) 
   }
 
   -- why nothing is sent doesn't lie with the end
-  pub holds_on : (end' : Seen TableSeat) (hold hold' : Hold) → end'.state.got ≡ w.end.state.got → Holds s asks hold w → Holds s asks hold (record w { end = end'; hold = hold' })
+  pub holds_on : (end' : Seen S) (hold hold' : Hold) → end'.state.got ≡ w.end.state.got → Holds s asks hold w → Holds s asks hold (record w { end = end'; hold = hold' })
   holds_on end' Done hold' got h = rw got h
   holds_on end' Place hold' got h = rw got h
   holds_on end' Answer hold' got h = rw got h
@@ -473,10 +473,10 @@ module _ {T A Q R : Type 0} (s : WireFormat (List ℕ) A Q R) (keeps : Keeps s) 
   need_in (Ack need) h = (h.4, h.5)
   need_in (Room need) h = (h.4, h.5)
 
-pub ask_trans : {T R : Type 0} (u v w : Asking T R) → AsksOn u v → AsksOn v w → AsksOn u w
-ask_trans u v w a b = record { protocol = b.protocol ∙ a.protocol; relid = b.relid ∙ a.relid; starts = b.starts ∙ a.starts; window = b.window ∙ a.window; end = record { seat = b.end.seat ∙ a.end.seat; side = b.end.side ∙ a.end.side } }
+pub ask_trans : {T S R C : Type 0} (channel : S → C) (told_by : S → Option Told) (u v w : Asking T S R) → AsksOn channel told_by u v → AsksOn channel told_by v w → AsksOn channel told_by u w
+ask_trans channel told_by u v w a b = record { tells = b.tells ∙ a.tells; protocol = b.protocol ∙ a.protocol; relid = b.relid ∙ a.relid; starts = b.starts ∙ a.starts; window = b.window ∙ a.window; end = record { seat = b.end.seat ∙ a.end.seat; side = b.end.side ∙ a.end.side } }
 
 -- what it gives at its end is what was asked of it at its beginning
-pub asks_on : {T A Q R : Type 0} (sp : T → WireFormat (List ℕ) A Q R) (asks : T → List A) (how : Ended) (u w : Asking T R) (past : List (Event (List ℕ))) (told : List R) → AsksOn u w
+pub asks_on : {T S A Q R C : Type 0} (channel : S → C) (told_by : S → Option Told) (sp : T → WireFormat (List ℕ) A Q R) (asks : T → List A) (how : Ended) (u w : Asking T S R) (past : List (Event (List ℕ))) (told : List R) → AsksOn channel told_by u w
     → AsksBy (sp w.protocol) how (asks w.protocol) past told → AsksBy (sp u.protocol) how (asks u.protocol) past told
-asks_on sp asks how u w past told on h = subst (λ t. AsksBy (sp t) how (asks t) past told) on.protocol h
+asks_on channel told_by sp asks how u w past told on h = subst (λ t. AsksBy (sp t) how (asks t) past told) on.protocol h

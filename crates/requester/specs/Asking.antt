@@ -5,32 +5,31 @@ use Rattle.chan_run.specs.declared.event.Event.{Event}
 use Rattle.chan_run.specs.declared.event.Event.TheVariants.{Sent, Got, Empty, Marked as EventMarked, Saw}
 use Rattle.chan_run.specs.Runs.{got_of, has_marked, has_seen}
 use Rattle.ring_core.specs.Seen.{Seen}
-use Rattle.ring_seat.specs.Settling.{IsSameEnd}
-use Rattle.ring_seat.specs.declared.table_seat.TableSeat.{TableSeat}
+use Rattle.ring_core.specs.declared.told.Told.{Told}
 use Rattle.txn_table.specs.Open.{HasNone, request_of}
 use Rattle.channel_model.specs.WireFormat.{WireFormat, listed}
 use Rattle.channel_model.specs.Amounts.{room_of, SendsKinds}
 use Rattle.channel_model.specs.Asker.{requests_of, open_of}
 use Rattle.channel_model.specs.Channel.{RequestPlan, asks_of, AskerEnds, AskerBreaks}
 use Rattle.channel_model.specs.Workers.{AskerKept, AcksKept}
-use Rattle.channel_port.specs.Line.{SleepsFor, LacksTake}
+use Rattle.channel_port.specs.Line.{IsBroken, IsReady, IsSameEnd, SleepsFor, LacksTake}
 use Rattle.channel_port.specs.Owed.{LacksSendOf}
 use Rattle.channel_port.specs.Rooms.{AskedWithin, AskLacksFor, KeepsRoom}
 use Rattle.channel_port.specs.declared.ended.Ended.{Ended}
-use Rattle.channel_port.specs.declared.ended.Ended.TheVariants.{Marked, PeerMarked, Room}
+use Rattle.channel_port.specs.declared.ended.Ended.TheVariants.{Marked, PeerMarked, Room, Broken as EndedBroken}
 use Rattle.channel_port.specs.declared.ended.Turn.{Turn}
 use Rattle.channel_port.specs.declared.ended.Turn.TheVariants.{Moved, Idle, Ended as TurnEnded}
 use Rattle.requester.specs.declared.requester.Hold.{Hold}
 use Rattle.requester.specs.declared.requester.Hold.TheVariants.{Done as HoldDone, Place as HoldPlace, Answer as HoldAnswer, Ack as HoldAck, Room as HoldRoom}
 use Rattle.requester.specs.declared.requester.Asked.{Asked}
-use Rattle.requester.specs.declared.requester.Asked.TheVariants.{Sent as AskedSent, Held as AskedHeld, Lacks as AskedLacks}
+use Rattle.requester.specs.declared.requester.Asked.TheVariants.{Sent as AskedSent, Held as AskedHeld, Lacks as AskedLacks, Broken as AskedBroken}
 
 -- the protocol, the end, the open requests by the number of their ask, the next ask, its id where it waits for room, how many of the packets that came were
 -- looked at for messages to acknowledge, the replies, how many asks are the start-up's, whether the other end's mark was seen, why the last arm had nothing
 -- to send, and the relid of the channel
-pub record Asking (T R : Type 0) : Type 0 where
+pub record Asking (T S R : Type 0) : Type 0 where
   pub protocol : T
-  pub end : Seen TableSeat
+  pub end : Seen S
   pub table : List (Option ℕ)
   pub next : ℕ
   pub waiting : Option ℕ
@@ -68,16 +67,16 @@ id_in None = 0
 id_in (Some id) = id
 
 -- each packet that came was looked at, and each message acknowledged
-abbrev pub HasAcked : {T R : Type 0} → Asking T R → Type 0
+abbrev pub HasAcked : {T S R : Type 0} → Asking T S R → Type 0
 HasAcked w = w.acked ≡ length w.end.state.got
 
 -- the next packet that is to be looked at is a message
-abbrev pub HasMessage : {T A Q R : Type 0} → WireFormat (List ℕ) A Q R → Asking T R → Type 0
+abbrev pub HasMessage : {T S A Q R : Type 0} → WireFormat (List ℕ) A Q R → Asking T S R → Type 0
 HasMessage s w = (m : List ℕ) × (slice_get w.end.state.got w.acked ≡ Some m) × (s.is_message m ≡ true)
 
 -- why nothing more is sent: all was, and a request is open; or the next ask has no id yet, and none is free, or an answer of the start-up is missing; or its
 -- packet waits for the room that it needs; or what acknowledges a message does, which goes before any ask
-abbrev pub Holds : {T A Q R : Type 0} → WireFormat (List ℕ) A Q R → List A → Hold → Asking T R → Type 0
+abbrev pub Holds : {T S A Q R : Type 0} → WireFormat (List ℕ) A Q R → List A → Hold → Asking T S R → Type 0
 Holds s asks HoldDone w = (w.next ≡ length asks) × (0 < count_by is_some w.table) × HasAcked w
 Holds s asks HoldPlace w = (w.waiting ≡ None) × All IsSome w.table × HasAcked w
 Holds s asks HoldAnswer w = (w.waiting ≡ None) × (w.next ≤ w.starts) × (0 < count_by is_some w.table) × HasAcked w
@@ -102,7 +101,7 @@ IsPaced s starts asks (EventMarked ∷ past) = IsPaced s starts asks past
 IsPaced s starts asks (Saw ∷ past) = IsPaced s starts asks past
 
 -- while this end isn't marked
-pub record IsAsking {T A Q R : Type 0} (s : WireFormat (List ℕ) A Q R) (asks : List A) (w : Asking T R) : Type 0 where
+pub record IsAsking {T S A Q R : Type 0} (s : WireFormat (List ℕ) A Q R) (asks : List A) (w : Asking T S R) : Type 0 where
   pub kept : AskerKept s asks w.end.state.past (drop w.next asks) (waits_in (drop w.next asks) w.waiting) (asked_in asks w.table) w.told
   pub acks : AcksKept s w.end.state.past (drop w.acked w.end.state.got)
   pub kinds : SendsKinds s w.end.state.past
@@ -121,13 +120,13 @@ answer_of s None before p = []
 answer_of s (Some a) before p = listed (s.result a before p)
 
 -- all was asked, no request is open, and each message is acknowledged
-pub record HasSettled {T A R : Type 0} (asks : List A) (w : Asking T R) : Type 0 where
+pub record HasSettled {T S A R : Type 0} (asks : List A) (w : Asking T S R) : Type 0 where
   pub all : w.next ≡ length asks
   pub none : count_by is_some w.table ≡ 0
   pub acked : HasAcked w
 
 -- where all was asked, a request is open
-abbrev pub HasOpen : {T A R : Type 0} → List A → Asking T R → Type 0
+abbrev pub HasOpen : {T S A R : Type 0} → List A → Asking T S R → Type 0
 HasOpen asks w = w.next ≡ length asks → 0 < count_by is_some w.table
 
 -- the worker ended, for every plan with its requests
@@ -139,28 +138,30 @@ abbrev pub AsksBy : {A Q R : Type 0} → WireFormat (List ℕ) A Q R → Ended �
 AsksBy s Marked asks past told = AsksAll s asks past told × (has_marked past ≡ true) × (has_seen past ≡ false)
 AsksBy s PeerMarked asks past told = AsksAll s asks past told × (has_marked past ≡ true) × (has_seen past ≡ true)
 AsksBy s (Room packets words left) asks past told = AskerBreaks s asks past told
+AsksBy s EndedBroken asks past told = AskerBreaks s asks past told
 
 -- what is to be sent next lacks room: what acknowledges a message, or the next ask
-abbrev pub LacksNext : {T A Q R : Type 0} → WireFormat (List ℕ) A Q R → List A → ℕ → ℕ → Asking T R → Type 0
+abbrev pub LacksNext : {T S A Q R : Type 0} → WireFormat (List ℕ) A Q R → List A → ℕ → ℕ → Asking T S R → Type 0
 LacksNext {A = A} s asks packets words w =
     ((m : List ℕ) × (slice_get w.end.state.got w.acked ≡ Some m) × (s.is_message m ≡ true) × LacksSendOf packets words (s.ack m) w.end)
     ⊎ ((a : A) × (slice_get asks w.next ≡ Some a) × (is_some w.waiting ≡ s.has_answer a) × LacksSendOf packets words (s.encode (id_in w.waiting) a) w.end)
 
 -- the next packet that comes lacks room, or the one that is sent next
-abbrev pub AskerLacks : {T A Q R : Type 0} → WireFormat (List ℕ) A Q R → List A → ℕ → ℕ → Asking T R → Type 0
+abbrev pub AskerLacks : {T S A Q R : Type 0} → WireFormat (List ℕ) A Q R → List A → ℕ → ℕ → Asking T S R → Type 0
 AskerLacks s asks packets words w = LacksTake packets words w.end ⊎ LacksNext s asks packets words w
 
 -- The table is empty; or the next packet that comes, or goes, lacks room, and so more came than room was reserved for. What was sent are at most its asks, those
 -- of the start-up one at a time, and one acknowledgement for each message
-abbrev pub AskLacks : {T A Q R : Type 0} → WireFormat (List ℕ) A Q R → Bool → List A → Ended → Asking T R → Type 0
+abbrev pub AskLacks : {T S A Q R : Type 0} → WireFormat (List ℕ) A Q R → Bool → List A → Ended → Asking T S R → Type 0
 AskLacks s besides asks Marked w = HasNone w.table × AskedWithin s (length asks) w.end.state.past × IsPaced s w.starts asks w.end.state.past
 AskLacks s besides asks PeerMarked w = HasNone w.table × AskedWithin s (length asks) w.end.state.past × IsPaced s w.starts asks w.end.state.past
 AskLacks s besides asks (Room packets words left) w =
     (left ≡ 0) × AskerLacks s asks packets words w × KeepsRoom (room_of besides (length asks)) w.end
     × AskLacksFor s besides (length asks) (Room packets words left) w.end.state.past × AskedWithin s (length asks) w.end.state.past × IsPaced s w.starts asks w.end.state.past
+AskLacks s besides asks EndedBroken w = IsBroken w.end × AskedWithin s (length asks) w.end.state.past × IsPaced s w.starts asks w.end.state.past
 
 -- how a turn ends; one that is idle leaves the end asleep for what it holds, before the other end's mark was seen
-abbrev pub AskTurns : {T A Q R : Type 0} → WireFormat (List ℕ) A Q R → Bool → List A → Turn → Asking T R → Type 0
+abbrev pub AskTurns : {T S A Q R : Type 0} → WireFormat (List ℕ) A Q R → Bool → List A → Turn → Asking T S R → Type 0
 AskTurns s besides asks Moved w = w.end.state.machine.marked ≡ false
 AskTurns s besides asks Idle w = (w.end.state.machine.marked ≡ false) × (w.end.state.machine.asleep ≡ true) × Holds s asks w.hold w × SleepsFor (want_by w.hold) w.end × (w.seen ≡ false)
 AskTurns s besides asks (TurnEnded how) w = AsksBy s how asks w.end.state.past w.told × AskLacks s besides asks how w
@@ -172,18 +173,40 @@ AskEnds s besides starts asks Idle past = Unit {0}
 AskEnds s besides starts asks (TurnEnded how) past = AskedWithin s (length asks) past × AskLacksFor s besides (length asks) how past × IsPaced s starts asks past
 
 -- the next packet was sent, or why it wasn't
-abbrev pub AskedBy : {T A Q R : Type 0} → WireFormat (List ℕ) A Q R → List A → Asked → Asking T R → Type 0
+abbrev pub AskedBy : {T S A Q R : Type 0} → WireFormat (List ℕ) A Q R → List A → Asked → Asking T S R → Type 0
 AskedBy s asks AskedSent w = Unit {0}
 AskedBy s asks (AskedHeld hold) w = Holds s asks hold w
+AskedBy s asks AskedBroken w = Unit {0}
 AskedBy s asks (AskedLacks packets words) w = LacksNext s asks packets words w × (got_of w.end.state.past ≡ w.end.state.got)
 
+-- it ended since the end is broken
+abbrev pub is_broken : Ended → Bool
+is_broken Marked = false
+is_broken PeerMarked = false
+is_broken (Room packets words left) = false
+is_broken EndedBroken = true
+
+-- and so did the turn
+abbrev pub broke : Turn → Bool
+broke Moved = false
+broke Idle = false
+broke (TurnEnded how) = is_broken how
+
+-- the end can begin a call, unless it broke
+abbrev pub StandsAsked : {S : Type 0} → Asked → Seen S → Type 0
+StandsAsked AskedSent e = IsReady e
+StandsAsked (AskedHeld hold) e = IsReady e
+StandsAsked (AskedLacks packets words) e = IsReady e
+StandsAsked AskedBroken e = IsBroken e
+
 -- the same worker, with as many places in its table
-pub record AsksOn {T R : Type 0} (old new : Asking T R) : Type 0 where
+pub record AsksOn {T S R C : Type 0} (channel : S → C) (told : S → Option Told) (old new : Asking T S R) : Type 0 where
   pub protocol : new.protocol ≡ old.protocol
   pub relid : new.relid ≡ old.relid
   pub starts : new.starts ≡ old.starts
   pub window : length new.table ≡ length old.table
-  pub end : IsSameEnd old.end new.end
+  pub end : IsSameEnd channel old.end new.end
+  pub tells : is_some (told new.end.seat) ≡ is_some (told old.end.seat)
 
 -- a request that waits stands in the table already
 abbrev pub pending : Option ℕ → ℕ

@@ -6,10 +6,14 @@ ghost use Rattle.channel_model.specs.Asker.{since};
 
 use channel_port::Port;
 use channel_protocol::Protocol;
+use end_sleep::Parks;
 
 // The packet that came just before the last one, where it is no answer; else no words.
 #[tactic(auto, using(crate::proofs::CameLaws::none_before, crate::proofs::CameLaws::answered_before, crate::proofs::CameLaws::other_before))]
-pub(crate) fn came_before<'a, T: Protocol>(protocol: &T, port: &'a Port) -> &'a [u64]
+pub(crate) fn came_before<'a, T: Protocol, S: Parks + Drop>(
+    protocol: &T,
+    port: &'a Port<S>,
+) -> &'a [u64]
     requires { 0 < length port.now.state.got }
     ensures value { (before : List (List ℕ)) (p : List ℕ) → port.now.state.got ≡ before ++ p ∷ [] → packet_in result.now ≡ since (T.format protocol.now) None before }
     ensures packet { result.now ≡ [] ⊎ IsPacket result.now }

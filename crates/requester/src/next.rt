@@ -4,9 +4,14 @@ ghost use Rattle.requester.specs.Acking.{IsNext};
 
 use channel_port::Port;
 use channel_protocol::Protocol;
+use end_sleep::Parks;
 
 // The place of the next message among the packets that came, from a place on; or the end of the list.
-pub(crate) fn next_message<T: Protocol>(protocol: &T, port: &Port, from: usize) -> usize
+pub(crate) fn next_message<T: Protocol, S: Parks + Drop>(
+    protocol: &T,
+    port: &Port<S>,
+    from: usize,
+) -> usize
     requires { from ≤ length port.now.state.got }
     ensures { IsNext (T.format protocol.now) port.now.state.got from result }
 {

@@ -1,14 +1,14 @@
 //! The worker of the end that asks.
-ghost use Rattle.std.specs.Prelude.{◌≡◌, ◌<◌, ◌≤◌, ◌+◌, [], ◌∷◌, ℕ, length, replicate, slice_get, All, IsSome, Some, None, true, false, IfOk, count_by, is_some, vec_len, vec_capacity};
+ghost use Rattle.std.specs.Prelude.{◌≡◌, ◌≢◌, ◌<◌, ◌≤◌, ◌+◌, [], ◌∷◌, ℕ, length, replicate, slice_get, All, IsSome, Some, None, true, false, IfOk, count_by, is_some, vec_len, vec_capacity};
 ghost use Rattle.chan_run.specs.Runs.{got_of, is_drained};
-ghost use Rattle.ring_seat.specs.Seats.{new_end};
-ghost use Rattle.ring_seat.specs.Settling.{IsSameEnd};
 ghost use Rattle.channel_model.specs.Channel.{AskerBreaks};
-ghost use Rattle.channel_port.specs.declared.ended.Ended.TheVariants.{Marked as MarkedEnd, PeerMarked as PeerMarkedEnd, Room as RoomEnd};
+ghost use Rattle.channel_port.specs.declared.ended.Ended.TheVariants.{Marked as MarkedEnd, PeerMarked as PeerMarkedEnd, Room as RoomEnd, Broken as BrokenEnd};
 ghost use Rattle.channel_port.specs.Causes.{Arms, Polls};
+ghost use Rattle.channel_port.specs.declared.found.Found.TheVariants.{Nothing as NothingFound, Broken as BrokenFound};
+ghost use Rattle.requester.specs.declared.requester.Asked.TheVariants.{Broken as BrokenAsked};
 ghost use Rattle.requester.specs.Causes.{AskCause, AskerActs, AsksOne, AsksOrArms};
-ghost use Rattle.channel_port.specs.Line.{IsReady, HasTakeRoom, TookOne};
-ghost use Rattle.requester.specs.Asking.{AsksBy, AskTurns, IsPaced, AskLacks, AskerLacks, AsksOn, AskEnds, Holds, HasAcked, HasMessage, HasOpen, HasSettled, waits_under, want_by, AskedBy};
+ghost use Rattle.channel_port.specs.Line.{new_end, Finds, IsBroken, IsReady, IsSameEnd, HasTakeRoom, TookOne};
+ghost use Rattle.requester.specs.Asking.{AsksBy, AskTurns, IsPaced, AskLacks, AskerLacks, AsksOn, AskEnds, Holds, HasAcked, HasMessage, HasOpen, HasSettled, StandsAsked, broke, is_broken, waits_under, want_by, AskedBy};
 ghost use Rattle.channel_port.specs.Rooms.{AskedWithin, AskLacksFor, KeepsRoom};
 ghost use Rattle.txn_table.specs.Open.{HasNone};
 ghost use Rattle.channel_model.specs.Amounts.{room_of};
@@ -17,11 +17,11 @@ use crate::came::came_before;
 use crate::lists::Lists;
 use crate::next::next_message;
 use crate::settle::settle;
-use channel_port::{Ended, Looked, Port, Sheet, Turn, room_of};
+use channel_port::{Ended, Found, Looked, Port, Sheet, Tried, Turn, room_of};
 use channel_protocol::Protocol;
+use end_sleep::Parks;
 use io_edge::{Gate, Side};
 use ring_core::End;
-use ring_seat::TableSeat;
 use std::alloc::{AllocError, Global};
 use std::marker::Model;
 use std::sync::Wait;
@@ -49,13 +49,15 @@ enum Asked {
     Held(Hold),
     // The list of what was sent has no room: this is what it has.
     Lacks { packets: u64, words: u64 },
+    // The end is broken.
+    Broken,
 }
 
 /// The worker of the end that asks: it asks all that its protocol has to ask, in order, reads the replies, and acknowledges the messages that come with them.
 #[derive(Drop)]
-pub struct Requester<T: Protocol> {
+pub struct Requester<T: Protocol, S: Parks> {
     protocol: T,
-    port: Port,
+    port: Port<S>,
     table: TxnTable<u32>,
     next: u32,
     waiting: Option<u64>,
@@ -73,13 +75,13 @@ pub struct Requester<T: Protocol> {
     relid: u32,
 }
 
-impl<T: Protocol> Model for Requester<T> {
+impl<T: Protocol, S: Parks> Model for Requester<T, S> {
     ghost use Rattle.std.specs.Prelude.{◌≡◌, ◌≤◌, ◌+◌, ◌-◌, false, length, count_by, is_some, vec_len, vec_capacity};
     ghost use Rattle.requester.specs.Asking.{Asking, IsAsking, pending};
     ghost use Rattle.channel_port.specs.Rooms.{KeepsRoom};
     ghost use Rattle.channel_model.specs.Amounts.{room_of};
 
-    ghost Value = { Asking T T.Reply };
+    ghost Value = { Asking T S T.Reply };
 
     ghost view = { λ w. record { protocol = w.protocol; end = w.port; table = w.table; next = w.next; waiting = w.waiting; acked = w.acked; told = w.replies.items; starts = w.starts; seen = w.seen; hold = w.hold; relid = w.relid } };
 
@@ -88,44 +90,48 @@ impl<T: Protocol> Model for Requester<T> {
 
 /// What an asking worker gives once it has ended.
 #[derive(Drop)]
-pub struct RequesterDone<T: Protocol> {
-    pub end: End<TableSeat>,
+pub struct RequesterDone<T: Protocol, S: Parks> {
+    pub end: End<S>,
     pub ended: Ended,
     /// The replies to the requests of the script, in order.
     pub replies: Vec<T::Reply>,
 }
 
-impl<T: Protocol> Requester<T> {
+impl<T: Protocol, S: Parks + Drop> Requester<T, S> {
     // Takes a packet, if one waits, and settles the request that it answers, if it is an answer. One to the request that isn't sent yet is dropped.
-    fn take_one(&mut self) -> bool
+    fn take_one(&mut self) -> Found
         requires ready { IsReady self.old.end }
         requires room { HasTakeRoom self.old.end }
         ensures took { TookOne result self.old.end.state self.new.end.state }
-        ensures drained { result ≡ false → self.old.seen ≡ true → is_drained self.new.end.state.past ≡ true }
+        ensures drained { result ≡ NothingFound → self.old.seen ≡ true → is_drained self.new.end.state.past ≡ true }
         ensures seen { self.new.seen ≡ self.old.seen }
-        ensures ready { IsReady self.new.end }
-        ensures on { AsksOn self.old self.new }
+        ensures finds { Finds result self.new.end }
+        ensures honest { is_some (S.told self.old.end.seat) ≡ true → result ≢ BrokenFound }
+        ensures on { AsksOn S.channel S.told self.old self.new }
     {
-        if !self.port.take() {
-            return false;
+        match self.port.take() {
+            Found::Packet => {
+                let packet = self.port.last();
+                if !self.protocol.is_answer(packet) {
+                    return Found::Packet;
+                }
+                let id = self.protocol.id(packet);
+                if is_waiting_under(self.waiting, id) {
+                    return Found::Packet;
+                }
+                let before = came_before(&self.protocol, &self.port);
+                settle(
+                    &self.protocol,
+                    &mut self.table,
+                    &mut self.replies,
+                    before,
+                    packet,
+                );
+                Found::Packet
+            }
+            Found::Nothing => Found::Nothing,
+            Found::Broken => Found::Broken,
         }
-        let packet = self.port.last();
-        if !self.protocol.is_answer(packet) {
-            return true;
-        }
-        let id = self.protocol.id(packet);
-        if is_waiting_under(self.waiting, id) {
-            return true;
-        }
-        let before = came_before(&self.protocol, &self.port);
-        settle(
-            &self.protocol,
-            &mut self.table,
-            &mut self.replies,
-            before,
-            packet,
-        );
-        true
     }
 
     // Passes over the packets that came and are no messages. Whether a message is left that is to be acknowledged.
@@ -134,7 +140,7 @@ impl<T: Protocol> Requester<T> {
         ensures message { result ≡ true → HasMessage (T.format self.new.protocol) self.new }
         ensures none { result ≡ false → HasAcked self.new }
         ensures same { (self.new.end ≡ self.old.end) × (self.new.seen ≡ self.old.seen) }
-        ensures on { AsksOn self.old self.new }
+        ensures on { AsksOn S.channel S.told self.old self.new }
     {
         self.acked = next_message(&self.protocol, &self.port, self.acked);
         self.acked < self.port.got_len()
@@ -148,8 +154,9 @@ impl<T: Protocol> Requester<T> {
         ensures asked { AskedBy (T.format self.new.protocol) (T.asks self.new.protocol) result self.new }
         ensures unseen { self.new.seen ≡ false }
         ensures cause { AsksOne result self.old.end.state.past self.new.end }
-        ensures ready { IsReady self.new.end }
-        ensures on { AsksOn self.old self.new }
+        ensures stands { StandsAsked result self.new.end }
+        ensures honest { is_some (S.told self.old.end.seat) ≡ true → result ≢ BrokenAsked }
+        ensures on { AsksOn S.channel S.told self.old self.new }
     {
         let came = self.port.got_len();
         prove!(self.acked < came);
@@ -162,13 +169,16 @@ impl<T: Protocol> Requester<T> {
                 words: room.words,
             };
         }
-        if !self.port.send(packet) {
-            return Asked::Held(Hold::Ack {
+        match self.port.send(packet) {
+            Tried::Sent => {
+                self.acked += 1;
+                Asked::Sent
+            }
+            Tried::Full => Asked::Held(Hold::Ack {
                 need: self.sheet.need(),
-            });
+            }),
+            Tried::Broken => Asked::Broken,
         }
-        self.acked += 1;
-        Asked::Sent
     }
 
     // Gives the next request a free id.
@@ -181,7 +191,7 @@ impl<T: Protocol> Requester<T> {
         ensures next { (self.new.next ≡ self.old.next) × (self.new.end ≡ self.old.end) × (self.new.seen ≡ self.old.seen) × (self.new.acked ≡ self.old.acked) }
         ensures waits { result ≡ true → (id : ℕ) × (self.new.waiting ≡ Some id) }
         ensures full { result ≡ false → (self.new.waiting ≡ None) × All IsSome self.new.table }
-        ensures on { AsksOn self.old self.new }
+        ensures on { AsksOn S.channel S.told self.old self.new }
     {
         match self.table.accept(self.next) {
             Ok(id) => {
@@ -202,8 +212,9 @@ impl<T: Protocol> Requester<T> {
         ensures asked { AskedBy (T.format self.new.protocol) (T.asks self.new.protocol) result self.new }
         ensures unseen { self.new.seen ≡ false }
         ensures cause { AsksOne result self.old.end.state.past self.new.end }
-        ensures ready { IsReady self.new.end }
-        ensures on { AsksOn self.old self.new }
+        ensures stands { StandsAsked result self.new.end }
+        ensures honest { is_some (S.told self.old.end.seat) ≡ true → result ≢ BrokenAsked }
+        ensures on { AsksOn S.channel S.told self.old self.new }
     {
         let count = self.protocol.count();
         prove!(self.next < count);
@@ -215,15 +226,18 @@ impl<T: Protocol> Requester<T> {
                 words: room.words,
             };
         }
-        if !self.port.send(packet) {
-            return Asked::Held(Hold::Room {
+        match self.port.send(packet) {
+            Tried::Sent => {
+                self.next += 1;
+                self.waiting = None;
+                self.passed = false;
+                Asked::Sent
+            }
+            Tried::Full => Asked::Held(Hold::Room {
                 need: self.sheet.need(),
-            });
+            }),
+            Tried::Broken => Asked::Broken,
         }
-        self.next += 1;
-        self.waiting = None;
-        self.passed = false;
-        Asked::Sent
     }
 
     // Sends the next request, which has no answer.
@@ -238,8 +252,9 @@ impl<T: Protocol> Requester<T> {
         ensures asked { AskedBy (T.format self.new.protocol) (T.asks self.new.protocol) result self.new }
         ensures unseen { self.new.seen ≡ false }
         ensures cause { AsksOne result self.old.end.state.past self.new.end }
-        ensures ready { IsReady self.new.end }
-        ensures on { AsksOn self.old self.new }
+        ensures stands { StandsAsked result self.new.end }
+        ensures honest { is_some (S.told self.old.end.seat) ≡ true → result ≢ BrokenAsked }
+        ensures on { AsksOn S.channel S.told self.old self.new }
     {
         let count = self.protocol.count();
         prove!(self.next < count);
@@ -251,14 +266,17 @@ impl<T: Protocol> Requester<T> {
                 words: room.words,
             };
         }
-        if !self.port.send(packet) {
-            return Asked::Held(Hold::Room {
+        match self.port.send(packet) {
+            Tried::Sent => {
+                self.next += 1;
+                self.passed = false;
+                Asked::Sent
+            }
+            Tried::Full => Asked::Held(Hold::Room {
                 need: self.sheet.need(),
-            });
+            }),
+            Tried::Broken => Asked::Broken,
         }
-        self.next += 1;
-        self.passed = false;
-        Asked::Sent
     }
 
     // Whether there is more to ask.
@@ -291,8 +309,9 @@ impl<T: Protocol> Requester<T> {
         ensures asked { AskedBy (T.format self.new.protocol) (T.asks self.new.protocol) result self.new }
         ensures unseen { self.new.seen ≡ false }
         ensures cause { AsksOne result self.old.end.state.past self.new.end }
-        ensures ready { IsReady self.new.end }
-        ensures on { AsksOn self.old self.new }
+        ensures stands { StandsAsked result self.new.end }
+        ensures honest { is_some (S.told self.old.end.seat) ≡ true → result ≢ BrokenAsked }
+        ensures on { AsksOn S.channel S.told self.old self.new }
     {
         if !self.has_more() {
             return Asked::Held(Hold::Done);
@@ -324,7 +343,8 @@ impl<T: Protocol> Requester<T> {
         requires holds { Holds (T.format self.old.protocol) (T.asks self.old.protocol) hold self.old }
         ensures turns { AskTurns (T.format self.new.protocol) (T.besides self.new.protocol) (T.asks self.new.protocol) result self.new }
         ensures cause { Arms result self.old.end.state.past self.new.end }
-        ensures on { AsksOn self.old self.new }
+        ensures honest { broke result ≡ false }
+        ensures on { AsksOn S.channel S.told self.old self.new }
     {
         self.hold = hold;
         match self.port.arm(want_for(hold)) {
@@ -355,7 +375,7 @@ impl<T: Protocol> Requester<T> {
         ensures none { HasNone self.new.table }
         ensures sent { AskedWithin (T.format self.new.protocol) (length (T.asks self.new.protocol)) self.new.end.state.past }
         ensures paced { IsPaced (T.format self.new.protocol) self.new.starts (T.asks self.new.protocol) self.new.end.state.past }
-        ensures on { AsksOn self.old self.new }
+        ensures on { AsksOn S.channel S.told self.old self.new }
     {
         self.port.mark();
     }
@@ -368,7 +388,7 @@ impl<T: Protocol> Requester<T> {
         ensures none { HasNone self.new.table }
         ensures sent { AskedWithin (T.format self.new.protocol) (length (T.asks self.new.protocol)) self.new.end.state.past }
         ensures paced { IsPaced (T.format self.new.protocol) self.new.starts (T.asks self.new.protocol) self.new.end.state.past }
-        ensures on { AsksOn self.old self.new }
+        ensures on { AsksOn S.channel S.told self.old self.new }
     {
         self.table.rescind_all(&mut self.rescinded);
         self.port.mark();
@@ -394,6 +414,19 @@ impl<T: Protocol> Requester<T> {
         }
     }
 
+    // A worker whose end is broken gives what it has.
+    fn broke_off(&self) -> Ended
+        requires broken { IsBroken self.now.end }
+        ensures how { result ≡ BrokenEnd }
+        ensures broken { IsBroken self.now.end }
+        ensures breaks { AskerBreaks (T.format self.now.protocol) (T.asks self.now.protocol) self.now.end.state.past self.now.told }
+        ensures sent { AskedWithin (T.format self.now.protocol) (length (T.asks self.now.protocol)) self.now.end.state.past }
+        ensures paced { IsPaced (T.format self.now.protocol) self.now.starts (T.asks self.now.protocol) self.now.end.state.past }
+    {
+        let _ = &self.next;
+        Ended::Broken
+    }
+
     // Acknowledges the message that is next, or rests.
     fn acknowledge_or_rest(&mut self) -> Turn
         requires ready { IsReady self.old.end }
@@ -401,12 +434,14 @@ impl<T: Protocol> Requester<T> {
         requires unseen { self.old.seen ≡ false }
         ensures turns { AskTurns (T.format self.new.protocol) (T.besides self.new.protocol) (T.asks self.new.protocol) result self.new }
         ensures cause { AsksOrArms result self.old.end.state.past self.new.end }
-        ensures on { AsksOn self.old self.new }
+        ensures honest { is_some (S.told self.old.end.seat) ≡ true → broke result ≡ false }
+        ensures on { AsksOn S.channel S.told self.old self.new }
     {
         match self.acknowledge() {
             Asked::Sent => Turn::Moved,
             Asked::Held(hold) => self.rest(hold),
             Asked::Lacks { packets, words } => Turn::Ended(self.broken(packets, words)),
+            Asked::Broken => Turn::Ended(self.broke_off()),
         }
     }
 
@@ -418,12 +453,14 @@ impl<T: Protocol> Requester<T> {
         requires open { HasOpen (T.asks self.old.protocol) self.old }
         ensures turns { AskTurns (T.format self.new.protocol) (T.besides self.new.protocol) (T.asks self.new.protocol) result self.new }
         ensures cause { AsksOrArms result self.old.end.state.past self.new.end }
-        ensures on { AsksOn self.old self.new }
+        ensures honest { is_some (S.told self.old.end.seat) ≡ true → broke result ≡ false }
+        ensures on { AsksOn S.channel S.told self.old self.new }
     {
         match self.ask(gate) {
             Asked::Sent => Turn::Moved,
             Asked::Held(hold) => self.rest(hold),
             Asked::Lacks { packets, words } => Turn::Ended(self.broken(packets, words)),
+            Asked::Broken => Turn::Ended(self.broke_off()),
         }
     }
 
@@ -433,15 +470,31 @@ impl<T: Protocol> Requester<T> {
         requires ready { IsReady self.old.end }
         ensures turns { AskTurns (T.format self.new.protocol) (T.besides self.new.protocol) (T.asks self.new.protocol) result self.new }
         ensures cause { AskerActs result self.old.end.state.past self.new.end }
-        ensures on { AsksOn self.old self.new }
+        ensures honest { is_some (S.told self.old.end.seat) ≡ true → broke result ≡ false }
+        ensures on { AsksOn S.channel S.told self.old self.new }
     {
         if let Some(room) = self.port.lacks_take() {
             return Turn::Ended(self.broken(room.packets, room.words));
         }
         let seen = self.seen;
-        if self.take_one() {
-            return Turn::Moved;
+        match self.take_one() {
+            Found::Packet => Turn::Moved,
+            Found::Nothing => self.go_on(seen, gate),
+            Found::Broken => Turn::Ended(self.broke_off()),
         }
+    }
+
+    // Where nothing comes once the other end's mark was seen it gives up; else it acknowledges the next message, with all settled it ends, and else it asks
+    // the next request. Or it rests.
+    fn go_on<G: Gate>(&mut self, seen: bool, gate: &G) -> Turn
+        requires ready { IsReady self.old.end }
+        requires seen { self.old.seen ≡ seen }
+        requires drained { seen ≡ true → is_drained self.old.end.state.past ≡ true }
+        ensures turns { AskTurns (T.format self.new.protocol) (T.besides self.new.protocol) (T.asks self.new.protocol) result self.new }
+        ensures cause { AsksOrArms result self.old.end.state.past self.new.end }
+        ensures honest { is_some (S.told self.old.end.seat) ≡ true → broke result ≡ false }
+        ensures on { AsksOn S.channel S.told self.old self.new }
+    {
         if seen {
             self.give_up();
             return Turn::Ended(Ended::PeerMarked);
@@ -461,8 +514,9 @@ impl<T: Protocol> Requester<T> {
         requires asleep { self.old.end.state.machine.asleep ≡ true }
         requires unmarked { self.old.end.state.machine.marked ≡ false }
         ensures turns { AskTurns (T.format self.new.protocol) (T.besides self.new.protocol) (T.asks self.new.protocol) result self.new }
-        ensures cause { Polls result self.old.end self.new.end }
-        ensures on { AsksOn self.old self.new }
+        ensures cause { Polls S.told S.memory result self.old.end self.new.end }
+        ensures honest { broke result ≡ false }
+        ensures on { AsksOn S.channel S.told self.old self.new }
     {
         if self.port.poll() {
             return Turn::Moved;
@@ -475,14 +529,14 @@ impl<T: Protocol> Requester<T> {
     pub fn make(
         alloc: Global,
         protocol: T,
-        end: End<TableSeat>,
+        end: End<S>,
         side: Side,
         relid: u32,
         window: u32,
-    ) -> Result<Requester<T>, AllocError>
+    ) -> Result<Requester<T, S>, AllocError>
         requires window { (1 ≤ window) × (window ≤ 64) }
         requires fresh { end.state ≡ new_end end.state.machine.cells end.state.machine.side }
-        requires size { (512 ≤ end.state.machine.cells) × (end.state.machine.cells ≤ 8192) }
+        requires size { (512 ≤ end.state.machine.cells) × (end.state.machine.cells ≤ 16777216) }
         requires side { side ≡ end.state.machine.side }
         ensures protocol { IfOk result (λ w. w.protocol ≡ protocol) }
         ensures relid { IfOk result (λ w. w.relid ≡ relid) }
@@ -510,7 +564,13 @@ impl<T: Protocol> Requester<T> {
     }
 
     // A worker that has asked nothing, over a port with room and empty lists.
-    fn over(protocol: T, port: Port, lists: Lists<T::Reply>, side: Side, relid: u32) -> Requester<T>
+    fn over(
+        protocol: T,
+        port: Port<S>,
+        lists: Lists<T::Reply>,
+        side: Side,
+        relid: u32,
+    ) -> Requester<T, S>
         requires fresh { (port.state.past ≡ []) × (port.state.got ≡ []) × (port.state.machine.asleep ≡ false) }
         requires side { side ≡ port.state.machine.side }
         requires room { KeepsRoom (room_of (T.besides protocol) (length (T.asks protocol))) port }
@@ -551,12 +611,16 @@ impl<T: Protocol> Requester<T> {
     pub fn turn<R: Wait, G: Gate>(&mut self, _rt: &R, gate: &G) -> Turn
         requires unmarked { self.old.end.state.machine.marked ≡ false }
         ensures turns { AskTurns (T.format self.new.protocol) (T.besides self.new.protocol) (T.asks self.new.protocol) result self.new }
-        ensures cause { AskCause result self.old.end self.new.end }
+        ensures cause { AskCause S.told S.memory result self.old.end self.new.end }
         ensures room { AskEnds (T.format self.new.protocol) (T.besides self.new.protocol) self.new.starts (T.asks self.new.protocol) result self.new.end.state.past }
-        ensures on { AsksOn self.old self.new }
+        ensures honest { is_some (S.told self.old.end.seat) ≡ true → broke result ≡ false }
+        ensures on { AsksOn S.channel S.told self.old self.new }
     {
         if self.port.is_asleep() {
             return self.doze();
+        }
+        if self.port.is_broken() {
+            return Turn::Ended(self.broke_off());
         }
         self.work(gate)
     }
@@ -566,13 +630,13 @@ impl<T: Protocol> Requester<T> {
         requires asleep { self.old.end.state.machine.asleep ≡ true }
         requires unmarked { self.old.end.state.machine.marked ≡ false }
         ensures unmarked { self.new.end.state.machine.marked ≡ false }
-        ensures on { AsksOn self.old self.new }
+        ensures on { AsksOn S.channel S.told self.old self.new }
     {
         self.port.sleep(rt);
     }
 
     /// Gives what it did, once it has ended.
-    pub fn done(self, ended: Ended) -> RequesterDone<T>
+    pub fn done(self, ended: Ended) -> RequesterDone<T, S>
         requires { AsksBy (T.format self.protocol) ended (T.asks self.protocol) self.end.state.past self.told }
         ensures ends { AsksBy (T.format self.protocol) result.ended (T.asks self.protocol) result.end.state.past result.replies.items }
         ensures same { (result.ended ≡ ended) × (result.end ≡ self.end) }
@@ -606,10 +670,11 @@ impl<T: Protocol> Requester<T> {
     }
 
     /// Takes turns, and sleeps after a turn that found nothing to do, until the worker has ended.
-    pub fn run<R: Wait, G: Gate>(mut self, rt: &R, gate: &G) -> RequesterDone<T>
+    pub fn run<R: Wait, G: Gate>(mut self, rt: &R, gate: &G) -> RequesterDone<T, S>
         requires unmarked { self.end.state.machine.marked ≡ false }
         ensures ends { AsksBy (T.format self.protocol) result.ended (T.asks self.protocol) result.end.state.past result.replies.items }
-        ensures end { IsSameEnd self.end result.end }
+        ensures end { IsSameEnd S.channel self.end result.end }
+        ensures honest { is_some (S.told self.end.seat) ≡ true → is_broken result.ended ≡ false }
         ensures sent { AskedWithin (T.format self.protocol) (length (T.asks self.protocol)) result.end.state.past }
         ensures room { AskLacksFor (T.format self.protocol) (T.besides self.protocol) (length (T.asks self.protocol)) result.ended result.end.state.past }
         ensures paced { IsPaced (T.format self.protocol) self.starts (T.asks self.protocol) result.end.state.past }

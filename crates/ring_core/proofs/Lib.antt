@@ -7,3 +7,4 @@ pub mod Performed
 pub mod Loading
 pub mod Counts
 pub mod Lendable
+pub mod Laying

@@ -9,3 +9,4 @@ pub mod Loading
 pub mod Lending
 pub mod Tallies
 pub mod Drives
+pub mod Laying

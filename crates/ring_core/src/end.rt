@@ -1,17 +1,20 @@
 //! One end of a channel: it makes the steps of its calls by its seat, and keeps the lists of what it sent and got.
-ghost use Rattle.std.specs.Prelude.{◌≡◌, ◌≢◌, ◌+◌, ◌*◌, ◌/◌, ◌<◌, ◌≤◌, ◌++◌, ◌∷◌, cond, true, false, not, [], length, Option, Some, None, Result, Ok, Err, IfOk, OnOk, IsTrue, ◌↔◌, take, ◌-◌};
+ghost use Rattle.std.specs.Prelude.{ℕ, ◌≡◌, ◌≢◌, ◌+◌, ◌*◌, ◌/◌, ◌<◌, ◌≤◌, ◌++◌, ◌∷◌, cond, true, false, not, [], length, Option, Some, None, Result, Ok, Err, IfOk, OnOk, IsTrue, ◌↔◌, take, ◌-◌};
 ghost use Rattle.ring_machine.specs.Endings.{Leaves, LeavesBy, why_of, send_answer, commit_answer, is_asleep, peer_mark_answer, is_honest_send, want_of, IsWant};
 ghost use Rattle.ring_machine.specs.EndCalls.{Send, Commit, Arm, Poll, Mark, PeerMark};
 ghost use Rattle.ring_machine.specs.Places.{IsRingSize};
+ghost use Rattle.page_kept.specs.Items.{packets};
 ghost use Rattle.page_kept.specs.Kept.{pages_sent, pages_took};
 ghost use Rattle.page_kept.specs.Keepers.{MayStore};
 ghost use Rattle.page_kept.specs.Layouts.{layout};
 ghost use Rattle.page_kept.specs.Stepped.{page_stored};
 ghost use Rattle.page_kept.specs.declared.due.Due.TheVariants.{Clear};
 ghost use Rattle.page_kept.specs.declared.page_call.PageCall.TheVariants.{StoreWord};
-ghost use Rattle.page_table.specs.Table.{owned_in};
+ghost use Rattle.page_kept.specs.Layouts.{Loan as Lending};
+ghost use Rattle.page_table.specs.Table.{owned_in, loans, part_in};
+ghost use Rattle.ring_core.specs.Laying.{RanStores, laid};
 ghost use Rattle.ring_core.specs.PageRuns.{RanPages};
-ghost use Rattle.ring_core.specs.Pages.{IsClear, along, first_kept, items_of, last_words};
+ghost use Rattle.ring_core.specs.Pages.{IsClear, along, first_kept, items_of, last_words, part_len};
 ghost use Rattle.ring_core.specs.Seen.{SentRoom, Kept, KeptByPages};
 ghost use Rattle.ring_core.specs.Loading.{Loads};
 ghost use Rattle.ring_machine.specs.PageCalls.{newest};
@@ -32,7 +35,7 @@ use crate::seat::Seatlike;
 use crate::solo_mem::SoloMem;
 use chan_run::Past;
 use page_kept::Due;
-use page_table::PageTable;
+use page_table::{Loan, PageTable};
 use ring_machine::{Armed, EndCore, SendRefusal, Side, Signalled, Stage, TakeRefusal};
 use std::alloc::{AllocError, Global};
 use std::marker::Model;
@@ -153,6 +156,16 @@ impl<S: Seatlike> End<S> {
         ensures whole { MayStore (layout self.now.state.pages.count) self.now.state.machine.side self.now.state.pages page word → IsTrue result }
     {
         !self.is_due() && self.parts.table.can_store(page, word)
+    }
+
+    /// In a channel with data pages the items are those of the packets, where nothing is due, and in one without there are none. What the seat tells is the end's
+    /// state. The call does nothing: its contract is a law.
+    pub fn items_fit(&self)
+        ensures items { IsClear self.now.state.pages → self.now.state.pages.count ≢ 0 → (packets self.now.state.pages.sent ≡ self.now.state.sent) × (packets self.now.state.pages.got ≡ self.now.state.got) }
+        ensures bare { self.now.state.pages.count ≡ 0 → (self.now.state.pages.sent ≡ []) × (self.now.state.pages.got ≡ []) }
+        ensures told { (u : Told) → S.told self.now.seat ≡ Some u → u.state ≡ self.now.state }
+    {
+        let _parts = &self.parts;
     }
 
     /// Whether a packet may be sent, as far as the data pages go: nothing is to be loaded; the end has the page that a request names, and all earlier requests
@@ -409,6 +422,40 @@ impl<S: Seatlike> End<S> {
         ensures same { S.same self.old.seat self.new.seat }
     {
         self.parts.store_word(page, word, v);
+    }
+
+    /// The part of a page that goes along with a packet, if that is sent now: the page that is held under a completion's id, with all its words, and what any
+    /// other packet names.
+    pub fn part_of(&self, p: &[u64]) -> Option<Loan>
+        requires packet { IsPacket p.now }
+        ensures part { loans result ≡ part_in self.now.state.pages.owners p.now }
+        ensures words { along self.now.state.pages p.now ≡ part_len result }
+        ensures none { self.now.state.pages.count ≡ 0 → result ≡ None }
+    {
+        self.parts.table.part_of(p)
+    }
+
+    /// Stores words into the part of a page that goes along with a packet, from its first word on: one step a word. The send of that packet, if it comes next,
+    /// lends or brings back these words, and behind them those that stood there.
+    pub fn lay(&mut self, p: &[u64], words: &[u64])
+        requires idle { self.old.state.machine.stage ≡ Idle }
+        requires unmarked { self.old.state.machine.marked ≡ false }
+        requires packet { IsPacket p.now }
+        requires lends { MayLend self.old.state p.now }
+        requires fits { length words.now ≤ along self.old.state.pages p.now }
+        ensures pages { self.new.state.pages ≡ laid self.old.state.pages p.now words.now }
+        ensures ran { (a : Lending) → part_in self.old.state.pages.owners p.now ≡ Some a → RanStores self.old.state self.new.state a.page words.now (S.told self.old.seat) (S.told self.new.seat) (S.memory self.old.seat) (S.memory self.new.seat) }
+        ensures none { part_in self.old.state.pages.owners p.now ≡ None → self.new ≡ self.old }
+        ensures kept { KeptByPages self.old self.new × (self.new.spare_got ≡ self.old.spare_got) }
+        ensures same { S.same self.old.seat self.new.seat }
+        ensures lends { MayLend self.new.state p.now }
+        ensures along { along self.new.state.pages p.now ≡ along self.old.state.pages p.now }
+        ensures words { self.new.state.pages.count ≢ 0 → take (length words.now) (last_words (pages_sent (layout self.new.state.pages.count) self.new.state.pages p.now).sent) ≡ words.now }
+    {
+        self.parts.table.lends_in_bounds();
+        if let Some(part) = self.parts.table.part_of(p) {
+            self.parts.store_words(part.page, words);
+        }
     }
 
     /// Loads the page words that came with the packet that was taken last, and keeps them with it: as `lent_load`, but that it lends no words.

@@ -1,5 +1,5 @@
 //! What a call works on, and the call as a whole.
-ghost use Rattle.std.specs.Prelude.{◌≡◌, ◌≢◌, ◌+◌, ◌<◌, ◌≤◌, cond, true, false, [], ◌∷◌, ◌++◌, length, take, Option, Some, None, IfSome, IsTrue, ◌↔◌};
+ghost use Rattle.std.specs.Prelude.{ℕ, ◌≡◌, ◌≢◌, ◌+◌, ◌<◌, ◌≤◌, cond, true, false, [], ◌∷◌, ◌++◌, length, take, Option, Some, None, IfSome, IsTrue, ◌↔◌};
 ghost use Rattle.page_kept.specs.Kept.{pages_sent, pages_took};
 ghost use Rattle.page_kept.specs.Items.{values};
 ghost use Rattle.page_kept.specs.Keepers.{MayStore};
@@ -10,6 +10,7 @@ ghost use Rattle.page_kept.specs.declared.due.Due.TheVariants.{Clear, Loads};
 ghost use Rattle.page_kept.specs.declared.page_call.PageCall.TheVariants.{StoreWord, LoadWords};
 ghost use Rattle.page_table.specs.Table.{IsPart, word_of};
 ghost use Rattle.ring_core.specs.Lending.{Answers, Asks};
+ghost use Rattle.ring_core.specs.Laying.{RanStores, stored_all};
 ghost use Rattle.ring_core.specs.PageRuns.{RanPages};
 ghost use Rattle.ring_core.specs.Pages.{ArePages, kept_of, resting_in, along, part_words, part_len};
 ghost use Rattle.ring_machine.specs.Endings.{Leaves, LeavesBy};
@@ -266,6 +267,26 @@ impl<S: Seatlike> Parts<S> {
         page_step(&mut self.seat, &mut core);
         self.core = core;
         self.table.set_word(page, word, v);
+    }
+
+    /// Stores words into a page, from its first word on, and keeps them in the copy: one step a word.
+    pub(crate) fn store_words(&mut self, page: u32, words: &[u64])
+        requires few { length words.now ≤ 512 }
+        requires idle { self.old.core.machine.stage ≡ Idle }
+        requires unmarked { self.old.core.machine.marked ≡ false }
+        requires fits { S.cells self.old.seat ≡ self.old.core.machine.cells }
+        requires pages { S.pages self.old.seat ≡ self.old.core.pages.count }
+        requires told { (u : Told) → S.told self.old.seat ≡ Some u → u.state ≡ resting_in self.old.core.machine self.old.core.pages self.old.sent self.old.got self.old.past.events self.old.table }
+        requires may { (w : ℕ) → w < length words.now → MayStore (layout self.old.core.pages.count) self.old.core.machine.side (kept_of self.old.core.pages self.old.sent self.old.got self.old.table) page w }
+        ensures ran { RanStores (resting_in self.old.core.machine self.old.core.pages self.old.sent self.old.got self.old.past.events self.old.table) (resting_in self.new.core.machine self.new.core.pages self.new.sent self.new.got self.new.past.events self.new.table) page words.now (S.told self.old.seat) (S.told self.new.seat) (S.memory self.old.seat) (S.memory self.new.seat) }
+        ensures pages { kept_of self.new.core.pages self.new.sent self.new.got self.new.table ≡ stored_all (kept_of self.old.core.pages self.old.sent self.old.got self.old.table) page 0 words.now }
+        ensures kept { (self.new.core.machine ≡ self.old.core.machine) × (self.new.sent ≡ self.old.sent) × (self.new.got ≡ self.old.got) × (self.new.past ≡ self.old.past) }
+        ensures same { S.same self.old.seat self.new.seat }
+        ensures seat { (S.cells self.new.seat ≡ self.new.core.machine.cells) × (S.pages self.new.seat ≡ self.new.core.pages.count) }
+    {
+        for word in 0..words.len() as u32 {
+            self.store_word(page, word, words[word as usize]);
+        }
     }
 
     /// Loads the words of a page that are due, and keeps them in the copy and with the packet that was taken last: one step a word.

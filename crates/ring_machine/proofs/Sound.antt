@@ -46,7 +46,7 @@ form_small v = omega arith
 
 -- the numbers of a sound machine, in the order of its fields
 pub record Sized (n w r t e o l k v q f u : ℕ) : Type 0 where
-  pub cells : (512 ≤ n) × (n ≤ 8192)
+  pub cells : (512 ≤ n) × (n ≤ 16777216)
   pub write : w < n
   pub read : r < n
   pub start : t < n

@@ -7,11 +7,11 @@ use Rattle.ring_machine.specs.declared.place.Ring.TheVariants.{ToHost, ToGuest}
 use Rattle.ring_machine.specs.declared.place.Place.{Place}
 use Rattle.ring_machine.specs.declared.place.Place.TheVariants.{Write, Read, Mask, Pending, Feature, Cell, Signal, Mark, Page}
 
--- a ring has 1 to 16 pages of data
+-- a ring has 1 to 32,768 pages of data
 pub record IsRingSize (d : ℕ) : Type 0 where
   pub whole : d % 4096 ≡ 0
   pub some : 4096 ≤ d
-  pub most : d ≤ 65536
+  pub most : d ≤ 134217728
 
 -- the ring that an end fills
 abbrev pub out_of : Side → Ring

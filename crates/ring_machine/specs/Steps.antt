@@ -343,7 +343,7 @@ is_broken _ = false
 
 -- What holds of every machine that the code makes
 pub record IsSound (m : Machine) : Type 0 where
-  pub cells : (512 ≤ m.cells) × (m.cells ≤ 8192)
+  pub cells : (512 ≤ m.cells) × (m.cells ≤ 16777216)
   pub write : m.write < m.cells
   pub read : m.read < m.cells
   pub start : m.start < m.cells

@@ -32,7 +32,7 @@ pub struct EndCore {
 }
 
 impl EndCore {
-    /// A new end of a channel whose rings have `d` bytes of data, 1 to 16 pages of 4,096, and which has so many data pages, at most 128.
+    /// A new end of a channel whose rings have `d` bytes of data, whole pages of 4,096 up to 128 MB, and which has so many data pages, at most 128.
     #[tactic(auto, using(crate::proofs::Fitting::fit_new))]
     pub fn make(side: Side, d: u32, pages: u32) -> EndCore
         requires size { IsRingSize d }

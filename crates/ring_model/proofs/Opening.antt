@@ -33,7 +33,7 @@ mark_down n Host = still n (n + n + 13) (omega arith) (λ e. omega arith) (λ e.
 pub opening_length : (n : ℕ) → length (opening n) ≡ words_of n
 opening_length n = length-set _ 4 1 ∙ (length-set _ 2 1 ∙ (length-set _ (n + 5 + 4) 1 ∙ (length-set _ (n + 5 + 2) 1 ∙ length-replicate (words_of n) 0)))
 
-new_sound : (n : ℕ) (x : Side) → 512 ≤ n → n ≤ 8192 → IsSound (machine_new x n)
+new_sound : (n : ℕ) (x : Side) → 512 ≤ n → n ≤ 16777216 → IsSound (machine_new x n)
 new_sound n x a b = record {
   cells = (a, b);
   write = omega arith;
@@ -77,7 +77,7 @@ new_ring n r x y some = record {
   taking = tt;
 }
 
-pub new_channel : (n : ℕ) → 512 ≤ n → n ≤ 8192 → AtRest n (opening n) (resting (machine_new Guest n) [] [] []) (resting (machine_new Host n) [] [] [])
+pub new_channel : (n : ℕ) → 512 ≤ n → n ≤ 16777216 → AtRest n (opening n) (resting (machine_new Guest n) [] [] []) (resting (machine_new Host n) [] [] [])
 new_channel n a b = record {
   channel = record {
     words = opening_length n;
@@ -97,7 +97,7 @@ new_channel n a b = record {
 }
 
 pub new_pair : (s : TwoEnds) (n : ℕ) → s.at ≡ Guest → s.guest.state ≡ resting (machine_new Guest n) [] [] [] → s.host.state ≡ resting (machine_new Host n) [] [] []
-    → s.guest.seat ≡ record { cells = n; pages = 0; memory = record { words = opening_with n 0; steps = 0; due = [] } } → 512 ≤ n → n ≤ 8192 → IsPair s
+    → s.guest.seat ≡ record { cells = n; pages = 0; memory = record { words = opening_with n 0; steps = 0; due = [] } } → 512 ≤ n → n ≤ 16777216 → IsPair s
 new_pair s n at guest host seat a b =
     let rest : AtRest n s.guest.seat.memory.words s.guest.state s.host.state =
     subst (λ (k : List ℕ × EndState × EndState). AtRest n k.0 k.1 k.2) (λ j. ((sym (append-nil (opening n)) ∙ ap (λ (m : Held). m.memory.words) (sym seat)) j, sym guest j, sym host j)) (new_channel n a b) in

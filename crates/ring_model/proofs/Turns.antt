@@ -55,7 +55,7 @@ pub apart : (n a b : ℕ) → a < b → b < a + n → a % n ≢ b % n
 apart n a b lt turn e = moved_on n (a % n) (b - a) (below n a (omega arith)) (omega arith) (omega arith) (sym (end_is n a b (omega arith) turn) ∙ sym e)
 
 -- a header word that names a cell
-module _ (n s : ℕ) (most : n ≤ 8192) (h : s < n) where
+module _ (n s : ℕ) (most : n ≤ 16777216) (h : s < n) where
   low_here : low (8 * s) ≡ 8 * s
   low_here = mod-eq_of_lt (omega arith)
 

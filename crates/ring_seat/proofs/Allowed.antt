@@ -33,6 +33,7 @@ use Rattle.ring_seat.specs.declared.view.View.TheVariants.{Both, One, Spent}
 use Rattle.ring_seat.specs.Seats.{Knows, Holds, Making, made, word_at, stored_by, IsOp, IsNamed, Tells}
 use Rattle.ring_seat.proofs.Counting.{with_told, signals_with}
 use Rattle.ring_seat.proofs.Known.{Known, Goes, known_of, rule_with, counts_with, loads_with, made_known, the_op}
+use Rattle.ring_seat.proofs.OneEnd.{lawful_of}
 use Rattle.ring_seat.proofs.Places.{word_small, page_small}
 
 -- what the word of a step becomes, and what the machine is fed, by the value that was there
@@ -120,7 +121,7 @@ allowed n c slots id k op go s it deep at small =
       keeps,
       tt,
       holds_with n c id s x (made k v) _ it knows.1 new.0,
-      (refl, new.1),
+      (refl, new.1, lawful_of n c x _ (made k v) p new.0),
     )
 
 -- what a step asks of the table

@@ -9,7 +9,6 @@ pub mod Sided
 pub mod Counting
 pub mod Allowed
 pub mod Sharing
-pub mod SleepLaws
 pub mod Reading
 pub mod PageStages
 pub mod PageLists
@@ -18,3 +17,4 @@ pub mod WholeLaws
 pub mod Places
 pub mod Loading
 pub mod Known
+pub mod OneEnd

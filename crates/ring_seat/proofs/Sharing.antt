@@ -91,7 +91,7 @@ module _ (n : ℕ) where
   new_words Guest = record { mask = guest_mask; pending = zero_at 3 (omega arith) (λ e. omega arith) (λ e. omega arith) (λ e. omega arith) (λ e. omega arith); feature = host_feature; signal = down Guest }
   new_words Host = record { mask = host_mask; pending = zero_at (n + 5 + 3) (omega arith) (λ e. omega arith) (λ e. omega arith) (λ e. omega arith) (λ e. omega arith); feature = guest_feature; signal = down Host }
 
-  new_invariant : 512 ≤ n → n ≤ 8192 → ChannelInvariant n (opening_words n) (new_end n)
+  new_invariant : 512 ≤ n → n ≤ 16777216 → ChannelInvariant n (opening_words n) (new_end n)
   new_invariant a b = record {
     channel = (new_channel n a b).channel;
     own = λ x. record { goes = λ e. cc; point = new_point n x; committed = λ h. absurd (cc); words = new_words x };
@@ -122,12 +122,12 @@ module _ (n : ℕ) where
       either_zero true v e = e
       either_zero false v e = refl
 
-  new_rule : (c : ℕ) → 512 ≤ n → n ≤ 8192 → WholeRule n c (opening_with n c) (new_paged n c)
+  new_rule : (c : ℕ) → 512 ≤ n → n ≤ 16777216 → WholeRule n c (opening_with n c) (new_paged n c)
   new_rule c a b =
       new_keeps n c (opening_with n c) a b (let l = length-append (opening_words n) (replicate (512 * c) 0) in let m = length-replicate {A = ℕ} (512 * c) 0 in let o = opening_long in omega (arith, l, m, o))
       (subst (λ (z : List ℕ). ChannelInvariant n z (new_end n)) (sym (new_rings c)) (new_invariant a b)) (new_word c)
 
-pub opens : (n c : ℕ) (words : List ℕ) → 512 ≤ n → n ≤ 8192 → words ≡ opening_with n c → Holds n c (opening words [] (Both (new_told n c Guest) (new_told n c Host)))
+pub opens : (n c : ℕ) (words : List ℕ) → 512 ≤ n → n ≤ 16777216 → words ≡ opening_with n c → Holds n c (opening words [] (Both (new_told n c Guest) (new_told n c Host)))
 opens n c words a b is = subst (λ (l : List ℕ). Holds n c (opening l [] (Both (new_told n c Guest) (new_told n c Host)))) (sym is) (record {
   ends = new_told n c;
   seat = λ x. 0;

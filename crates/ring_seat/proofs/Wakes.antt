@@ -104,7 +104,7 @@ module _ (n : ℕ) (x : Side) (ws : List ℕ) (e p : EndState) (b : Both n x ws 
   cell : cell_of (ring_in n ws (out_of x) 1) ≡ p.machine.start
   cell =
       let small : p.machine.start < n = subst (λ (k : ℕ). p.machine.start < k) b.peer_fits.cells b.peer_fits.sound.start in
-      let most : n ≤ 8192 = subst (λ (k : ℕ). k ≤ 8192) b.peer_fits.cells b.peer_fits.sound.cells.1 in
+      let most : n ≤ 16777216 = subst (λ (k : ℕ). k ≤ 16777216) b.peer_fits.cells b.peer_fits.sound.cells.1 in
       ap cell_of b.out.read_word ∙ cell_here n p.machine.start most small
 
   cells : e.machine.cells ≡ n

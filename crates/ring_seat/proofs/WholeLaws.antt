@@ -155,7 +155,7 @@ old n x = resting (machine_new x n) [] [] []
 with_new : (n c : ℕ) (ws : List ℕ) (x : Side) (ends : Side → EndState) → ChannelInvariant n ws ends → ChannelInvariant n ws (with_end x (with_pages (ends x) (first_kept x c)) ends)
 with_new n c ws x ends i = invariant_of n x ws (with_pages (ends x) (first_kept x c)) ends (aside n x ws (ends x) (ends (peer_of x)) (first_kept x c) (sided_of n ws ends i x))
 
-pub new_keeps : (n c : ℕ) (ws : List ℕ) → 512 ≤ n → n ≤ 8192 → words_of n + 512 * c ≤ length ws → ChannelInvariant n (take (words_of n) ws) (λ x. resting (machine_new x n) [] [] []) → ((q w : ℕ) → word_in (words_of n) ws q w ≡ 0)
+pub new_keeps : (n c : ℕ) (ws : List ℕ) → 512 ≤ n → n ≤ 16777216 → words_of n + 512 * c ≤ length ws → ChannelInvariant n (take (words_of n) ws) (λ x. resting (machine_new x n) [] [] []) → ((q w : ℕ) → word_in (words_of n) ws q w ≡ 0)
     → WholeRule n c ws (new_paged n c)
 new_keeps n c ws a b wide rings zero_words = record {
   rings = subst (ChannelInvariant n (take (words_of n) ws)) (λ j x. ends_are x j) (with_new n c (take (words_of n) ws) Guest (with_end Host (with_pages (old n Host) (first_kept Host c)) (old n)) (with_new n c (take (words_of n) ws) Host (old n) rings));

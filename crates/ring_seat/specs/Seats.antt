@@ -22,6 +22,7 @@ use Rattle.ring_core.specs.declared.told.Told.{Told}
 use Rattle.ring_core.specs.Told.{told_step}
 use Rattle.ring_seat.specs.declared.view.View.{View}
 use Rattle.ring_seat.specs.declared.view.View.TheVariants.{Both, One, Spent}
+use Rattle.ring_seat.specs.Lawful.{Lawfully}
 use Rattle.ring_seat.specs.PageRule.{ring_words}
 use Rattle.ring_seat.specs.Whole.{WholeRule, new_paged}
 
@@ -118,9 +119,9 @@ IsNamed k s = IsOp k.machine.cells (next_in k.machine k.call k.packet) s
 abbrev pub made : Making → ℕ → Told
 made k v = told_step (is_busy_at k.machine.stage) k.told k.machine k.call k.packet v
 
--- what a step tells: the end is in the state that the answer leaves, it has made one step more, and it goes on
+-- what a step tells: the end is in the state that the answer leaves, it has made one step more, it goes on, and the rule of the pages tells of it alone
 abbrev pub Tells : Making → ℕ → Me (Unit {0}) View → Type 0
-Tells k v me = (me ≡ (One (made k v), [])) × ((fed k.machine v).stage ≢ Stopped)
+Tells k v me = (me ≡ (One (made k v), [])) × ((fed k.machine v).stage ≢ Stopped) × Lawfully (made k v).state
 
 -- no end, for a step that nobody makes
 abbrev pub nobody : Making

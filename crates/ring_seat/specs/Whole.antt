@@ -72,5 +72,5 @@ EndTells = (n c : ℕ) (x : Side) (ws : List ℕ) (ends : Side → EndState) →
 
 -- a new channel
 abbrev pub NewKeeps : Type 0
-NewKeeps = (n c : ℕ) (ws : List ℕ) → 512 ≤ n → n ≤ 8192 → words_of n + 512 * c ≤ length ws → ChannelInvariant n (ring_words n ws) (λ x. resting (machine_new x n) [] [] []) → ((q w : ℕ) → word_in (words_of n) ws q w ≡ 0)
+NewKeeps = (n c : ℕ) (ws : List ℕ) → 512 ≤ n → n ≤ 16777216 → words_of n + 512 * c ≤ length ws → ChannelInvariant n (ring_words n ws) (λ x. resting (machine_new x n) [] [] []) → ((q w : ℕ) → word_in (words_of n) ws q w ≡ 0)
     → WholeRule n c ws (new_paged n c)

@@ -24,14 +24,14 @@ pub type HostEnd = End<TableSeat>;
 pub struct ChannelMem;
 
 impl ChannelMem {
-    /// Makes a channel with 1 to 16 pages of 4,096 bytes in each ring, and at most 128 data pages. Both ends are new and made no step, and all words are 0, but
+    /// Makes a channel with 1 to 32,768 pages of 4,096 bytes in each ring, and at most 128 data pages. Both ends are new and made no step, and all words are 0, but
     /// that mask and feature are 1 in both rings. Source: Linux `include/linux/hyperv.h`, `struct hv_ring_buffer`.
     pub fn make(
         alloc: Global,
         ring_pages: u32,
         data_pages: u32,
     ) -> Result<(GuestEnd, HostEnd), AllocError>
-        requires pages { (1 ≤ ring_pages) × (ring_pages ≤ 16) }
+        requires pages { (1 ≤ ring_pages) × (ring_pages ≤ 32768) }
         requires data { data_pages ≤ 128 }
         ensures one_channel { IfOk result (λ r. AreOfOneChannel r.0 r.1) }
         ensures guest { IfOk result (λ r. r.0.state ≡ new_paged (512 * ring_pages) data_pages Guest) }
@@ -48,7 +48,7 @@ impl ChannelMem {
 
 // The seats of both ends of a new channel whose rings have this many cells, and which has so many data pages.
 fn seats(alloc: Global, cells: u32, pages: u32) -> Result<(TableSeat, TableSeat), AllocError>
-    requires cells { (512 ≤ cells) × (cells ≤ 8192) }
+    requires cells { (512 ≤ cells) × (cells ≤ 16777216) }
     requires pages { pages ≤ 128 }
     ensures one_channel { IfOk result (λ r. r.0.seat.table_id ≡ r.1.seat.table_id) }
     ensures guest { IfOk result (λ r. r.0.seat.me.0 ≡ One (new_told cells pages Guest)) }

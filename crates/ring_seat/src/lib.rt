@@ -5,12 +5,10 @@ mod channel;
 pub mod laws;
 mod rule;
 mod settled;
-mod sleep;
 mod table_seat;
 mod view;
 
 pub use channel::{ChannelMem, GuestEnd, HostEnd};
 pub use settled::{Settled, finish};
-pub use sleep::Sleeper;
-pub use table_seat::TableSeat;
+pub use table_seat::{TableSeat, lawful};
 pub use view::View;

@@ -5,13 +5,15 @@ ghost use Rattle.ring_machine.specs.Places.{words_of, signal_of};
 ghost use Rattle.ring_machine.specs.PageCalls.{is_paging, is_under_way};
 ghost use Rattle.ring_machine.specs.Steps.{is_busy_at};
 ghost use Rattle.ring_core.specs.Told.{GoesOn};
+ghost use Rattle.ring_seat.specs.Lawful.{Lawfully};
 ghost use Rattle.ring_seat.specs.Seats.{told_in, state_in, is_one, Tells};
 ghost use Rattle.ring_seat.specs.declared.view.View.TheVariants.{One};
 
 use crate::rule::{Board, ChannelRule, Extent, Intent, Loads, Stores};
 use crate::view::View;
 use atomic_table::{Seat, Table};
-use ring_core::{EndCore, Op, Seatlike, mark_index, place_index, signal_index};
+use end_sleep::Parks;
+use ring_core::{End, EndCore, Op, Seatlike, mark_index, place_index, signal_index};
 use std::alloc::Global;
 use std::marker::Brand;
 use std::sync::{Arc, Wait};
@@ -69,6 +71,7 @@ pub struct TableSeat {
     ghost one: { is_one seat.me.0 ≡ true },
     ghost empty: { seat.me.1 ≡ [] },
     ghost at: { signal ≡ signal_of (arc_value board).shared.key.cells (state_in seat.me.0).machine.side },
+    ghost lawful: { Lawfully (state_in seat.me.0) },
 }
 
 impl TableSeat {
@@ -83,6 +86,7 @@ impl TableSeat {
         requires pages { (arc_value board).shared.key.pages ≡ (state_in seat.me.0).pages.count }
         requires view { (is_one seat.me.0 ≡ true) × (seat.me.1 ≡ []) }
         requires at { signal ≡ signal_of (arc_value board).shared.key.cells (state_in seat.me.0).machine.side }
+        requires lawful { Lawfully (state_in seat.me.0) }
         ensures { (result.board ≡ board) × (result.seat ≡ seat) }
     {
         TableSeat {
@@ -91,12 +95,16 @@ impl TableSeat {
             signal,
         }
     }
+}
 
-    // Parks the thread while the end's signal is down, or for no reason.
-    pub(crate) fn park<R: Wait>(&self, rt: &R) {
-        let board = &self.board.shared;
-        board.park(rt, self.signal, 0);
-    }
+/// What the rule of the pages tells of an end by itself, where nothing is due: each request that it got, that lends a page, and that it hasn't completed has
+/// that page here, with all its words. The call does nothing: its contract is a law.
+pub fn lawful(end: &End<TableSeat>)
+    ensures { Lawfully end.now.state }
+{
+    end.items_fit();
+    let seat = end.seat();
+    let _signal = seat.signal;
 }
 
 impl Seatlike for TableSeat {
@@ -124,5 +132,20 @@ impl Seatlike for TableSeat {
     fn perform(&mut self, core: &EndCore, packet: &[u64]) -> u64 {
         let board = &self.board.shared;
         perform_as::<Brand>(board, &mut self.seat, core, packet)
+    }
+}
+
+impl Parks for TableSeat {
+    ghost use Rattle.atomic_table.specs.Seated.{TableId};
+
+    ghost Channel = { TableId };
+
+    ghost channel = { λ s. s.seat.table_id };
+
+    ghost same_channel = { λ s t p. p.0 };
+
+    fn park<R: Wait>(&self, rt: &R) {
+        let board = &self.board.shared;
+        board.park(rt, self.signal, 0);
     }
 }

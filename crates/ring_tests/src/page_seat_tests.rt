@@ -4,7 +4,7 @@ ghost use Rattle.ring_seat.specs.Settling.{AreOfOneChannel, IsSameEnd};
 use crate::check::check;
 use crate::lends::{completion, request, sends, stores, takes};
 use ring_core::{Armed, End, Room};
-use ring_seat::{ChannelMem, GuestEnd, HostEnd, Settled, Sleeper, TableSeat, finish};
+use ring_seat::{ChannelMem, GuestEnd, HostEnd, Settled, TableSeat, finish};
 use std::alloc::AllocGlobal;
 use std::hint;
 use std::process::Abort;
@@ -58,7 +58,7 @@ fn rest<R: Wait>(rt: &R, e: &mut End<TableSeat>)
     e.commit();
     let armed = e.arm(None);
     if matches!(armed, Armed::Asleep) && e.is_asleep() {
-        e.sleep(rt);
+        end_sleep::sleep(e, rt);
     }
 }
 

@@ -5,7 +5,7 @@ ghost use Rattle.ring_seat.specs.Settling.{AreOfOneChannel, IsSameEnd};
 use crate::check::check;
 use crate::packet::packet;
 use ring_core::{Armed, End, Room, SendRefusal, Signalled, TakeRefusal, may_send, may_take};
-use ring_seat::{ChannelMem, GuestEnd, HostEnd, Settled, Sleeper, TableSeat, finish};
+use ring_seat::{ChannelMem, GuestEnd, HostEnd, Settled, TableSeat, finish};
 use std::alloc::AllocGlobal;
 use std::process::Abort;
 use std::sync::Wait;
@@ -79,7 +79,7 @@ fn rest<R: Wait>(rt: &R, e: &mut End<TableSeat>, wants: bool)
     let want = if wants { Some(24) } else { None };
     let armed = e.arm(want);
     if matches!(armed, Armed::Asleep) && e.is_asleep() {
-        e.sleep(rt);
+        end_sleep::sleep(e, rt);
     }
 }
 

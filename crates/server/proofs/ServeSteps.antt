@@ -13,7 +13,7 @@ use Rattle.chan_run.specs.Laws.{Follows}
 use Rattle.chan_run.proofs.Pasts.{drained_seen, follows_unmarked}
 use Rattle.hist_lock.specs.Seat.{Call}
 use Rattle.ring_core.specs.Seen.{Seen}
-use Rattle.ring_seat.specs.declared.table_seat.TableSeat.{TableSeat}
+use Rattle.ring_core.specs.declared.told.Told.{Told}
 use Rattle.channel_model.specs.WireFormat.{WireFormat, Keeps}
 use Rattle.channel_model.specs.Acks.{is_in, own_open, OwnFrom, AllOwnOpen}
 use Rattle.channel_model.specs.Amounts.{MayHaveMessages}
@@ -32,7 +32,7 @@ use Rattle.txn_table.specs.Open.{HasNone}
 use Rattle.server.specs.Serving.{Responder, Serving, IsServing, Rests, HasServed, HasToWait, Closes, ServesPacket, Orders, EndsAll, BreaksOff, CallsEach, AnswersAll, LetsGo, LacksPlace, LeftOff, EndsBy, LeavesOff, LacksRoom, ServesOn, IsFull, own_in, has_done, has_served, lacks_call, marked_by}
 use Rattle.server.proofs.OwnLaws.{own_within, full_open, none_full, table_empty}
 use Rattle.channel_port.specs.declared.ended.Ended.{Ended}
-use Rattle.channel_port.specs.declared.ended.Ended.TheVariants.{Marked as EndedMarked, PeerMarked, Room}
+use Rattle.channel_port.specs.declared.ended.Ended.TheVariants.{Marked as EndedMarked, PeerMarked, Room, Broken as EndedBroken}
 
 not_both : {X : Type 0} (b : Bool) → b ≡ false → b ≡ true → X
 not_both b e f = absurd (cc)
@@ -46,10 +46,10 @@ only_on true f x = f x
 only_on false f x = x
 
 -- the end that met Full has done nothing since of which the room that it found tells
-pub full_still : (owed : List (List ℕ)) (old new : Seen TableSeat) → (new.state.machine.room ≡ old.state.machine.room) × (new.state.machine.words ≡ old.state.machine.words) → MetFull owed old → MetFull owed new
+pub full_still : {E : Type 0} → (owed : List (List ℕ)) (old new : Seen E) → (new.state.machine.room ≡ old.state.machine.room) × (new.state.machine.words ≡ old.state.machine.words) → MetFull owed old → MetFull owed new
 full_still owed old new same full = record { packet = full.packet; rest = full.rest; first = full.first; room = omega (arith, full.room, same.0); words = same.1 ∙ full.words }
 
-module _ {T S Q R : Type 0} (w : Serving T S Q R) where
+module _ {T S E Q R : Type 0} (w : Serving T S E Q R) where
   -- a worker that has done what its plan says
   pub done_parts : has_done w ≡ true → (w.stops ≡ true) × (w.missing ≡ 0) × (has_served w.responder.left ≡ true)
   done_parts e =
@@ -61,7 +61,7 @@ module _ {T S Q R : Type 0} (w : Serving T S Q R) where
       and_parts true c e = (refl, e)
       and_parts false c e = absurd (cc)
 
-module _ {T S A Q R : Type 0} (s : WireFormat (List ℕ) A Q R) (besides : Bool) (w : Serving T S Q R) where
+module _ {T S E A Q R : Type 0} (s : WireFormat (List ℕ) A Q R) (besides : Bool) (w : Serving T S E Q R) where
   -- why it has to wait: packets that came aren't served, or there is more to do than to stop
   pub waits_full : w.served < length w.end.state.got → HasServed s besides w → HasToWait s besides w
   waits_full less (inl all) = absurd (omega (arith, less, all))
@@ -72,7 +72,7 @@ module _ {T S A Q R : Type 0} (s : WireFormat (List ℕ) A Q R) (besides : Bool)
   wait_served (inr full) = inr full
 
 -- and it does where none waited, and nothing of that changed
-pub waits_on : {T S A Q R : Type 0} (sp : T → WireFormat (List ℕ) A Q R) (besides : T → Bool) (old new : Serving T S Q R) → new.responder ≡ old.responder → new.served ≡ old.served → new.missing ≡ old.missing → new.stops ≡ old.stops → new.end.state.got ≡ old.end.state.got
+pub waits_on : {T S E A Q R : Type 0} (sp : T → WireFormat (List ℕ) A Q R) (besides : T → Bool) (old new : Serving T S E Q R) → new.responder ≡ old.responder → new.served ≡ old.served → new.missing ≡ old.missing → new.stops ≡ old.stops → new.end.state.got ≡ old.end.state.got
     → new.end.state.past ≡ Empty ∷ old.end.state.past → HasToWait (sp old.responder.protocol) (besides old.responder.protocol) old → HasToWait (sp new.responder.protocol) (besides new.responder.protocol) new
 waits_on sp besides old new responder served missing stops got past (inl (all, more)) =
     inl (
@@ -83,7 +83,7 @@ waits_on sp besides old new responder served missing stops got past (inl (all, m
 waits_on sp besides old new responder served missing stops got past (inr full) =
     inr (subst (λ d. OnlyWith (besides d.protocol) (AllOwnOpen (sp d.protocol) 64 new.end.state.past)) (sym responder) (subst (λ l. OnlyWith (besides old.responder.protocol) (AllOwnOpen (sp old.responder.protocol) 64 l)) (sym past) full))
 
-module _ {T S A Q R : Type 0} (s : WireFormat (List ℕ) A Q R) (keeps : Keeps s) (besides : Bool) (w : Serving T S Q R) where
+module _ {T S E A Q R : Type 0} (s : WireFormat (List ℕ) A Q R) (keeps : Keeps s) (besides : Bool) (w : Serving T S E Q R) where
   waited_more : (p : List ℕ) (got : List (List ℕ)) → length (filter s.waits (filter s.is_request (got ++ p ∷ []))) ≡ length (filter s.waits (filter s.is_request got)) + (if s.is_request p && s.waits p then 1 else 0)
   waited_more p got =
       by_test (s.is_request p)
@@ -107,7 +107,7 @@ module _ {T S A Q R : Type 0} (s : WireFormat (List ℕ) A Q R) (keeps : Keeps s
       (λ e. subst (λ t. OwnKept s (Got p ∷ w.end.state.past) w.responder.owed (own_in t)) (sym (c.other e)) (own_came s w.end.state.past p w.responder.owed (own_in w.responder.table) e own))
 
   -- a packet was taken
-  pub took_kept : (end' : Seen TableSeat) (table' : List (Option ℕ)) (missing' : ℕ) (p : List ℕ) → end'.state.past ≡ Got p ∷ w.end.state.past → end'.state.got ≡ w.end.state.got ++ p ∷ [] → end'.state.machine.asleep ≡ false
+  pub took_kept : (end' : Seen E) (table' : List (Option ℕ)) (missing' : ℕ) (p : List ℕ) → end'.state.past ≡ Got p ∷ w.end.state.past → end'.state.got ≡ w.end.state.got ++ p ∷ [] → end'.state.machine.asleep ≡ false
       → missing' ≡ w.missing - (if s.is_request p && s.waits p then 1 else 0) → Closes s w.responder.owed p w.responder.table table' → length table' ≡ length w.responder.table → w.end.state.machine.marked ≡ false → IsServing s besides w
       → IsServing s besides (record w { end = end'; missing = missing'; responder = record w.responder { table = table' } })
   took_kept end' table' missing' p is more awake less close size unmarked h =
@@ -129,7 +129,7 @@ module _ {T S A Q R : Type 0} (s : WireFormat (List ℕ) A Q R) (keeps : Keeps s
       }
 
   -- nothing was sent or got
-  pub quiet_kept : (end' : Seen TableSeat) (seen' : Bool) (want' : Option ℕ) (e : Event (List ℕ)) → end'.state.past ≡ e ∷ w.end.state.past → sent_of (e ∷ w.end.state.past) ≡ sent_of w.end.state.past
+  pub quiet_kept : (end' : Seen E) (seen' : Bool) (want' : Option ℕ) (e : Event (List ℕ)) → end'.state.past ≡ e ∷ w.end.state.past → sent_of (e ∷ w.end.state.past) ≡ sent_of w.end.state.past
       → got_of (e ∷ w.end.state.past) ≡ got_of w.end.state.past → end'.state.got ≡ w.end.state.got → end'.state.machine.asleep ≡ false → has_seen (e ∷ w.end.state.past) ≡ seen'
       → (end'.state.machine.marked ≡ false → OwnKept s (e ∷ w.end.state.past) w.responder.owed (own_in w.responder.table)) → OwnFrom s 64 (e ∷ w.end.state.past)
       → IsServing s besides w → IsServing s besides (record w { end = end'; seen = seen'; want = want' })
@@ -150,17 +150,17 @@ module _ {T S A Q R : Type 0} (s : WireFormat (List ℕ) A Q R) (keeps : Keeps s
       }
 
   -- none waited, or the other end's mark was seen
-  pub empty_kept : (end' : Seen TableSeat) → end'.state.past ≡ Empty ∷ w.end.state.past → end'.state.got ≡ w.end.state.got → end'.state.machine.asleep ≡ false → w.end.state.machine.marked ≡ false → IsServing s besides w → IsServing s besides (record w { end = end' })
+  pub empty_kept : (end' : Seen E) → end'.state.past ≡ Empty ∷ w.end.state.past → end'.state.got ≡ w.end.state.got → end'.state.machine.asleep ≡ false → w.end.state.machine.marked ≡ false → IsServing s besides w → IsServing s besides (record w { end = end' })
   empty_kept end' is got awake unmarked h =
       quiet_kept end' w.seen w.want Empty is refl refl got awake h.saw (λ u. own_empty s w.end.state.past w.responder.owed (own_in w.responder.table) (h.own unmarked)) h.from h
 
-  pub saw_kept : (end' : Seen TableSeat) (want' : Option ℕ) → end'.state.past ≡ Saw ∷ w.end.state.past → end'.state.got ≡ w.end.state.got → end'.state.machine.asleep ≡ false → w.end.state.machine.marked ≡ false → IsServing s besides w
+  pub saw_kept : (end' : Seen E) (want' : Option ℕ) → end'.state.past ≡ Saw ∷ w.end.state.past → end'.state.got ≡ w.end.state.got → end'.state.machine.asleep ≡ false → w.end.state.machine.marked ≡ false → IsServing s besides w
       → IsServing s besides (record w { end = end'; seen = true; want = want' })
   saw_kept end' want' is got awake unmarked h =
       quiet_kept end' true want' Saw is refl refl got awake refl (λ u. own_saw s w.end.state.past w.responder.owed (own_in w.responder.table) (h.own unmarked)) h.from h
 
   -- nothing was done that the peer sees
-  pub still_kept : (end' : Seen TableSeat) (want' : Option ℕ) → end'.state.past ≡ w.end.state.past → end'.state.got ≡ w.end.state.got
+  pub still_kept : (end' : Seen E) (want' : Option ℕ) → end'.state.past ≡ w.end.state.past → end'.state.got ≡ w.end.state.got
       → (end'.state.machine.asleep ≡ true → Rests s besides (record w { end = end'; want = want' })) → w.end.state.machine.marked ≡ false → IsServing s besides w → IsServing s besides (record w { end = end'; want = want' })
   still_kept end' want' is got rests unmarked h =
       record {
@@ -178,7 +178,7 @@ module _ {T S A Q R : Type 0} (s : WireFormat (List ℕ) A Q R) (keeps : Keeps s
       }
 
   -- a packet that was owed was sent
-  pub gave_kept : (end' : Seen TableSeat) (responder' : Responder T S Q R) (p : List ℕ) → end'.state.past ≡ Sent p ∷ w.end.state.past → w.responder.owed ≡ p ∷ drop 1 w.responder.owed
+  pub gave_kept : (end' : Seen E) (responder' : Responder T S Q R) (p : List ℕ) → end'.state.past ≡ Sent p ∷ w.end.state.past → w.responder.owed ≡ p ∷ drop 1 w.responder.owed
       → responder' ≡ record w.responder { owed = drop 1 w.responder.owed } → end'.state.got ≡ w.end.state.got → end'.state.machine.asleep ≡ false → w.end.state.machine.marked ≡ false
       → IsServing s besides w → IsServing s besides (record w { end = end'; responder = responder' })
   gave_kept end' responder' p is first responder got awake unmarked h =
@@ -374,12 +374,12 @@ module _ {T S A Q R : Type 0} (s : WireFormat (List ℕ) A Q R) (keeps : Keeps s
   ends_drained : is_drained w.end.state.past ≡ true → Follows w.end.state.past → IsServing s besides w → EndsAll s w w.end.state.past w.responder.calls
   ends_drained drained follows h plan is = server_follows s plan w.end.state.past w.responder.calls w.responder.left w.responder.owed (drop w.served w.end.state.got) (kept_plan plan is h) drained follows
 
-module _ {T S A Q R : Type 0} (s : WireFormat (List ℕ) A Q R) (keeps : Keeps s) (besides : Bool) (w : Serving T S Q R) where
+module _ {T S E A Q R : Type 0} (s : WireFormat (List ℕ) A Q R) (keeps : Keeps s) (besides : Bool) (w : Serving T S E Q R) where
   -- the mark, with the table emptied
   abbrev gone : Responder T S Q R
   gone = record w.responder { table = replicate 64 None }
 
-  pub marked_kept : (end' : Seen TableSeat) → end'.state.past ≡ Marked ∷ w.end.state.past → end'.state.got ≡ w.end.state.got → end'.state.machine.asleep ≡ false → end'.state.machine.marked ≡ true → IsServing s besides w → IsServing s besides (record w { end = end'; responder = gone })
+  pub marked_kept : (end' : Seen E) → end'.state.past ≡ Marked ∷ w.end.state.past → end'.state.got ≡ w.end.state.got → end'.state.machine.asleep ≡ false → end'.state.machine.marked ≡ true → IsServing s besides w → IsServing s besides (record w { end = end'; responder = gone })
   marked_kept end' is got awake marked h =
       let q = quiet_kept s keeps besides w end' w.seen w.want Marked is refl refl got awake h.saw (λ u. absurd (let bad : true ≡ false = sym marked ∙ u in cc)) h.from h in
       record {
@@ -396,27 +396,27 @@ module _ {T S A Q R : Type 0} (s : WireFormat (List ℕ) A Q R) (keeps : Keeps s
       }
 
   -- a mark is an end
-  pub marks_stopped : (end' : Seen TableSeat) → end'.state.past ≡ Marked ∷ w.end.state.past → end'.state.got ≡ w.end.state.got → end'.state.machine.asleep ≡ false → end'.state.machine.marked ≡ true
+  pub marks_stopped : (end' : Seen E) → end'.state.past ≡ Marked ∷ w.end.state.past → end'.state.got ≡ w.end.state.got → end'.state.machine.asleep ≡ false → end'.state.machine.marked ≡ true
       → w.stops ≡ true → w.responder.owed ≡ [] → w.served ≡ length w.end.state.got → has_served w.responder.left ≡ true → w.missing ≡ 0 → IsServing s besides w → EndsAll s (record w { end = end'; responder = gone }) end'.state.past w.responder.calls
   marks_stopped end' is got awake marked stops none all served started h =
       ends_stopped s keeps besides (record w { end = end'; responder = gone }) stops none (all ∙ ap length (sym got)) served started (marked_kept end' is got awake marked h)
 
-  pub marks_answered : (end' : Seen TableSeat) → end'.state.past ≡ Marked ∷ w.end.state.past → end'.state.got ≡ w.end.state.got → end'.state.machine.asleep ≡ false → end'.state.machine.marked ≡ true → got_of end'.state.past ≡ end'.state.got
+  pub marks_answered : (end' : Seen E) → end'.state.past ≡ Marked ∷ w.end.state.past → end'.state.got ≡ w.end.state.got → end'.state.machine.asleep ≡ false → end'.state.machine.marked ≡ true → got_of end'.state.past ≡ end'.state.got
       → w.responder.owed ≡ [] → w.served ≡ length w.end.state.got → IsServing s besides w → AnswersAll s (record w { end = end'; responder = gone }) end'.state.past w.responder.calls
   marks_answered end' is got awake marked list none all h = answers_all s keeps besides (record w { end = end'; responder = gone }) none list (all ∙ ap length (sym got)) (marked_kept end' is got awake marked h)
 
-  pub marks_gone : (end' : Seen TableSeat) → end'.state.past ≡ Marked ∷ w.end.state.past → end'.state.got ≡ w.end.state.got → end'.state.machine.asleep ≡ false → end'.state.machine.marked ≡ true
+  pub marks_gone : (end' : Seen E) → end'.state.past ≡ Marked ∷ w.end.state.past → end'.state.got ≡ w.end.state.got → end'.state.machine.asleep ≡ false → end'.state.machine.marked ≡ true
       → MetFull w.responder.owed end' → IsServing s besides w → LetsGo s (record w { end = end'; responder = gone }) end' w.responder.calls
   marks_gone end' is got awake marked full h = lets_go s keeps besides (record w { end = end'; responder = gone }) full (marked_kept end' is got awake marked h)
 
-  pub marks_drained : (end' : Seen TableSeat) → end'.state.past ≡ Marked ∷ w.end.state.past → end'.state.got ≡ w.end.state.got → end'.state.machine.asleep ≡ false → end'.state.machine.marked ≡ true
+  pub marks_drained : (end' : Seen E) → end'.state.past ≡ Marked ∷ w.end.state.past → end'.state.got ≡ w.end.state.got → end'.state.machine.asleep ≡ false → end'.state.machine.marked ≡ true
       → is_drained w.end.state.past ≡ true → has_marked w.end.state.past ≡ false → IsServing s besides w → EndsAll s (record w { end = end'; responder = gone }) end'.state.past w.responder.calls
   marks_drained end' is got awake marked drained unmarked h =
       ends_drained s keeps besides (record w { end = end'; responder = gone }) (ap is_drained is ∙ drained) (subst Follows (sym is) (drained_seen w.end.state.past drained, follows_unmarked w.end.state.past unmarked))
       (marked_kept end' is got awake marked h)
 
   -- a place of the table is missing
-  pub marks_lacking : (end' : Seen TableSeat) → end'.state.past ≡ Marked ∷ w.end.state.past → w.responder.owed ≡ [] → AllOwnOpen s 64 w.end.state.past → IsServing s besides w → LacksPlace s (record w { end = end'; responder = gone }) end'.state.past w.responder.calls
+  pub marks_lacking : (end' : Seen E) → end'.state.past ≡ Marked ∷ w.end.state.past → w.responder.owed ≡ [] → AllOwnOpen s 64 w.end.state.past → IsServing s besides w → LacksPlace s (record w { end = end'; responder = gone }) end'.state.past w.responder.calls
   marks_lacking end' is none opens h = record {
     served = h.kept.served;
     first = (drop w.served w.end.state.got, ap got_of is ∙ h.kept.got_is);
@@ -426,7 +426,7 @@ module _ {T S A Q R : Type 0} (s : WireFormat (List ℕ) A Q R) (keeps : Keeps s
   }
 
   -- so it leaves off that follows with nothing owed
-  pub follows_off : (end' : Seen TableSeat) → end'.state.past ≡ Marked ∷ w.end.state.past → end'.state.got ≡ w.end.state.got → end'.state.machine.asleep ≡ false → end'.state.machine.marked ≡ true → got_of end'.state.past ≡ end'.state.got
+  pub follows_off : (end' : Seen E) → end'.state.past ≡ Marked ∷ w.end.state.past → end'.state.got ≡ w.end.state.got → end'.state.machine.asleep ≡ false → end'.state.machine.marked ≡ true → got_of end'.state.past ≡ end'.state.got
       → w.responder.owed ≡ [] → HasServed s besides w → IsServing s besides w
       → LeftOff s besides (record w { end = end'; responder = gone }) end' w.responder.calls × LeavesOff s besides (record w { end = end'; responder = gone })
   follows_off end' is got awake marked list none (inl all) h =
@@ -438,11 +438,11 @@ module _ {T S A Q R : Type 0} (s : WireFormat (List ℕ) A Q R) (keeps : Keeps s
       by false f = absurd f
 
   -- none waited after the mark was seen
-  pub drains : (end' : Seen TableSeat) → end'.state.past ≡ Empty ∷ w.end.state.past → IsServing s besides w → w.seen ≡ true → is_drained end'.state.past ≡ true
+  pub drains : (end' : Seen E) → end'.state.past ≡ Empty ∷ w.end.state.past → IsServing s besides w → w.seen ≡ true → is_drained end'.state.past ≡ true
   drains end' is h seen = ap is_drained is ∙ ap (λ b. b || is_drained w.end.state.past) (h.saw ∙ seen)
 
   -- it sleeps
-  pub rests_at : (end' : Seen TableSeat) (want' : Option ℕ) → want' ≡ need_of w.responder.owed → SleepsFor want' end' → end'.state.got ≡ w.end.state.got → (is_nil w.responder.owed ≡ true → HasToWait s besides w) → end'.state.past ≡ w.end.state.past → w.seen ≡ false → Rests s besides (record w { end = end'; want = want' })
+  pub rests_at : (end' : Seen E) (want' : Option ℕ) → want' ≡ need_of w.responder.owed → SleepsFor want' end' → end'.state.got ≡ w.end.state.got → (is_nil w.responder.owed ≡ true → HasToWait s besides w) → end'.state.past ≡ w.end.state.past → w.seen ≡ false → Rests s besides (record w { end = end'; want = want' })
   rests_at end' want' want armed got waits is unseen = record { want = want; armed = armed; waits = λ e. still (waits e); unseen = unseen }
     where
       still : HasToWait s besides w → HasToWait s besides (record w { end = end'; want = want' })
@@ -476,31 +476,31 @@ module _ {T S A Q R : Type 0} (s : WireFormat (List ℕ) A Q R) (keeps : Keeps s
     each = λ go. ap (λ n. length (filter (is_asked s) (take n w.end.state.got))) served ∙ ap length (sym calls);
   }
 
-module _ {T S A Q R : Type 0} (sp : T → WireFormat (List ℕ) A Q R) (keeps : (t : T) → Keeps (sp t)) (besides : T → Bool) (w : Serving T S Q R) where
-  pub took_by : (end' : Seen TableSeat) (responder' : Responder T S Q R) (missing' : ℕ) (p : List ℕ) → end'.state.past ≡ Got p ∷ w.end.state.past → end'.state.got ≡ w.end.state.got ++ p ∷ [] → end'.state.machine.asleep ≡ false
+module _ {T S E A Q R : Type 0} (sp : T → WireFormat (List ℕ) A Q R) (keeps : (t : T) → Keeps (sp t)) (besides : T → Bool) (w : Serving T S E Q R) where
+  pub took_by : (end' : Seen E) (responder' : Responder T S Q R) (missing' : ℕ) (p : List ℕ) → end'.state.past ≡ Got p ∷ w.end.state.past → end'.state.got ≡ w.end.state.got ++ p ∷ [] → end'.state.machine.asleep ≡ false
       → missing' ≡ w.missing - (if (sp w.responder.protocol).is_request p && (sp w.responder.protocol).waits p then 1 else 0) → Closes (sp w.responder.protocol) w.responder.owed p w.responder.table responder'.table → length responder'.table ≡ length w.responder.table
       → responder' ≡ record w.responder { table = responder'.table } → w.end.state.machine.marked ≡ false → IsServing (sp w.responder.protocol) (besides w.responder.protocol) w → IsServing (sp responder'.protocol) (besides responder'.protocol) (record w { end = end'; missing = missing'; responder = responder' })
   took_by end' responder' missing' p is more awake less close size responder unmarked h =
       subst (λ d. IsServing (sp d.protocol) (besides d.protocol) (record w { end = end'; missing = missing'; responder = d })) (sym responder)
       (took_kept (sp w.responder.protocol) (keeps w.responder.protocol) (besides w.responder.protocol) w end' responder'.table missing' p is more awake less close size unmarked h)
 
-  pub marked_by_protocol : (end' : Seen TableSeat) (responder' : Responder T S Q R) → end'.state.past ≡ Marked ∷ w.end.state.past → end'.state.got ≡ w.end.state.got → end'.state.machine.asleep ≡ false → end'.state.machine.marked ≡ true → responder' ≡ record w.responder { table = replicate 64 None }
+  pub marked_by_protocol : (end' : Seen E) (responder' : Responder T S Q R) → end'.state.past ≡ Marked ∷ w.end.state.past → end'.state.got ≡ w.end.state.got → end'.state.machine.asleep ≡ false → end'.state.machine.marked ≡ true → responder' ≡ record w.responder { table = replicate 64 None }
       → IsServing (sp w.responder.protocol) (besides w.responder.protocol) w → IsServing (sp responder'.protocol) (besides responder'.protocol) (record w { end = end'; responder = responder' })
   marked_by_protocol end' responder' is got awake marked responder h =
       subst (λ d. IsServing (sp d.protocol) (besides d.protocol) (record w { end = end'; responder = d })) (sym responder) (marked_kept (sp w.responder.protocol) (keeps w.responder.protocol) (besides w.responder.protocol) w end' is got awake marked h)
 
   -- what a worker gives whose table was emptied
-  pub ends_gone : (how : Ended) (end' : Seen TableSeat) (responder' : Responder T S Q R) → responder' ≡ record w.responder { table = replicate 64 None }
+  pub ends_gone : (how : Ended) (end' : Seen E) (responder' : Responder T S Q R) → responder' ≡ record w.responder { table = replicate 64 None }
       → EndsBy (sp w.responder.protocol) (besides w.responder.protocol) how (record w { end = end'; responder = record w.responder { table = replicate 64 None } }) end' w.responder.calls
       → EndsBy (sp responder'.protocol) (besides responder'.protocol) how (record w { end = end'; responder = responder' }) end' responder'.calls
   ends_gone how end' responder' responder h = subst (λ d. EndsBy (sp d.protocol) (besides d.protocol) how (record w { end = end'; responder = d }) end' d.calls) (sym responder) h
 
-  pub room_gone : (left_at : S → ℕ) (how : Ended) (end' : Seen TableSeat) (responder' : Responder T S Q R) → responder' ≡ record w.responder { table = replicate 64 None }
+  pub room_gone : (left_at : S → ℕ) (how : Ended) (end' : Seen E) (responder' : Responder T S Q R) → responder' ≡ record w.responder { table = replicate 64 None }
       → LacksRoom left_at (sp w.responder.protocol) (besides w.responder.protocol) how (record w { end = end'; responder = record w.responder { table = replicate 64 None } })
       → LacksRoom left_at (sp responder'.protocol) (besides responder'.protocol) how (record w { end = end'; responder = responder' })
   room_gone left_at how end' responder' responder h = subst (λ d. LacksRoom left_at (sp d.protocol) (besides d.protocol) how (record w { end = end'; responder = d })) (sym responder) h
 
-  pub gave_by : (end' : Seen TableSeat) (responder' : Responder T S Q R) (p : List ℕ) → end'.state.past ≡ Sent p ∷ w.end.state.past → w.responder.owed ≡ p ∷ drop 1 w.responder.owed
+  pub gave_by : (end' : Seen E) (responder' : Responder T S Q R) (p : List ℕ) → end'.state.past ≡ Sent p ∷ w.end.state.past → w.responder.owed ≡ p ∷ drop 1 w.responder.owed
       → responder' ≡ record w.responder { owed = drop 1 w.responder.owed } → end'.state.got ≡ w.end.state.got → end'.state.machine.asleep ≡ false → w.end.state.machine.marked ≡ false
       → IsServing (sp w.responder.protocol) (besides w.responder.protocol) w → IsServing (sp responder'.protocol) (besides responder'.protocol) (record w { end = end'; responder = responder' })
   gave_by end' responder' p is first responder got awake unmarked h =
@@ -515,9 +515,9 @@ module _ {T S A Q R : Type 0} (sp : T → WireFormat (List ℕ) A Q R) (keeps : 
       (served_kept (sp w.responder.protocol) (keeps w.responder.protocol) (besides w.responder.protocol) w responder' p less at none not_lacks few held (subst (λ t. ServesPacket (sp t) responder'.held p w.responder.left w.responder.calls responder'.calls responder'.owed responder'.left) protocol one)
       (subst (λ t. Owes (sp t) responder'.owed (own_in w.responder.table) (own_in responder'.table)) protocol owes) size awake h)
 
-module _ {T S Q R : Type 0} (same : S → S → Type 0) where
+module _ {T S E Q R C : Type 0} (same : S → S → Type 0) (channel : E → C) (told : E → Option Told) where
   -- the same worker still
-  pub on_trans : ((a b c : S) → same a b → same b c → same a c) → (u v w : Serving T S Q R) → ServesOn same u v → ServesOn same v w → ServesOn same u w
+  pub on_trans : ((a b c : S) → same a b → same b c → same a c) → (u v w : Serving T S E Q R) → ServesOn same channel told u v → ServesOn same channel told v w → ServesOn same channel told u w
   on_trans trans u v w a b = record {
     protocol = b.protocol ∙ a.protocol;
     relid = b.relid ∙ a.relid;
@@ -528,29 +528,30 @@ module _ {T S Q R : Type 0} (same : S → S → Type 0) where
     come = b.come ∙ a.come;
     before = b.before ∙ a.before;
     end = record { seat = b.end.seat ∙ a.end.seat; side = b.end.side ∙ a.end.side };
+    tells = b.tells ∙ a.tells;
     seat = trans u.responder.seat v.responder.seat w.responder.seat a.seat b.seat;
   }
 
-  pub on_refl : ((a : S) → same a a) → (w : Serving T S Q R) → ServesOn same w w
-  on_refl r w = record { protocol = refl; relid = refl; held = refl; serve = refl; stops = refl; starts = refl; come = refl; before = refl; end = record { seat = refl; side = refl }; seat = r w.responder.seat }
+  pub on_refl : ((a : S) → same a a) → (w : Serving T S E Q R) → ServesOn same channel told w w
+  on_refl r w = record { protocol = refl; relid = refl; held = refl; serve = refl; stops = refl; starts = refl; come = refl; before = refl; end = record { seat = refl; side = refl }; tells = refl; seat = r w.responder.seat }
 
-  orders_on : {A : Type 0} (s : WireFormat (List ℕ) A Q R) (plan : RequestPlan A) (u w : Serving T S Q R) → ServesOn same u w → Orders s plan u → Orders s plan w
+  orders_on : {A : Type 0} (s : WireFormat (List ℕ) A Q R) (plan : RequestPlan A) (u w : Serving T S E Q R) → ServesOn same channel told u w → Orders s plan u → Orders s plan w
   orders_on s plan u w on is = record { serve = on.serve ∙ is.serve; held = on.held ∙ is.held; stops = on.stops ∙ is.stops; starts = on.starts ∙ is.starts }
 
-  serves_on : {A : Type 0} (s : WireFormat (List ℕ) A Q R) (u w : Serving T S Q R) (got sent : List (List ℕ)) (calls : List (Call Q R)) → ServesOn same u w → Serves s w.responder.held got w.serve calls sent → Serves s u.responder.held got u.serve calls sent
+  serves_on : {A : Type 0} (s : WireFormat (List ℕ) A Q R) (u w : Serving T S E Q R) (got sent : List (List ℕ)) (calls : List (Call Q R)) → ServesOn same channel told u w → Serves s w.responder.held got w.serve calls sent → Serves s u.responder.held got u.serve calls sent
   serves_on s u w got sent calls on h = subst (λ b. Serves s b got u.serve calls sent) on.held (subst (λ n. Serves s w.responder.held got n calls sent) on.serve h)
 
-  answers_on : {A : Type 0} (s : WireFormat (List ℕ) A Q R) (u w : Serving T S Q R) (past : List (Event (List ℕ))) (calls : List (Call Q R)) → ServesOn same u w → AnswersAll s w past calls → AnswersAll s u past calls
+  answers_on : {A : Type 0} (s : WireFormat (List ℕ) A Q R) (u w : Serving T S E Q R) (past : List (Event (List ℕ))) (calls : List (Call Q R)) → ServesOn same channel told u w → AnswersAll s w past calls → AnswersAll s u past calls
   answers_on s u w past calls on h = record { serves = serves_on s u w (got_of past) (sent_of past) calls on h.serves; each = λ go. h.each (on.stops ∙ go) }
 
-  gone_on : {A : Type 0} (s : WireFormat (List ℕ) A Q R) (u w : Serving T S Q R) (e : Seen TableSeat) (calls : List (Call Q R)) → ServesOn same u w → LetsGo s w e calls → LetsGo s u e calls
+  gone_on : {A : Type 0} (s : WireFormat (List ℕ) A Q R) (u w : Serving T S E Q R) (e : Seen E) (calls : List (Call Q R)) → ServesOn same channel told u w → LetsGo s w e calls → LetsGo s u e calls
   gone_on s u w e calls on h = record { served = h.served; first = h.first; missing = h.missing; serves = serves_on s u w h.served (sent_of e.state.past ++ h.missing) calls on h.serves; few = h.few; full = h.full }
 
-  place_on : {A : Type 0} (s : WireFormat (List ℕ) A Q R) (u w : Serving T S Q R) (past : List (Event (List ℕ))) (calls : List (Call Q R)) → ServesOn same u w → LacksPlace s w past calls → LacksPlace s u past calls
+  place_on : {A : Type 0} (s : WireFormat (List ℕ) A Q R) (u w : Serving T S E Q R) (past : List (Event (List ℕ))) (calls : List (Call Q R)) → ServesOn same channel told u w → LacksPlace s w past calls → LacksPlace s u past calls
   place_on s u w past calls on h = record { served = h.served; first = h.first; serves = serves_on s u w h.served (sent_of past) calls on h.serves; full = h.full }
 
   -- what it gives at its end is what was asked of it at its beginning
-  pub ends_on : {A : Type 0} (sp : T → WireFormat (List ℕ) A Q R) (besides : T → Bool) (how : Ended) (u w : Serving T S Q R) (e : Seen TableSeat) (calls : List (Call Q R)) → ServesOn same u w
+  pub ends_on : {A : Type 0} (sp : T → WireFormat (List ℕ) A Q R) (besides : T → Bool) (how : Ended) (u w : Serving T S E Q R) (e : Seen E) (calls : List (Call Q R)) → ServesOn same channel told u w
       → EndsBy (sp w.responder.protocol) (besides w.responder.protocol) how w e calls → EndsBy (sp u.responder.protocol) (besides u.responder.protocol) how u e calls
   ends_on {A = A} sp besides how u w e calls on h = by how (subst (λ t. EndsBy (sp t) (besides t) how w e calls) on.protocol h)
     where
@@ -567,9 +568,11 @@ module _ {T S Q R : Type 0} (same : S → S → Type 0) where
       )
       by (Room packets words left) h =
           (subst (λ b. ServerBreaks (sp u.responder.protocol) b u.serve e.state.past calls) on.held (subst (λ n. ServerBreaks (sp u.responder.protocol) w.responder.held n e.state.past calls) on.serve h.0), h.1)
+      by EndedBroken h =
+          (subst (λ b. ServerBreaks (sp u.responder.protocol) b u.serve e.state.past calls) on.held (subst (λ n. ServerBreaks (sp u.responder.protocol) w.responder.held n e.state.past calls) on.serve h.0), h.1)
 
   -- and so is what it lacked
-  pub lacks_on : {A : Type 0} (sp : T → WireFormat (List ℕ) A Q R) (besides : T → Bool) (how : Ended) (u w : Serving T S Q R) (past : List (Event (List ℕ))) → ServesOn same u w
+  pub lacks_on : {A : Type 0} (sp : T → WireFormat (List ℕ) A Q R) (besides : T → Bool) (how : Ended) (u w : Serving T S E Q R) (past : List (Event (List ℕ))) → ServesOn same channel told u w
       → ServeLacksFor (sp w.responder.protocol) (besides w.responder.protocol) (w.starts + w.come) w.serve w.stops how past → ServeLacksFor (sp u.responder.protocol) (besides u.responder.protocol) (u.starts + u.come) u.serve u.stops how past
   lacks_on sp besides how u w past on h =
       let room : w.starts + w.come ≡ u.starts + u.come = omega (arith, on.starts, on.come) in

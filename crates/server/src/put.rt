@@ -8,4 +8,6 @@ pub(crate) enum Given {
     Full,
     /// The list of what was sent has no room: this is what it has.
     Lacks { packets: u64, words: u64 },
+    /// The end is broken.
+    Broken,
 }

@@ -1,34 +1,34 @@
 //! The worker of the end that serves.
-ghost use Rattle.std.specs.Prelude.{◌≡◌, ◌<◌, ◌≤◌, ◌+◌, ◌*◌, ◌⊎◌, [], ◌∷◌, ◌++◌, length, take, drop, map, count_by, is_some, Some, None, true, false, IfOk, ℕ};
+ghost use Rattle.std.specs.Prelude.{◌≡◌, ◌≢◌, ◌<◌, ◌≤◌, ◌+◌, ◌*◌, ◌⊎◌, [], ◌∷◌, ◌++◌, length, take, drop, map, count_by, is_some, Some, None, true, false, IfOk, ℕ};
 ghost use Rattle.chan_run.specs.Runs.{got_of, is_drained};
-ghost use Rattle.ring_seat.specs.Seats.{new_end};
-ghost use Rattle.ring_seat.specs.Settling.{IsSameEnd};
 ghost use Rattle.channel_port.specs.Causes.{Arms, Polls};
-ghost use Rattle.server.specs.Causes.{GivesOne, GivesOrTakes, ServeCause, TakesOrArms};
-ghost use Rattle.channel_port.specs.Line.{IsReady, HasTakeRoom, LacksTake, TookOne};
+ghost use Rattle.server.specs.Causes.{GivesLast, GivesOne, GivesOrTakes, ServeCause, TakesOrArms};
+ghost use Rattle.channel_port.specs.Line.{new_end, Finds, IsBroken, IsReady, IsSameEnd, HasTakeRoom, LacksTake, TookOne};
 ghost use Rattle.channel_port.specs.Owed.{is_nil, LacksSend, MetFull};
 ghost use Rattle.channel_port.specs.Rooms.{KeepsRoom, OnlyWith, ServeLacksFor, ServedWithin};
-ghost use Rattle.server.specs.Serving.{Closes, EndsBy, HasServed, HasToWait, Lacks, LacksRoom, Turns, GaveOne, ServeEnds, ServesOn, BreaksOff, calls_behind, has_done, lacks_call, marked_by};
-ghost use Rattle.channel_model.specs.Acks.{AllOwnOpen};
+ghost use Rattle.server.specs.Serving.{Closes, EndsBy, HasServed, HasToWait, Lacks, LacksRoom, Turns, GaveOne, ServeEnds, ServesOn, BreaksOff, StandsGiven, broke, calls_behind, has_done, is_broken, lacks_call, marked_by};
+ghost use Rattle.channel_model.specs.Acks.{AllOwnOpen, OwnFrom};
+ghost use Rattle.channel_port.specs.declared.found.Found.TheVariants.{Nothing as NothingFound, Broken as BrokenFound};
+ghost use Rattle.server.specs.declared.put.Given.TheVariants.{Broken as BrokenGiven};
 ghost use Rattle.channel_model.specs.Amounts.{room_of};
-ghost use Rattle.channel_port.specs.declared.ended.Ended.TheVariants.{PeerMarked as PeerMarkedEnd, Room as RoomEnd};
+ghost use Rattle.channel_port.specs.declared.ended.Ended.TheVariants.{PeerMarked as PeerMarkedEnd, Room as RoomEnd, Broken as BrokenEnd};
 
 use crate::put::Given;
 use crate::responder::Responder;
-use channel_port::{Ended, Looked, Port, Turn, room_of};
+use channel_port::{Ended, Found, Looked, Port, Tried, Turn, room_of};
 use channel_protocol::{Device, Protocol};
+use end_sleep::Parks;
 use io_edge::{Gate, Side};
 use ring_core::End;
-use ring_seat::TableSeat;
 use std::alloc::{AllocError, Global};
 use std::marker::{Model, PhantomData};
 use std::sync::Wait;
 
 /// The worker of the end that serves: it answers what comes, in order, as its plan says.
 #[derive(Drop)]
-pub struct Server<T: Protocol, S: Device<T>> {
+pub struct Server<T: Protocol, S: Device<T>, E: Parks> {
     responder: Responder<T, S>,
-    port: Port,
+    port: Port<E>,
     serve: u32,
     stops: bool,
     starts: u32,
@@ -39,13 +39,13 @@ pub struct Server<T: Protocol, S: Device<T>> {
     want: Option<u32>,
 }
 
-impl<T: Protocol, S: Device<T>> Model for Server<T, S> {
+impl<T: Protocol, S: Device<T>, E: Parks> Model for Server<T, S, E> {
     ghost use Rattle.std.specs.Prelude.{◌≡◌, ◌+◌, length};
     ghost use Rattle.channel_port.specs.Rooms.{KeepsRoom};
     ghost use Rattle.channel_model.specs.Amounts.{room_of};
     ghost use Rattle.server.specs.Serving.{Serving, IsServing};
 
-    ghost Value = { Serving T S T.Request T.Reply };
+    ghost Value = { Serving T S E T.Request T.Reply };
 
     ghost view = { λ w. record { responder = w.responder; end = w.port; serve = w.serve; stops = w.stops; starts = w.starts; come = w.come; missing = w.missing; served = w.served; seen = w.seen; want = w.want } };
 
@@ -54,8 +54,8 @@ impl<T: Protocol, S: Device<T>> Model for Server<T, S> {
 
 /// What a serving worker gives once it has ended.
 #[derive(Drop)]
-pub struct ServerDone<T: Protocol, S: Device<T>> {
-    pub end: End<TableSeat>,
+pub struct ServerDone<T: Protocol, S: Device<T>, E: Parks> {
+    pub end: End<E>,
     pub seat: S,
     pub ended: Ended,
     /// The serials of the requests that were served, in order.
@@ -63,15 +63,16 @@ pub struct ServerDone<T: Protocol, S: Device<T>> {
     of: PhantomData<T>,
 }
 
-impl<T: Protocol, S: Device<T>> Server<T, S> {
+impl<T: Protocol, S: Device<T>, E: Parks + Drop> Server<T, S, E> {
     // Sends what is owed first, if there is room.
     fn give(&mut self) -> Given
         requires ready { IsReady self.old.end }
         requires owed { is_nil self.old.responder.owed ≡ false }
         ensures gave { GaveOne result self.old self.new }
         ensures cause { GivesOne result self.old.end.state.past self.new.end }
-        ensures ready { IsReady self.new.end }
-        ensures on { ServesOn S.same self.old self.new }
+        ensures stands { StandsGiven result self.new.end }
+        ensures honest { is_some (E.told self.old.end.seat) ≡ true → result ≢ BrokenGiven }
+        ensures on { ServesOn S.same E.channel E.told self.old self.new }
     {
         let packet = self.responder.first();
         if let Some(room) = self.port.lacks_send(packet) {
@@ -80,11 +81,13 @@ impl<T: Protocol, S: Device<T>> Server<T, S> {
                 words: room.words,
             };
         }
-        if self.port.send(packet) {
-            self.responder.pop();
-            Given::Sent
-        } else {
-            Given::Full
+        match self.port.send(packet) {
+            Tried::Sent => {
+                self.responder.pop();
+                Given::Sent
+            }
+            Tried::Full => Given::Full,
+            Tried::Broken => Given::Broken,
         }
     }
 
@@ -97,7 +100,7 @@ impl<T: Protocol, S: Device<T>> Server<T, S> {
         requires room { count_by is_some self.old.responder.table < length self.old.responder.table }
         ensures end { self.new.end ≡ self.old.end }
         ensures served { self.new.served ≡ self.old.served + 1 }
-        ensures on { ServesOn S.same self.old self.new }
+        ensures on { ServesOn S.same E.channel E.told self.old self.new }
     {
         let came = self.port.got_len();
         prove!(self.served < came);
@@ -106,23 +109,27 @@ impl<T: Protocol, S: Device<T>> Server<T, S> {
     }
 
     // Takes a packet, if one waits. What acknowledges a message makes its place free.
-    fn take_one(&mut self) -> bool
+    fn take_one(&mut self) -> Found
         requires ready { IsReady self.old.end }
         requires room { HasTakeRoom self.old.end }
         ensures took { TookOne result self.old.end.state self.new.end.state }
-        ensures drained { result ≡ false → self.old.seen ≡ true → is_drained self.new.end.state.past ≡ true }
+        ensures drained { result ≡ NothingFound → self.old.seen ≡ true → is_drained self.new.end.state.past ≡ true }
         ensures kept { (self.new.responder.owed ≡ self.old.responder.owed) × (self.new.served ≡ self.old.served) × (self.new.seen ≡ self.old.seen) }
-        ensures none { result ≡ false → self.new.responder ≡ self.old.responder }
-        ensures missing { result ≡ false → self.new.missing ≡ self.old.missing }
-        ensures ready { IsReady self.new.end }
-        ensures on { ServesOn S.same self.old self.new }
+        ensures none { result ≡ NothingFound → self.new.responder ≡ self.old.responder }
+        ensures missing { result ≡ NothingFound → self.new.missing ≡ self.old.missing }
+        ensures finds { Finds result self.new.end }
+        ensures honest { is_some (E.told self.old.end.seat) ≡ true → result ≢ BrokenFound }
+        ensures on { ServesOn S.same E.channel E.told self.old self.new }
     {
-        if !self.port.take() {
-            return false;
+        match self.port.take() {
+            Found::Packet => {
+                self.missing = self.responder.missing_after(self.missing, self.port.last());
+                self.responder.close(self.port.last());
+                Found::Packet
+            }
+            Found::Nothing => Found::Nothing,
+            Found::Broken => Found::Broken,
         }
-        self.missing = self.responder.missing_after(self.missing, self.port.last());
-        self.responder.close(self.port.last());
-        true
     }
 
     // Ends here, since the plan says so.
@@ -133,7 +140,8 @@ impl<T: Protocol, S: Device<T>> Server<T, S> {
         requires served { self.old.served ≡ length self.old.end.state.got }
         ensures ends { EndsBy (T.format self.new.responder.protocol) (T.besides self.new.responder.protocol) result self.new self.new.end self.new.responder.calls }
         ensures room { LacksRoom S.left (T.format self.new.responder.protocol) (T.besides self.new.responder.protocol) result self.new }
-        ensures on { ServesOn S.same self.old self.new }
+        ensures honest { is_broken result ≡ false }
+        ensures on { ServesOn S.same E.channel E.told self.old self.new }
     {
         self.responder.rescind_all();
         self.port.mark();
@@ -148,7 +156,7 @@ impl<T: Protocol, S: Device<T>> Server<T, S> {
         requires drained { is_drained self.old.end.state.past ≡ true }
         ensures ends { EndsBy (T.format self.new.responder.protocol) (T.besides self.new.responder.protocol) PeerMarkedEnd self.new self.new.end self.new.responder.calls }
         ensures room { LacksRoom S.left (T.format self.new.responder.protocol) (T.besides self.new.responder.protocol) PeerMarkedEnd self.new }
-        ensures on { ServesOn S.same self.old self.new }
+        ensures on { ServesOn S.same E.channel E.told self.old self.new }
     {
         self.responder.rescind_all();
         self.port.mark();
@@ -161,7 +169,7 @@ impl<T: Protocol, S: Device<T>> Server<T, S> {
         requires drained { is_drained self.old.end.state.past ≡ true }
         ensures ends { EndsBy (T.format self.new.responder.protocol) (T.besides self.new.responder.protocol) PeerMarkedEnd self.new self.new.end self.new.responder.calls }
         ensures room { LacksRoom S.left (T.format self.new.responder.protocol) (T.besides self.new.responder.protocol) PeerMarkedEnd self.new }
-        ensures on { ServesOn S.same self.old self.new }
+        ensures on { ServesOn S.same E.channel E.told self.old self.new }
     {
         self.responder.rescind_all();
         self.port.mark();
@@ -174,7 +182,8 @@ impl<T: Protocol, S: Device<T>> Server<T, S> {
         requires unseen { self.old.seen ≡ false }
         ensures turns { Turns S.left (T.format self.new.responder.protocol) (T.besides self.new.responder.protocol) result self.new }
         ensures cause { Arms result self.old.end.state.past self.new.end }
-        ensures on { ServesOn S.same self.old self.new }
+        ensures honest { broke result ≡ false }
+        ensures on { ServesOn S.same E.channel E.told self.old self.new }
     {
         let want = self.responder.need();
         self.want = want;
@@ -194,6 +203,7 @@ impl<T: Protocol, S: Device<T>> Server<T, S> {
         requires lacks { Lacks (T.format self.now.responder.protocol) packets words self.now }
         ensures room { result ≡ RoomEnd packets words (S.left self.now.responder.seat) }
         ensures breaks { BreaksOff (T.format self.now.responder.protocol) self.now self.now.end.state.past self.now.responder.calls }
+        ensures own { OwnFrom (T.format self.now.responder.protocol) 64 self.now.end.state.past }
         ensures reserved { KeepsRoom (room_of (T.besides self.now.responder.protocol) (self.now.starts + self.now.come)) self.now.end }
         ensures over { ServeLacksFor (T.format self.now.responder.protocol) (T.besides self.now.responder.protocol) (self.now.starts + self.now.come) self.now.serve self.now.stops (RoomEnd packets words (S.left self.now.responder.seat)) self.now.end.state.past }
         ensures sent { ServedWithin (T.format self.now.responder.protocol) (T.besides self.now.responder.protocol) self.now.end.state.past }
@@ -203,6 +213,19 @@ impl<T: Protocol, S: Device<T>> Server<T, S> {
             words,
             left: self.responder.left(),
         }
+    }
+
+    // A worker whose end is broken gives what it has.
+    fn broke_off(&self) -> Ended
+        requires broken { IsBroken self.now.end }
+        ensures how { result ≡ BrokenEnd }
+        ensures broken { IsBroken self.now.end }
+        ensures breaks { BreaksOff (T.format self.now.responder.protocol) self.now self.now.end.state.past self.now.responder.calls }
+        ensures own { OwnFrom (T.format self.now.responder.protocol) 64 self.now.end.state.past }
+        ensures sent { ServedWithin (T.format self.now.responder.protocol) (T.besides self.now.responder.protocol) self.now.end.state.past }
+    {
+        let _ = &self.seen;
+        Ended::Broken
     }
 
     // Whether the packet that is served next asks the device and no call is left for it: a worker that stops behind its last call lets go what comes
@@ -238,20 +261,24 @@ impl<T: Protocol, S: Device<T>> Server<T, S> {
         requires unseen { is_nil self.old.responder.owed ≡ false → self.old.seen ≡ false }
         ensures turns { Turns S.left (T.format self.new.responder.protocol) (T.besides self.new.responder.protocol) result self.new }
         ensures cause { TakesOrArms result self.old.end.state.past self.new.end }
-        ensures on { ServesOn S.same self.old self.new }
+        ensures honest { is_some (E.told self.old.end.seat) ≡ true → broke result ≡ false }
+        ensures on { ServesOn S.same E.channel E.told self.old self.new }
     {
         if let Some(room) = self.port.lacks_take() {
             return Turn::Ended(self.broken(room.packets, room.words));
         }
         let seen = self.seen;
-        if self.take_one() {
-            return Turn::Moved;
+        match self.take_one() {
+            Found::Packet => Turn::Moved,
+            Found::Nothing => {
+                if seen && self.responder.is_clear() {
+                    self.follow();
+                    return Turn::Ended(Ended::PeerMarked);
+                }
+                self.rest()
+            }
+            Found::Broken => Turn::Ended(self.broke_off()),
         }
-        if seen && self.responder.is_clear() {
-            self.follow();
-            return Turn::Ended(Ended::PeerMarked);
-        }
-        self.rest()
     }
 
     // After the other end's mark: takes what it had sent first, and then sends what is owed. Where that finds no room it is let go, and this end follows.
@@ -261,17 +288,33 @@ impl<T: Protocol, S: Device<T>> Server<T, S> {
         requires seen { self.old.seen ≡ true }
         ensures turns { Turns S.left (T.format self.new.responder.protocol) (T.besides self.new.responder.protocol) result self.new }
         ensures cause { GivesOrTakes result self.old.end.state.past self.new.end }
-        ensures on { ServesOn S.same self.old self.new }
+        ensures honest { is_some (E.told self.old.end.seat) ≡ true → broke result ≡ false }
+        ensures on { ServesOn S.same E.channel E.told self.old self.new }
     {
         if let Some(room) = self.port.lacks_take() {
             return Turn::Ended(self.broken(room.packets, room.words));
         }
-        if self.take_one() {
-            return Turn::Moved;
+        match self.take_one() {
+            Found::Packet => Turn::Moved,
+            Found::Nothing => self.give_last(),
+            Found::Broken => Turn::Ended(self.broke_off()),
         }
+    }
+
+    // After all that the other end had sent: sends what is owed. Where that finds no room it is let go, and this end follows.
+    fn give_last(&mut self) -> Turn
+        requires ready { IsReady self.old.end }
+        requires owed { is_nil self.old.responder.owed ≡ false }
+        requires drained { is_drained self.old.end.state.past ≡ true }
+        ensures turns { Turns S.left (T.format self.new.responder.protocol) (T.besides self.new.responder.protocol) result self.new }
+        ensures cause { GivesLast result self.old.end.state.past self.new.end }
+        ensures honest { is_some (E.told self.old.end.seat) ≡ true → broke result ≡ false }
+        ensures on { ServesOn S.same E.channel E.told self.old self.new }
+    {
         match self.give() {
             Given::Sent => Turn::Moved,
             Given::Lacks { packets, words } => Turn::Ended(self.broken(packets, words)),
+            Given::Broken => Turn::Ended(self.broke_off()),
             Given::Full => {
                 self.let_go();
                 Turn::Ended(Ended::PeerMarked)
@@ -285,7 +328,8 @@ impl<T: Protocol, S: Device<T>> Server<T, S> {
         requires owed { is_nil self.old.responder.owed ≡ false }
         ensures turns { Turns S.left (T.format self.new.responder.protocol) (T.besides self.new.responder.protocol) result self.new }
         ensures cause { GivesOrTakes result self.old.end.state.past self.new.end }
-        ensures on { ServesOn S.same self.old self.new }
+        ensures honest { is_some (E.told self.old.end.seat) ≡ true → broke result ≡ false }
+        ensures on { ServesOn S.same E.channel E.told self.old self.new }
     {
         if self.seen {
             return self.take_or_give();
@@ -293,6 +337,7 @@ impl<T: Protocol, S: Device<T>> Server<T, S> {
         match self.give() {
             Given::Sent => Turn::Moved,
             Given::Lacks { packets, words } => Turn::Ended(self.broken(packets, words)),
+            Given::Broken => Turn::Ended(self.broke_off()),
             Given::Full => self.take_or_rest(),
         }
     }
@@ -305,7 +350,8 @@ impl<T: Protocol, S: Device<T>> Server<T, S> {
         requires served { HasServed (T.format self.old.responder.protocol) (T.besides self.old.responder.protocol) self.old }
         ensures turns { Turns S.left (T.format self.new.responder.protocol) (T.besides self.new.responder.protocol) result self.new }
         ensures cause { TakesOrArms result self.old.end.state.past self.new.end }
-        ensures on { ServesOn S.same self.old self.new }
+        ensures honest { is_some (E.told self.old.end.seat) ≡ true → broke result ≡ false }
+        ensures on { ServesOn S.same E.channel E.told self.old self.new }
     {
         if self.has_unserved() {
             return self.take_or_rest();
@@ -332,7 +378,7 @@ impl<T: Protocol, S: Device<T>> Server<T, S> {
         requires owed { self.old.responder.owed ≡ [] }
         ensures end { self.new.end ≡ self.old.end }
         ensures served { is_nil self.new.responder.owed ≡ true → lacks_call (T.format self.new.responder.protocol) self.new ≡ false → HasServed (T.format self.new.responder.protocol) (T.besides self.new.responder.protocol) self.new }
-        ensures on { ServesOn S.same self.old self.new }
+        ensures on { ServesOn S.same E.channel E.told self.old self.new }
     {
         while self.has_unserved() && !self.lacks_call() && !self.lacks_place() {
             self.serve_next(rt, gate);
@@ -347,7 +393,8 @@ impl<T: Protocol, S: Device<T>> Server<T, S> {
         requires ready { IsReady self.old.end }
         ensures turns { Turns S.left (T.format self.new.responder.protocol) (T.besides self.new.responder.protocol) result self.new }
         ensures cause { GivesOrTakes result self.old.end.state.past self.new.end }
-        ensures on { ServesOn S.same self.old self.new }
+        ensures honest { is_some (E.told self.old.end.seat) ≡ true → broke result ≡ false }
+        ensures on { ServesOn S.same E.channel E.told self.old self.new }
     {
         if !self.responder.is_clear() {
             return self.give_or_take();
@@ -368,8 +415,9 @@ impl<T: Protocol, S: Device<T>> Server<T, S> {
         requires asleep { self.old.end.state.machine.asleep ≡ true }
         requires unmarked { self.old.end.state.machine.marked ≡ false }
         ensures turns { Turns S.left (T.format self.new.responder.protocol) (T.besides self.new.responder.protocol) result self.new }
-        ensures cause { Polls result self.old.end self.new.end }
-        ensures on { ServesOn S.same self.old self.new }
+        ensures cause { Polls E.told E.memory result self.old.end self.new.end }
+        ensures honest { broke result ≡ false }
+        ensures on { ServesOn S.same E.channel E.told self.old self.new }
     {
         if self.port.poll() {
             return Turn::Moved;
@@ -383,7 +431,7 @@ impl<T: Protocol, S: Device<T>> Server<T, S> {
     pub fn make(
         alloc: Global,
         protocol: T,
-        end: End<TableSeat>,
+        end: End<E>,
         seat: S,
         side: Side,
         relid: u32,
@@ -392,11 +440,11 @@ impl<T: Protocol, S: Device<T>> Server<T, S> {
         held: bool,
         stops: bool,
         come: u32,
-    ) -> Result<Server<T, S>, AllocError>
+    ) -> Result<Server<T, S, E>, AllocError>
         requires serves { S.serves seat protocol }
         requires calls { serve ≤ S.left seat }
         requires fresh { end.state ≡ new_end end.state.machine.cells end.state.machine.side }
-        requires size { (512 ≤ end.state.machine.cells) × (end.state.machine.cells ≤ 8192) }
+        requires size { (512 ≤ end.state.machine.cells) × (end.state.machine.cells ≤ 16777216) }
         requires side { side ≡ end.state.machine.side }
         ensures protocol { IfOk result (λ w. (w.responder.protocol ≡ protocol) × (w.responder.seat ≡ seat) × (w.responder.before ≡ S.calls seat)) }
         ensures relid { IfOk result (λ w. w.responder.relid ≡ relid) }
@@ -436,12 +484,16 @@ impl<T: Protocol, S: Device<T>> Server<T, S> {
     pub fn turn<R: Wait, G: Gate>(&mut self, rt: &R, gate: &G) -> Turn
         requires unmarked { self.old.end.state.machine.marked ≡ false }
         ensures turns { Turns S.left (T.format self.new.responder.protocol) (T.besides self.new.responder.protocol) result self.new }
-        ensures cause { ServeCause result self.old.end self.new.end }
+        ensures cause { ServeCause E.told E.memory result self.old.end self.new.end }
         ensures room { ServeEnds (T.format self.new.responder.protocol) (T.besides self.new.responder.protocol) result self.new }
-        ensures on { ServesOn S.same self.old self.new }
+        ensures honest { is_some (E.told self.old.end.seat) ≡ true → broke result ≡ false }
+        ensures on { ServesOn S.same E.channel E.told self.old self.new }
     {
         if self.port.is_asleep() {
             return self.doze();
+        }
+        if self.port.is_broken() {
+            return Turn::Ended(self.broke_off());
         }
         self.work(rt, gate)
     }
@@ -451,13 +503,13 @@ impl<T: Protocol, S: Device<T>> Server<T, S> {
         requires asleep { self.old.end.state.machine.asleep ≡ true }
         requires unmarked { self.old.end.state.machine.marked ≡ false }
         ensures unmarked { self.new.end.state.machine.marked ≡ false }
-        ensures on { ServesOn S.same self.old self.new }
+        ensures on { ServesOn S.same E.channel E.told self.old self.new }
     {
         self.port.sleep(rt);
     }
 
     /// Gives what it did, once it has ended.
-    pub fn done(self, ended: Ended) -> ServerDone<T, S>
+    pub fn done(self, ended: Ended) -> ServerDone<T, S, E>
         requires { EndsBy (T.format self.responder.protocol) (T.besides self.responder.protocol) ended self self.end self.responder.calls }
         ensures ends { (result.ended ≡ ended) × EndsBy (T.format self.responder.protocol) (T.besides self.responder.protocol) result.ended self result.end self.responder.calls }
         ensures calls { S.calls result.seat ≡ self.responder.before ++ self.responder.calls }
@@ -487,13 +539,14 @@ impl<T: Protocol, S: Device<T>> Server<T, S> {
     }
 
     /// Takes turns, and sleeps after a turn that found nothing to do, until the worker has ended.
-    pub fn run<R: Wait, G: Gate>(mut self, rt: &R, gate: &G) -> ServerDone<T, S>
+    pub fn run<R: Wait, G: Gate>(mut self, rt: &R, gate: &G) -> ServerDone<T, S, E>
         requires unmarked { self.end.state.machine.marked ≡ false }
         ensures ends { EndsBy (T.format self.responder.protocol) (T.besides self.responder.protocol) result.ended self result.end (calls_behind self.responder.before (S.calls result.seat)) }
         ensures before { take (length self.responder.before) (S.calls result.seat) ≡ self.responder.before }
         ensures serials { result.serials.items ≡ map (λ c. c.serial) (calls_behind self.responder.before (S.calls result.seat)) }
-        ensures end { IsSameEnd self.end result.end }
+        ensures end { IsSameEnd E.channel self.end result.end }
         ensures seat { S.same self.responder.seat result.seat }
+        ensures honest { is_some (E.told self.end.seat) ≡ true → is_broken result.ended ≡ false }
         ensures sent { ServedWithin (T.format self.responder.protocol) (T.besides self.responder.protocol) result.end.state.past }
         ensures room { ServeLacksFor (T.format self.responder.protocol) (T.besides self.responder.protocol) (self.starts + self.come) self.serve self.stops result.ended result.end.state.past }
     {

@@ -11,7 +11,7 @@ use crate::register_seat::RegisterSeat;
 use hist_lock::HistLock;
 use io_edge::{NoGate, Side};
 use requester::{Requester, RequesterDone};
-use ring_seat::{ChannelMem, GuestEnd, HostEnd};
+use ring_seat::{ChannelMem, GuestEnd, HostEnd, TableSeat};
 use server::{Server, ServerDone};
 use std::alloc::{AllocError, Global};
 use std::sync::Wait;
@@ -19,8 +19,8 @@ use std::thread::{Threads, join};
 
 /// What the guest's worker left, and the host's.
 pub type Stored = (
-    RequesterDone<RegisterProtocol>,
-    ServerDone<RegisterProtocol, RegisterSeat>,
+    RequesterDone<RegisterProtocol, TableSeat>,
+    ServerDone<RegisterProtocol, RegisterSeat, TableSeat>,
 );
 
 // The only place at a register, for so many calls.
@@ -39,7 +39,7 @@ fn guest_worker(
     alloc: Global,
     end: GuestEnd,
     values: Vec<u64>,
-) -> Result<Requester<RegisterProtocol>, AllocError>
+) -> Result<Requester<RegisterProtocol, TableSeat>, AllocError>
     requires few { length values.items < 2 ^ 32 }
     requires fresh { end.state ≡ new_end 512 GuestSide }
     ensures values { IfOk result (λ w. w.protocol.values.items ≡ values.items) }
@@ -55,7 +55,7 @@ fn host_worker(
     end: HostEnd,
     seat: RegisterSeat,
     count: u32,
-) -> Result<Server<RegisterProtocol, RegisterSeat>, AllocError>
+) -> Result<Server<RegisterProtocol, RegisterSeat, TableSeat>, AllocError>
     requires calls { count ≤ seat.seat.left }
     requires fresh { end.state ≡ new_end 512 HostSide }
     ensures live { IfOk result (λ w. w.end.state.machine.marked ≡ false) }
@@ -82,8 +82,8 @@ fn host_worker(
 // Each worker runs on a thread of its own, and ends after the other one.
 fn run<R: Threads + Wait + Sync>(
     rt: &R,
-    guest: Requester<RegisterProtocol>,
-    host: Server<RegisterProtocol, RegisterSeat>,
+    guest: Requester<RegisterProtocol, TableSeat>,
+    host: Server<RegisterProtocol, RegisterSeat, TableSeat>,
 ) -> Stored
     requires guest { guest.end.state.machine.marked ≡ false }
     requires host { host.end.state.machine.marked ≡ false }

@@ -4,6 +4,7 @@ ghost use Rattle.std.specs.Prelude.{◌≡◌, ◌<◌, ◌^◌, length, true};
 use crate::{RegisterProtocol, RegisterSeat, store_all};
 use channel_port::Ended;
 use requester::RequesterDone;
+use ring_seat::TableSeat;
 use server::ServerDone;
 use std::alloc::AllocGlobal;
 use std::process::Abort;
@@ -24,13 +25,13 @@ fn values(rt: &(impl Abort + AllocGlobal)) -> Vec<u64>
 }
 
 // Each reply is the value that was stored before.
-fn check_asked(rt: &impl Abort, asked: &RequesterDone<RegisterProtocol>) {
+fn check_asked(rt: &impl Abort, asked: &RequesterDone<RegisterProtocol, TableSeat>) {
     let replies = [0, 5, 6, 7, 8, 9, 10, 11, 12, 13];
     check(rt, asked.ended == Ended::Marked);
     check(rt, asked.replies.as_slice() == replies.as_slice());
 }
 
-fn check_served(rt: &impl Abort, served: &ServerDone<RegisterProtocol, RegisterSeat>) {
+fn check_served(rt: &impl Abort, served: &ServerDone<RegisterProtocol, RegisterSeat, TableSeat>) {
     let serials = [0, 1, 2, 3, 4, 5, 6, 7, 8, 9];
     check(rt, served.ended == Ended::PeerMarked);
     check(rt, served.serials.as_slice() == serials.as_slice());

@@ -8,7 +8,7 @@ use crate::echo::{Echo, EchoSeat};
 use channel_port::Ended;
 use io_edge::{NoGate, Side};
 use requester::Requester;
-use ring_seat::{ChannelMem, GuestEnd, HostEnd};
+use ring_seat::{ChannelMem, GuestEnd, HostEnd, TableSeat};
 use server::Server;
 use std::alloc::AllocGlobal;
 use std::process::Abort;
@@ -31,7 +31,7 @@ fn asker_of(
     end: GuestEnd,
     count: u32,
     window: u32,
-) -> Requester<Echo>
+) -> Requester<Echo, TableSeat>
     requires window { (1 ≤ window) × (window ≤ 64) }
     requires fresh { end.state ≡ new_end 512 GuestSide }
     ensures { result.end.state.machine.marked ≡ false }
@@ -47,7 +47,7 @@ fn server_of(
     come: u32,
     serve: u32,
     stops: bool,
-) -> Server<Echo, EchoSeat>
+) -> Server<Echo, EchoSeat, TableSeat>
     requires fresh { end.state ≡ new_end 512 HostSide }
     ensures { result.end.state.machine.marked ≡ false }
 {
@@ -71,7 +71,7 @@ fn server_of(
 }
 
 // How the guest's worker ends, and how many replies it has.
-fn ask(rt: &impl Wait, asker: Requester<Echo>) -> (Ended, usize)
+fn ask(rt: &impl Wait, asker: Requester<Echo, TableSeat>) -> (Ended, usize)
     requires { asker.end.state.machine.marked ≡ false }
 {
     let done = asker.run(rt, &NoGate);
@@ -79,7 +79,7 @@ fn ask(rt: &impl Wait, asker: Requester<Echo>) -> (Ended, usize)
 }
 
 // How the host's worker ends, and how many requests it served.
-fn serve(rt: &impl Wait, server: Server<Echo, EchoSeat>) -> (Ended, usize)
+fn serve(rt: &impl Wait, server: Server<Echo, EchoSeat, TableSeat>) -> (Ended, usize)
     requires { server.end.state.machine.marked ≡ false }
 {
     let done = server.run(rt, &NoGate);

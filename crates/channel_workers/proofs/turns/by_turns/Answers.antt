@@ -1,4 +1,5 @@
 use Rattle.std.proofs.Common.{◌≡◌, ◌∙◌}
+use Rattle.ring_seat.specs.declared.table_seat.TableSeat.{TableSeat}
 use Rattle.server.proofs.ServeSteps.{on_trans}
 use Rattle.channel_workers.specs.Seats.{device_place}
 use Rattle.channel_workers.proofs.Going.{served_on}
@@ -7,4 +8,4 @@ use Rattle.channel_workers.proofs.turns.by_turns.Goals as goal
 pub returns-in-Some-Some-clause-served : goal.returns-in-Some-Some-clause-served
 returns-in-Some-Some-clause-served g c =
     served_on c.args.server c.serve-served.new.server c.server_done.result
-    (on_trans (λ s t. device_place t ≡ device_place s) (λ a b d p q. q ∙ p) _ _ _ c.loop.invariant.server c.serve-served.ensures.on) c.server_done.ensures
+    (on_trans (λ s t. device_place t ≡ device_place s) (λ (s : TableSeat). s.seat.table_id) (λ a b d p q. q ∙ p) _ _ _ c.loop.invariant.server c.serve-served.ensures.on) c.server_done.ensures

@@ -1,4 +1,5 @@
 use Rattle.std.proofs.Common.{◌≡◌}
+use Rattle.ring_seat.specs.declared.table_seat.TableSeat.{TableSeat}
 use Rattle.requester.specs.Asking.{AsksOn}
 use Rattle.server.specs.Serving.{ServesOn}
 use Rattle.channel_workers.specs.Seats.{device_place}
@@ -10,7 +11,7 @@ invariant-loop g l = record {
   can : (goal.iterator-loop g).can_next l.iterator';
   ends : (goal.iterator-loop g).is_finite l.iterator';
   asks : StandsAsking l.asked l.asker;
-  asker : AsksOn l.fn.asker l.asker;
+  asker : AsksOn (λ (s : TableSeat). s.seat.table_id) l.fn.asker l.asker;
   serves : StandsServing l.served l.server;
-  server : ServesOn (λ s t. device_place t ≡ device_place s) l.fn.server l.server;
+  server : ServesOn (λ s t. device_place t ≡ device_place s) (λ (s : TableSeat). s.seat.table_id) l.fn.server l.server;
 }

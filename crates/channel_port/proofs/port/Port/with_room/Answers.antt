@@ -3,7 +3,7 @@ use Rattle.channel_port.proofs.RoomLaws.{room_new}
 use Rattle.channel_port.proofs.port.Port.with_room.Goals as goal
 
 pub returns-in-Ok-clause-room : goal.returns-in-Ok-clause-room
-returns-in-Ok-clause-room c =
+returns-in-Ok-clause-room g c =
     let e = c.reserve.ensures.state.0 ∙ (ap (λ e. e.state) c.over-port.ensures ∙ c.requires.fresh) in
     let r = c.in-Ok.ensures.room in
     let k = c.cells-cells.ensures.value in

@@ -5,24 +5,24 @@ use Rattle.requester.specs.Asking.{HasMessage}
 use Rattle.requester.proofs.AskSteps.{acked_kept, message_here}
 use Rattle.requester.proofs.requester.Requester.acknowledge.Goals as goal
 
-pub invariant_of-self-2 : goal.invariant_of-self-2
-invariant_of-self-2 g c =
+pub invariant_of-self-in-Sent : goal.invariant_of-self-in-Sent
+invariant_of-self-in-Sent g c =
     let v = c.self.view_is in
     let l = c.self.invariant (ap (λ w. w.end.state.machine.marked) v ∙ c.requires.ready.unmarked) in
     let m = subst (λ w. HasMessage (g.T.Protocol.format w.protocol) w) (sym v) c.requires.message in
     let is = message_here (g.T.Protocol.format c.self.inside.protocol) c.self.inside.port.state.got c.self.inside.acked m.0 c.got.result.now m.1 m.2 c.got.ensures.value in
     let made = c.packet-packet.ensures.value ∙ c.write_ack.ensures.value in
     λ _. record {
-      live = acked_kept (g.T.Protocol.format c.self.inside.protocol) (g.T.Protocol.keeps c.self.inside.protocol) (g.T.Protocol.asks c.self.inside.protocol) _ _ c.got.result.now c.packet-packet.result.now c.got.ensures.value is made c.if-not-send.ensures.past c.send.ensures.got.0 c.send.ensures.ready.awake (ap (λ w. w.seen) v ∙ c.requires.unseen) l.live;
+      live = acked_kept (g.T.Protocol.format c.self.inside.protocol) (g.T.Protocol.keeps c.self.inside.protocol) (g.T.Protocol.asks c.self.inside.protocol) _ _ c.got.result.now c.packet-packet.result.now c.got.ensures.value is made c.in-Sent.ensures.past c.send.ensures.got.0 c.in-Sent.ensures.tries.awake (ap (λ w. w.seen) v ∙ c.requires.unseen) l.live;
       replies = l.replies;
       spare = l.spare;
       size = l.size;
-      room = room_sent _ c.packet-packet.result.now _ _ c.packet-packet.ensures.most (got_same _ _ c.send.ensures.got.0 c.send.ensures.got.1) c.send.ensures.stays.cells c.send.ensures.into c.if-not-send.ensures.past l.room;
+      room = room_sent _ c.packet-packet.result.now _ _ c.packet-packet.ensures.most (got_same _ _ c.send.ensures.got.0 c.send.ensures.got.1) c.send.ensures.stays.cells c.send.ensures.into c.in-Sent.ensures.past l.room;
       side = l.side ∙ sym c.send.ensures.stays.same.side;
     }
 
-pub returns-then-not-send-clause-asked : goal.returns-then-not-send-clause-asked
-returns-then-not-send-clause-asked g c =
+pub returns-in-Full-clause-asked : goal.returns-in-Full-clause-asked
+returns-in-Full-clause-asked g c =
     let v = c.self.view_is in
     let m = subst (λ w. HasMessage (g.T.Protocol.format w.protocol) w) (sym v) c.requires.message in
     let is = message_here (g.T.Protocol.format c.self.inside.protocol) c.self.inside.port.state.got c.self.inside.acked m.0 c.got.result.now m.1 m.2 c.got.ensures.value in

@@ -7,5 +7,5 @@ invariant-loop g l = record {
   can : (goal.iterator-loop g).can_next l.iterator';
   ends : (goal.iterator-loop g).is_finite l.iterator';
   unmarked : l.self.end.state.machine.marked ≡ false;
-  on : AsksOn l.fn.self l.self;
+  on : AsksOn g.S.Parks.channel g.S.Seatlike.told l.fn.self l.self;
 }

@@ -8,23 +8,23 @@ use Rattle.requester.proofs.AskSteps.{told_kept}
 use Rattle.channel_port.proofs.RoomLaws.{room_sent, got_same}
 use Rattle.requester.proofs.requester.Requester.tell.Goals as goal
 
-pub invariant_of-self-2 : goal.invariant_of-self-2
-invariant_of-self-2 g c =
+pub invariant_of-self-in-Sent : goal.invariant_of-self-in-Sent
+invariant_of-self-in-Sent g c =
     let v = c.self.view_is in
     let l = c.self.invariant (ap (λ w. w.end.state.machine.marked) v ∙ c.requires.ready.unmarked) in
     let at = at_least (g.T.Protocol.asks c.self.inside.protocol) c.self.inside.next (subst (λ w. w.next < length (g.T.Protocol.asks w.protocol)) (sym v) c.requires.next) in
     let made = c.packet-packet.ensures.value ∙ c.encode.ensures.value at.0 at.1 in
     λ _. record {
-      live = told_kept (g.T.Protocol.format c.self.inside.protocol) (g.T.Protocol.keeps c.self.inside.protocol) (g.T.Protocol.asks c.self.inside.protocol) _ _ at.0 c.packet-packet.result.now at.1 (ap (λ w. w.waiting) v ∙ c.requires.none) (subst (λ w. w.next ≤ w.starts → count_by is_some w.table ≡ 0) (sym v) c.requires.alone) (subst (λ w. (a : g.row.T-Ask.Denot) → slice_get (g.T.Protocol.asks w.protocol) w.next ≡ Some a → (g.T.Protocol.format w.protocol).has_answer a ≡ false) (sym v) c.requires.answers at.0 at.1) made c.if-not-send.ensures.past c.send.ensures.got.0 c.send.ensures.ready.awake (ap (λ w. w.seen) v ∙ c.requires.unseen) l.live;
+      live = told_kept (g.T.Protocol.format c.self.inside.protocol) (g.T.Protocol.keeps c.self.inside.protocol) (g.T.Protocol.asks c.self.inside.protocol) _ _ at.0 c.packet-packet.result.now at.1 (ap (λ w. w.waiting) v ∙ c.requires.none) (subst (λ w. w.next ≤ w.starts → count_by is_some w.table ≡ 0) (sym v) c.requires.alone) (subst (λ w. (a : g.row.T-Ask.Denot) → slice_get (g.T.Protocol.asks w.protocol) w.next ≡ Some a → (g.T.Protocol.format w.protocol).has_answer a ≡ false) (sym v) c.requires.answers at.0 at.1) made c.in-Sent.ensures.past c.send.ensures.got.0 c.in-Sent.ensures.tries.awake (ap (λ w. w.seen) v ∙ c.requires.unseen) l.live;
       replies = omega (arith, l.replies, slice_get_within (g.T.Protocol.asks c.self.inside.protocol) c.self.inside.next at.0 at.1);
       spare = l.spare;
       size = l.size;
-      room = room_sent _ c.packet-packet.result.now _ _ c.packet-packet.ensures.most (got_same _ _ c.send.ensures.got.0 c.send.ensures.got.1) c.send.ensures.stays.cells c.send.ensures.into c.if-not-send.ensures.past l.room;
+      room = room_sent _ c.packet-packet.result.now _ _ c.packet-packet.ensures.most (got_same _ _ c.send.ensures.got.0 c.send.ensures.got.1) c.send.ensures.stays.cells c.send.ensures.into c.in-Sent.ensures.past l.room;
       side = l.side ∙ sym c.send.ensures.stays.same.side;
     }
 
-pub returns-then-not-send-clause-asked : goal.returns-then-not-send-clause-asked
-returns-then-not-send-clause-asked g c =
+pub returns-in-Full-clause-asked : goal.returns-in-Full-clause-asked
+returns-in-Full-clause-asked g c =
     let v = c.self.view_is in
     let l = c.self.invariant (ap (λ w. w.end.state.machine.marked) v ∙ c.requires.ready.unmarked) in
     let at = at_least (g.T.Protocol.asks c.self.inside.protocol) c.self.inside.next (subst (λ w. w.next < length (g.T.Protocol.asks w.protocol)) (sym v) c.requires.next) in

@@ -1,8 +1,9 @@
-use Rattle.std.proofs.Common.{◌≡◌, ◌∙◌, Some, refl, sym, ap}
+use Rattle.std.proofs.Common.{◌≡◌, ◌∙◌, Some, refl, sym, ap, subst}
 use Rattle.std.specs.Arc.{arc_value}
 use Rattle.atomic_table.specs.Table.{Me}
 use Rattle.ring_core.specs.declared.told.Told.{Told}
 use Rattle.ring_machine.specs.Places.{signal_of}
+use Rattle.ring_seat.specs.Lawful.{Lawfully}
 use Rattle.ring_seat.specs.declared.view.View.{View}
 use Rattle.ring_seat.specs.Seats.{Making, made, told_in, state_in, is_one}
 use Rattle.ring_seat.proofs.Allowed.{made_side, made_cells, made_count}
@@ -44,4 +45,5 @@ invariant_of-self c =
       one = ap (λ (z : Me (Unit {0}) View). is_one z.0) me;
       empty = ap (λ (z : Me (Unit {0}) View). z.1) me;
       at = it.at ∙ ap (signal_of (arc_value it.board).shared.key.cells) (sym side);
+      lawful = subst (λ (z : Me (Unit {0}) View). Lawfully (state_in z.0)) (sym me) c.perform_as.ensures.tells.2;
     }

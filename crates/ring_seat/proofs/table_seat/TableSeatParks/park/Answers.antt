@@ -2,7 +2,7 @@ use Rattle.std.proofs.Common.{arith}
 use Rattle.std.specs.Arc.{arc_value}
 use Rattle.ring_seat.proofs.Places.{signal_small}
 use Rattle.ring_seat.specs.Seats.{state_in}
-use Rattle.ring_seat.proofs.table_seat.TableSeat.park.Goals as goal
+use Rattle.ring_seat.proofs.table_seat.TableSeatParks.park.Goals as goal
 
 pub park-requires : goal.park-requires
 park-requires g c =

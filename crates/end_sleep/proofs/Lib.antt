@@ -1,0 +1,2 @@
+pub mod SleepLaws
+pub mod Telling

@@ -1,0 +1,19 @@
+//! A seat on which a thread can wait.
+use ring_core::Seatlike;
+use std::sync::Wait;
+
+/// A seat on which a thread can wait for its end's signal.
+pub trait Parks: Seatlike {
+    ghost use Rattle.std.specs.Prelude.{◌≡◌};
+
+    /// What tells one channel from another.
+    ghost Channel: { Type 0 };
+
+    /// The channel of a seat.
+    ghost channel: { Self → Channel };
+
+    /// Parks the thread while the end's signal is down, or for no reason.
+    fn park<R: Wait>(&self, rt: &R);
+
+    ghost same_channel: { (s t : Self) → Self.same s t → channel t ≡ channel s };
+}
