@@ -44,7 +44,8 @@ fn end_channel(asked: usize, done: PairDone) -> (Settled, DeviceSeat, ChannelOut
     (settled, seat, ChannelOutcomes::of(asked, serials, replies))
 }
 
-/// Closes a channel: what it carried stands behind the runs before, its seat is given back, and the answer is the outcomes of its requests.
+/// Closes a channel: what it carried stands behind the runs before, with no room left for more, its seat is given back, and the answer is the outcomes of its
+/// requests.
 fn close_channel(
     phase: u32,
     due: &Due,
@@ -60,7 +61,8 @@ fn close_channel(
     let Some(done) = dones.next() else {
         unreachable!();
     };
-    let (lists, seat, outcomes) = end_channel(due.count, done);
+    let (mut lists, seat, outcomes) = end_channel(due.count, done);
+    lists.trim()?;
     seats.give_back(seat)?;
     settled.push(ChannelRun {
         phase,

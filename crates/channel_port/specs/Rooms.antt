@@ -8,6 +8,8 @@ use Rattle.channel_model.specs.WireFormat.{WireFormat}
 use Rattle.channel_model.specs.Amounts.{room_of, besides_of, AsksAtMost, ServesAtMost}
 use Rattle.channel_port.specs.declared.ended.Ended.{Ended}
 use Rattle.channel_port.specs.declared.ended.Ended.TheVariants.{Marked, PeerMarked, Room, Broken}
+use Rattle.channel_port.specs.declared.ended.Turn.{Turn}
+use Rattle.channel_port.specs.declared.ended.Turn.TheVariants.{Moved, Idle, Ended as TurnEnded}
 
 -- the words of these packets
 abbrev pub words_in : List (List ℕ) → ℕ
@@ -60,6 +62,19 @@ has_room Marked = true
 has_room PeerMarked = true
 has_room (Room packets words left) = false
 has_room Broken = true
+
+-- it ended since the end is broken
+abbrev pub is_broken : Ended → Bool
+is_broken Marked = false
+is_broken PeerMarked = false
+is_broken (Room packets words left) = false
+is_broken Broken = true
+
+-- and so did the turn
+abbrev pub broke : Turn → Bool
+broke Moved = false
+broke Idle = false
+broke (TurnEnded how) = is_broken how
 
 -- what holds where messages may go back besides the answers, and else not
 abbrev pub OnlyWith : Bool → Type 0 → Type 0

@@ -23,6 +23,7 @@ served_on u v d on leaves =
       serials = subst (λ l. d.serials.items ≡ map (λ c. c.serial) (calls_behind l (served_at leaves.back))) on.before leaves.serials;
       end = record { seat = leaves.end.seat ∙ on.end.seat; side = leaves.end.side ∙ on.end.side };
       place = leaves.place ∙ on.seat;
+      honest = leaves.honest;
       sent = subst (λ (t : ChannelScript). ServedWithin (format_of t.kind) (besides_on t.kind) d.end.state.past) on.protocol leaves.sent;
       room = lacks_on (λ s t. device_place t ≡ device_place s) (λ (s : TableSeat). s.seat.table_id) (λ (t : ChannelScript). format_of t.kind) (λ (t : ChannelScript). besides_on t.kind) d.ended u v d.end.state.past on leaves.room;
       replies = leaves.replies;

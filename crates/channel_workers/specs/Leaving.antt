@@ -7,7 +7,7 @@ use Rattle.device_formats.specs.Formats.{besides_on, format_of}
 use Rattle.device_formats.specs.ChannelScript.{ChannelScript, asks_of}
 use Rattle.channel_port.specs.Line.{IsSameEnd}
 use Rattle.requester.specs.Asking.{Asking, AsksBy, IsPaced}
-use Rattle.channel_port.specs.Rooms.{AskedWithin, ServedWithin, AskLacksFor, ServeLacksFor}
+use Rattle.channel_port.specs.Rooms.{AskedWithin, ServedWithin, AskLacksFor, ServeLacksFor, is_broken}
 use Rattle.server.specs.Serving.{Serving, EndsBy, calls_behind}
 use Rattle.channel_port.specs.declared.ended.Ended.{Ended}
 use Rattle.channel_workers.specs.Seats.{served_at, device_place, at_guest, at_host}
@@ -22,17 +22,18 @@ use Rattle.channel_workers.specs.declared.worker.Worker.TheVariants.{Asks, Serve
 abbrev pub WorkerDone : Type 0
 WorkerDone = Done (Option DeviceSeat)
 
--- the worker that asks has ended so, with these replies; it has no seat and no serials
+-- the worker that asks has ended so, with these replies, and its end isn't broken; it has no seat and no serials
 pub record LeavesAsked (w : Asking ChannelScript TableSeat Reply) (d : WorkerDone) : Type 0 where
   pub asks : AsksBy (format_of w.protocol.kind) d.ended (asks_of w.protocol) d.end.state.past d.replies.items
   pub end : IsSameEnd (λ (s : TableSeat). s.seat.table_id) w.end d.end
+  pub honest : is_broken d.ended ≡ false
   pub sent : AskedWithin (format_of w.protocol.kind) (length (asks_of w.protocol)) d.end.state.past
   pub room : AskLacksFor (format_of w.protocol.kind) (besides_on w.protocol.kind) (length (asks_of w.protocol)) d.ended d.end.state.past
   pub paced : IsPaced (format_of w.protocol.kind) w.starts (asks_of w.protocol) d.end.state.past
   pub seat : d.seat ≡ None
   pub serials : d.serials.items ≡ []
 
--- the worker that serves has ended so, with these calls of its seat, behind those that the seat had made before, and their serials; it has no replies
+-- the worker that serves has ended so, its end isn't broken, with these calls of its seat, behind those that the seat had made before, and their serials; it has no replies
 pub record LeavesServed (w : Serving ChannelScript DeviceSeat TableSeat Ask Reply) (d : WorkerDone) : Type 0 where
   pub back : DeviceSeat
   pub seat : d.seat ≡ Some back
@@ -41,6 +42,7 @@ pub record LeavesServed (w : Serving ChannelScript DeviceSeat TableSeat Ask Repl
   pub serials : d.serials.items ≡ map (λ c. c.serial) (calls_behind w.responder.before (served_at back))
   pub end : IsSameEnd (λ (s : TableSeat). s.seat.table_id) w.end d.end
   pub place : device_place back ≡ device_place w.responder.seat
+  pub honest : is_broken d.ended ≡ false
   pub sent : ServedWithin (format_of w.responder.protocol.kind) (besides_on w.responder.protocol.kind) d.end.state.past
   pub room : ServeLacksFor (format_of w.responder.protocol.kind) (besides_on w.responder.protocol.kind) (w.starts + w.come) w.serve w.stops d.ended d.end.state.past
   pub replies : d.replies.items ≡ []
@@ -62,11 +64,11 @@ StandsAsking None w = w.end.state.machine.marked ≡ false
 StandsAsking (Some how) w =
     AsksBy (format_of w.protocol.kind) how (asks_of w.protocol) w.end.state.past w.told × AskedWithin (format_of w.protocol.kind) (length (asks_of w.protocol)) w.end.state.past
     × AskLacksFor (format_of w.protocol.kind) (besides_on w.protocol.kind) (length (asks_of w.protocol)) how w.end.state.past
-    × IsPaced (format_of w.protocol.kind) w.starts (asks_of w.protocol) w.end.state.past
+    × IsPaced (format_of w.protocol.kind) w.starts (asks_of w.protocol) w.end.state.past × (is_broken how ≡ false)
 
 -- and one that serves
 abbrev pub StandsServing : Option Ended → Serving ChannelScript DeviceSeat TableSeat Ask Reply → Type 0
 StandsServing None w = w.end.state.machine.marked ≡ false
 StandsServing (Some how) w =
     EndsBy (format_of w.responder.protocol.kind) (besides_on w.responder.protocol.kind) how w w.end w.responder.calls × ServedWithin (format_of w.responder.protocol.kind) (besides_on w.responder.protocol.kind) w.end.state.past
-    × ServeLacksFor (format_of w.responder.protocol.kind) (besides_on w.responder.protocol.kind) (w.starts + w.come) w.serve w.stops how w.end.state.past
+    × ServeLacksFor (format_of w.responder.protocol.kind) (besides_on w.responder.protocol.kind) (w.starts + w.come) w.serve w.stops how w.end.state.past × (is_broken how ≡ false)

@@ -1,5 +1,6 @@
 //! The host's worker of a channel.
-ghost use Rattle.std.specs.Prelude.{◌≡◌, ◌≤◌, IfOk};
+ghost use Rattle.channel_port.specs.Rooms.{broke};
+ghost use Rattle.std.specs.Prelude.{◌≡◌, false, ◌≤◌, IfOk};
 ghost use Rattle.io_edge.specs.declared.side.Side.TheVariants.{Host as HostSide};
 ghost use Rattle.ring_seat.specs.Seats.{new_end};
 ghost use Rattle.channel_workers.specs.Leaving.{Leaves, of_host};
@@ -69,6 +70,7 @@ impl HostWorker {
         requires { IsLive self.old }
         ensures turned { Turned result self.new }
         ensures cause { Caused result self.old self.new }
+        ensures honest { broke result ≡ false }
         ensures on { GoesOn self.old self.new }
     {
         self.worker.turn(rt, gate)

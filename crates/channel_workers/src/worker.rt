@@ -1,5 +1,6 @@
 //! The worker of one end of a channel, whichever side's. It asks or serves.
-ghost use Rattle.std.specs.Prelude.{◌≡◌, [], None, Some};
+ghost use Rattle.channel_port.specs.Rooms.{broke};
+ghost use Rattle.std.specs.Prelude.{◌≡◌, false, [], None, Some};
 ghost use Rattle.channel_workers.specs.Leaving.{Leaves};
 ghost use Rattle.channel_workers.specs.Workers.{Caused, GoesOn, IsLive, Turned};
 
@@ -64,6 +65,7 @@ impl Worker {
         requires { IsLive self.old }
         ensures turned { Turned result self.new }
         ensures cause { Caused result self.old self.new }
+        ensures honest { broke result ≡ false }
         ensures on { GoesOn self.old self.new }
     {
         match self {

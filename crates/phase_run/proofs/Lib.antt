@@ -1,4 +1,5 @@
 pub mod Joining
+pub mod Marks
 pub mod Making
 pub mod Asked
 pub mod Running

@@ -26,10 +26,10 @@ use Rattle.channel_model.specs.Channel.{AskerEnds, ServerEnds, count_of, held_of
 use Rattle.channel_model.specs.Roles.{side_that_asks}
 use Rattle.channel_model.specs.WireFormat.{WireFormat}
 use Rattle.requester.specs.Asking.{Asking, AsksAll, AsksBy}
-use Rattle.channel_port.specs.Rooms.{AskedWithin, AskLacksFor, has_room, is_asked}
+use Rattle.channel_port.specs.Rooms.{AskedWithin, AskLacksFor, has_room, is_asked, is_broken}
 use Rattle.server.specs.Serving.{Serving, EndsAll, EndsBy, calls_behind}
 use Rattle.channel_port.specs.declared.ended.Ended.{Ended}
-use Rattle.channel_port.specs.declared.ended.Ended.TheVariants.{Marked, PeerMarked, Room}
+use Rattle.channel_port.specs.declared.ended.Ended.TheVariants.{Marked, PeerMarked, Room, Broken}
 use Rattle.channel_port.proofs.RoomLaws.{never_lacks}
 use Rattle.channel_workers.specs.Leaving.{Leaves, LeavesAsked, LeavesServed, WorkerDone}
 use Rattle.channel_workers.specs.Pairs.{ArePair, PlansAgree}
@@ -38,10 +38,11 @@ use Rattle.channel_workers.specs.declared.device_seat.DeviceSeat.{DeviceSeat}
 use Rattle.channel_workers.specs.declared.worker.Worker.{Worker}
 use Rattle.channel_workers.specs.declared.worker.Worker.TheVariants.{Asks, Serves}
 use Rattle.channel_workers.proofs.SeatLaws.{same_place}
-use Rattle.phase_run.specs.Pairs.{MadeFor, RunsPair, ComesBack, first_of, is_whole}
+use Rattle.phase_run.specs.Pairs.{MadeFor, MarkedFirst, RunsPair, ComesBack, ended_at, first_of, is_whole}
 use Rattle.phase_run.specs.declared.pair.PairDone.{PairDone}
 use Rattle.phase_run.proofs.Asked.{few_asked}
 use Rattle.phase_run.proofs.Joining.{BothEnd, told_is, runs}
+use Rattle.phase_run.proofs.Marks.{asks_so, serves_so, stops_nowhere, marked_first}
 
 -- what the joined ends of a channel tell: their lists, and one run of both
 pub record Joins (asker server : Seen TableSeat) (lists : Lists) (side : Side) : Type 0 where
@@ -58,10 +59,11 @@ pub record BothLeave (a : Asking ChannelScript TableSeat Reply) (s : Serving Cha
   pub server_leaves : LeavesServed s served
   pub joins : Joins asked.end served.end lists side
 
-is_whole_of : (how : Ended) → has_room how ≡ true → is_whole how ≡ true
-is_whole_of Marked is = refl
-is_whole_of PeerMarked is = refl
-is_whole_of (Room packets words left) is = absurd (cc (is))
+is_whole_of : (how : Ended) → has_room how ≡ true → is_broken how ≡ false → is_whole how ≡ true
+is_whole_of Marked is honest = refl
+is_whole_of PeerMarked is honest = refl
+is_whole_of (Room packets words left) is honest = absurd (cc (is))
+is_whole_of Broken is honest = absurd (cc (honest))
 
 -- the one that asks asks no more of the device than the other one has calls for, unless that one stops
 few_for : (a : Asking ChannelScript TableSeat Reply) (s : Serving ChannelScript DeviceSeat TableSeat Ask Reply) (asked : WorkerDone) → PlansAgree a s → LeavesAsked a asked → s.stops ≡ false → length (filter (is_asked (format_of s.responder.protocol.kind)) (sent_of asked.end.state.past)) ≤ s.serve
@@ -78,17 +80,19 @@ both_whole a s asked served lists side both =
     let sent = subst (λ k. AskedWithin (format_of k) count asked.end.state.past) both.agree.kind both.asker_leaves.sent in
     let lacks = subst (λ k. AskLacksFor (format_of k) (besides_on k) count asked.ended asked.end.state.past) both.agree.kind both.asker_leaves.room in
     let whole = never_lacks (format_of kind) (besides_on kind) count (s.starts + s.come) s.serve s.stops asked.end.state.past served.end.state.past asked.ended served.ended both.agree.room (few_for a s asked both.agree both.asker_leaves) both.joins.one sent lacks both.server_leaves.sent both.server_leaves.room in
-    (is_whole_of asked.ended whole.0, is_whole_of served.ended whole.1)
+    (is_whole_of asked.ended whole.0 both.asker_leaves.honest, is_whole_of served.ended whole.1 both.server_leaves.honest)
 
 asks_all : (s : WireFormat (List ℕ) Want Ask Reply) (how : Ended) (asks : List Want) (past : List (Event (List ℕ))) (told : List Reply) → is_whole how ≡ true → AsksBy s how asks past told → AsksAll s asks past told
 asks_all s Marked asks past told whole by = by.0
 asks_all s PeerMarked asks past told whole by = by.0
 asks_all s (Room packets words left) asks past told whole by = absurd (cc (whole))
+asks_all s Broken asks past told whole by = absurd (cc (whole))
 
 ends_all : (s : WireFormat (List ℕ) Want Ask Reply) (besides : Bool) (how : Ended) (w : Serving ChannelScript DeviceSeat TableSeat Ask Reply) (e : Seen TableSeat) (calls : List Served) → is_whole how ≡ true → EndsBy s besides how w e calls → EndsAll s w e.state.past calls
 ends_all s besides Marked w e calls whole by = by.0
 ends_all s besides PeerMarked w e calls whole by = by.0
 ends_all s besides (Room packets words left) w e calls whole by = absurd (cc (whole))
+ends_all s besides Broken w e calls whole by = absurd (cc (whole))
 
 -- the end that asks, for what the phase orders
 asker_ends : (order : Order) (protocol : ChannelScript) (past : List (Event (List ℕ))) (told : List Reply) → protocol ≡ record { kind = order.kind; sub = order.sub; subs = order.subs; asks = order.asks } → AsksAll (format_of protocol.kind) (asks_of protocol) past told
@@ -120,6 +124,7 @@ pub record RanBy (order : Order) (seat back : DeviceSeat) (lists : Lists) (asked
   pub same : IsSameSeat seat back
   pub serials : served.serials.items ≡ map (λ s. s.serial) (served_at back)
   pub replies : asked.replies.items ≡ map (λ s. s.reply) (replies_to order (served_at back))
+  pub marks : MarkedFirst order.stop asked.ended served.ended
 
 ran : (order : Order) (seat : DeviceSeat) (a : Asking ChannelScript TableSeat Reply) (s : Serving ChannelScript DeviceSeat TableSeat Ask Reply) (asked served : WorkerDone) (lists : Lists) (side : Side) → side_that_asks order.kind ≡ side → MadeFor order seat a s
     → (both : BothLeave a s asked served lists side) → RanBy order seat both.server_leaves.back lists asked served
@@ -142,7 +147,15 @@ ran order seat a s asked served lists side at_side made ended =
       same = same_place seat ended.server_leaves.back (ended.server_leaves.place ∙ ap device_place made.seat_is);
       serials = ended.server_leaves.serials ∙ ap (map (λ c. c.serial)) none_before;
       replies = told_is order asked.end.state.past served.end.state.past calls told both;
+      marks = marked_first order.stop asked.ended served.ended asked.end.state.past served.end.state.past at.one (asks_so _ asked.ended _ _ _ whole.0 ended.asker_leaves.asks) (serves_so _ _ served.ended s served.end _ whole.1 ended.server_leaves.serves)
+          (λ none. stops_nowhere (format_of order.kind) (plan_of order) served.end.state.past calls none both.server_ends);
     }
+
+-- the done's ends, by the side that asks
+marks_at : (order : Order) (side : Side) (done : PairDone) (asked served : Ended) → side_that_asks order.kind ≡ side → ended_at side done ≡ asked → ended_at (other side) done ≡ served → MarkedFirst order.stop asked served
+    → MarkedFirst order.stop (ended_at (side_that_asks order.kind) done) (ended_at (other (side_that_asks order.kind)) done)
+marks_at order side done asked served at a s first =
+    subst (λ (x : Side). MarkedFirst order.stop (ended_at x done) (ended_at (other x) done)) (sym at) (subst (λ (p : Ended × Ended). MarkedFirst order.stop p.0 p.1) (λ i. (sym a i, sym s i)) first)
 
 -- the seat that comes back
 comes_back : (s : Serving ChannelScript DeviceSeat TableSeat Ask Reply) (served : WorkerDone) (seat : Option DeviceSeat) → seat ≡ served.seat → LeavesServed s served → ComesBack s.responder.seat seat
@@ -210,6 +223,7 @@ runs_pair (Asks a) (Serves s) guest host done closes =
             same = r.same;
             serials = none_before done.serials.items guest.serials.items host.serials.items closes.serials closes.guest_leaves.serials ∙ r.serials;
             replies = none_after done.replies.items guest.replies.items host.replies.items closes.replies closes.host_leaves.replies ∙ r.replies;
+            marks = marks_at order Guest done guest.ended host.ended opens.0 closes.guest_ended closes.host_ended r.marks;
           };
     }
 runs_pair (Serves s) (Asks a) guest host done closes =
@@ -228,6 +242,7 @@ runs_pair (Serves s) (Asks a) guest host done closes =
             same = r.same;
             serials = none_after done.serials.items guest.serials.items host.serials.items closes.serials closes.host_leaves.serials ∙ r.serials;
             replies = none_before done.replies.items guest.replies.items host.replies.items closes.replies closes.guest_leaves.replies ∙ r.replies;
+            marks = marks_at order Host done host.ended guest.ended opens.0 closes.host_ended closes.guest_ended r.marks;
           };
     }
 runs_pair (Serves s) (Serves t) guest host done closes = absurd closes.pair.roles

@@ -1,9 +1,9 @@
 -- The two workers of a channel, and what they come to.
-use Rattle.std.specs.Prelude.{ℕ, ◌≡◌, Bool, true, false, List, [], ◌∷◌, length, map, filter, Option, Some, None, is_some}
+use Rattle.std.specs.Prelude.{ℕ, ◌≡◌, ◌⊎◌, Bool, true, false, List, [], ◌∷◌, length, map, filter, Option, Some, None, is_some}
 use Rattle.ring_seat.specs.declared.table_seat.TableSeat.{TableSeat}
 use Rattle.std.specs.List.{AllByRecursion, filter_map}
 use Rattle.bus_model.specs.Orders.{Order, startup_of}
-use Rattle.bus_model.specs.Channel.{IsChannelRun, served_count, is_held, replies_to}
+use Rattle.bus_model.specs.Channel.{IsChannelRun, served_count, is_held, other, replies_to}
 use Rattle.script_lines.specs.declared.line.Ask.{Ask}
 use Rattle.bus_script.specs.declared.outcome.Reply.{Reply}
 use Rattle.device_formats.specs.Formats.{has_answer_on}
@@ -17,12 +17,13 @@ use Rattle.channel_workers.specs.declared.guest_seat.GuestSeat.{GuestSeat}
 use Rattle.channel_workers.specs.declared.host_seat.HostSeat.{HostSeat}
 use Rattle.channel_workers.specs.declared.worker.Worker.{Worker}
 use Rattle.channel_workers.specs.declared.worker.Worker.TheVariants.{Asks, Serves}
+use Rattle.io_edge.specs.declared.side.Side.{Side}
 use Rattle.io_edge.specs.declared.side.Side.TheVariants.{Guest, Host}
 use Rattle.channel_model.specs.Roles.{side_that_asks}
 use Rattle.requester.specs.Asking.{Asking}
 use Rattle.server.specs.Serving.{Serving}
 use Rattle.channel_port.specs.declared.ended.Ended.{Ended}
-use Rattle.channel_port.specs.declared.ended.Ended.TheVariants.{Marked, PeerMarked, Room}
+use Rattle.channel_port.specs.declared.ended.Ended.TheVariants.{Marked, PeerMarked, Room, Broken}
 use Rattle.phase_run.specs.declared.pair.PairDone.{PairDone}
 
 -- the guest's worker and the host's
@@ -76,8 +77,19 @@ first_of (Some s) host = Some s
 abbrev pub serving_of : GuestSeat → HostSeat → Option DeviceSeat
 serving_of guest host = first_of (at_guest guest) (at_host host)
 
+-- how the worker of this side ended
+abbrev pub ended_at : Side → PairDone → Ended
+ended_at Guest done = done.guest
+ended_at Host done = done.host
+
+-- Which of the two marked its end first. Where the order has no stop it is the one that asks, and the one that serves follows. Where it has one either can, but
+-- they never both follow the other
+abbrev pub MarkedFirst : Option (ℕ × Bool) → Ended → Ended → Type 0
+MarkedFirst None asked served = (asked ≡ Marked) × (served ≡ PeerMarked)
+MarkedFirst (Some stop) asked served = (asked ≡ Marked) ⊎ (served ≡ Marked)
+
 -- A pair with this order and this seat has run: its channel carried what is ordered, each request that was served was a call of the seat, these are the serials
--- of the calls, and these the replies that came back: all of them but that of the last call where its answer is held
+-- of the calls, and these the replies that came back: all of them but that of the last call where its answer is held. And it says which end marked itself first
 pub record RanPair (order : Order) (seat : DeviceSeat) (done : PairDone) : Type 0 where
   pub back : DeviceSeat
   pub serving : serving_of done.guest_seat done.host_seat ≡ Some back
@@ -85,12 +97,14 @@ pub record RanPair (order : Order) (seat : DeviceSeat) (done : PairDone) : Type 
   pub same : IsSameSeat seat back
   pub serials : done.serials.items ≡ map (λ s. s.serial) (served_at back)
   pub replies : done.replies.items ≡ map (λ s. s.reply) (replies_to order (served_at back))
+  pub marks : MarkedFirst order.stop (ended_at (side_that_asks order.kind) done) (ended_at (other (side_that_asks order.kind)) done)
 
--- it ended where its plan ends, and not for want of room in its lists
+-- it ended where its plan ends: not for want of room in its lists, and its end isn't broken
 abbrev pub is_whole : Ended → Bool
 is_whole Marked = true
 is_whole PeerMarked = true
 is_whole (Room packets words left) = false
+is_whole Broken = false
 
 -- the seat of the worker that served, later
 pub record ComesBack (seat : DeviceSeat) (back : Option DeviceSeat) : Type 0 where

@@ -9,6 +9,7 @@ use Rattle.chan_run.specs.declared.event.Event.TheVariants.{Sent, Got, Empty, Ma
 use Rattle.chan_run.specs.Runs.{sent_of, got_of, has_marked, has_seen, is_drained}
 use Rattle.chan_run.proofs.Pasts.{drained_seen, follows_unmarked}
 use Rattle.ring_core.specs.Seen.{Seen}
+use Rattle.ring_core.specs.declared.room.Room.{Room as SpareRoom}
 use Rattle.ring_core.specs.declared.told.Told.{Told}
 use Rattle.txn_table.specs.Open.{request_of}
 use Rattle.channel_model.specs.WireFormat.{WireFormat, Keeps}
@@ -459,12 +460,14 @@ module _ {T S A Q R : Type 0} (s : WireFormat (List ℕ) A Q R) (keeps : Keeps s
   }
 
   -- why nothing is sent doesn't lie with the end
-  pub holds_on : (end' : Seen S) (hold hold' : Hold) → end'.state.got ≡ w.end.state.got → Holds s asks hold w → Holds s asks hold (record w { end = end'; hold = hold' })
-  holds_on end' Done hold' got h = rw got h
-  holds_on end' Place hold' got h = rw got h
-  holds_on end' Answer hold' got h = rw got h
-  holds_on end' (Ack need) hold' got h = rw got h
-  holds_on end' (Room need) hold' got h = rw got h
+  pub holds_on : (end' : Seen S) (hold hold' : Hold) → end'.state.got ≡ w.end.state.got → end'.spare_sent ≡ w.end.spare_sent → Holds s asks hold w → Holds s asks hold (record w { end = end'; hold = hold' })
+  holds_on end' Done hold' got spare h = rw got h
+  holds_on end' Place hold' got spare h = rw got h
+  holds_on end' Answer hold' got spare h = rw got h
+  holds_on end' (Ack need) hold' got spare h =
+      (h.0, ap (λ l. slice_get l w.acked) got ∙ h.1, h.2, h.3, h.4, h.5, subst (λ (r : SpareRoom). (0 < r.packets) × (length (s.ack h.0) ≤ r.words)) (sym spare) h.6)
+  holds_on end' (Room need) hold' got spare h =
+      (h.0, h.1, h.2, h.3, h.4, h.5, h.6 ∙ ap length (sym got), subst (λ (r : SpareRoom). (0 < r.packets) × (length (s.encode (id_in w.waiting) h.0) ≤ r.words)) (sym spare) h.7)
 
   pub need_in : (hold : Hold) → Holds s asks hold w → IsNeed (want_by hold)
   need_in Done h = tt

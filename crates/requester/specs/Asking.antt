@@ -13,7 +13,7 @@ use Rattle.channel_model.specs.Asker.{requests_of, open_of}
 use Rattle.channel_model.specs.Channel.{RequestPlan, asks_of, AskerEnds, AskerBreaks}
 use Rattle.channel_model.specs.Workers.{AskerKept, AcksKept}
 use Rattle.channel_port.specs.Line.{IsBroken, IsReady, IsSameEnd, SleepsFor, LacksTake}
-use Rattle.channel_port.specs.Owed.{LacksSendOf}
+use Rattle.channel_port.specs.Owed.{HasSendRoom, LacksSendOf}
 use Rattle.channel_port.specs.Rooms.{AskedWithin, AskLacksFor, KeepsRoom}
 use Rattle.channel_port.specs.declared.ended.Ended.{Ended}
 use Rattle.channel_port.specs.declared.ended.Ended.TheVariants.{Marked, PeerMarked, Room, Broken as EndedBroken}
@@ -75,14 +75,14 @@ abbrev pub HasMessage : {T S A Q R : Type 0} → WireFormat (List ℕ) A Q R →
 HasMessage s w = (m : List ℕ) × (slice_get w.end.state.got w.acked ≡ Some m) × (s.is_message m ≡ true)
 
 -- why nothing more is sent: all was, and a request is open; or the next ask has no id yet, and none is free, or an answer of the start-up is missing; or its
--- packet waits for the room that it needs; or what acknowledges a message does, which goes before any ask
+-- packet waits for the room in the ring that it needs; or what acknowledges a message does, which goes before any ask. The list of what was sent has room for it
 abbrev pub Holds : {T S A Q R : Type 0} → WireFormat (List ℕ) A Q R → List A → Hold → Asking T S R → Type 0
 Holds s asks HoldDone w = (w.next ≡ length asks) × (0 < count_by is_some w.table) × HasAcked w
 Holds s asks HoldPlace w = (w.waiting ≡ None) × All IsSome w.table × HasAcked w
 Holds s asks HoldAnswer w = (w.waiting ≡ None) × (w.next ≤ w.starts) × (0 < count_by is_some w.table) × HasAcked w
-Holds s asks (HoldAck need) w = (m : List ℕ) × (slice_get w.end.state.got w.acked ≡ Some m) × (s.is_message m ≡ true) × (need ≡ 8 * length (s.ack m) + 8) × (24 ≤ need) × (need ≤ 3080)
+Holds s asks (HoldAck need) w = (m : List ℕ) × (slice_get w.end.state.got w.acked ≡ Some m) × (s.is_message m ≡ true) × (need ≡ 8 * length (s.ack m) + 8) × (24 ≤ need) × (need ≤ 3080) × HasSendRoom (s.ack m) w.end
 Holds {A = A} s asks (HoldRoom need) w =
-    (a : A) × (slice_get asks w.next ≡ Some a) × (is_some w.waiting ≡ s.has_answer a) × (need ≡ 8 * length (s.encode (id_in w.waiting) a) + 8) × (24 ≤ need) × (need ≤ 3080) × HasAcked w
+    (a : A) × (slice_get asks w.next ≡ Some a) × (is_some w.waiting ≡ s.has_answer a) × (need ≡ 8 * length (s.encode (id_in w.waiting) a) + 8) × (24 ≤ need) × (need ≤ 3080) × HasAcked w × HasSendRoom (s.encode (id_in w.waiting) a) w.end
 
 -- the room in bytes that the next packet waits for
 abbrev pub want_by : Hold → Option ℕ
@@ -178,19 +178,6 @@ AskedBy s asks AskedSent w = Unit {0}
 AskedBy s asks (AskedHeld hold) w = Holds s asks hold w
 AskedBy s asks AskedBroken w = Unit {0}
 AskedBy s asks (AskedLacks packets words) w = LacksNext s asks packets words w × (got_of w.end.state.past ≡ w.end.state.got)
-
--- it ended since the end is broken
-abbrev pub is_broken : Ended → Bool
-is_broken Marked = false
-is_broken PeerMarked = false
-is_broken (Room packets words left) = false
-is_broken EndedBroken = true
-
--- and so did the turn
-abbrev pub broke : Turn → Bool
-broke Moved = false
-broke Idle = false
-broke (TurnEnded how) = is_broken how
 
 -- the end can begin a call, unless it broke
 abbrev pub StandsAsked : {S : Type 0} → Asked → Seen S → Type 0

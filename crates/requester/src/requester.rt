@@ -8,8 +8,8 @@ ghost use Rattle.channel_port.specs.declared.found.Found.TheVariants.{Nothing as
 ghost use Rattle.requester.specs.declared.requester.Asked.TheVariants.{Broken as BrokenAsked};
 ghost use Rattle.requester.specs.Causes.{AskCause, AskerActs, AsksOne, AsksOrArms};
 ghost use Rattle.channel_port.specs.Line.{new_end, Finds, IsBroken, IsReady, IsSameEnd, HasTakeRoom, TookOne};
-ghost use Rattle.requester.specs.Asking.{AsksBy, AskTurns, IsPaced, AskLacks, AskerLacks, AsksOn, AskEnds, Holds, HasAcked, HasMessage, HasOpen, HasSettled, StandsAsked, broke, is_broken, waits_under, want_by, AskedBy};
-ghost use Rattle.channel_port.specs.Rooms.{AskedWithin, AskLacksFor, KeepsRoom};
+ghost use Rattle.requester.specs.Asking.{AsksBy, AskTurns, IsPaced, AskLacks, AskerLacks, AsksOn, AskEnds, Holds, HasAcked, HasMessage, HasOpen, HasSettled, StandsAsked, waits_under, want_by, AskedBy};
+ghost use Rattle.channel_port.specs.Rooms.{AskedWithin, AskLacksFor, KeepsRoom, broke, is_broken};
 ghost use Rattle.txn_table.specs.Open.{HasNone};
 ghost use Rattle.channel_model.specs.Amounts.{room_of};
 

@@ -17,10 +17,10 @@ pub record LoadsAll (S : Type 0) (told : S → Option Told) (memory : S → Opti
   pub long : length (last_words new.state.pages.got) ≡ n
   pub room : (old.spare_got.packets ≤ new.spare_got.packets + 1) × (old.spare_got.words ≤ new.spare_got.words + n)
 
--- what is due is loaded, and nothing is done where nothing is
+-- what is due, at most 512 words of a page of which none is loaded yet, is loaded; and nothing is done where nothing is due
 pub record Loads (S : Type 0) (told : S → Option Told) (memory : S → Option Memory) (same : S → S → Type 0) (old new : Seen S) : Type 0 where
   pub none : old.state.pages.due ≡ Clear → new ≡ old
-  pub all : (q n : ℕ) → old.state.pages.due ≡ DueLoads q n 0 → LoadsAll S told memory q n old new
+  pub all : (q n j : ℕ) → old.state.pages.due ≡ DueLoads q n j → (j ≡ 0) × (n ≤ 512) × LoadsAll S told memory q n old new
   pub items : old.state.pages.due ≢ Clear → new.state.pages.got ≡ old.state.pages.got ++ item_of (newest old.state.got) (last_words new.state.pages.got) ∷ []
   pub kept : KeptByPages old new
   pub same_seat : same old.seat new.seat

@@ -9,6 +9,10 @@ use Rattle.ring_machine.specs.Steps.{is_took, call_by, take_begun}
 use Rattle.ring_machine.specs.States.{Gets, past_of}
 use Rattle.ring_machine.specs.Endings.{Leaves, LeavesBy, why_of, take_refusal, is_empty_refusal}
 use Rattle.ring_core.specs.Told.{Memory, MakesSteps}
+use Rattle.page_kept.specs.Kept.{pages_took}
+use Rattle.page_kept.specs.Layouts.{layout}
+use Rattle.ring_machine.specs.PageCalls.{newest}
+use Rattle.ring_machine.specs.declared.state.EndState.{EndState}
 use Rattle.ring_core.specs.Seen.{Seen}
 
 -- a refusal that an honest peer can cause, or none
@@ -25,6 +29,11 @@ pub record TakesIdle (S : Type 0) (told : S → Option Told) (memory : S → Opt
   pub after : LeavesBy Take old.state.machine new.state.machine
   pub took : is_took new.state.machine.ended ≡ true → Gets new.state.machine.len old.state.got new.state.got old.state.past new.state.past
   pub refused : is_took new.state.machine.ended ≡ false → (new.state.got ≡ old.state.got) × (new.state.past ≡ past_of new.state.machine.ended new.state.machine.saw [] old.state.past) × (new.spare_got ≡ old.spare_got)
+
+-- the pages behind a take: where a packet was taken, the page that it lends or brings back, and what is to be loaded; else they stay
+pub record TakesPages (old new : EndState) : Type 0 where
+  pub count : new.pages.count ≡ old.pages.count
+  pub pages : old.machine.stage ≡ Idle → new.pages ≡ cond (is_took new.machine.ended) (pages_took (layout old.pages.count) old.pages (newest new.got)) old.pages
 
 -- What a take leaves: a stopped end refuses, and nothing is changed. Where the seat tells the end's state, the answer is a packet, or that there is none
 pub record Takes (S : Type 0) (told : S → Option Told) (memory : S → Option Memory) (same : S → S → Type 0) (old new : Seen S) (refusal : Option TakeRefusal) : Type 0 where

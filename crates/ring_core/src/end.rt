@@ -219,9 +219,18 @@ impl<S: Seatlike> End<S> {
         self.parts.core.machine.saw
     }
 
-    /// The packets that were got, in order.
+    /// The packets that were sent, in order, each with the page words that went along.
+    pub fn sent(&self) -> &Packets
+        ensures list { result.now.list ≡ self.now.state.sent }
+        ensures items { items_of result.now.list result.now.lent ≡ self.now.state.pages.sent }
+    {
+        &self.parts.sent
+    }
+
+    /// The packets that were got, in order, each with its page words: the last one has none yet where a load is due.
     pub fn got(&self) -> &Packets
-        ensures { result.now.list ≡ self.now.state.got }
+        ensures list { result.now.list ≡ self.now.state.got }
+        ensures items { items_of result.now.list result.now.lent ≡ self.now.state.pages.got }
     {
         &self.parts.got
     }
@@ -234,7 +243,7 @@ impl<S: Seatlike> End<S> {
         &self.parts.seat
     }
 
-    /// The seat, and the lists of what was sent and got, which keep no room for more.
+    /// The seat, and the lists of what was sent and got.
     pub fn into_parts(self) -> (S, Packets, Packets)
         ensures seat { result.0 ≡ self.seat }
         ensures sent { result.1.list ≡ self.state.sent }
@@ -246,14 +255,12 @@ impl<S: Seatlike> End<S> {
         let Parts {
             core: _,
             buf,
-            mut sent,
-            mut got,
+            sent,
+            got,
             past: _,
             table,
             seat,
         } = parts;
-        sent.trim();
-        got.trim();
         drop(buf);
         drop(table);
         (seat, sent, got)

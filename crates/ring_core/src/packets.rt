@@ -64,12 +64,12 @@ impl Packets {
         Ok(())
     }
 
-    /// Gives the room that is left back to the allocator, where it gives room for a copy.
-    pub fn trim(&mut self)
+    /// Gives the room that is left back to the allocator, which has to give room for a copy first.
+    pub fn trim(&mut self) -> Result<(), AllocError>
         ensures { (self.new.list ≡ self.old.list) × (self.new.lent ≡ self.old.lent) × (self.new.paged ≡ self.old.paged) }
     {
-        self.rows.trim();
-        self.lent.trim();
+        self.rows.trim()?;
+        self.lent.trim()
     }
 
     /// The room that is left: page words count, and each packet has a place for them.
@@ -131,7 +131,7 @@ impl Packets {
 
     /// The page words that went along with the packet at this place, or none exactly past the end. Where they aren't loaded yet there are none.
     pub fn lent(&self, i: usize) -> Option<&[u64]>
-        ensures { MatchOption result (length self.now.list ≤ i) (λ w. w.now ≡ slice_index_or self.now.lent i []) }
+        ensures { MatchOption result (length self.now.list ≤ i) (λ w. (i < length self.now.list) × (w.now ≡ slice_index_or self.now.lent i [])) }
     {
         if i >= self.rows.len() {
             return None;

@@ -87,18 +87,15 @@ impl Rows {
         self.ends.reserve(room.packets as usize)
     }
 
-    /// Gives the room that is left back to the allocator, where it gives room for a copy.
-    pub(crate) fn trim(&mut self)
+    /// Gives the room that is left back to the allocator, which has to give room for a copy first.
+    pub(crate) fn trim(&mut self) -> Result<(), AllocError>
         ensures { self.new.list ≡ self.old.list }
     {
         // A copy frees the whole of the old list, so that the next channel's finds its place there. A list that shrinks in place leaves a hole that is a
         // little too small for the next one.
-        if let Ok(words) = self.words.to_vec(*self.words.allocator()) {
-            self.words = words;
-        }
-        if let Ok(ends) = self.ends.to_vec(*self.ends.allocator()) {
-            self.ends = ends;
-        }
+        self.words = self.words.to_vec(*self.words.allocator())?;
+        self.ends = self.ends.to_vec(*self.ends.allocator())?;
+        Ok(())
     }
 
     /// The room that is left.

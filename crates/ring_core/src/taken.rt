@@ -3,7 +3,7 @@ ghost use Rattle.std.specs.Prelude.{◌≡◌, ◌<◌, ◌≤◌, ◌∷◌, []
 ghost use Rattle.ring_machine.specs.States.{IsPacket};
 ghost use Rattle.ring_core.specs.Pages.{IsClear};
 ghost use Rattle.ring_core.specs.Loading.{Loads, LendsKept};
-ghost use Rattle.ring_core.specs.Taking.{Takes};
+ghost use Rattle.ring_core.specs.Taking.{Takes, TakesPages};
 ghost use Rattle.ring_machine.specs.declared.machine.Stage.TheVariants.{Idle};
 ghost use Rattle.ring_machine.specs.Endings.{refused};
 
@@ -42,7 +42,7 @@ impl<S: Seatlike> End<S> {
         requires room { (0 < self.old.spare_got.packets) × (self.old.state.machine.cells ≤ self.old.spare_got.words) }
         requires clear { IsClear self.old.state.pages }
         ensures* after { sem 𝓛 (follows_so (the_row S.row S.Seatlike) (the_row S.row S.Seatlike) self.entry.ghost_name none (λ _ _. ⊤)
-            (λ n. Takes S S.told S.memory S.same self.old n (refused result)
+            (λ n. Takes S S.told S.memory S.same self.old n (refused result) × TakesPages self.old.state n.state
             × IfOk result (λ t. IsPacket t.words.now × (length t.words.now ≡ n.state.machine.len) × (n.state.got ≡ self.old.state.got ++ t.words.now ∷ [])))) }
     {
         match self.take_in() {

@@ -26,7 +26,7 @@ use Rattle.ring_seat.specs.Whole.{WholeRule, new_paged}
 use Rattle.ring_seat.proofs.PointLaws.{new_point}
 use Rattle.ring_seat.proofs.Allowed.{holds_with}
 use Rattle.ring_seat.proofs.Known.{Known, known_of}
-use Rattle.ring_seat.proofs.WholeLaws.{new_keeps, end_tells}
+use Rattle.ring_seat.proofs.WholeLaws.{new_keeps, end_tells, front_tells}
 use Rattle.page_kept.specs.Stepped.{word_in}
 
 at_end : {A : Type 0} (l : List A) (a b : A) (j : ℕ) → get_elem? (l ++ a ∷ []) j ≡ some b → (get_elem? l j ≡ some b) ⊎ ((j ≡ length l) × (a ≡ b))
@@ -230,6 +230,8 @@ taken_of n ws ends s =
 -- what the pages' rule tells of both ends
 paged_of : (n c : ℕ) (ws : List ℕ) (ends : Side → Told) → WholeRule n c ws (states ends) → ((x : Side) → (ends x).state.pages.count ≡ c) → PagesSettled (ends Guest).state (ends Host).state
 paged_of n c ws ends r count = record {
+  guest_front = λ some. front_tells n c Guest ws (states ends) (λ z. some (count Guest ∙ z)) r;
+  host_front = λ some. front_tells n c Host ws (states ends) (λ z. some (count Host ∙ z)) r;
   guest = λ some clear. end_tells n c Guest ws (states ends) (λ z. some (count Guest ∙ z)) r clear;
   host = λ some clear. end_tells n c Host ws (states ends) (λ z. some (count Host ∙ z)) r clear;
 }

@@ -17,6 +17,7 @@ use Rattle.ring_seat.proofs.PageSteps.{steps_keep, calls_keep, idle_unsent, idle
 use Rattle.ring_seat.specs.PageRule.{keeper_of, OwnPages, PagesPart, page_index}
 use Rattle.page_table.specs.Table.{first_owners}
 use Rattle.ring_core.specs.Pages.{first_kept}
+use Rattle.chan_run.specs.Runs.{IsFront}
 use Rattle.ring_seat.specs.Whole.{PagesRule, WholeRule, new_paged, GotItems}
 use Rattle.page_rule.proofs.Reading.{opens_owned, turned, says}
 use Rattle.ring_machine.specs.declared.machine.Machine.{Machine}
@@ -90,6 +91,13 @@ tells n c x ws e p g clear all =
     let s = says (layout c) _ (word_in (words_of n) ws) (keeper_of c (peer_of x) p) (keeper_of c x e) o in
     let w = s.got clear in
     record { packets_are = sym w.all; front = (w.rest, w.front_is); sent_are = g.theirs; drained = λ d. s.got_all clear (all d ∙ sym g.theirs) }
+
+-- and of any end
+front_tells_of : (n c : ℕ) (x : Side) (ws : List ℕ) (e p : EndState) → PagesPart n c ws x e p → IsFront e.pages.got p.pages.sent
+front_tells_of n c x ws e p g = let o = turned (layout c) x (word_in (words_of n) ws) _ _ g.owned in (o.out.rest, o.out.front_is)
+
+pub front_tells : (n c : ℕ) (x : Side) (ws : List ℕ) (ends : Side → EndState) → c ≢ 0 → WholeRule n c ws ends → IsFront (ends x).pages.got (ends (peer_of x)).pages.sent
+front_tells n c x ws ends some r = front_tells_of n c x ws (ends x) (ends (peer_of x)) (part_of n c ws ends x (r.pages some))
 
 pub end_tells : (n c : ℕ) (x : Side) (ws : List ℕ) (ends : Side → EndState) → c ≢ 0 → WholeRule n c ws ends → (ends x).pages.due ≡ Clear → GotItems (ends x) (ends (peer_of x))
 end_tells n c x ws ends some r clear = tells n c x ws (ends x) (ends (peer_of x)) (part_of n c ws ends x (r.pages some)) clear (λ d. drained_all n (take (words_of n) ws) ends x r.rings d)

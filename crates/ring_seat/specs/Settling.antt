@@ -27,9 +27,11 @@ pub record SignalsTaken (g h : Told) : Type 0 where
   pub guest : g.woke ≤ h.raised
   pub host : h.woke ≤ g.raised
 
--- In a channel with data pages, an end that has nothing to load got the front of what the other one sent, each packet with its page words, and all of it
--- where it is drained
+-- In a channel with data pages, what an end got with its page words is the front of what the other one sent with theirs; and where it has nothing to load,
+-- all that it got is among that, and all that was sent where it is drained
 pub record PagesSettled (g h : EndState) : Type 0 where
+  pub guest_front : g.pages.count ≢ 0 → IsFront g.pages.got h.pages.sent
+  pub host_front : h.pages.count ≢ 0 → IsFront h.pages.got g.pages.sent
   pub guest : g.pages.count ≢ 0 → g.pages.due ≡ Clear → GotItems g h
   pub host : h.pages.count ≢ 0 → h.pages.due ≡ Clear → GotItems h g
 

@@ -67,6 +67,10 @@ pub record ItemsGot (is_drained : Bool) (got : List (List ℕ)) (got_items : Lis
 abbrev pub GotItems : EndState → EndState → Type 0
 GotItems e p = ItemsGot e.machine.drained e.got e.pages.got p.sent p.pages.sent
 
+-- and of any end: the packets that it got with their page words are the front of its peer's. Where words are to be loaded the packet that came last isn't among them
+abbrev pub FrontTells : Type 0
+FrontTells = (n c : ℕ) (x : Side) (ws : List ℕ) (ends : Side → EndState) → c ≢ 0 → WholeRule n c ws ends → IsFront (ends x).pages.got (ends (peer_of x)).pages.sent
+
 abbrev pub EndTells : Type 0
 EndTells = (n c : ℕ) (x : Side) (ws : List ℕ) (ends : Side → EndState) → c ≢ 0 → WholeRule n c ws ends → (ends x).pages.due ≡ Clear → GotItems (ends x) (ends (peer_of x))
 

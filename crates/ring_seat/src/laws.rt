@@ -15,7 +15,7 @@ ghost use Rattle.ring_model.specs.Ring.{ring_in};
 ghost use Rattle.ring_model.specs.Spelled.{StandsFor, HasRoom, HasSeen};
 ghost use Rattle.ring_seat.specs.Rule.{ChannelInvariant, with_end};
 ghost use Rattle.ring_seat.specs.Waking.{WakeCause};
-ghost use Rattle.ring_seat.specs.Whole.{StepKeeps, CallKeeps, StoreKeeps, LoadKeeps, NewKeeps, EndTells};
+ghost use Rattle.ring_seat.specs.Whole.{StepKeeps, CallKeeps, StoreKeeps, LoadKeeps, NewKeeps, FrontTells, EndTells};
 
 /// Each step that an end makes keeps the rule, from any words and ends that meet it, and where a call begins it holds too. The step uses the end's
 /// own state and the value that it loads.
@@ -73,13 +73,14 @@ pub fn takes_see_packets()
 {}
 
 /// In a channel with data pages both the rule of its rings and the rule of its pages hold at first. Each step of a ring, each call that begins, each store of a
-/// page word by an end that may store it, and each load of a word that is due keeps them. An end with nothing to load got the front of its peer's packets
-/// with their page words, and all of them where it is drained.
+/// page word by an end that may store it, and each load of a word that is due keeps them. The packets that an end got with their page words are the front of
+/// its peer's, and where it has nothing to load they are all that it got, and all that the peer sent where it is drained.
 pub fn pages_keep_the_rule()
     ensures new { NewKeeps }
     ensures step { StepKeeps }
     ensures begin { CallKeeps }
     ensures store { StoreKeeps }
     ensures load { LoadKeeps }
+    ensures front { FrontTells }
     ensures got { EndTells }
 {}

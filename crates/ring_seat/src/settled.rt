@@ -13,6 +13,7 @@ use crate::channel::{GuestEnd, HostEnd};
 use crate::rule::{Ends, Settles};
 use crate::table_seat::TableSeat;
 use ring_core::Packets;
+use std::alloc::AllocError;
 use std::marker::Model;
 
 /// The four lists of packets of a channel's two ends, with the page words of each packet. `finish` alone makes it.
@@ -58,6 +59,16 @@ impl Settled {
         &self.host_sent
     }
 
+    /// Gives the room that its lists have left back to the allocator, which has to give room for a copy of each list first.
+    pub fn trim(&mut self) -> Result<(), AllocError>
+        ensures { self.new ≡ self.old }
+    {
+        self.guest_sent.trim()?;
+        self.guest_got.trim()?;
+        self.host_sent.trim()?;
+        self.host_got.trim()
+    }
+
     /// The packets that the host got, in order.
     pub fn host_got(&self) -> &Packets
         ensures list { result.now.list ≡ self.now.host_got }
@@ -68,8 +79,8 @@ impl Settled {
 }
 
 /// Ends a channel, and takes no memory for it. The four lists are those that its ends kept, with the page words of each packet. Each end got the front of what
-/// the other one sent, and all of it where it is drained; and so of the packets with their page words, where it has none to load. What the two ends did is one run, and each took
-/// its signal at most as often as the other one raised it. It waits for nobody.
+/// the other one sent, and all of it where it is drained; and so of the packets with their page words, but the last one where it has words to load. What the
+/// two ends did is one run, and each took its signal at most as often as the other one raised it. It waits for nobody.
 pub fn finish(g: GuestEnd, h: HostEnd) -> Settled
     requires one_channel { AreOfOneChannel g h }
     ensures guest { (result.guest_sent ≡ g.state.sent) × (result.guest_got ≡ g.state.got) }
@@ -81,6 +92,7 @@ pub fn finish(g: GuestEnd, h: HostEnd) -> Settled
     ensures signals { SignalsTaken (told_in g.seat.seat.me.0) (told_in h.seat.seat.me.0) }
     ensures guest_items { (result.guest_sent_items ≡ g.state.pages.sent) × (result.guest_got_items ≡ g.state.pages.got) }
     ensures host_items { (result.host_sent_items ≡ h.state.pages.sent) × (result.host_got_items ≡ h.state.pages.got) }
+    ensures item_fronts { (g.state.pages.count ≢ 0 → IsFront result.guest_got_items result.host_sent_items) × (h.state.pages.count ≢ 0 → IsFront result.host_got_items result.guest_sent_items) }
     ensures guest_pages { g.state.pages.count ≢ 0 → g.state.pages.due ≡ Clear → ItemsGot g.state.machine.drained result.guest_got result.guest_got_items result.host_sent result.host_sent_items }
     ensures host_pages { h.state.pages.count ≢ 0 → h.state.pages.due ≡ Clear → ItemsGot h.state.machine.drained result.host_got result.host_got_items result.guest_sent result.guest_sent_items }
     ensures guest_past { (result.guest_sent ≡ sent_of g.state.past) × (result.guest_got ≡ got_of g.state.past) }

@@ -141,6 +141,13 @@ fn are_whole(settled: &Settled) -> bool {
     out.len() == LENDS as usize && back.len() == LENDS as usize
 }
 
+// Whether the lists of packets and page words have no room left.
+fn has_no_room(settled: &Settled) -> bool {
+    let sent = settled.guest_sent().room();
+    let got = settled.guest_got().room();
+    sent.packets == 0 && sent.words == 0 && got.packets == 0 && got.words == 0
+}
+
 #[test]
 fn pages_cross_between_threads(rt: HostRuntime) {
     let (guest, host) = opened(&rt);
@@ -155,6 +162,8 @@ fn pages_cross_between_threads(rt: HostRuntime) {
         { give_back_all(run, host) },
     );
     check(&rt, guest.owns(0) && guest.owns(1));
-    let settled = finish(guest, host);
+    let mut settled = finish(guest, host);
+    check(&rt, are_whole(&settled));
+    check(&rt, settled.trim().is_ok() && has_no_room(&settled));
     check(&rt, are_whole(&settled));
 }

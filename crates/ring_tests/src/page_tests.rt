@@ -143,6 +143,7 @@ fn a_load_lends_the_words_that_were_stored(rt: HostRuntime) {
     let mut h = end(&rt, Side::Host);
     check(&rt, stores(&mut g, 1, 0, 11) && stores(&mut g, 1, 2, 13));
     check(&rt, sends(&mut g, &request(1, 3)) && hands(&mut g, &mut h));
+    check(&rt, g.sent().lent(0) == Some(&[11, 0, 13]));
     check(&rt, loads(&mut h, &[11, 0, 13]));
 }
 

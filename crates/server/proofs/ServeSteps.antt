@@ -65,11 +65,11 @@ module _ {T S E A Q R : Type 0} (s : WireFormat (List ℕ) A Q R) (besides : Boo
   -- why it has to wait: packets that came aren't served, or there is more to do than to stop
   pub waits_full : w.served < length w.end.state.got → HasServed s besides w → HasToWait s besides w
   waits_full less (inl all) = absurd (omega (arith, less, all))
-  waits_full less (inr full) = inr full
+  waits_full less (inr full) = inr (less, full)
 
   pub wait_served : HasToWait s besides w → HasServed s besides w
   wait_served (inl (all, more)) = inl all
-  wait_served (inr full) = inr full
+  wait_served (inr (less, full)) = inr full
 
 -- and it does where none waited, and nothing of that changed
 pub waits_on : {T S E A Q R : Type 0} (sp : T → WireFormat (List ℕ) A Q R) (besides : T → Bool) (old new : Serving T S E Q R) → new.responder ≡ old.responder → new.served ≡ old.served → new.missing ≡ old.missing → new.stops ≡ old.stops → new.end.state.got ≡ old.end.state.got
@@ -80,8 +80,11 @@ waits_on sp besides old new responder served missing stops got past (inl (all, m
       ap (λ b. (b && (new.missing == 0)) && has_served new.responder.left) stops
           ∙ (ap (λ n. (old.stops && (n == 0)) && has_served new.responder.left) missing ∙ (ap (λ d. (old.stops && (old.missing == 0)) && has_served d.left) responder ∙ more)),
     )
-waits_on sp besides old new responder served missing stops got past (inr full) =
-    inr (subst (λ d. OnlyWith (besides d.protocol) (AllOwnOpen (sp d.protocol) 64 new.end.state.past)) (sym responder) (subst (λ l. OnlyWith (besides old.responder.protocol) (AllOwnOpen (sp old.responder.protocol) 64 l)) (sym past) full))
+waits_on sp besides old new responder served missing stops got past (inr (less, full)) =
+    inr (
+      omega (arith, served, less, ap length got),
+      subst (λ d. OnlyWith (besides d.protocol) (AllOwnOpen (sp d.protocol) 64 new.end.state.past)) (sym responder) (subst (λ l. OnlyWith (besides old.responder.protocol) (AllOwnOpen (sp old.responder.protocol) 64 l)) (sym past) full),
+    )
 
 module _ {T S E A Q R : Type 0} (s : WireFormat (List ℕ) A Q R) (keeps : Keeps s) (besides : Bool) (w : Serving T S E Q R) where
   waited_more : (p : List ℕ) (got : List (List ℕ)) → length (filter s.waits (filter s.is_request (got ++ p ∷ []))) ≡ length (filter s.waits (filter s.is_request got)) + (if s.is_request p && s.waits p then 1 else 0)
@@ -447,7 +450,7 @@ module _ {T S E A Q R : Type 0} (s : WireFormat (List ℕ) A Q R) (keeps : Keeps
     where
       still : HasToWait s besides w → HasToWait s besides (record w { end = end'; want = want' })
       still (inl (all, more)) = inl (all ∙ ap length (sym got), more)
-      still (inr full) = inr (subst (λ l. OnlyWith besides (AllOwnOpen s 64 l)) (sym is) full)
+      still (inr (less, full)) = inr (omega (arith, less, ap length got), subst (λ l. OnlyWith besides (AllOwnOpen s 64 l)) (sym is) full)
 
   -- a mark ends it, whether the other end's mark was seen or not
   pub ends_by : (seen : Bool) → EndsAll s w w.end.state.past w.responder.calls → AnswersAll s w w.end.state.past w.responder.calls → OwnFrom s 64 w.end.state.past → has_marked w.end.state.past ≡ true → has_seen w.end.state.past ≡ seen → EndsBy s besides (marked_by seen) w w.end w.responder.calls

@@ -1,5 +1,5 @@
 -- The serving worker, as contracts see it.
-use Rattle.std.specs.Prelude.{ℕ, ◌≡◌, ◌≤◌, ◌+◌, ◌-◌, Bool, true, false, not, ◌&&◌, ◌==◌, ◌⊎◌, List, [], ◌∷◌, ◌++◌, length, filter, map, take, drop, slice_get, Option, Some, None, IsSome, All, is_some, if◌then◌else◌}
+use Rattle.std.specs.Prelude.{ℕ, ◌≡◌, ◌<◌, ◌≤◌, ◌+◌, ◌-◌, Bool, true, false, not, ◌&&◌, ◌==◌, ◌⊎◌, List, [], ◌∷◌, ◌++◌, length, filter, map, take, drop, slice_get, Option, Some, None, IsSome, All, is_some, if◌then◌else◌}
 use Rattle.std.specs.Option.{option_map_or}
 use Rattle.chan_run.specs.declared.event.Event.{Event}
 use Rattle.chan_run.specs.Runs.{IsFront, sent_of, got_of, has_marked, has_seen}
@@ -95,9 +95,9 @@ has_done w = (w.stops && (w.missing == 0)) && has_served w.responder.left
 abbrev pub HasServed : {T S E A Q R : Type 0} → WireFormat (List ℕ) A Q R → Bool → Serving T S E Q R → Type 0
 HasServed s besides w = (w.served ≡ length w.end.state.got) ⊎ OnlyWith besides (AllOwnOpen s 64 w.end.state.past)
 
--- all that was got is served, and there is more to do than to stop; or it waits for an id of its own
+-- all that was got is served, and there is more to do than to stop; or something that was got waits for an id of its own
 abbrev pub HasToWait : {T S E A Q R : Type 0} → WireFormat (List ℕ) A Q R → Bool → Serving T S E Q R → Type 0
-HasToWait s besides w = ((w.served ≡ length w.end.state.got) × (has_done w ≡ false)) ⊎ OnlyWith besides (AllOwnOpen s 64 w.end.state.past)
+HasToWait s besides w = ((w.served ≡ length w.end.state.got) × (has_done w ≡ false)) ⊎ ((w.served < length w.end.state.got) × OnlyWith besides (AllOwnOpen s 64 w.end.state.past))
 
 -- asleep before the other end's mark was seen, with the need of the packet that waits as its want; where none waits there is nothing that it could serve
 pub record Rests {T S E A Q R : Type 0} (s : WireFormat (List ℕ) A Q R) (besides : Bool) (w : Serving T S E Q R) : Type 0 where
@@ -240,19 +240,6 @@ StandsGiven GivenSent e = IsReady e
 StandsGiven GivenFull e = IsReady e
 StandsGiven (GivenLacks packets words) e = IsReady e
 StandsGiven GivenBroken e = IsBroken e
-
--- it ended since the end is broken
-abbrev pub is_broken : Ended → Bool
-is_broken Marked = false
-is_broken PeerMarked = false
-is_broken (Room packets words left) = false
-is_broken EndedBroken = true
-
--- and so did the turn
-abbrev pub broke : Turn → Bool
-broke Moved = false
-broke Idle = false
-broke (TurnEnded how) = is_broken how
 
 -- the same worker, with the same orders
 pub record ServesOn {T S E Q R C : Type 0} (same : S → S → Type 0) (channel : E → C) (told : E → Option Told) (old new : Serving T S E Q R) : Type 0 where

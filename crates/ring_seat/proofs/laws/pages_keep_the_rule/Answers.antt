@@ -1,4 +1,4 @@
-use Rattle.ring_seat.proofs.WholeLaws.{step_keeps, call_keeps, store_keeps_all, load_keeps_all, new_keeps, end_tells}
+use Rattle.ring_seat.proofs.WholeLaws.{step_keeps, call_keeps, store_keeps_all, load_keeps_all, new_keeps, end_tells, front_tells}
 use Rattle.ring_seat.proofs.laws.pages_keep_the_rule.Goals as goal
 
 pub returns-clause-new : goal.returns-clause-new
@@ -18,3 +18,6 @@ returns-clause-load c = load_keeps_all
 
 pub returns-clause-got : goal.returns-clause-got
 returns-clause-got c = end_tells
+
+pub returns-clause-front : goal.returns-clause-front
+returns-clause-front c = front_tells

@@ -84,3 +84,12 @@ returns-clause-host_pages c some clear =
       sent_are = ap packets b.items.0 ∙ (t.sent_are ∙ sym b.sent);
       drained = λ d. a.items.1 ∙ (t.drained d ∙ sym b.items.0);
     }
+
+pub returns-clause-item_fronts : goal.returns-clause-item_fronts
+returns-clause-item_fronts c =
+    let g = c.into_parts-guest.ensures.told (told_in c.into_parts-guest.result.0.seat.me.0) refl in
+    let h = c.into_parts-host.ensures.told (told_in c.into_parts-host.result.0.seat.me.0) refl in
+    let s = subst (λ (z : EndState × EndState). PagesSettled z.0 z.1) (λ j. (g j, h j)) c.settle.ensures.pages in
+    let a = c.into_parts-guest.ensures in
+    let b = c.into_parts-host.ensures in
+    (λ some. subst (λ (z : List Item × List Item). IsFront z.0 z.1) (λ j. (sym a.items.1 j, sym b.items.0 j)) (s.guest_front some), λ some. subst (λ (z : List Item × List Item). IsFront z.0 z.1) (λ j. (sym b.items.1 j, sym a.items.0 j)) (s.host_front some))

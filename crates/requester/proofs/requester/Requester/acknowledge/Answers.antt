@@ -1,6 +1,7 @@
-use Rattle.std.proofs.Common.{◌+◌, ◌*◌, ap, ◌∙◌, length, sym, subst}
+use Rattle.std.proofs.Common.{◌≡◌, ◌+◌, ◌*◌, ◌<◌, ◌≤◌, ℕ, List, ap, ◌∙◌, length, sym, subst}
 use Rattle.std.specs.Prelude.{slice_get}
 use Rattle.channel_port.proofs.RoomLaws.{room_sent, got_same}
+use Rattle.ring_core.specs.declared.room.Room.{Room}
 use Rattle.requester.specs.Asking.{HasMessage}
 use Rattle.requester.proofs.AskSteps.{acked_kept, message_here}
 use Rattle.requester.proofs.requester.Requester.acknowledge.Goals as goal
@@ -26,4 +27,5 @@ returns-in-Full-clause-asked g c =
     let v = c.self.view_is in
     let m = subst (λ w. HasMessage (g.T.Protocol.format w.protocol) w) (sym v) c.requires.message in
     let is = message_here (g.T.Protocol.format c.self.inside.protocol) c.self.inside.port.state.got c.self.inside.acked m.0 c.got.result.now m.1 m.2 c.got.ensures.value in
-    (c.got.result.now, ap (λ l. slice_get l c.self.inside.acked) c.send.ensures.got.0 ∙ c.got.ensures.value, is, c.need.ensures.value ∙ ap (λ p. 8 * length p + 8) c.write_ack.ensures.value, c.need.ensures.most.0, c.need.ensures.most.1)
+    let made = c.packet-packet.ensures.value ∙ c.write_ack.ensures.value in
+    (c.got.result.now, ap (λ l. slice_get l c.self.inside.acked) c.send.ensures.got.0 ∙ c.got.ensures.value, is, c.need.ensures.value ∙ ap (λ p. 8 * length p + 8) c.write_ack.ensures.value, c.need.ensures.most.0, c.need.ensures.most.1, subst (λ (x : List ℕ × Room). (0 < x.1.packets) × (length x.0 ≤ x.1.words)) (λ i. (made i, sym (c.in-Full.ensures.unsent (λ h. cc)) i)) c.in_default.ensures.lacks)

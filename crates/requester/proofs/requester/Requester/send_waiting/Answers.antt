@@ -1,5 +1,6 @@
-use Rattle.std.proofs.Common.{◌+◌, ◌*◌, ap, ◌∙◌, length, arith, sym, is_some}
+use Rattle.std.proofs.Common.{◌≡◌, ◌+◌, ◌*◌, ◌<◌, ◌≤◌, ℕ, List, ap, ◌∙◌, length, arith, subst, sym, is_some}
 use Rattle.std.proofs.lemmas.Option.{slice_get_within}
+use Rattle.ring_core.specs.declared.room.Room.{Room}
 use Rattle.requester.specs.Asking.{id_in, pending}
 use Rattle.requester.proofs.AskSteps.{sent_kept}
 use Rattle.channel_port.proofs.RoomLaws.{room_sent, got_same}
@@ -27,4 +28,6 @@ returns-in-Full-clause-asked g c =
     let l = c.self.invariant (ap (λ w. w.end.state.machine.marked) v ∙ c.requires.ready.unmarked) in
     let waits = ap (λ w. w.waiting) v ∙ c.requires.waits in
     let at = l.live.asked c.args.id waits in
-    (at.0, at.1, ap is_some waits ∙ sym at.2, c.need.ensures.value ∙ ap (λ p. 8 * length p + 8) (c.encode.ensures.value at.0 at.1 ∙ ap (λ o. (g.T.Protocol.format c.self.inside.protocol).encode (id_in o) at.0) (sym waits)), c.need.ensures.most.0, c.need.ensures.most.1, ap (λ w. w.acked) v ∙ (c.requires.acked ∙ (ap (λ w. length w.end.state.got) (sym v) ∙ ap length (sym c.send.ensures.got.0))))
+    let encoded = c.encode.ensures.value at.0 at.1 ∙ ap (λ o. (g.T.Protocol.format c.self.inside.protocol).encode (id_in o) at.0) (sym waits) in
+    let made = c.packet-packet.ensures.value ∙ encoded in
+    (at.0, at.1, ap is_some waits ∙ sym at.2, c.need.ensures.value ∙ ap (λ p. 8 * length p + 8) encoded, c.need.ensures.most.0, c.need.ensures.most.1, ap (λ w. w.acked) v ∙ (c.requires.acked ∙ (ap (λ w. length w.end.state.got) (sym v) ∙ ap length (sym c.send.ensures.got.0))), subst (λ (x : List ℕ × Room). (0 < x.1.packets) × (length x.0 ≤ x.1.words)) (λ i. (made i, sym (c.in-Full.ensures.unsent (λ h. cc)) i)) c.in_default.ensures.lacks)

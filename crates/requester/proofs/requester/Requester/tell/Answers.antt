@@ -1,7 +1,8 @@
-use Rattle.std.proofs.Common.{◌≡◌, ◌+◌, ◌*◌, ◌<◌, ◌≤◌, count_by, ap, sym, ◌∙◌, length, subst, arith, false, Some, is_some, inr}
+use Rattle.std.proofs.Common.{◌≡◌, ◌+◌, ◌*◌, ◌<◌, ◌≤◌, ℕ, List, count_by, ap, sym, ◌∙◌, length, subst, arith, false, Some, is_some, inr}
 use Rattle.std.specs.Prelude.{slice_get}
 use Rattle.std.proofs.lemmas.Option.{slice_get_within}
 use Rattle.channel_port.specs.Owed.{LacksSendOf}
+use Rattle.ring_core.specs.declared.room.Room.{Room}
 use Rattle.requester.specs.Asking.{id_in}
 use Rattle.requester.proofs.NextLaws.{at_least}
 use Rattle.requester.proofs.AskSteps.{told_kept}
@@ -30,7 +31,9 @@ returns-in-Full-clause-asked g c =
     let at = at_least (g.T.Protocol.asks c.self.inside.protocol) c.self.inside.next (subst (λ w. w.next < length (g.T.Protocol.asks w.protocol)) (sym v) c.requires.next) in
     let none = ap (λ w. w.waiting) v ∙ c.requires.none in
     let answers = subst (λ w. (a : g.row.T-Ask.Denot) → slice_get (g.T.Protocol.asks w.protocol) w.next ≡ Some a → (g.T.Protocol.format w.protocol).has_answer a ≡ false) (sym v) c.requires.answers at.0 at.1 in
-    (at.0, at.1, ap is_some none ∙ sym answers, c.need.ensures.value ∙ ap (λ p. 8 * length p + 8) (c.encode.ensures.value at.0 at.1 ∙ ap (λ o. (g.T.Protocol.format c.self.inside.protocol).encode (id_in o) at.0) (sym none)), c.need.ensures.most.0, c.need.ensures.most.1, ap (λ w. w.acked) v ∙ (c.requires.acked ∙ (ap (λ w. length w.end.state.got) (sym v) ∙ ap length (sym c.send.ensures.got.0))))
+    let encoded = c.encode.ensures.value at.0 at.1 ∙ ap (λ o. (g.T.Protocol.format c.self.inside.protocol).encode (id_in o) at.0) (sym none) in
+    let made = c.packet-packet.ensures.value ∙ encoded in
+    (at.0, at.1, ap is_some none ∙ sym answers, c.need.ensures.value ∙ ap (λ p. 8 * length p + 8) encoded, c.need.ensures.most.0, c.need.ensures.most.1, ap (λ w. w.acked) v ∙ (c.requires.acked ∙ (ap (λ w. length w.end.state.got) (sym v) ∙ ap length (sym c.send.ensures.got.0))), subst (λ (x : List ℕ × Room). (0 < x.1.packets) × (length x.0 ≤ x.1.words)) (λ i. (made i, sym (c.in-Full.ensures.unsent (λ h. cc)) i)) c.in_default.ensures.lacks)
 
 pub returns-in-Some-clause-asked : goal.returns-in-Some-clause-asked
 returns-in-Some-clause-asked g c =
