@@ -4,8 +4,9 @@ ghost use Rattle.ring_machine.specs.Endings.{IsWant};
 ghost use Rattle.ring_machine.specs.States.{IsPacket};
 
 use crate::packet::{a_packet, room_for, send, take};
+use end_sleep::sleep;
 use ring_core::{Armed, End};
-use ring_seat::{ChannelMem, GuestEnd, HostEnd, Sleeper, TableSeat};
+use ring_seat::{ChannelMem, GuestEnd, HostEnd, TableSeat};
 use std::alloc::{AllocError, Global};
 use std::io;
 use std::rt::Runtime;
@@ -78,7 +79,7 @@ fn rest<R: Wait>(rt: &R, e: &mut End<TableSeat>, want: Option<u32>)
     e.commit();
     let armed = e.arm(want);
     if matches!(armed, Armed::Asleep) && e.is_asleep() {
-        e.sleep(rt);
+        sleep(e, rt);
     }
 }
 
