@@ -1,4 +1,4 @@
-/* Calls of the static libraries crates/vmbus_c and, for the ends of a channel, crates/vmbus_ends_c. Nothing takes memory, and nothing is kept between calls. A null pointer with length 0 is an empty slice.
+/* Calls of the static libraries crates/vmbus_c and, for the ends of a channel, crates/vmbus_ring_c. Nothing takes memory, and nothing is kept between calls. A null pointer with length 0 is an empty slice.
    What each call gives is proved there; here is what C has to know of it. */
 #ifndef VMBUS_H
 #define VMBUS_H
@@ -152,7 +152,7 @@ bool vmbus_raise_on_write(uint32_t old_write, uint32_t mask, uint32_t read);
    index isn't a multiple of 8 below it. All numbers are bytes. */
 uint32_t vmbus_raise_on_commit(uint32_t d, uint32_t write, uint32_t start, uint32_t read, uint32_t pending);
 
-/* One end of a channel (crates/vmbus_ends_c). It is read, kept and copied, and changed by the calls below alone. */
+/* One end of a channel (crates/vmbus_ring_c). It is read, kept and copied, and changed by the calls below alone. */
 struct vmbus_end {
     uint32_t cells; /* of a ring; indices and lengths count cells of 8 bytes */
     uint32_t write; /* private write index of the outgoing ring */

@@ -1,10 +1,10 @@
 -- What is sent on a channel arrives, and is served.
 use Rattle.std.proofs.Common.{◌≡◌, List, [], refl, ap, sym, ◌∙◌}
 use Rattle.std.proofs.lemmas.List.{length-map, append-nil}
-use Rattle.chan_run.specs.Runs.{IsFront}
+use Rattle.channel_trace.specs.Runs.{IsFront}
 use Rattle.io_edge.specs.declared.side.Side.{Side}
 use Rattle.io_edge.specs.declared.side.Side.TheVariants.{Guest, Host}
-use Rattle.ring_model.specs.Lists.{Lists}
+use Rattle.ring_pair_laws.specs.Lists.{Lists}
 use Rattle.channel_model.specs.Roles.{side_that_asks}
 use Rattle.bus_model.specs.Served.{Served}
 use Rattle.device_formats.specs.declared.want.Want.TheVariants.{Script}

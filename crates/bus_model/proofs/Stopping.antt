@@ -6,7 +6,7 @@ use Rattle.std.proofs.lemmas.List.Sums.{sum_by-append, sum_by-cons}
 use Rattle.std.proofs.lemmas.Bool.Decides.{nat_tests}
 use Rattle.std.proofs.lemmas.List.{append-nil, length-map, length-take, length-drop, length-replicate}
 use Rattle.scsi_disk.proofs.RoomLaws.{by_test}
-use Rattle.ring_model.specs.Lists.{Lists}
+use Rattle.ring_pair_laws.specs.Lists.{Lists}
 use Rattle.script_lines.specs.declared.line.Ask.{Ask}
 use Rattle.script_phases.specs.Openings.{Phase}
 use Rattle.channel_model.specs.Channel.{count_of, held_of}

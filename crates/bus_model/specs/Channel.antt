@@ -6,7 +6,7 @@ use Rattle.bus_script.specs.declared.outcome.LineResult.{LineResult}
 use Rattle.bus_script.specs.declared.outcome.LineResult.TheVariants.{RescindedServed, Unserved}
 use Rattle.io_edge.specs.declared.side.Side.{Side}
 use Rattle.io_edge.specs.declared.side.Side.TheVariants.{Guest, Host}
-use Rattle.ring_model.specs.Lists.{Lists}
+use Rattle.ring_pair_laws.specs.Lists.{Lists}
 use Rattle.channel_model.specs.Channel.{count_of, held_of, IsProtocolRun}
 use Rattle.channel_model.specs.Roles.{side_that_asks}
 use Rattle.channel_model.specs.Server.{answered}

@@ -1,7 +1,7 @@
 -- Laws of runs.
 use Rattle.std.specs.Prelude.{ℕ, ◌≡◌, ◌≤◌, ◌<◌, ◌+◌, ◌-◌, min, Bool, true, false, List, [], ◌∷◌, ◌++◌, length, map, filter, take, replicate, count_by, slice_get, slice_index_or, Some, None}
 use Rattle.std.specs.List.{AllByRecursion, flat_map, range_with_len}
-use Rattle.chan_run.specs.Runs.{IsFront}
+use Rattle.channel_trace.specs.Runs.{IsFront}
 use Rattle.contact.specs.declared.kind.Kind.TheVariants.{Net}
 use Rattle.script_lines.specs.declared.line.Line.{Line}
 use Rattle.script_lines.specs.declared.line.Ask.{Ask}
@@ -16,7 +16,7 @@ use Rattle.device_formats.specs.Wants.{IsAskable}
 use Rattle.device_formats.specs.Formats.{format_of, fits_on}
 use Rattle.io_edge.specs.declared.side.Side.{Side}
 use Rattle.io_edge.specs.declared.side.Side.TheVariants.{Guest}
-use Rattle.ring_model.specs.Lists.{Lists}
+use Rattle.ring_pair_laws.specs.Lists.{Lists}
 use Rattle.channel_model.specs.Outcome.{Outcome, Done as IsDone, RescindedServed as IsRescinded, Unserved as IsUnserved, lines_of}
 use Rattle.channel_model.specs.Acks.{acks_for}
 use Rattle.channel_model.specs.Roles.{side_that_asks}

@@ -12,7 +12,7 @@ use Rattle.bus_script.specs.declared.outcome.LineResult.TheVariants.{Done, Resci
 use Rattle.bus_script.specs.declared.outcome.Reply.{Reply}
 use Rattle.device_formats.specs.Wants.{IsAskable}
 use Rattle.device_formats.specs.Formats.{fits_on}
-use Rattle.ring_model.specs.Lists.{Lists}
+use Rattle.ring_pair_laws.specs.Lists.{Lists}
 use Rattle.bus_model.specs.Served.{Served}
 use Rattle.bus_model.specs.Orders.{Order}
 use Rattle.bus_model.specs.Channel.{IsChannelRun, outcomes_of}

@@ -167,7 +167,7 @@ pub fn stop_of(device: u32, part: &[Line]) -> Option<Stop>
 }
 
 /// Whether one of these lines speaks to a device.
-pub fn is_spoken_to(device: u32, part: &[Line]) -> bool
+pub fn names_device(device: u32, part: &[Line]) -> bool
     ensures { result ≡ is_some (slice_get (said_to device part.now) 0) }
 {
     for line in part {

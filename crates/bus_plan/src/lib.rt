@@ -15,7 +15,7 @@ pub use channel_outcomes::ChannelOutcomes;
 pub use ending::Ending;
 pub use endings::mark_ended;
 pub use opening::{ChannelOrder, Opening};
-pub use outcomes::tell;
+pub use outcomes::line_results;
 pub use phase_outcomes::Outcomes;
 pub use plan::plan_part;
 pub use split::first_part;

@@ -62,7 +62,7 @@ fn tell_line(
 
 /// The outcome of each line of a phase that has one, behind others. `ended` says how an earlier phase ended each device. `outcomes` has those of the
 /// requests of the phase, channel by channel, and each is moved out of it.
-pub fn tell(
+pub fn line_results(
     ended: &[Option<Ending>],
     mut outcomes: Outcomes,
     part: &[Line],

@@ -6,7 +6,7 @@ ghost use Rattle.script_phases.specs.Openings.{Opening as OneOpening, Phase, sub
 ghost use Rattle.bus_plan.specs.Endings.{AreEnded};
 ghost use Rattle.bus_plan.specs.Plans.{IsPhaseOf, IsOrdered, EachOrdered, opening_at, first_opening, opening_if, subs_if};
 
-use crate::heard::{is_spoken_to, share_of, stop_of};
+use crate::heard::{names_device, share_of, stop_of};
 use crate::{ChannelOrder, Ending, Opening};
 use bus_script::Line;
 use std::alloc::{AllocError, Global};
@@ -20,7 +20,7 @@ fn is_opened(ended: &[Option<Ending>], device: usize, part: &[Line]) -> bool
     if ended[device].is_some() {
         return false;
     }
-    is_spoken_to(device as u32, part)
+    names_device(device as u32, part)
 }
 
 /// What the script orders of a channel, where so many are beside the first one of its device: its share of the device's requests, and the device's stop.

@@ -22,7 +22,7 @@ use Rattle.script_lines.specs.WellFormed.{IsRescindable, IsRight, AllRight, CanG
 use Rattle.script_phases.specs.Says.{said_to, heard_by, asked, stops, asks_of}
 use Rattle.bus_model.proofs.Lists.{each_append}
 use Rattle.bus_plan.specs.Heard.{AllBelow}
-use Rattle.channel_workers.specs.Plans.{AllCarried, CanStop}
+use Rattle.worker_pair.specs.Plans.{AllCarried, CanStop}
 
 -- what is said to a device is for one of its kind, and goes through its channel
 abbrev pub FitsSays : List DeviceSpec → ℕ → Says → Type 0

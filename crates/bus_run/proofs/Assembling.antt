@@ -13,10 +13,10 @@ use Rattle.bus_model.specs.Run.{Carried, IsCarried, EachGrows, seats_of}
 use Rattle.bus_model.proofs.Arriving.{serves_each_lem}
 use Rattle.bus_model.specs.declared.channel_run.ChannelRun.{ChannelRun}
 use Rattle.bus_script.specs.declared.outcome.LineResult.{LineResult}
-use Rattle.channel_workers.specs.Seats.{kind_at, served_at, IsSameSeat}
-use Rattle.channel_workers.specs.declared.device_seat.DeviceSeat.{DeviceSeat}
-use Rattle.phase_run.specs.Pairs.{EachRuns, Pairing}
-use Rattle.phase_run.specs.declared.pair.PairDone.{PairDone}
+use Rattle.worker_pair.specs.Seats.{kind_at, served_at, IsSameSeat}
+use Rattle.worker_pair.specs.declared.device_seat.DeviceSeat.{DeviceSeat}
+use Rattle.bus_threads.specs.Pairs.{EachRuns, Pairing}
+use Rattle.bus_threads.specs.declared.pair.PairDone.{PairDone}
 use Rattle.bus_plan.specs.Plans.{EachOf, IsOrdered, order_by}
 use Rattle.bus_plan.specs.declared.opening.ChannelOrder.{ChannelOrder}
 use Rattle.bus_run.specs.Channels.{CanRun, ChannelsRan, IsOf}

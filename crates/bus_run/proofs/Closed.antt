@@ -8,11 +8,11 @@ use Rattle.std.proofs.lemmas.Bool.Decides.{nat_tests}
 use Rattle.bus_model.proofs.Lists.{each_append}
 use Rattle.bus_model.specs.declared.channel_run.ChannelRun.{ChannelRun}
 use Rattle.bus_script.specs.declared.outcome.LineResult.{LineResult}
-use Rattle.channel_workers.specs.Seats.{kind_at, served_at, IsSameSeat}
-use Rattle.channel_workers.specs.declared.device_seat.DeviceSeat.{DeviceSeat}
-use Rattle.channel_workers.specs.declared.device_seat.DeviceSeat.TheVariants.{Beat as BeatSeat, Down as DownSeat, Disk as DiskSeat, Net as NetSeat}
-use Rattle.phase_run.specs.Pairs.{RanPair}
-use Rattle.phase_run.specs.declared.pair.PairDone.{PairDone}
+use Rattle.worker_pair.specs.Seats.{kind_at, served_at, IsSameSeat}
+use Rattle.worker_pair.specs.declared.device_seat.DeviceSeat.{DeviceSeat}
+use Rattle.worker_pair.specs.declared.device_seat.DeviceSeat.TheVariants.{Beat as BeatSeat, Down as DownSeat, Disk as DiskSeat, Net as NetSeat}
+use Rattle.bus_threads.specs.Pairs.{RanPair}
+use Rattle.bus_threads.specs.declared.pair.PairDone.{PairDone}
 use Rattle.bus_run.specs.DeviceSlot.{slot_at, GoesOn}
 use Rattle.bus_run.specs.Due.{due_of}
 use Rattle.bus_run.specs.Opening.{Given, order_at, seats_at}

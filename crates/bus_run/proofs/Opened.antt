@@ -15,11 +15,11 @@ use Rattle.contact.specs.declared.kind.Kind.TheVariants.{Beat as KindBeat, Down 
 use Rattle.script_lines.specs.Parts.{kind_of}
 use Rattle.script_phases.specs.Openings.{subs_of as subs_beside}
 use Rattle.hist_lock.specs.Seat.{Lock, Seat, seats_from}
-use Rattle.phase_run.specs.Pairs.{Pairing}
-use Rattle.channel_workers.specs.Plans.{stop_of}
-use Rattle.channel_workers.specs.Seats.{kind_at, served_at, left_at, ic_served, disk_served, net_served}
-use Rattle.channel_workers.specs.declared.device_seat.DeviceSeat.{DeviceSeat}
-use Rattle.channel_workers.specs.declared.device_seat.DeviceSeat.TheVariants.{Beat as BeatSeat, Down as DownSeat, Disk as DiskSeat, Net as NetSeat}
+use Rattle.bus_threads.specs.Pairs.{Pairing}
+use Rattle.worker_pair.specs.Plans.{stop_of}
+use Rattle.worker_pair.specs.Seats.{kind_at, served_at, left_at, ic_served, disk_served, net_served}
+use Rattle.worker_pair.specs.declared.device_seat.DeviceSeat.{DeviceSeat}
+use Rattle.worker_pair.specs.declared.device_seat.DeviceSeat.TheVariants.{Beat as BeatSeat, Down as DownSeat, Disk as DiskSeat, Net as NetSeat}
 use Rattle.bus_plan.specs.Heard.{stop_told}
 use Rattle.bus_plan.specs.declared.opening.ChannelOrder.{ChannelOrder}
 use Rattle.bus_run.specs.DeviceSlot.{spec_of, subs_of, slot_at, Suits, IsReady}

@@ -15,7 +15,7 @@ use Rattle.script_lines.specs.WellFormed.{AllRight, AllGo}
 use Rattle.script_phases.specs.Says.{said_to, asked, asks_of}
 use Rattle.script_phases.specs.Openings.{Opening, Phase, subs_of, is_ended, is_opened, subs_from, channels_from, opened_from, is_first, firsts, others, by_relid}
 use Rattle.bus_script.specs.declared.outcome.LineResult.{LineResult}
-use Rattle.channel_workers.specs.Plans.{AllCarried}
+use Rattle.worker_pair.specs.Plans.{AllCarried}
 use Rattle.bus_model.specs.Run.{Carried, IsCarried, seats_of, nth_of, told_by, outcomes_in}
 use Rattle.bus_model.specs.Channel.{outcomes_of}
 use Rattle.bus_model.proofs.Stopping.{one_outcome_each}

@@ -16,9 +16,9 @@ use Rattle.hist_lock.specs.Seat.{Lock, Seat, AreNew, AreFrom, AreAll, IsSame}
 use Rattle.hist_lock.specs.declared.history.Entry.{Entry}
 use Rattle.hist_lock.specs.declared.history.History.{History}
 use Rattle.hist_lock.proofs.Rows.{new_all}
-use Rattle.channel_workers.specs.Seats.{IsSameSeat, served_at}
-use Rattle.channel_workers.specs.declared.device_seat.DeviceSeat.{DeviceSeat}
-use Rattle.channel_workers.specs.declared.device_seat.DeviceSeat.TheVariants.{Beat as BeatSeat, Down as DownSeat, Disk as DiskSeat, Net as NetSeat}
+use Rattle.worker_pair.specs.Seats.{IsSameSeat, served_at}
+use Rattle.worker_pair.specs.declared.device_seat.DeviceSeat.{DeviceSeat}
+use Rattle.worker_pair.specs.declared.device_seat.DeviceSeat.TheVariants.{Beat as BeatSeat, Down as DownSeat, Disk as DiskSeat, Net as NetSeat}
 use Rattle.scsi_disk.specs.DiskModel.{disk_reply}
 use Rattle.scsi_disk.specs.FiniteMap.{Kept, unwritten, kept_after, stands_for}
 use Rattle.scsi_disk.specs.declared.request.DiskRequest.{DiskRequest}

@@ -5,11 +5,11 @@ use Rattle.bus_model.specs.Channel.{IsChannelRun, outcomes_of}
 use Rattle.bus_model.specs.Orders.{Order}
 use Rattle.bus_model.specs.declared.channel_run.ChannelRun.{ChannelRun}
 use Rattle.bus_script.specs.declared.outcome.LineResult.{LineResult}
-use Rattle.channel_workers.specs.Seats.{served_at, kind_at, IsSameSeat}
-use Rattle.channel_workers.specs.declared.device_seat.DeviceSeat.{DeviceSeat}
-use Rattle.phase_run.specs.Pairs.{RanPair}
-use Rattle.phase_run.specs.declared.pair.PairDone.{PairDone}
-use Rattle.ring_model.specs.Lists.{Lists}
+use Rattle.worker_pair.specs.Seats.{served_at, kind_at, IsSameSeat}
+use Rattle.worker_pair.specs.declared.device_seat.DeviceSeat.{DeviceSeat}
+use Rattle.bus_threads.specs.Pairs.{RanPair}
+use Rattle.bus_threads.specs.declared.pair.PairDone.{PairDone}
+use Rattle.ring_pair_laws.specs.Lists.{Lists}
 use Rattle.bus_plan.specs.declared.opening.Opening.{Opening as Place}
 use Rattle.bus_run.specs.DeviceSlot.{slot_at, GoesOn}
 use Rattle.bus_run.specs.Opening.{Given, order_at, seats_at}

@@ -7,7 +7,7 @@ use Rattle.script_lines.specs.declared.line.DeviceSpec.{DeviceSpec}
 use Rattle.script_lines.specs.declared.line.DeviceSpec.TheVariants.{Beat, Down, Disk, Net}
 use Rattle.hist_lock.specs.History.{entries_of}
 use Rattle.hist_lock.specs.Legal.{Leaves}
-use Rattle.channel_workers.specs.Plans.{AllCarried, CanStop}
+use Rattle.worker_pair.specs.Plans.{AllCarried, CanStop}
 use Rattle.scsi_disk.specs.DiskModel.{DiskState, new_disk, disk_reply}
 use Rattle.scsi_disk.specs.FiniteMap.{unwritten, kept_after, stands_for}
 use Rattle.util_ic.specs.Machines.{beat_start, beat_reply, down_start, down_reply}

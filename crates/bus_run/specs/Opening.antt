@@ -2,11 +2,11 @@
 use Rattle.std.specs.Prelude.{ℕ, ◌≡◌, ◌*◌, ◌<◌, ◌≤◌, ◌==◌, List, [], ◌++◌, length, map, filter, sum, slice_index_or, Some}
 use Rattle.std.specs.List.{AllByRecursion}
 use Rattle.contact.specs.declared.kind.Kind.{Kind}
-use Rattle.channel_workers.specs.Plans.{stop_of}
-use Rattle.channel_workers.specs.Seats.{kind_at}
-use Rattle.channel_workers.specs.declared.device_seat.DeviceSeat.{DeviceSeat}
+use Rattle.worker_pair.specs.Plans.{stop_of}
+use Rattle.worker_pair.specs.Seats.{kind_at}
+use Rattle.worker_pair.specs.declared.device_seat.DeviceSeat.{DeviceSeat}
 use Rattle.bus_model.specs.Orders.{Order}
-use Rattle.phase_run.specs.Pairs.{Pairing, AreOnChannel, Opens}
+use Rattle.bus_threads.specs.Pairs.{Pairing, AreOnChannel, Opens}
 use Rattle.bus_plan.specs.Plans.{order_by}
 use Rattle.bus_plan.specs.declared.opening.ChannelOrder.{ChannelOrder}
 use Rattle.bus_run.specs.DeviceSlot.{spec_of, subs_of, slot_at, Suits}

@@ -5,9 +5,9 @@ use Rattle.contact.specs.declared.kind.Kind.TheVariants.{Beat as KindBeat, Down 
 use Rattle.script_lines.specs.Parts.{kind_of}
 use Rattle.hist_lock.specs.History.{entries_of}
 use Rattle.hist_lock.specs.Seat.{Seat, AreNew}
-use Rattle.channel_workers.specs.Seats.{IsSameSeat}
-use Rattle.channel_workers.specs.declared.device_seat.DeviceSeat.{DeviceSeat}
-use Rattle.channel_workers.specs.declared.device_seat.DeviceSeat.TheVariants.{Beat as BeatSeat, Down as DownSeat, Disk as DiskSeat, Net as NetSeat}
+use Rattle.worker_pair.specs.Seats.{IsSameSeat}
+use Rattle.worker_pair.specs.declared.device_seat.DeviceSeat.{DeviceSeat}
+use Rattle.worker_pair.specs.declared.device_seat.DeviceSeat.TheVariants.{Beat as BeatSeat, Down as DownSeat, Disk as DiskSeat, Net as NetSeat}
 use Rattle.scsi_disk.specs.FiniteMap.{Kept, unwritten}
 use Rattle.scsi_disk.specs.declared.request.DiskRequest.{DiskRequest}
 use Rattle.scsi_disk.specs.declared.reply.DiskReply.{DiskReply}

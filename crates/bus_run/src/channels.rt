@@ -41,7 +41,7 @@ pub fn run_channels<R: Threads + Wait + Sync, G: Gate>(
     let dues = all_due(alloc, &plan)?;
     let pairs = open_all(alloc, plan, settings, slots, &mut seats)?;
     let mut done = Vec::with_capacity(alloc, pairs.len())?;
-    phase_run::run_phase(rt, pairs, &mut done, gate);
+    bus_threads::run_phase(rt, pairs, &mut done, gate);
     let outcomes = close_all(alloc, phase, &dues, done, &mut seats, settled)?;
     close_slots(slots, seats);
     Ok(outcomes)

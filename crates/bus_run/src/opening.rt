@@ -1,6 +1,6 @@
 //! The channels of a phase are opened.
 ghost use Rattle.std.specs.Prelude.{◌≡◌, ◌+◌, ◌*◌, ◌<◌, ◌≤◌, ◌^◌, ◌++◌, ◌∷◌, [], List, All, length, sum, IfOk, OnOk};
-ghost use Rattle.channel_workers.specs.Seats.{kind_at, served_at, left_at};
+ghost use Rattle.worker_pair.specs.Seats.{kind_at, served_at, left_at};
 ghost use Rattle.bus_run.specs.DeviceSlot.{slot_log, slot_at, IsKept, IsReady, Suits};
 ghost use Rattle.bus_run.specs.Settings.{HasLimits};
 ghost use Rattle.bus_run.specs.Seats.{IsAway, seats_in};
@@ -11,9 +11,9 @@ use crate::device_slot::DeviceSlot;
 use crate::seats::Seats;
 use crate::settings::Settings;
 use bus_plan::ChannelOrder;
-use channel_workers::DeviceSeat;
+use worker_pair::DeviceSeat;
 use contact::Kind;
-use phase_run::{Pair, open_pair};
+use bus_threads::{Pair, open_pair};
 use std::alloc::{AllocError, Global};
 use std::mem;
 

@@ -14,7 +14,7 @@ use crate::channels::run_channels;
 use crate::device_slot::{DeviceSlot, all_subs};
 use crate::settings::Settings;
 use bus_model::ChannelRun;
-use bus_plan::{Ending, mark_ended, plan_part, tell};
+use bus_plan::{Ending, mark_ended, plan_part, line_results};
 use bus_script::{Line, LineResult};
 use io_edge::Gate;
 use std::alloc::{AllocError, Global};
@@ -59,7 +59,7 @@ pub fn run_script_phase<R: Threads + Wait + Sync, G: Gate>(
     let subs = all_subs(alloc, slots)?;
     let plan = plan_part(alloc, ended, &subs, relid, part)?;
     let outcomes = run_channels(rt, gate, alloc, phase, plan, settings, slots, settled)?;
-    tell(ended, outcomes, part, results)?;
+    line_results(ended, outcomes, part, results)?;
     mark_ended(ended, part);
     Ok(())
 }

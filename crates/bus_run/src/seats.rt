@@ -1,14 +1,14 @@
 //! The seats of a device, which its channels have in a phase.
 ghost use Rattle.std.specs.Prelude.{◌≡◌, ◌+◌, ◌^◌, ◌<◌, ◌++◌, ◌∷◌, [], ℕ, List, length, map, sum, Some, IfOk, OnOk};
 ghost use Rattle.script_lines.specs.Parts.{kind_of};
-ghost use Rattle.channel_workers.specs.Seats.{kind_at, served_at};
-ghost use Rattle.channel_workers.specs.declared.device_seat.DeviceSeat.{DeviceSeat as OneSeat};
+ghost use Rattle.worker_pair.specs.Seats.{kind_at, served_at};
+ghost use Rattle.worker_pair.specs.declared.device_seat.DeviceSeat.{DeviceSeat as OneSeat};
 ghost use Rattle.bus_run.specs.DeviceSlot.{GoesOn, IsKept, spec_of, slot_log};
 ghost use Rattle.bus_run.specs.Seats.{AreSeatsFor, ComesBack, kind_in, seats_in};
 ghost use Rattle.bus_run.specs.declared.device_slot.DeviceSlot.{DeviceSlot as OneSlot};
 
 use crate::device_slot::DeviceSlot;
-use channel_workers::DeviceSeat;
+use worker_pair::DeviceSeat;
 use hist_lock::{HistLock, HistSeat};
 use net_dev::Station;
 use scsi_disk::Disk;

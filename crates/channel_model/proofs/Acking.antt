@@ -6,9 +6,9 @@ use Rattle.std.proofs.lemmas.List.{append-nil, map-append}
 use Rattle.std.proofs.lemmas.List.Elements.{filter-append}
 use Rattle.std.proofs.lemmas.List.Sums.{sum_by-append}
 use Rattle.std.proofs.lemmas.Bool.Decides.{nat_tests}
-use Rattle.chan_run.specs.declared.event.Event.{Event}
-use Rattle.chan_run.specs.declared.event.Event.TheVariants.{Sent, Got, Empty, Marked, Saw}
-use Rattle.chan_run.specs.Runs.{IsFront, sent_of, got_of}
+use Rattle.channel_trace.specs.declared.event.Event.{Event}
+use Rattle.channel_trace.specs.declared.event.Event.TheVariants.{Sent, Got, Empty, Marked, Saw}
+use Rattle.channel_trace.specs.Runs.{IsFront, sent_of, got_of}
 use Rattle.channel_model.specs.WireFormat.{WireFormat, Back, listed, under_own, packets_of, IsBesides, IsBack, Keeps}
 use Rattle.channel_model.specs.Acks.{is_in, removed, AreApart, acks_for, own_open, own_closed, OwnOnce, OwnFrom}
 use Rattle.channel_model.specs.Workers.{AcksKept, OwnKept, Owes}

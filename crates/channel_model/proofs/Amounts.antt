@@ -3,10 +3,10 @@ use Rattle.std.proofs.Common.{◌≡◌, ℕ, zero, suc, ◌≤◌, ◌+◌, Lis
 use Rattle.std.specs.Prelude.{◌==◌, ◌&&◌, ◌||◌}
 use Rattle.std.proofs.lemmas.List.{length-append, length-map}
 use Rattle.std.proofs.lemmas.List.Elements.{filter-append}
-use Rattle.chan_run.specs.declared.event.Event.{Event}
-use Rattle.chan_run.specs.declared.event.Event.TheVariants.{Sent, Got, Empty, Marked, Saw}
-use Rattle.chan_run.specs.Runs.{IsFront, sent_of, got_of, guest_of}
-use Rattle.chan_run.proofs.Fronts.{front_filter}
+use Rattle.channel_trace.specs.declared.event.Event.{Event}
+use Rattle.channel_trace.specs.declared.event.Event.TheVariants.{Sent, Got, Empty, Marked, Saw}
+use Rattle.channel_trace.specs.Runs.{IsFront, sent_of, got_of, guest_of}
+use Rattle.channel_trace.proofs.Fronts.{front_filter}
 use Rattle.hist_lock.specs.Seat.{Call}
 use Rattle.channel_model.specs.WireFormat.{WireFormat, Back, listed, under_own, packets_of, packets_in, IsBesides, IsBack, Keeps}
 use Rattle.channel_model.specs.Asker.{Encoded, requests_of}

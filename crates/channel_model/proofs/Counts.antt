@@ -4,7 +4,7 @@ use Rattle.std.specs.Prelude.{◌==◌, ◌&&◌, if◌then◌else◌, filter_ma
 use Rattle.std.specs.List.{cons_option}
 use Rattle.std.proofs.lemmas.List.{length-append}
 use Rattle.std.proofs.lemmas.List.Elements.{filter_map-append}
-use Rattle.chan_run.specs.Runs.{IsFront}
+use Rattle.channel_trace.specs.Runs.{IsFront}
 use Rattle.hist_lock.specs.Seat.{Call}
 use Rattle.channel_model.specs.WireFormat.{WireFormat, Back, packets_of, packets_in, IsBack, Keeps}
 use Rattle.channel_model.specs.Asker.{Encoded}

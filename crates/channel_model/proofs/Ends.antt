@@ -1,9 +1,9 @@
 -- The laws of a run, for what the two ends did.
 use Rattle.std.proofs.Common.{List, subst}
-use Rattle.chan_run.specs.declared.event.Event.{Event}
-use Rattle.chan_run.specs.Runs.{sent_of, got_of, host_of}
-use Rattle.chan_run.specs.Laws.{AreOfOneRun}
-use Rattle.chan_run.proofs.Steps.{ends_exchanged}
+use Rattle.channel_trace.specs.declared.event.Event.{Event}
+use Rattle.channel_trace.specs.Runs.{sent_of, got_of, host_of}
+use Rattle.channel_trace.specs.Laws.{AreOfOneRun}
+use Rattle.channel_trace.proofs.Steps.{ends_exchanged}
 use Rattle.hist_lock.specs.Seat.{Call}
 use Rattle.io_edge.specs.declared.side.Side.{Side}
 use Rattle.io_edge.specs.declared.side.Side.TheVariants.{Guest, Host}

@@ -2,8 +2,8 @@
 -- requests of the device with and without a message. Two runs of it: one that settles all, and one that is stopped with the last answer held.
 use Rattle.std.proofs.Common.{◌≡◌, ℕ, zero, suc, List, [], ◌∷◌, length, Bool, true, false, refl, ap, ◌∙◌, arith, Option, Some, None}
 use Rattle.std.proofs.Common.{inl, inr}
-use Rattle.chan_run.specs.declared.event.Event.TheVariants.{Sent, Got, Empty, Marked, Saw}
-use Rattle.chan_run.specs.Runs.{Turn, Guest, Host, sent_of, got_of, guest_of, host_of, IsRun}
+use Rattle.channel_trace.specs.declared.event.Event.TheVariants.{Sent, Got, Empty, Marked, Saw}
+use Rattle.channel_trace.specs.Runs.{Turn, Guest, Host, sent_of, got_of, guest_of, host_of, IsRun}
 use Rattle.channel_model.specs.Channel.{RequestPlan, AskerEnds, ServerEnds, IsProtocolRun}
 use Rattle.channel_model.specs.Outcome.{Done as LineDone, RescindedServed, lines_of}
 use Rattle.channel_model.proofs.Joined.{joined}

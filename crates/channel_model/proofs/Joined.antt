@@ -4,9 +4,9 @@ use Rattle.std.specs.Prelude.{filter_map, ◌⊎◌}
 use mathlib.Core.Logic.{inl, inr}
 use Rattle.std.proofs.lemmas.List.{append-nil, length-append, length-map}
 use Rattle.std.proofs.lemmas.List.Elements.{filter-append}
-use Rattle.chan_run.specs.declared.event.Event.{Event}
-use Rattle.chan_run.specs.Runs.{Turn, IsFront, sent_of, got_of, is_drained, guest_of, host_of, IsRun}
-use Rattle.chan_run.specs.Laws.{Follows}
+use Rattle.channel_trace.specs.declared.event.Event.{Event}
+use Rattle.channel_trace.specs.Runs.{Turn, IsFront, sent_of, got_of, is_drained, guest_of, host_of, IsRun}
+use Rattle.channel_trace.specs.Laws.{Follows}
 use Rattle.hist_lock.specs.Seat.{Call}
 use Rattle.channel_model.specs.WireFormat.{WireFormat, listed, Keeps}
 use Rattle.channel_model.specs.Asker.{Encoded, requests_of, answers_of, open_of}
@@ -14,8 +14,8 @@ use Rattle.channel_model.specs.Server.{Serves, answered}
 use Rattle.channel_model.specs.Acks.{acks_for}
 use Rattle.channel_model.specs.Settled.{pairs, said_all, IsSettled}
 use Rattle.channel_model.specs.Channel.{RequestPlan, count_of, held_of, IsRequestPlan, asks_of, AskerSettles, AskerEnds, ServerStops, ServerEnds, IsProtocolRun}
-use Rattle.chan_run.proofs.Fronts.{front_filter, front_trans}
-use Rattle.chan_run.proofs.Pasts.{drained_seen}
+use Rattle.channel_trace.proofs.Fronts.{front_filter, front_trans}
+use Rattle.channel_trace.proofs.Pasts.{drained_seen}
 use Rattle.channel_model.proofs.Runs.{guest_front, host_front, guest_drained, host_drained, follow_none}
 use Rattle.channel_model.proofs.Opens.{by_test, settled, pairs_ids}
 use Rattle.channel_model.proofs.Served.{says}

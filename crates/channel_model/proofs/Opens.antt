@@ -3,14 +3,14 @@ use Rattle.std.proofs.Common.{◌≡◌, ℕ, List, [], ◌∷◌, ◌++◌, len
 use Rattle.std.proofs.lemmas.List.{append-nil, append_cancel_left, map-append}
 use Rattle.std.proofs.lemmas.List.Elements.{filter-append}
 use Rattle.std.proofs.lemmas.Bool.Decides.{nat_tests}
-use Rattle.chan_run.specs.declared.event.Event.{Event}
-use Rattle.chan_run.specs.declared.event.Event.TheVariants.{Sent, Got, Empty, Marked, Saw}
-use Rattle.chan_run.specs.Runs.{Turn, Guest, Host, IsFront, sent_of, got_of, guest_of, host_of, IsRun}
+use Rattle.channel_trace.specs.declared.event.Event.{Event}
+use Rattle.channel_trace.specs.declared.event.Event.TheVariants.{Sent, Got, Empty, Marked, Saw}
+use Rattle.channel_trace.specs.Runs.{Turn, Guest, Host, IsFront, sent_of, got_of, guest_of, host_of, IsRun}
 use Rattle.channel_model.specs.WireFormat.{WireFormat, listed}
 use Rattle.channel_model.specs.Asker.{requests_of, answers_of, Encoded, opened, without, under, open_of, since, said, replies_of}
 use Rattle.channel_model.specs.Server.{InOrder}
 use Rattle.channel_model.specs.Settled.{pairs, said_all, IsSettled}
-use Rattle.chan_run.proofs.Fronts.{front_map, front_filter, front_trans}
+use Rattle.channel_trace.proofs.Fronts.{front_map, front_filter, front_trans}
 use Rattle.channel_model.proofs.Runs.{host_front}
 
 pub by_test : {P : Type 0} (b : Bool) → (b ≡ true → P) → (b ≡ false → P) → P

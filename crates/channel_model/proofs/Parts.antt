@@ -1,7 +1,7 @@
 -- What was sent is in parts, one for each packet that was got.
 use Rattle.std.proofs.Common.{◌≡◌, ℕ, zero, suc, List, [], ◌∷◌, ◌++◌, map, Bool, true, false, filter, refl, sym, ap, ◌∙◌, subst, Option, Some, None}
 use Rattle.std.specs.Prelude.{◌==◌, ◌&&◌}
-use Rattle.chan_run.specs.Runs.{IsFront}
+use Rattle.channel_trace.specs.Runs.{IsFront}
 use Rattle.hist_lock.specs.Seat.{Call}
 use Rattle.channel_model.specs.WireFormat.{WireFormat, Back, listed, under_own, packets_of, packets_in, IsBesides, IsBack, Keeps}
 use Rattle.channel_model.specs.Server.{ServesOne, ServesAsk, Serves}

@@ -3,16 +3,16 @@ use Rattle.std.proofs.Common.{◌≡◌, ℕ, zero, suc, List, [], ◌∷◌, �
 use Rattle.std.specs.Prelude.{◌==◌, ◌&&◌, if◌then◌else◌}
 use Rattle.std.proofs.lemmas.List.{append-nil, map-append}
 use Rattle.std.proofs.lemmas.List.Elements.{filter-append}
-use Rattle.chan_run.specs.declared.event.Event.{Event}
-use Rattle.chan_run.specs.declared.event.Event.TheVariants.{Sent, Got}
-use Rattle.chan_run.specs.Runs.{IsFront, sent_of, got_of, is_drained}
-use Rattle.chan_run.specs.Laws.{Follows}
+use Rattle.channel_trace.specs.declared.event.Event.{Event}
+use Rattle.channel_trace.specs.declared.event.Event.TheVariants.{Sent, Got}
+use Rattle.channel_trace.specs.Runs.{IsFront, sent_of, got_of, is_drained}
+use Rattle.channel_trace.specs.Laws.{Follows}
 use Rattle.hist_lock.specs.Seat.{Call}
 use Rattle.channel_model.specs.WireFormat.{WireFormat, packets_of, packets_in, Keeps}
 use Rattle.channel_model.specs.Server.{ServesOne, ServesAsk, Serves, left_one, left_of}
 use Rattle.channel_model.specs.Channel.{RequestPlan, count_of, held_of, ServerStops, ServerEnds, ServerBreaks}
 use Rattle.channel_model.specs.Workers.{left_after, ServerKept}
-use Rattle.chan_run.proofs.Fronts.{front_less, front_trans, front_map, front_filter}
+use Rattle.channel_trace.proofs.Fronts.{front_less, front_trans, front_map, front_filter}
 use Rattle.channel_model.proofs.Opens.{by_test}
 use Rattle.channel_model.proofs.Parts.{in_order, waited, waited_one, waited_none}
 

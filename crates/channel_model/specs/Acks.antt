@@ -1,9 +1,9 @@
 -- The messages besides the answers, and what acknowledges them.
 use Rattle.std.specs.Prelude.{ℕ, ◌≤◌, ◌≡◌, ◌+◌, ◌==◌, ◌||◌, ◌&&◌, Bool, true, false, cond, List, [], ◌∷◌, ◌++◌, map, filter}
 use Rattle.std.specs.List.{count_by}
-use Rattle.chan_run.specs.declared.event.Event.{Event}
-use Rattle.chan_run.specs.declared.event.Event.TheVariants.{Sent, Got, Empty, Marked, Saw}
-use Rattle.chan_run.specs.Runs.{sent_of}
+use Rattle.channel_trace.specs.declared.event.Event.{Event}
+use Rattle.channel_trace.specs.declared.event.Event.TheVariants.{Sent, Got, Empty, Marked, Saw}
+use Rattle.channel_trace.specs.Runs.{sent_of}
 use Rattle.channel_model.specs.WireFormat.{WireFormat}
 
 -- the id is in the list

@@ -1,8 +1,8 @@
 -- How many packets of each kind come and go.
 use Rattle.std.specs.Prelude.{ℕ, ◌≡◌, ◌≤◌, ◌+◌, Bool, true, false, List, length, filter, Some, None}
-use Rattle.chan_run.specs.declared.event.Event.{Event}
-use Rattle.chan_run.specs.Runs.{sent_of, got_of}
-use Rattle.chan_run.specs.Laws.{AreOfOneRun}
+use Rattle.channel_trace.specs.declared.event.Event.{Event}
+use Rattle.channel_trace.specs.Runs.{sent_of, got_of}
+use Rattle.channel_trace.specs.Laws.{AreOfOneRun}
 use Rattle.channel_model.specs.WireFormat.{WireFormat, Back}
 
 -- room for so many packets, and for a message besides each where there are messages

@@ -1,8 +1,8 @@
 -- The end that asks.
 use Rattle.std.specs.Prelude.{ℕ, ◌≡◌, cond, ◌==◌, List, [], ◌∷◌, ◌++◌, length, drop, filter, find, Option, Some, None}
-use Rattle.chan_run.specs.declared.event.Event.{Event}
-use Rattle.chan_run.specs.declared.event.Event.TheVariants.{Sent, Got, Empty, Marked, Saw}
-use Rattle.chan_run.specs.Runs.{sent_of, got_of}
+use Rattle.channel_trace.specs.declared.event.Event.{Event}
+use Rattle.channel_trace.specs.declared.event.Event.TheVariants.{Sent, Got, Empty, Marked, Saw}
+use Rattle.channel_trace.specs.Runs.{sent_of, got_of}
 use Rattle.channel_model.specs.WireFormat.{WireFormat, listed}
 
 module _ {P A Q R : Type 0} (s : WireFormat P A Q R) where

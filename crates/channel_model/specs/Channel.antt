@@ -1,9 +1,9 @@
 -- The run of one channel in one phase.
 use Rattle.std.specs.Prelude.{ℕ, ◌≡◌, ◌≤◌, min, Bool, true, false, ◌&&◌, nat_le, List, [], ◌∷◌, ◌++◌, map, length, filter, Option, Some, None, ◌⊎◌, filter_map}
 use Rattle.std.specs.List.{cons_option}
-use Rattle.chan_run.specs.declared.event.Event.{Event}
-use Rattle.chan_run.specs.Runs.{IsFront, sent_of, got_of, is_drained}
-use Rattle.chan_run.specs.Laws.{Follows}
+use Rattle.channel_trace.specs.declared.event.Event.{Event}
+use Rattle.channel_trace.specs.Runs.{IsFront, sent_of, got_of, is_drained}
+use Rattle.channel_trace.specs.Laws.{Follows}
 use Rattle.hist_lock.specs.Seat.{Call}
 use Rattle.channel_model.specs.WireFormat.{WireFormat}
 use Rattle.channel_model.specs.Asker.{requests_of, Encoded, open_of, replies_of}

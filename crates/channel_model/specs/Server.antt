@@ -1,7 +1,7 @@
 -- The end that serves.
 use Rattle.std.specs.Prelude.{ℕ, zero, suc, ◌≡◌, Bool, true, false, ◌==◌, ◌&&◌, List, [], ◌∷◌, ◌++◌, map, filter, Option, Some, None, if◌then◌else◌}
-use Rattle.chan_run.specs.declared.event.Event.{Event}
-use Rattle.chan_run.specs.Runs.{IsFront, sent_of, got_of}
+use Rattle.channel_trace.specs.declared.event.Event.{Event}
+use Rattle.channel_trace.specs.Runs.{IsFront, sent_of, got_of}
 use Rattle.hist_lock.specs.Seat.{Call}
 use Rattle.channel_model.specs.WireFormat.{WireFormat, packets_of, packets_in}
 

@@ -1,7 +1,7 @@
 -- Which requests are settled.
 use Rattle.std.specs.Prelude.{ℕ, ◌≡◌, ◌+◌, Bool, cond, List, [], ◌∷◌, ◌++◌, map, Option, Some, None}
-use Rattle.chan_run.specs.declared.event.Event.{Event}
-use Rattle.chan_run.specs.Runs.{got_of}
+use Rattle.channel_trace.specs.declared.event.Event.{Event}
+use Rattle.channel_trace.specs.Runs.{got_of}
 use Rattle.channel_model.specs.WireFormat.{WireFormat, listed}
 use Rattle.std.specs.List.{count_by}
 use Rattle.channel_model.specs.Asker.{requests_of, answers_of, open_of, closed_of, replies_of}

@@ -1,7 +1,7 @@
 -- What a worker keeps between its steps.
 use Rattle.std.specs.Prelude.{ℕ, ◌≡◌, Bool, List, [], ◌∷◌, ◌++◌, length, drop, filter, map, Option, Some, None, true, false, ◌==◌, ◌⊎◌, if◌then◌else◌}
-use Rattle.chan_run.specs.declared.event.Event.{Event}
-use Rattle.chan_run.specs.Runs.{sent_of, got_of}
+use Rattle.channel_trace.specs.declared.event.Event.{Event}
+use Rattle.channel_trace.specs.Runs.{sent_of, got_of}
 use Rattle.hist_lock.specs.Seat.{Call}
 use Rattle.channel_model.specs.WireFormat.{WireFormat}
 use Rattle.channel_model.specs.Asker.{requests_of, Encoded, open_of, under, replies_of}

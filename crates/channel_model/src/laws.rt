@@ -2,9 +2,9 @@
 //!
 //! `P` are the packets, `A` what the asking end has to ask, `Q` what the serving end's device is asked, and `R` its replies.
 ghost use Rattle.std.specs.Prelude.{◌≡◌, ◌≤◌, ℕ, Bool, List, Option, length, map};
-ghost use Rattle.chan_run.specs.declared.event.Event.{Event};
-ghost use Rattle.chan_run.specs.Runs.{sent_of, got_of};
-ghost use Rattle.chan_run.specs.Laws.{AreOfOneRun};
+ghost use Rattle.channel_trace.specs.declared.event.Event.{Event};
+ghost use Rattle.channel_trace.specs.Runs.{sent_of, got_of};
+ghost use Rattle.channel_trace.specs.Laws.{AreOfOneRun};
 ghost use Rattle.hist_lock.specs.Seat.{Call};
 ghost use Rattle.io_edge.specs.declared.side.Side.{Side};
 ghost use Rattle.channel_model.specs.WireFormat.{WireFormat, Keeps};

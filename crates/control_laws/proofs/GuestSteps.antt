@@ -28,7 +28,7 @@ use Rattle.control_model.specs.declared.guest_turn.GuestTurn.{GuestTurn}
 use Rattle.control_model.specs.Plan.{BusPlan, is_sub, is_of_sub, first_subs, subs_next, subs_in, opening_at, closing_at, IsPlan, phase_of, closing_of}
 use Rattle.control_model.specs.Channels.{by_relid, lived, changed, is_handle, place_of_list}
 use Rattle.control_model.specs.Messages.{propose, respond, request, delivered, created, open_on, opened, offer_sub, close, teardown, torndown, rescind, release, farewell_taken, Sends}
-use Rattle.control_model.specs.Guest.{GuestSeen, idle, offered_channel, proposal, proposes, answered, device_offered, is_sub_offer, goes_behind, sub_offered, hears_offer, opens, created_for, hears_created, opens_next, opened_for, hears_result, torn_at, torn_then, torn_for, ended_for, hears_torndown, hears_rescind, lists_next, closes_next, guest_hears, waits_for_nothing}
+use Rattle.control_model.specs.Guest.{GuestSeen, idle, offered_channel, proposal, proposes, answered, device_offered, is_sub_offer, goes_behind, sub_offered, on_offer, opens, created_for, on_created, opens_next, opened_for, on_result, torn_at, torn_then, torn_for, ended_for, on_torndown, on_rescind, lists_next, closes_next, guest_hears, waits_for_nothing}
 use Rattle.control_model.specs.Said.{answer_to, guest_opens, host_opens_all, guest_closes, host_closes, only_sub, ends_given_back}
 use Rattle.control_model.specs.GuestAt.{guest_from, host_from, opens_listed, answers_open, from_first_sub, gives_sub, gives_one, takes_one, end_to_say, end_to_hear, to_say, to_hear, GuestStands}
 use Rattle.control_model.specs.GuestAt.GuestStands.{fresh, proposes as IsProposing, asks, contacted, offers as IsOffering, lists, opens as IsOpened, started, closes as IsClosing, gives_back, gives_sub_back, ended, leaves, is_over}
@@ -136,7 +136,7 @@ step_offering plan logs v n kind left agreed is =
     let more : guests ++ offered_channel ∷ [] ≡ replicate (suc n) offered_channel = one_more n offered_channel in
     record {
       turn = turn;
-      hears = ap (hears_offer g (class_id kind) 0 (n + 1)) (kind_of_class kind (class_id kind) refl) ∙ ap (λ t. Ok t) takes;
+      hears = ap (on_offer g (class_id kind) 0 (n + 1)) (kind_of_class kind (class_id kind) refl) ∙ ap (λ t. Ok t) takes;
       goes = subst (GuestStands plan (Some Contact) Offers (Some v)) (sym more) (asks v (suc n) agreed there.2);
       says = λ sent e. ap (λ s. s ++ guest_from plan 0) (sym e);
       heard = (λ i. (offers_from (many i + 1) (these i) ++ delivered ∷ []) ++ host_from plan 0) ∙ ap (λ xs. m ∷ ((xs ++ delivered ∷ []) ++ host_from plan 0)) (sym (λ i. offers_from (long i + 1) (those i)));
@@ -179,7 +179,7 @@ step_listed plan logs v guests phase place done o left planned at meet =
     stand_mark guests count (guest_is Opened) (guest_is IsOpening) done o (guest_before plan phase) (guest_before plan phase) meet.stand fact.fits.named mine fact.done_apart (λ q off. refl) in
     record {
       turn = turn;
-      hears = ap (hears_created g o.relid o.gpadl 0) known ∙ ap (λ x. Ok (created_for g place o.relid o.gpadl 0 c x)) (opening_here plan phase place done o left at) ∙ ap (λ t. Ok t) (asked ∙ ap (opens g place o) (can_open plan phase o.relid fact.not_before));
+      hears = ap (on_created g o.relid o.gpadl 0) known ∙ ap (λ x. Ok (created_for g place o.relid o.gpadl 0 c x)) (opening_here plan phase place done o left at) ∙ ap (λ t. Ok t) (asked ∙ ap (opens g place o) (can_open plan phase o.relid fact.not_before));
       goes = IsOpened v (slice_set guests (o.relid - 1) now) phase place done o left at (record { agreed = meet.agreed; stand = after });
       says = λ sent e.
           let asks = sym e in
@@ -232,7 +232,7 @@ step_open_one plan logs v guests phase place done o left planned at meet none =
     let after = subst (λ n. Stand (slice_set guests (o.relid - 1) now) n (marked (guest_is Opened) (done ++ o ∷ []) (guest_before plan phase))) same_count opened_so.stand in
     record {
       turn = turn;
-      hears = ap (hears_result g o.relid 0) opened_so.known ∙ ap (λ x. Ok (opened_for g heard place o.relid 0 x)) (opening_here plan phase place done o left at) ∙ ap (λ t. Ok t) (asked ∙ on);
+      hears = ap (on_result g o.relid 0) opened_so.known ∙ ap (λ x. Ok (opened_for g heard place o.relid 0 x)) (opening_here plan phase place done o left at) ∙ ap (λ t. Ok t) (asked ∙ on);
       goes = next_list plan v guests phase (place + 1) (done ++ o ∷ []) left (AwaitsOpened place) (Now o.relid now) at.in_plan (done_more plan phase place done o left at) (place_more plan phase place done o left at) (record { agreed = meet.agreed; stand = after });
       says = λ sent sends.
           let later : List Msg = flat_map guest_closes (closing_of plan phase) ++ guest_from plan (suc phase) in
@@ -269,7 +269,7 @@ step_open_subs plan logs v guests phase place done o (p ∷ left) planned at mee
     let after = subst (λ n. Stand (slice_set guests (o.relid - 1) now) n (marked (guest_is Opened) (done ++ o ∷ []) (guest_before plan phase))) same_count opened_so.stand in
     record {
       turn = turn;
-      hears = ap (hears_result g o.relid 0) opened_so.known ∙ ap (λ x. Ok (opened_for g heard place o.relid 0 x)) (opening_here plan phase place done o (p ∷ left) at) ∙ ap (λ t. Ok t) (asked ∙ on);
+      hears = ap (on_result g o.relid 0) opened_so.known ∙ ap (λ x. Ok (opened_for g heard place o.relid 0 x)) (opening_here plan phase place done o (p ∷ left) at) ∙ ap (λ t. Ok t) (asked ∙ on);
       goes = IsOffering v (slice_set guests (o.relid - 1) now) phase (place + 1) done o [] p left there is_first subs (record { agreed = meet.agreed; stand = after });
       says = λ sent e.
           let later : List Msg = flat_map guest_closes (closing_of plan phase) ++ guest_from plan (suc phase) in
@@ -324,7 +324,7 @@ is_offered plan logs v guests phase place done first offered o left planned at i
     marked_apart (guest_is Opened) (done ++ first ∷ []) base q (all_weaker (λ p. p.relid ≤ offered_by plan phase done []) (λ p. p.relid ≢ q) (λ p l e. absurd (omega (arith, l, e, above))) (done ++ first ∷ []) spot.known)
     ∙ unopened plan guest_ends offered_channel phase q planned (omega (arith, in_plan)) (omega (arith, above)) in
     record {
-      hears = ap (hears_offer g (class_id Disk) o.sub o.relid) (kind_of_class Disk (class_id Disk) refl) ∙ ap (λ x. Ok (sub_offered g place Disk o.sub o.relid x)) (opening_here plan phase place front o left at) ∙ ap (λ t. Ok t) takes;
+      hears = ap (on_offer g (class_id Disk) o.sub o.relid) (kind_of_class Disk (class_id Disk) refl) ∙ ap (λ x. Ok (sub_offered g place Disk o.sub o.relid x)) (opening_here plan phase place front o left at) ∙ ap (λ t. Ok t) takes;
       stand = stand_add guests count 1 (marked (guest_is Opened) (done ++ first ∷ []) base) offered_channel meet.stand fresh;
       next = opening_from plan phase (place + 1) (front ++ o ∷ []) left (done_more plan phase place front o left at) (place_more plan phase place front o left at);
     }
@@ -465,10 +465,10 @@ goes_so plan v guests phase place done o left waits first planned at stand next 
 abbrev closed_turn : Version → ℕ → Opening → GuestTurn
 closed_turn v place o = heard_with (Torn place) v (Now o.relid (guest_is Closed o)) None
 
-hears_torn : (plan : BusPlan) (logs : Logs) (v : Version) (guests : List Channel) (phase place : ℕ) (done : List Opening) (o : Opening) (left : List Opening) → IsPlan plan
+on_torn : (plan : BusPlan) (logs : Logs) (v : Version) (guests : List Channel) (phase place : ℕ) (done : List Opening) (o : Opening) (left : List Opening) → IsPlan plan
     → EndsAt plan phase place done o left → Meet plan v guests (offered_before plan (suc phase)) (marked guest_ends done (marked (guest_is Closing) (o ∷ []) (marked (guest_is Opened) left (guest_before plan phase))))
     → guest_hears (a_guest plan logs (Some (PhaseEnd phase)) (Torn place) (Some v) guests) (torndown o.gpadl) ≡ Ok (torn_then (a_guest plan logs (Some (PhaseEnd phase)) (Torn place) (Some v) guests) (closed_turn v place o) place o.relid o)
-hears_torn plan logs v guests phase place done o left planned at meet =
+on_torn plan logs v guests phase place done o left planned at meet =
     let g : GuestSeen = a_guest plan logs (Some (PhaseEnd phase)) (Torn place) (Some v) guests in
     let fact = end_facts plan phase place done o left planned at in
     let base : ℕ → Channel = marked (guest_is Opened) left (guest_before plan phase) in
@@ -480,7 +480,7 @@ hears_torn plan logs v guests phase place done o left planned at meet =
     let found : place_of_list guests o.gpadl ≡ Some (o.relid - 1) = find_list guests (offered_before plan (suc phase)) stands o.relid o.gpadl meet.stand fact.fits.named fact.known mine (closing_handle plan phase done o left fact) in
     let named = fact.fits.named in
     let back : o.relid - 1 + 1 ≡ o.relid = omega (arith, named) in
-    ap (hears_torndown g o.gpadl) found ∙ ap (torn_at g o.gpadl (o.relid - 1)) known ∙ ap (λ r. Ok (torn_for g (heard r) place r (closing_at plan phase place))) back
+    ap (on_torndown g o.gpadl) found ∙ ap (torn_at g o.gpadl (o.relid - 1)) known ∙ ap (λ r. Ok (torn_for g (heard r) place r (closing_at plan phase place))) back
     ∙ ap (λ x. Ok (torn_for g (heard o.relid) place o.relid x)) (closing_here plan phase place done o left at)
 
 -- a first channel is done with then
@@ -509,7 +509,7 @@ step_torn_first plan logs v guests phase place done o left planned at closed is_
     let here = ends_left plan phase place done (o ∷ left) at.closing_is at.place_is in
     record {
       turn = turn;
-      hears = hears_torn plan logs v guests phase place done o left planned at meet ∙ ap (λ t. Ok t) asked ∙ ap (λ c. Ok (turn_end plan guests phase place (heard c))) (sym so);
+      hears = on_torn plan logs v guests phase place done o left planned at meet ∙ ap (λ t. Ok t) asked ∙ ap (λ c. Ok (turn_end plan guests phase place (heard c))) (sym so);
       goes = guest_stands_so plan phase v (Some (PhaseEnd phase)) guests turn (guest_next_awaits (place + 1) left) (marked guest_ends (done ++ o ∷ []) (guest_next_stands left (guest_before plan phase))) (option_to_list None ++ guest_next_sends left) on.ends
           (guest_next plan v (changed (changed guests turn.heard) turn.wished) phase (place + 1) (done ++ o ∷ []) left planned at.in_plan (ends_more plan phase place done o left at) (ends_place plan phase place done o left at) (record { agreed = meet.agreed; stand = on.ends.guest }));
       says = λ sent sends.
@@ -542,7 +542,7 @@ step_torn_sub plan logs v guests phase place done o left planned at closed sub m
     let here = ends_left plan phase place done (o ∷ left) at.closing_is at.place_is in
     record {
       turn = turn;
-      hears = hears_torn plan logs v guests phase place done o left planned at meet ∙ ap (λ t. Ok t) asked;
+      hears = on_torn plan logs v guests phase place done o left planned at meet ∙ ap (λ t. Ok t) asked;
       goes = gives_sub_back v (slice_set guests (o.relid - 1) (guest_is Closed o)) phase place done o left at closed sub (record { agreed = meet.agreed; stand = after });
       says = λ sent e.
           let later : List Msg = guest_from plan (suc phase) in
@@ -570,7 +570,7 @@ rescinded_so v place o now = heard_with (Rescinded place) v (Now o.relid now) (S
 
 step_rescinds : (plan : BusPlan) (logs : Logs) (v : Version) (guests : List Channel) (phase place : ℕ) (done : List Opening) (o : Opening) (left : List Opening) (state : State) → IsPlan plan
     → EndsAt plan phase place done o left → ends_given_back o ≡ true
-    → hears_rescind (a_guest plan logs (Some (PhaseEnd phase)) (Rescinded place) (Some v) guests) o.relid (Some (guest_is state o)) ≡ Ok (ended_for (a_guest plan logs (Some (PhaseEnd phase)) (Rescinded place) (Some v) guests) (rescinded_so v place o (guest_is Released o)) place o.relid (closing_at plan phase place))
+    → on_rescind (a_guest plan logs (Some (PhaseEnd phase)) (Rescinded place) (Some v) guests) o.relid (Some (guest_is state o)) ≡ Ok (ended_for (a_guest plan logs (Some (PhaseEnd phase)) (Rescinded place) (Some v) guests) (rescinded_so v place o (guest_is Released o)) place o.relid (closing_at plan phase place))
     → Meet plan v guests (offered_before plan (suc phase)) (marked guest_ends done (marked (guest_is state) (o ∷ []) (marked (guest_is Opened) left (guest_before plan phase))))
     → GuestStep plan (a_guest plan logs (Some (PhaseEnd phase)) (Rescinded place) (Some v) guests) (rescind o.relid)
 step_rescinds plan logs v guests phase place done o left state planned at gone takes meet =
@@ -591,7 +591,7 @@ step_rescinds plan logs v guests phase place done o left state planned at gone t
     let here = ends_left plan phase place done (o ∷ left) at.closing_is at.place_is in
     record {
       turn = turn;
-      hears = ap (hears_rescind g o.relid) known ∙ takes
+      hears = ap (on_rescind g o.relid) known ∙ takes
           ∙ ap (λ c. Ok (ended_for g (rescinded_so v place o c) place o.relid (closing_at plan phase place))) (sym so)
           ∙ ap (λ x. Ok (ended_for g (rescinded_so v place o (guest_ends o)) place o.relid x)) (closing_here plan phase place done o left at) ∙ ap (λ t. Ok t) asked;
       goes = guest_stands_so plan phase v (Some (PhaseEnd phase)) guests turn (guest_next_awaits (place + 1) left) (marked guest_ends (done ++ o ∷ []) (guest_next_stands left (guest_before plan phase))) (option_to_list first ++ guest_next_sends left) on.ends

@@ -20,7 +20,7 @@ use Rattle.control_model.specs.Plan.{BusPlan, opening_at, IsPlan, phase_of, clos
 use Rattle.control_model.specs.Channels.{by_relid}
 use Rattle.control_model.specs.Messages.{propose, request, pages_from, created, open_on, close, teardown, release, farewell}
 use Rattle.control_model.specs.Said.{host_opens_all, host_closes, guest_closes}
-use Rattle.control_model.specs.Host.{HostSeen, HostTurn, host_waits_for_nothing, at_rest, hears_header, hears_piece, listed as listed_for, lists_by, is_of, host_hears}
+use Rattle.control_model.specs.Host.{HostSeen, HostTurn, host_waits_for_nothing, at_rest, on_header, on_piece, listed as listed_for, lists_by, is_of, host_hears}
 use Rattle.control_model.specs.Stand.{At, offered_by, marked, host_is, host_before, Meet, handles}
 use Rattle.control_model.specs.GuestAt.{guest_from, host_from, opens_listed, answers_open}
 use Rattle.control_model.specs.HostAt.{live_ones, ListComes, HostStands}
@@ -34,8 +34,8 @@ use Rattle.control_laws.proofs.HostSteps.{a_host, HostStep, step_proposes, step_
 
 -- what comes of a piece
 heard : (h : HostSeen) (life : ChanState) (relid : ℕ) (m : Msg) → IsPieceFor relid m → by_relid h.channels relid ≡ Some life → fault_of h.lists m ≡ None → host_hears h m ≡ Ok (lists_by h (next h.lists m) (built h.lists.building m))
-heard h life relid (GpadlHeader d) piece known fine = ap (λ r. hears_header h d.relid (GpadlHeader d) (by_relid h.channels r)) piece ∙ ap (hears_header h d.relid (GpadlHeader d)) known ∙ ap (hears_piece h (GpadlHeader d)) fine
-heard h life relid (GpadlBody b) piece known fine = ap (hears_piece h (GpadlBody b)) fine
+heard h life relid (GpadlHeader d) piece known fine = ap (λ r. on_header h d.relid (GpadlHeader d) (by_relid h.channels r)) piece ∙ ap (on_header h d.relid (GpadlHeader d)) known ∙ ap (on_piece h (GpadlHeader d)) fine
+heard h life relid (GpadlBody b) piece known fine = ap (on_piece h (GpadlBody b)) fine
 heard h life relid _ piece known fine = absurd piece
 
 module _ (plan : BusPlan) (logs : Logs) (v : Version) (hosts : List ChanState) (phase place : ℕ) (done : List Opening) (o : Opening) (left : List Opening) (s : Assembly) where

@@ -25,7 +25,7 @@ use Rattle.control_model.specs.declared.host_next.HostNext.{HostNext}
 use Rattle.control_model.specs.Plan.{BusPlan, is_sub, subs_next, subs_behind, opening_at, closing_at, IsPlan, phase_of, closing_of}
 use Rattle.control_model.specs.Channels.{by_relid, stands}
 use Rattle.control_model.specs.Messages.{propose, respond, request, delivered, open_on, opened, offer_sub, close, teardown, torndown, rescind, release, farewell, Sends}
-use Rattle.control_model.specs.Host.{HostSeen, HostTurn, at_rest, hears_request, offered_life, with_offers, subs_offered, with_subs, opened_then, open_by, hears_open, hears_close, torn_one, torn_for, hears_teardown, hears_release, is_of, waits_list, stays, next_end, without, wants_rescind, rescinded_among, and_rescind, goes_next, hears_unload, host_hears}
+use Rattle.control_model.specs.Host.{HostSeen, HostTurn, at_rest, on_request, offered_life, with_offers, subs_offered, with_subs, opened_then, open_by, on_open, on_close, torn_one, torn_for, on_teardown, on_release, is_of, waits_list, stays, next_end, without, wants_rescind, rescinded_among, and_rescind, goes_next, on_unload, host_hears}
 use Rattle.control_model.specs.Stand.{At, EndsAt, offered_before, offered_by, marked, end_state, host_is, host_ends, host_before, Stand, Tries, Agreed, Meet, handles}
 use Rattle.control_model.specs.Said.{answer_to, host_closes, guest_closes, only_sub, ends_given_back}
 use Rattle.control_model.specs.GuestAt.{guest_from, host_from, opens_listed, answers_open, gives_one}
@@ -121,7 +121,7 @@ step_asks plan logs v agreed =
     let life : ChanState = record { side = HostSide; state = IsOffered } in
     let hosts : List ChanState = map (λ (kind : Kind). life) plan.kinds in
     record {
-      turn = hears_request h Request;
+      turn = on_request h Request;
       hears = refl;
       tried_then = [];
       pieces_then = [];
@@ -167,7 +167,7 @@ step_opens plan logs v hosts phase place done o left planned at meet =
     let goes_on = waits_so plan phase (place + 1) (done ++ o ∷ []) left (done_more plan phase place done o left at) (place_more plan phase place done o left at) in
     record {
       turn = turn;
-      hears = ap (hears_open h o.relid o.relid) known ∙ ap (open_by h o.relid o.relid life) can.row
+      hears = ap (on_open h o.relid o.relid) known ∙ ap (open_by h o.relid o.relid life) can.row
           ∙ (λ i. Ok (record (at_rest h) { awaits = waits i; channels = with_subs (slice_set hosts (o.relid - 1) (stood i)) (offers i); burst = sends i }));
       tried_then = [];
       pieces_then = pieces_of (opening_at plan phase (place + 1));
@@ -205,7 +205,7 @@ step_closes plan logs v hosts phase place done o left planned at closed meet =
     stand_mark hosts (offered_before plan (suc phase)) host_ends (host_is Closing) done o (marked (host_is Opened) (o ∷ left) (host_before plan phase)) base meet.stand fact.fits.named fact.known fact.done_apart (λ q off. sym (marked_there (host_is Opened) o left (host_before plan phase) q off)) in
     record {
       turn = turn;
-      hears = ap (hears_close h o.relid) known ∙ ap (λ b. Ok (record (at_rest h) { awaits = if b then AwaitsTeardown place else AwaitsClose place; channels = slice_set hosts (o.relid - 1) now })) mine;
+      hears = ap (on_close h o.relid) known ∙ ap (λ b. Ok (record (at_rest h) { awaits = if b then AwaitsTeardown place else AwaitsClose place; channels = slice_set hosts (o.relid - 1) now })) mine;
       tried_then = [];
       pieces_then = [];
       goes = tears v (slice_set hosts (o.relid - 1) now) phase place done o left at closed (record { agreed = meet.agreed; stand = next });
@@ -276,7 +276,7 @@ step_tears_first plan logs v hosts phase place done o left planned at closed is_
     let here = ends_left plan phase place done (o ∷ left) at.closing_is at.place_is in
     record {
       turn = turn;
-      hears = ap (hears_teardown h o.relid o.gpadl) known
+      hears = ap (on_teardown h o.relid o.gpadl) known
           ∙ ap (λ b. if b then Ok (turn_with (host_is Closed o) (without (lists_but done os) o.gpadl) (torn_for h place o.relid (host_is Closed o) (closing_at plan phase place))) else Err (Gpadl (Handle o.gpadl))) live
           ∙ (λ i. Ok (turn_with (back i) (gone i) (goes i)));
       tried_then = [];
@@ -327,7 +327,7 @@ step_tears_sub plan logs v hosts phase place done o left planned at closed sub m
     let here = ends_left plan phase place done (o ∷ left) at.closing_is at.place_is in
     record {
       turn = turn;
-      hears = ap (hears_teardown h o.relid o.gpadl) known
+      hears = ap (on_teardown h o.relid o.gpadl) known
           ∙ ap (λ b. if b then Ok (turn_with (without (lists_but done os) o.gpadl) (torn_for h place o.relid (host_is Closed o) (closing_at plan phase place))) else Err (Gpadl (Handle o.gpadl))) live
           ∙ ap (λ n. Ok (turn_with (without (lists_but done os) o.gpadl) n)) goes ∙ ap (λ l. Ok (whole l)) gone;
       tried_then = [];
@@ -379,7 +379,7 @@ step_releases plan logs v hosts phase place done o left planned at gone meet =
     let on = ends_so plan v after phase (place + 1) (done ++ o ∷ []) left later at.in_plan (ends_more plan phase place done o left at) (ends_place plan phase place done o left at) ends in
     record {
       turn = turn;
-      hears = ap (hears_release h o.relid) known ∙ (λ i. Ok (turn_with (back i) (if mine i then later else stays h)));
+      hears = ap (on_release h o.relid) known ∙ (λ i. Ok (turn_with (back i) (if mine i then later else stays h)));
       tried_then = [];
       pieces_then = [];
       goes = host_stands_so plan phase v (Some (PhaseEnd phase)) after (lists_but (done ++ o ∷ []) (phase_of plan phase)) later (host_next_awaits (place + 1) left) (marked host_ends (done ++ o ∷ []) (host_next_stands left (host_before plan phase))) (lists_but (host_next_done (done ++ o ∷ []) left) (phase_of plan phase)) (host_next_sends left) ends
@@ -397,7 +397,7 @@ pub step_leaves : (plan : BusPlan) (logs : Logs) (v : Version) (hosts : List Cha
 step_leaves plan logs v hosts meet =
     let h : HostSeen = a_host plan logs (Some Unload) AwaitsUnload (Some v) hosts (live_ones []) in
     record {
-      turn = hears_unload h AwaitsUnload;
+      turn = on_unload h AwaitsUnload;
       hears = refl;
       tried_then = [];
       pieces_then = [];

@@ -127,9 +127,9 @@ answered g v supported =
     if supported == 1 then record (idle g) { awaits = Offers; version = Some v; burst = One request } else
     if supported == 0 then proposes g (version_below v) else idle g
 
-abbrev pub hears_response : GuestSeen → GuestWait → ℕ → GuestTurn
-hears_response g (Response v) supported = answered g v supported
-hears_response g _ supported = idle g
+abbrev pub on_response : GuestSeen → GuestWait → ℕ → GuestTurn
+on_response g (Response v) supported = answered g v supported
+on_response g _ supported = idle g
 
 -- OFFERCHANNEL: while devices are offered, the next device's, of its kind, with the next relid
 abbrev pub offered_channel : Channel
@@ -164,13 +164,13 @@ abbrev pub takes_offer : GuestSeen → GuestWait → Kind → ℕ → ℕ → Gu
 takes_offer g (SubOffer place) kind sub relid = sub_offered g place kind sub relid (opening_of g place)
 takes_offer g _ kind sub relid = device_offered g kind sub relid
 
-abbrev pub hears_offer : GuestSeen → List ℕ → ℕ → ℕ → Option Kind → Result GuestTurn ControlFault
-hears_offer g if_type sub relid None = Err (Offer (Class if_type))
-hears_offer g if_type sub relid (Some kind) = Ok (takes_offer g g.awaits kind sub relid)
+abbrev pub on_offer : GuestSeen → List ℕ → ℕ → ℕ → Option Kind → Result GuestTurn ControlFault
+on_offer g if_type sub relid None = Err (Offer (Class if_type))
+on_offer g if_type sub relid (Some kind) = Ok (takes_offer g g.awaits kind sub relid)
 
 -- ALLOFFERS_DELIVERED, behind the last offer
-abbrev pub hears_delivered : GuestSeen → GuestTurn
-hears_delivered g =
+abbrev pub on_delivered : GuestSeen → GuestTurn
+on_delivered g =
     if awaits_offers g.awaits && (length g.channels == length g.plan.kinds) then record (idle g) { awaits = Nothing } else idle g
 
 -- GPADL_CREATED, for the page list that was sent: the guest wants its channel open
@@ -188,9 +188,9 @@ abbrev pub created_while : GuestSeen → GuestWait → ℕ → ℕ → ℕ → C
 created_while g (Created place) relid gpadl status c = created_for g place relid gpadl status c (opening_of g place)
 created_while g _ relid gpadl status c = idle g
 
-abbrev pub hears_created : GuestSeen → ℕ → ℕ → ℕ → Option Channel → Result GuestTurn ControlFault
-hears_created g relid gpadl status None = Err (Relid relid)
-hears_created g relid gpadl status (Some c) = Ok (created_while g g.awaits relid gpadl status c)
+abbrev pub on_created : GuestSeen → ℕ → ℕ → ℕ → Option Channel → Result GuestTurn ControlFault
+on_created g relid gpadl status None = Err (Relid relid)
+on_created g relid gpadl status (Some c) = Ok (created_while g g.awaits relid gpadl status c)
 
 -- OPENCHANNEL_RESULT: the channel is open with status 0, and the guest goes on with the next opening; behind a device's first channel the offers of its
 -- sub-channels come before
@@ -210,9 +210,9 @@ abbrev pub result_by : GuestSeen → ℕ → ℕ → Result Channel ControlFault
 result_by g relid status (Err fault) = Err fault
 result_by g relid status (Ok now) = Ok (opened_while g (record (idle g) { heard = Now relid now }) g.awaits relid status)
 
-abbrev pub hears_result : GuestSeen → ℕ → ℕ → Option Channel → Result GuestTurn ControlFault
-hears_result g relid status None = Err (Relid relid)
-hears_result g relid status (Some c) = result_by g relid status (lived c (ResultSeen status))
+abbrev pub on_result : GuestSeen → ℕ → ℕ → Option Channel → Result GuestTurn ControlFault
+on_result g relid status None = Err (Relid relid)
+on_result g relid status (Some c) = result_by g relid status (lived c (ResultSeen status))
 
 -- the channel of the opening at a place is done with, where it is this one, and the guest goes on with the next opening
 abbrev pub ended_for : GuestSeen → GuestTurn → ℕ → ℕ → Option Opening → GuestTurn
@@ -239,9 +239,9 @@ abbrev pub torn_at : GuestSeen → ℕ → ℕ → Option Channel → Result Gue
 torn_at g gpadl place None = Err (Gpadl (Handle gpadl))
 torn_at g gpadl place (Some c) = torn_by g (place + 1) (lived c TorndownSeen)
 
-abbrev pub hears_torndown : GuestSeen → ℕ → Option ℕ → Result GuestTurn ControlFault
-hears_torndown g gpadl None = Err (Gpadl (Handle gpadl))
-hears_torndown g gpadl (Some place) = torn_at g gpadl place (slice_get g.channels place)
+abbrev pub on_torndown : GuestSeen → ℕ → Option ℕ → Result GuestTurn ControlFault
+on_torndown g gpadl None = Err (Gpadl (Handle gpadl))
+on_torndown g gpadl (Some place) = torn_at g gpadl place (slice_get g.channels place)
 
 -- RESCIND_CHANNELOFFER: the guest settles, gives the channel back, and goes on with the next opening
 abbrev pub releases : GuestSeen → ℕ → Channel → Result Channel ControlFault → GuestTurn
@@ -256,25 +256,25 @@ abbrev pub rescind_by : GuestSeen → ℕ → Result Channel ControlFault → Re
 rescind_by g relid (Err fault) = Err fault
 rescind_by g relid (Ok seen) = Ok (rescinded_while g (releases g relid seen (lived seen WantRelease)) g.awaits relid)
 
-abbrev pub hears_rescind : GuestSeen → ℕ → Option Channel → Result GuestTurn ControlFault
-hears_rescind g relid None = Err (Relid relid)
-hears_rescind g relid (Some c) = rescind_by g relid (lived c RescindSeen)
+abbrev pub on_rescind : GuestSeen → ℕ → Option Channel → Result GuestTurn ControlFault
+on_rescind g relid None = Err (Relid relid)
+on_rescind g relid (Some c) = rescind_by g relid (lived c RescindSeen)
 
 -- UNLOAD_RESPONSE
-abbrev pub hears_unloaded : GuestSeen → GuestWait → GuestTurn
-hears_unloaded g Unloaded = record (idle g) { awaits = Nothing }
-hears_unloaded g _ = idle g
+abbrev pub on_unloaded : GuestSeen → GuestWait → GuestTurn
+on_unloaded g Unloaded = record (idle g) { awaits = Nothing }
+on_unloaded g _ = idle g
 
 -- the guest's table: what comes of each message, or why it is refused
 abbrev pub guest_hears : GuestSeen → Msg → Result GuestTurn ControlFault
-guest_hears g (OfferChannel padding if_type if_instance reserved1 reserved2 chn_flags mmio user sub reserved3 relid monitorid monitor interrupt connection) = hears_offer g if_type sub relid (kind_with if_type)
-guest_hears g (RescindChannelOffer padding relid) = hears_rescind g relid (by_relid g.channels relid)
-guest_hears g (AllOffersDelivered padding) = Ok (hears_delivered g)
-guest_hears g (OpenChannelResult padding relid openid status) = hears_result g relid status (by_relid g.channels relid)
-guest_hears g (GpadlCreated padding relid gpadl status) = hears_created g relid gpadl status (by_relid g.channels relid)
-guest_hears g (GpadlTorndown padding gpadl) = hears_torndown g gpadl (place_of_list g.channels gpadl)
-guest_hears g (VersionResponse padding supported state padding2 conn) = Ok (hears_response g g.awaits supported)
-guest_hears g (UnloadResponse padding) = Ok (hears_unloaded g g.awaits)
+guest_hears g (OfferChannel padding if_type if_instance reserved1 reserved2 chn_flags mmio user sub reserved3 relid monitorid monitor interrupt connection) = on_offer g if_type sub relid (kind_with if_type)
+guest_hears g (RescindChannelOffer padding relid) = on_rescind g relid (by_relid g.channels relid)
+guest_hears g (AllOffersDelivered padding) = Ok (on_delivered g)
+guest_hears g (OpenChannelResult padding relid openid status) = on_result g relid status (by_relid g.channels relid)
+guest_hears g (GpadlCreated padding relid gpadl status) = on_created g relid gpadl status (by_relid g.channels relid)
+guest_hears g (GpadlTorndown padding gpadl) = on_torndown g gpadl (place_of_list g.channels gpadl)
+guest_hears g (VersionResponse padding supported state padding2 conn) = Ok (on_response g g.awaits supported)
+guest_hears g (UnloadResponse padding) = Ok (on_unloaded g g.awaits)
 guest_hears g m = Err (Unasked (type_of m))
 
 -- the version that is proposed is one of the list

@@ -158,16 +158,16 @@ abbrev pub offered_life : ChanState
 offered_life = record { side = HostSide; state = IsOffered }
 
 -- INITIATE_CONTACT: answered by 1 where the host has the version, and by 0 otherwise
-abbrev pub hears_contact : HostSeen → HostWait → ℕ → HostTurn
-hears_contact h AwaitsContact asked =
+abbrev pub on_contact : HostSeen → HostWait → ℕ → HostTurn
+on_contact h AwaitsContact asked =
     if accepts h.plan.host asked then record (at_rest h) { awaits = Request; version = Some (record { 0 = asked }); burst = One (respond 1) } else
     record (at_rest h) { burst = One (respond 0) }
-hears_contact h _ asked = at_rest h
+on_contact h _ asked = at_rest h
 
 -- REQUESTOFFERS: each device is offered
-abbrev pub hears_request : HostSeen → HostWait → HostTurn
-hears_request h Request = record (at_rest h) { awaits = Nothing; channels = map (λ kind. offered_life) h.plan.kinds; burst = Offers }
-hears_request h _ = at_rest h
+abbrev pub on_request : HostSeen → HostWait → HostTurn
+on_request h Request = record (at_rest h) { awaits = Nothing; channels = map (λ kind. offered_life) h.plan.kinds; burst = Offers }
+on_request h _ = at_rest h
 
 -- a channel's page list came: it is created once it is whole
 abbrev pub listed : HostSeen → HostWait → Partial → HostWait
@@ -181,13 +181,13 @@ lists_by h lists (Some p) =
     record (at_rest h) { lists = lists }
 
 -- GPADL_HEADER and GPADL_BODY, which go to the assembler
-abbrev pub hears_piece : HostSeen → Msg → Option GpadlFault → Result HostTurn ControlFault
-hears_piece h m None = Ok (lists_by h (next h.lists m) (built h.lists.building m))
-hears_piece h m (Some fault) = Err (Gpadl fault)
+abbrev pub on_piece : HostSeen → Msg → Option GpadlFault → Result HostTurn ControlFault
+on_piece h m None = Ok (lists_by h (next h.lists m) (built h.lists.building m))
+on_piece h m (Some fault) = Err (Gpadl fault)
 
-abbrev pub hears_header : HostSeen → ℕ → Msg → Option ChanState → Result HostTurn ControlFault
-hears_header h relid m None = Err (Relid relid)
-hears_header h relid m (Some life) = hears_piece h m (fault_of h.lists m)
+abbrev pub on_header : HostSeen → ℕ → Msg → Option ChanState → Result HostTurn ControlFault
+on_header h relid m None = Err (Relid relid)
+on_header h relid m (Some life) = on_piece h m (fault_of h.lists m)
 
 -- a channel goes on
 abbrev pub goes_on : HostSeen → ℕ → ChanState → State → List ChanState
@@ -226,9 +226,9 @@ abbrev pub open_by : HostSeen → ℕ → ℕ → ChanState → Option (State ×
 open_by h relid openid life None = Err (StateFault (record { state = life.state; event = OpenSeen }))
 open_by h relid openid life (Some row) = Ok (open_turn h relid openid (stands life row.0) row.1)
 
-abbrev pub hears_open : HostSeen → ℕ → ℕ → Option ChanState → Result HostTurn ControlFault
-hears_open h relid openid None = Err (Relid relid)
-hears_open h relid openid (Some life) = open_by h relid openid life (row_of life OpenSeen)
+abbrev pub on_open : HostSeen → ℕ → ℕ → Option ChanState → Result HostTurn ControlFault
+on_open h relid openid None = Err (Relid relid)
+on_open h relid openid (Some life) = open_by h relid openid life (row_of life OpenSeen)
 
 -- CLOSECHANNEL
 abbrev pub closed_then : HostSeen → HostWait → ℕ → HostWait
@@ -239,9 +239,9 @@ abbrev pub close_by : HostSeen → ℕ → ChanState → Option (State × Action
 close_by h relid life None = Err (StateFault (record { state = life.state; event = CloseSeen }))
 close_by h relid life (Some row) = Ok (record (at_rest h) { awaits = closed_then h h.awaits relid; channels = goes_on h relid life row.0 })
 
-abbrev pub hears_close : HostSeen → ℕ → Option ChanState → Result HostTurn ControlFault
-hears_close h relid None = Err (Relid relid)
-hears_close h relid (Some life) = close_by h relid life (row_of life CloseSeen)
+abbrev pub on_close : HostSeen → ℕ → Option ChanState → Result HostTurn ControlFault
+on_close h relid None = Err (Relid relid)
+on_close h relid (Some life) = close_by h relid life (row_of life CloseSeen)
 
 -- it waits for what it waited for
 abbrev pub stays : HostSeen → HostNext
@@ -282,9 +282,9 @@ abbrev pub is_rescinded : State → Bool
 is_rescinded IsRescinded = true
 is_rescinded _ = false
 
-abbrev pub hears_teardown : HostSeen → ℕ → ℕ → Option ChanState → Result HostTurn ControlFault
-hears_teardown h relid gpadl None = Err (Relid relid)
-hears_teardown h relid gpadl (Some life) =
+abbrev pub on_teardown : HostSeen → ℕ → ℕ → Option ChanState → Result HostTurn ControlFault
+on_teardown h relid gpadl None = Err (Relid relid)
+on_teardown h relid gpadl (Some life) =
     if is_rescinded life.state || is_live h.lists.live gpadl then teardown_by h relid gpadl life (row_of life TeardownSeen) else Err (Gpadl (Handle gpadl))
 
 -- RELID_RELEASED
@@ -296,26 +296,26 @@ abbrev pub release_by : HostSeen → ℕ → ChanState → Option (State × Acti
 release_by h relid life None = Err (StateFault (record { state = life.state; event = ReleaseSeen }))
 release_by h relid life (Some row) = Ok (goes_next (record (at_rest h) { channels = goes_on h relid life row.0 }) None (released_then h h.awaits relid))
 
-abbrev pub hears_release : HostSeen → ℕ → Option ChanState → Result HostTurn ControlFault
-hears_release h relid None = Err (Relid relid)
-hears_release h relid (Some life) = release_by h relid life (row_of life ReleaseSeen)
+abbrev pub on_release : HostSeen → ℕ → Option ChanState → Result HostTurn ControlFault
+on_release h relid None = Err (Relid relid)
+on_release h relid (Some life) = release_by h relid life (row_of life ReleaseSeen)
 
 -- UNLOAD
-abbrev pub hears_unload : HostSeen → HostWait → HostTurn
-hears_unload h AwaitsUnload = record (at_rest h) { awaits = Nothing; burst = One farewell_taken }
-hears_unload h _ = at_rest h
+abbrev pub on_unload : HostSeen → HostWait → HostTurn
+on_unload h AwaitsUnload = record (at_rest h) { awaits = Nothing; burst = One farewell_taken }
+on_unload h _ = at_rest h
 
 -- the host's table: what comes of each message, or why it is refused
 abbrev pub host_hears : HostSeen → Msg → Result HostTurn ControlFault
-host_hears h (RequestOffers padding) = Ok (hears_request h h.awaits)
-host_hears h (OpenChannel padding relid openid gpadl target_vp downstream user) = hears_open h relid openid (by_relid h.channels relid)
-host_hears h (CloseChannel padding relid) = hears_close h relid (by_relid h.channels relid)
-host_hears h (GpadlHeader header) = hears_header h header.relid (GpadlHeader header) (by_relid h.channels header.relid)
-host_hears h (GpadlBody body) = hears_piece h (GpadlBody body) (fault_of h.lists (GpadlBody body))
-host_hears h (GpadlTeardown padding relid gpadl) = hears_teardown h relid gpadl (by_relid h.channels relid)
-host_hears h (RelidReleased padding relid) = hears_release h relid (by_relid h.channels relid)
-host_hears h (InitiateContact padding asked target_vcpu page monitor1 monitor2) = Ok (hears_contact h h.awaits asked)
-host_hears h (UnloadSeen padding) = Ok (hears_unload h h.awaits)
+host_hears h (RequestOffers padding) = Ok (on_request h h.awaits)
+host_hears h (OpenChannel padding relid openid gpadl target_vp downstream user) = on_open h relid openid (by_relid h.channels relid)
+host_hears h (CloseChannel padding relid) = on_close h relid (by_relid h.channels relid)
+host_hears h (GpadlHeader header) = on_header h header.relid (GpadlHeader header) (by_relid h.channels header.relid)
+host_hears h (GpadlBody body) = on_piece h (GpadlBody body) (fault_of h.lists (GpadlBody body))
+host_hears h (GpadlTeardown padding relid gpadl) = on_teardown h relid gpadl (by_relid h.channels relid)
+host_hears h (RelidReleased padding relid) = on_release h relid (by_relid h.channels relid)
+host_hears h (InitiateContact padding asked target_vcpu page monitor1 monitor2) = Ok (on_contact h h.awaits asked)
+host_hears h (UnloadSeen padding) = Ok (on_unload h h.awaits)
 host_hears h m = Err (Unasked (type_of m))
 
 -- a host after a turn in which it sent these messages, and was fed these

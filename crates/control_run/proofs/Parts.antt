@@ -19,10 +19,10 @@ use Rattle.control_laws.proofs.Going.{new_ones_stand}
 use Rattle.control_model.specs.GuestAt.{GuestAt}
 use Rattle.control_model.specs.HostAt.{HostAt}
 use Rattle.mail_box.specs.Mail.{Mail, Post, Fetch, Closed, Closes}
-use Rattle.control_serve.proofs.Steps.{all_fed}
-use Rattle.control_serve.specs.declared.part_done.PartDone.{PartDone}
-use Rattle.control_serve.specs.declared.part_left.PartLeft.{PartLeft}
-use Rattle.control_serve.specs.Sides.{Side, Serves, Served, AtRest}
+use Rattle.control_side.proofs.Steps.{all_fed}
+use Rattle.control_side.specs.declared.part_done.PartDone.{PartDone}
+use Rattle.control_side.specs.declared.part_left.PartLeft.{PartLeft}
+use Rattle.control_side.specs.Sides.{Side, Serves, Served, AtRest}
 use Rattle.part_run.specs.Ends.{Hears, IsExplained}
 use Rattle.guest_end.specs.AsSide.{guest_side, GuestFollows}
 use Rattle.host_end.specs.AsSide.{host_side, HostFollows}

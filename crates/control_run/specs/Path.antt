@@ -6,9 +6,9 @@ use Rattle.control_model.specs.declared.fault.ControlFault.TheVariants.{Memory}
 use Rattle.control_model.specs.Plan.{IsPlan}
 use Rattle.control_model.specs.Guest.{new_guest, GuestSeen, can_begin, guest_done}
 use Rattle.control_model.specs.Host.{new_host, HostSeen, host_can_begin, host_done}
-use Rattle.control_serve.specs.declared.part_done.PartDone.{PartDone}
-use Rattle.control_serve.specs.declared.part_left.PartLeft.{PartLeft}
-use Rattle.control_serve.specs.Sides.{AtRest, Served}
+use Rattle.control_side.specs.declared.part_done.PartDone.{PartDone}
+use Rattle.control_side.specs.declared.part_left.PartLeft.{PartLeft}
+use Rattle.control_side.specs.Sides.{AtRest, Served}
 use Rattle.part_run.specs.declared.ends.Ends.{Ends}
 use Rattle.mail_box.specs.Mail.{Closes}
 use Rattle.guest_end.specs.AsSide.{guest_side, GuestFollows}

@@ -8,7 +8,7 @@ ghost use Rattle.control_model.specs.Said.{said_by_guest, said_by_host};
 ghost use Rattle.control_model.specs.Guest.{new_guest};
 ghost use Rattle.control_model.specs.Host.{new_host};
 ghost use Rattle.control_laws.specs.Over.{IsOver};
-ghost use Rattle.control_serve.specs.Sides.{Serves};
+ghost use Rattle.control_side.specs.Sides.{Serves};
 ghost use Rattle.guest_end.specs.AsSide.{guest_side};
 ghost use Rattle.host_end.specs.AsSide.{host_side};
 ghost use Rattle.mail_box.specs.Mail.{Closes};
@@ -17,7 +17,7 @@ ghost use Rattle.control_run.specs.Path.{AreNew, joined, Rests, RanPart, EndsInW
 use crate::{PathOver, PathWant};
 use bus_script::Script;
 use contact::Part;
-use control_serve::PartLeft;
+use control_side::PartLeft;
 use guest_end::GuestControl;
 use host_end::HostControl;
 use mail_box::{FetchEnd, MailBox, Named, PostEnd};

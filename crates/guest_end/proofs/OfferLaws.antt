@@ -7,11 +7,11 @@ use Rattle.contact.specs.Classes.{HasNoKind}
 use Rattle.control_model.specs.declared.fault.ControlFault.{ControlFault}
 use Rattle.control_model.specs.declared.fault.ControlFault.TheVariants.{Offer}
 use Rattle.control_model.specs.declared.guest_turn.GuestTurn.{GuestTurn}
-use Rattle.control_model.specs.Guest.{GuestSeen, guest_hears, hears_offer}
+use Rattle.control_model.specs.Guest.{GuestSeen, guest_hears, on_offer}
 use Rattle.control_model.proofs.KindLaws.{kind_of_none}
 
 pub refused_offer : (g : GuestSeen) (m : Msg) (fault : OfferFault) → HasNoKind m fault → (let r : Result GuestTurn ControlFault = Err (Offer fault) in r) ≡ guest_hears g m
 refused_offer g (OfferChannel padding if_type if_instance reserved1 reserved2 chn_flags mmio user sub reserved3 relid monitorid monitor interrupt connection) fault none =
     let F : OfferFault → Result GuestTurn ControlFault = λ f. Err (Offer f) in
-    ap F none.0 ∙ ap (hears_offer g if_type sub relid) (sym (kind_of_none if_type none.1))
+    ap F none.0 ∙ ap (on_offer g if_type sub relid) (sym (kind_of_none if_type none.1))
 refused_offer g _ fault none = absurd none

@@ -16,8 +16,8 @@ use Rattle.control_model.specs.Guest.{GuestSeen, guest_done, guest_hears, waits_
 use Rattle.control_model.specs.GuestAt.{GuestAt}
 use Rattle.control_laws.proofs.Going.{guest_starts, guest_takes, guest_fronts}
 use Rattle.control_laws.proofs.Never.{guest_is_cut}
-use Rattle.control_serve.specs.Sides.{Goes, Refuses as RefusesOf}
-use Rattle.control_serve.proofs.Lasts.{last_same}
+use Rattle.control_side.specs.Sides.{Goes, Refuses as RefusesOf}
+use Rattle.control_side.proofs.Lasts.{last_same}
 use Rattle.guest_end.specs.AsSide.{guest_side, GuestFollows, GuestMayBegin}
 
 follows_on : (g g' : GuestSeen) → GuestFollows g → GuestAt g.plan g' → GuestFollows g'

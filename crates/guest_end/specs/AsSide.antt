@@ -6,7 +6,7 @@ use Rattle.control_model.specs.Messages.{farewell, farewell_taken}
 use Rattle.control_model.specs.Said.{said_by_guest, said_by_host}
 use Rattle.control_model.specs.Guest.{GuestSeen, can_begin, guest_done}
 use Rattle.control_model.specs.GuestAt.{GuestAt}
-use Rattle.control_serve.specs.Sides.{Side}
+use Rattle.control_side.specs.Sides.{Side}
 
 -- It says and hears what both say over its plan. UNLOAD_RESPONSE, which no host ever takes, ends what it says early, and UNLOAD, which no guest ever takes, what
 -- it hears

@@ -2,7 +2,7 @@
 ghost use Rattle.std.specs.Prelude.{◌≡◌, Some, IfOk};
 ghost use Rattle.control_model.specs.Plan.{opening_in, IsOpening};
 ghost use Rattle.control_model.specs.Channels.{by_relid, lived};
-ghost use Rattle.control_model.specs.Guest.{IsFit, lists_next, opens, created_for, created_while, hears_created};
+ghost use Rattle.control_model.specs.Guest.{IsFit, lists_next, opens, created_for, created_while, on_created};
 
 use crate::GuestControl;
 use crate::turns::lived;
@@ -31,13 +31,13 @@ impl GuestControl {
     }
 
     // GPADL_CREATED: the channel is opened, where it is of the page list that was sent.
-    pub(crate) fn hears_created(
+    pub(crate) fn on_created(
         &self,
         relid: u32,
         gpadl: u32,
         status: u32,
     ) -> Result<GuestTurn, ControlFault>
-        ensures turn { result ≡ hears_created self.now relid gpadl status (by_relid self.now.channels relid) }
+        ensures turn { result ≡ on_created self.now relid gpadl status (by_relid self.now.channels relid) }
         ensures fits { IfOk result (λ turn. IsFit self.now turn) }
     {
         let Some(channel) = self.channel(relid) else {

@@ -4,7 +4,7 @@ ghost use Rattle.contact.specs.Classes.{IsOffer};
 ghost use Rattle.control_model.specs.declared.change.Change.{Change};
 ghost use Rattle.control_model.specs.Plan.{opening_in, is_of_sub, most_channels, IsOpening};
 ghost use Rattle.control_model.specs.Channels.{same_kind, is_kind};
-ghost use Rattle.control_model.specs.Guest.{IsFit, idle, offered_channel, is_next_offer, is_sub_offer, device_offered, goes_behind, sub_offered, takes_offer, guest_hears, hears_delivered, awaits_offers};
+ghost use Rattle.control_model.specs.Guest.{IsFit, idle, offered_channel, is_next_offer, is_sub_offer, device_offered, goes_behind, sub_offered, takes_offer, guest_hears, on_delivered, awaits_offers};
 
 use crate::GuestControl;
 use chan_state::ChanState;
@@ -15,7 +15,7 @@ use vmbus_msg::Msg;
 
 impl GuestControl {
     // OFFERCHANNEL: a channel is offered.
-    pub(crate) fn hears_offer(&self, m: &Msg) -> Result<GuestTurn, ControlFault>
+    pub(crate) fn on_offer(&self, m: &Msg) -> Result<GuestTurn, ControlFault>
         requires { IsOffer m.now }
         ensures turn { result ≡ guest_hears self.now m.now }
         ensures fits { IfOk result (λ turn. IsFit self.now turn) }
@@ -130,8 +130,8 @@ impl GuestControl {
     }
 
     // ALLOFFERS_DELIVERED, behind the last offer.
-    pub(crate) fn hears_delivered(&self) -> GuestTurn
-        ensures turn { result ≡ hears_delivered self.now }
+    pub(crate) fn on_delivered(&self) -> GuestTurn
+        ensures turn { result ≡ on_delivered self.now }
         ensures fits { IsFit self.now result }
     {
         if self.awaits_offers() && self.channels.len() == self.plan.kinds().len() {

@@ -2,7 +2,7 @@
 ghost use Rattle.std.specs.Prelude.{◌≡◌, ◌+◌, ◌^◌, ◌<◌, IfOk};
 ghost use Rattle.control_model.specs.Plan.{opening_in};
 ghost use Rattle.control_model.specs.Channels.{by_relid};
-ghost use Rattle.control_model.specs.Guest.{IsFit, hears_result, opens_next, opened_for, opened_while};
+ghost use Rattle.control_model.specs.Guest.{IsFit, on_result, opens_next, opened_for, opened_while};
 
 use crate::GuestControl;
 use crate::turns::lived;
@@ -12,8 +12,8 @@ use control_model::{Change, ControlFault, GuestTurn, GuestWait, Opening};
 impl GuestControl {
     // OPENCHANNEL_RESULT: where it is of the channel that was opened last, and says that it is open,
     // the guest goes on.
-    pub(crate) fn hears_result(&self, relid: u32, status: u32) -> Result<GuestTurn, ControlFault>
-        ensures turn { result ≡ hears_result self.now relid status (by_relid self.now.channels relid) }
+    pub(crate) fn on_result(&self, relid: u32, status: u32) -> Result<GuestTurn, ControlFault>
+        ensures turn { result ≡ on_result self.now relid status (by_relid self.now.channels relid) }
         ensures fits { IfOk result (λ turn. IsFit self.now turn) }
     {
         let Some(channel) = self.channel(relid) else {

@@ -3,7 +3,7 @@ ghost use Rattle.std.specs.Prelude.{◌≡◌};
 ghost use Rattle.contact.specs.Versions.{IsVersion};
 ghost use Rattle.control_model.specs.Messages.{propose};
 ghost use Rattle.control_model.specs.Channels.{version_below};
-ghost use Rattle.control_model.specs.Guest.{IsFit, proposal, answered, hears_response};
+ghost use Rattle.control_model.specs.Guest.{IsFit, proposal, answered, on_response};
 
 use crate::GuestControl;
 use contact::Version;
@@ -32,8 +32,8 @@ impl GuestControl {
     }
 
     // VERSION_RESPONSE: the version is agreed on, or the next lower one is proposed.
-    pub(crate) fn hears_response(&self, supported: u8) -> GuestTurn
-        ensures turn { result ≡ hears_response self.now self.now.awaits supported }
+    pub(crate) fn on_response(&self, supported: u8) -> GuestTurn
+        ensures turn { result ≡ on_response self.now self.now.awaits supported }
         ensures fits { IsFit self.now result }
     {
         match self.awaits {

@@ -1,7 +1,7 @@
 //! The host takes an offer back.
 ghost use Rattle.std.specs.Prelude.{◌≡◌, IfOk};
 ghost use Rattle.control_model.specs.Channels.{by_relid, lived};
-ghost use Rattle.control_model.specs.Guest.{IsFit, hears_rescind, releases, rescinded_while};
+ghost use Rattle.control_model.specs.Guest.{IsFit, on_rescind, releases, rescinded_while};
 
 use crate::GuestControl;
 use crate::turns::lived;
@@ -11,8 +11,8 @@ use control_model::{Burst, Change, Channel, ControlFault, GuestTurn, GuestWait, 
 impl GuestControl {
     // RESCIND_CHANNELOFFER: the guest gives the channel back. Where it waited for that, it goes on with
     // the next opening.
-    pub(crate) fn hears_rescind(&self, relid: u32) -> Result<GuestTurn, ControlFault>
-        ensures turn { result ≡ hears_rescind self.now relid (by_relid self.now.channels relid) }
+    pub(crate) fn on_rescind(&self, relid: u32) -> Result<GuestTurn, ControlFault>
+        ensures turn { result ≡ on_rescind self.now relid (by_relid self.now.channels relid) }
         ensures fits { IfOk result (λ turn. IsFit self.now turn) }
     {
         let Some(channel) = self.channel(relid) else {

@@ -1,12 +1,12 @@
 //! A guest's control serves a part over its ends of both queues.
 ghost use Rattle.std.specs.Prelude.{◌≡◌, []};
-ghost use Rattle.control_serve.specs.Sides.{AtRest, Served};
+ghost use Rattle.control_side.specs.Sides.{AtRest, Served};
 ghost use Rattle.guest_end.specs.AsSide.{guest_side, GuestFollows, GuestMayBegin};
 
 use crate::GuestControl;
 use contact::Part;
 use control_model::ControlFault;
-use control_serve::{Control, PartDone, serve};
+use control_side::{Control, PartDone, serve};
 use mail_box::{FetchEnd, MailBox, PostEnd};
 use std::alloc::AllocError;
 use std::sync::Wait;

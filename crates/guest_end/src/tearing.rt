@@ -2,7 +2,7 @@
 ghost use Rattle.std.specs.Prelude.{◌≡◌, slice_get, IfOk};
 ghost use Rattle.control_model.specs.Plan.{opening_in};
 ghost use Rattle.control_model.specs.Channels.{by_relid, lived, place_of_list};
-ghost use Rattle.control_model.specs.Guest.{IsFit, and_close, closes, closes_next, hears_torndown, torn_at, torn_for, ended_for, torn_while};
+ghost use Rattle.control_model.specs.Guest.{IsFit, and_close, closes, closes_next, on_torndown, torn_at, torn_for, ended_for, torn_while};
 
 use crate::GuestControl;
 use crate::turns::lived;
@@ -63,8 +63,8 @@ impl GuestControl {
 
     // GPADL_TORNDOWN: where it is of the channel that was closed last, the guest goes on with the next
     // opening.
-    pub(crate) fn hears_torndown(&self, gpadl: u32) -> Result<GuestTurn, ControlFault>
-        ensures turn { result ≡ hears_torndown self.now gpadl (place_of_list self.now.channels gpadl) }
+    pub(crate) fn on_torndown(&self, gpadl: u32) -> Result<GuestTurn, ControlFault>
+        ensures turn { result ≡ on_torndown self.now gpadl (place_of_list self.now.channels gpadl) }
         ensures fits { IfOk result (λ turn. IsFit self.now turn) }
     {
         let Some(place) = self.place_of_list(gpadl) else {

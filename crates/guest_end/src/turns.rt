@@ -3,7 +3,7 @@ ghost use Rattle.std.specs.Prelude.{◌≡◌, IfOk};
 ghost use Rattle.contact.specs.declared.part.Part.{Part};
 ghost use Rattle.control_model.specs.Messages.{propose, farewell};
 ghost use Rattle.control_model.specs.Channels.{by_relid, lived};
-ghost use Rattle.control_model.specs.Guest.{IsFit, idle, guest_begins, guest_hears, hears_delivered, hears_unloaded, can_unload};
+ghost use Rattle.control_model.specs.Guest.{IsFit, idle, guest_begins, guest_hears, on_delivered, on_unloaded, can_unload};
 
 use crate::GuestControl;
 use chan_state::Event;
@@ -34,19 +34,19 @@ impl GuestControl {
         ensures fits { IfOk result (λ turn. IsFit self.now turn) }
     {
         match m {
-            Msg::OfferChannel { .. } => self.hears_offer(m),
-            Msg::RescindChannelOffer { relid, .. } => self.hears_rescind(*relid),
-            Msg::AllOffersDelivered { .. } => Ok(self.hears_delivered()),
-            Msg::OpenChannelResult { relid, status, .. } => self.hears_result(*relid, *status),
+            Msg::OfferChannel { .. } => self.on_offer(m),
+            Msg::RescindChannelOffer { relid, .. } => self.on_rescind(*relid),
+            Msg::AllOffersDelivered { .. } => Ok(self.on_delivered()),
+            Msg::OpenChannelResult { relid, status, .. } => self.on_result(*relid, *status),
             Msg::GpadlCreated {
                 relid,
                 gpadl,
                 status,
                 ..
-            } => self.hears_created(*relid, *gpadl, *status),
-            Msg::GpadlTorndown { gpadl, .. } => self.hears_torndown(*gpadl),
-            Msg::VersionResponse { supported, .. } => Ok(self.hears_response(*supported)),
-            Msg::UnloadResponse { .. } => Ok(self.hears_unloaded()),
+            } => self.on_created(*relid, *gpadl, *status),
+            Msg::GpadlTorndown { gpadl, .. } => self.on_torndown(*gpadl),
+            Msg::VersionResponse { supported, .. } => Ok(self.on_response(*supported)),
+            Msg::UnloadResponse { .. } => Ok(self.on_unloaded()),
             _ => Err(ControlFault::Unasked { kind: type_of(m) }),
         }
     }
@@ -99,8 +99,8 @@ impl GuestControl {
     }
 
     // UNLOAD_RESPONSE.
-    fn hears_unloaded(&self) -> GuestTurn
-        ensures turn { result ≡ hears_unloaded self.now self.now.awaits }
+    fn on_unloaded(&self) -> GuestTurn
+        ensures turn { result ≡ on_unloaded self.now self.now.awaits }
         ensures fits { IsFit self.now result }
     {
         match self.awaits {

@@ -9,7 +9,7 @@ use Rattle.gpadl.specs.declared.progress.Progress.TheVariants.{More, Done}
 use Rattle.control_model.specs.declared.host_wait.HostWait.{HostWait}
 use Rattle.control_model.specs.declared.burst.Burst.TheVariants.{One}
 use Rattle.control_model.specs.Messages.{created}
-use Rattle.control_model.specs.Host.{HostSeen, at_rest, listed, lists_by, hears_piece}
+use Rattle.control_model.specs.Host.{HostSeen, at_rest, listed, lists_by, on_piece}
 use Rattle.std.proofs.lemmas.Bool.{eq-eqb}
 use Rattle.host_end.specs.Feeding.{Comes, list_made, with_mail}
 
@@ -45,7 +45,7 @@ pub came_whole : (h : HostSeen) (m : Msg) (progress : Progress) (now : Assembly)
     → fault_of h.lists m ≡ None → Taken h.lists m progress now → now ≡ next h.lists m → list_made progress ≡ Some (relid, handle)
     → ((p : Partial) → p.relid ≡ relid → awaits ≡ listed h h.awaits p)
     → new ≡ record { plan = h.plan; part = h.part; awaits = awaits; version = h.version; channels = h.channels; lists = now; posted = h.posted ++ created relid handle ∷ []; fed = h.fed ++ m ∷ [] }
-    → after ≡ with_mail before (created relid handle ∷ []) → Comes (hears_piece h m (fault_of h.lists m)) h new m before after (Ok (tt {0}))
+    → after ≡ with_mail before (created relid handle ∷ []) → Comes (on_piece h m (fault_of h.lists m)) h new m before after (Ok (tt {0}))
 came_whole h m progress now relid handle awaits new before after right took is made waits changed mail =
     let whole = piece_makes h (next h.lists m) m progress now relid handle took made in
     let F : Assembly → HostWait → HostSeen = λ lists w. record { plan = h.plan; part = h.part; awaits = w; version = h.version; channels = h.channels; lists = lists; posted = h.posted ++ created relid handle ∷ []; fed = h.fed ++ m ∷ [] } in

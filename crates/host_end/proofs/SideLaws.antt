@@ -15,8 +15,8 @@ use Rattle.control_model.specs.Host.{HostSeen, HostTurn, host_done, host_hears, 
 use Rattle.control_model.specs.HostAt.{HostAt}
 use Rattle.control_laws.proofs.Going.{host_starts, host_takes, host_fronts}
 use Rattle.control_laws.proofs.Never.{host_is_cut}
-use Rattle.control_serve.specs.Sides.{Goes, Refuses}
-use Rattle.control_serve.proofs.Lasts.{last_same}
+use Rattle.control_side.specs.Sides.{Goes, Refuses}
+use Rattle.control_side.proofs.Lasts.{last_same}
 use Rattle.host_end.specs.Feeding.{Comes, with_mail}
 use Rattle.host_end.specs.AsSide.{host_side, HostFollows, HostMayBegin}
 

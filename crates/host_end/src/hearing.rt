@@ -3,7 +3,7 @@ ghost use Rattle.std.specs.Prelude.{◌≡◌, ◌+◌, ◌≤◌, length, map, 
 ghost use Rattle.control_model.specs.Channels.{by_relid, row_of};
 ghost use Rattle.chan_state.specs.declared.event.Event.TheVariants.{TeardownSeen};
 ghost use Rattle.control_model.specs.Plan.{opening_in};
-ghost use Rattle.control_model.specs.Host.{hears_contact, hears_request, hears_close, hears_teardown, teardown_by, hears_release, hears_unload, waits_list, is_of, closed_then, offered_life};
+ghost use Rattle.control_model.specs.Host.{on_contact, on_request, on_close, on_teardown, teardown_by, on_release, on_unload, waits_list, is_of, closed_then, offered_life};
 ghost use Rattle.host_end.specs.Feeding.{Comes};
 
 use crate::HostControl;
@@ -48,7 +48,7 @@ impl HostControl {
         post: &mut MailBox,
     ) -> Result<(), ControlFault>
         requires room { length post.old.queue + 32 ≤ post.old.size }
-        ensures { Comes (Ok (hears_contact self.old self.old.awaits asked.0)) self.old self.new m.now post.old post.new result }
+        ensures { Comes (Ok (on_contact self.old self.old.awaits asked.0)) self.old self.new m.now post.old post.new result }
     {
         match self.awaits {
             HostWait::Contact => {
@@ -68,7 +68,7 @@ impl HostControl {
     // REQUESTOFFERS is answered by an offer for each device.
     pub(crate) fn hear_request(&mut self, m: &Msg, post: &mut MailBox) -> Result<(), ControlFault>
         requires room { length post.old.queue + 32 ≤ post.old.size }
-        ensures { Comes (Ok (hears_request self.old self.old.awaits)) self.old self.new m.now post.old post.new result }
+        ensures { Comes (Ok (on_request self.old self.old.awaits)) self.old self.new m.now post.old post.new result }
     {
         match self.awaits {
             HostWait::Request => {
@@ -92,7 +92,7 @@ impl HostControl {
         post: &mut MailBox,
     ) -> Result<(), ControlFault>
         requires room { length post.old.queue + 32 ≤ post.old.size }
-        ensures { Comes (hears_close self.old relid (by_relid self.old.channels relid)) self.old self.new m.now post.old post.new result }
+        ensures { Comes (on_close self.old relid (by_relid self.old.channels relid)) self.old self.new m.now post.old post.new result }
     {
         let Some(mut life) = self.life(relid) else {
             return Err(ControlFault::Relid { value: relid });
@@ -134,7 +134,7 @@ impl HostControl {
         post: &mut MailBox,
     ) -> Result<(), ControlFault>
         requires room { length post.old.queue + 32 ≤ post.old.size }
-        ensures { Comes (hears_teardown self.old relid gpadl (by_relid self.old.channels relid)) self.old self.new m.now post.old post.new result }
+        ensures { Comes (on_teardown self.old relid gpadl (by_relid self.old.channels relid)) self.old self.new m.now post.old post.new result }
     {
         let Some(life) = self.life(relid) else {
             return Err(ControlFault::Relid { value: relid });
@@ -188,7 +188,7 @@ impl HostControl {
         post: &mut MailBox,
     ) -> Result<(), ControlFault>
         requires room { length post.old.queue + 32 ≤ post.old.size }
-        ensures { Comes (hears_release self.old relid (by_relid self.old.channels relid)) self.old self.new m.now post.old post.new result }
+        ensures { Comes (on_release self.old relid (by_relid self.old.channels relid)) self.old self.new m.now post.old post.new result }
     {
         let Some(mut life) = self.life(relid) else {
             return Err(ControlFault::Relid { value: relid });
@@ -209,7 +209,7 @@ impl HostControl {
     // UNLOAD is answered where it is waited for.
     pub(crate) fn hear_unload(&mut self, m: &Msg, post: &mut MailBox) -> Result<(), ControlFault>
         requires room { length post.old.queue + 32 ≤ post.old.size }
-        ensures { Comes (Ok (hears_unload self.old self.old.awaits)) self.old self.new m.now post.old post.new result }
+        ensures { Comes (Ok (on_unload self.old self.old.awaits)) self.old self.new m.now post.old post.new result }
     {
         match self.awaits {
             HostWait::Unload => {

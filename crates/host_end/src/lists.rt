@@ -1,7 +1,7 @@
 //! The page lists of a host.
 ghost use Rattle.std.specs.Prelude.{◌≡◌, ◌+◌, ◌≤◌, length, Some, None};
 ghost use Rattle.control_model.specs.Channels.{by_relid};
-ghost use Rattle.control_model.specs.Host.{hears_header, hears_piece, listed, lists_torn, without};
+ghost use Rattle.control_model.specs.Host.{on_header, on_piece, listed, lists_torn, without};
 ghost use Rattle.gpadl.specs.Assembly.{fault_of, IsPiece, Partial};
 ghost use Rattle.host_end.specs.Feeding.{Comes, list_made};
 
@@ -24,7 +24,7 @@ impl HostControl {
     ) -> Result<(), ControlFault>
         requires piece { IsPiece m.now }
         requires room { length post.old.queue + 32 ≤ post.old.size }
-        ensures { Comes (hears_header self.old relid m.now (by_relid self.old.channels relid)) self.old self.new m.now post.old post.new result }
+        ensures { Comes (on_header self.old relid m.now (by_relid self.old.channels relid)) self.old self.new m.now post.old post.new result }
     {
         match self.life(relid) {
             Some(_) => self.hear_piece(m, post),
@@ -36,7 +36,7 @@ impl HostControl {
     pub(crate) fn hear_piece(&mut self, m: &Msg, post: &mut MailBox) -> Result<(), ControlFault>
         requires piece { IsPiece m.now }
         requires room { length post.old.queue + 32 ≤ post.old.size }
-        ensures { Comes (hears_piece self.old m.now (fault_of self.old.lists m.now)) self.old self.new m.now post.old post.new result }
+        ensures { Comes (on_piece self.old m.now (fault_of self.old.lists m.now)) self.old self.new m.now post.old post.new result }
     {
         match self.lists.fault(m) {
             Some(fault) => return Err(ControlFault::Gpadl(fault)),

@@ -2,7 +2,7 @@
 ghost use Rattle.std.specs.Prelude.{◌≡◌, ◌+◌, ◌≤◌, ◌++◌, length, replicate, vec_len, vec_capacity, OnOk, OnErr};
 ghost use Rattle.control_model.specs.Messages.{Fits};
 ghost use Rattle.control_model.specs.Channels.{by_relid};
-ghost use Rattle.control_model.specs.Host.{hears_open, opened_then, with_offers, opened_burst, subs_offered, opened_subs, offered_life};
+ghost use Rattle.control_model.specs.Host.{on_open, opened_then, with_offers, opened_burst, subs_offered, opened_subs, offered_life};
 ghost use Rattle.host_end.specs.Feeding.{Comes, Opens};
 
 use crate::HostControl;
@@ -25,7 +25,7 @@ impl HostControl {
         post: &mut MailBox,
     ) -> Result<(), ControlFault>
         requires room { length post.old.queue + 32 ≤ post.old.size }
-        ensures { Comes (hears_open self.old relid openid (by_relid self.old.channels relid)) self.old self.new m.now post.old post.new result }
+        ensures { Comes (on_open self.old relid openid (by_relid self.old.channels relid)) self.old self.new m.now post.old post.new result }
     {
         let Some(mut life) = self.life(relid) else {
             return Err(ControlFault::Relid { value: relid });

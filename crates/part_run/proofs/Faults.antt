@@ -6,8 +6,8 @@ use Rattle.vmbus_msg.specs.declared.msg.Msg.{Msg}
 use Rattle.mail_box.specs.Mail.{Post, Fetch}
 use Rattle.control_model.specs.declared.fault.ControlFault.{ControlFault}
 use Rattle.control_model.specs.declared.fault.ControlFault.TheVariants.{State, Gpadl, Relid, Offer, Unasked, Memory}
-use Rattle.control_serve.specs.Sides.{Side, parting_of, Serves}
-use Rattle.control_serve.proofs.Steps.{all_fed}
+use Rattle.control_side.specs.Sides.{Side, parting_of, Serves}
+use Rattle.control_side.proofs.Steps.{all_fed}
 use Rattle.part_run.specs.Ends.{Hears, IsExplained, IsFedFrom}
 
 -- what a side put, where no message ended it early, is what it posted

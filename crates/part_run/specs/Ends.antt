@@ -4,7 +4,7 @@ use mathlib.Core.List.{IsPrefix}
 use Rattle.vmbus_msg.specs.declared.msg.Msg.{Msg}
 use Rattle.control_model.specs.declared.fault.ControlFault.{ControlFault}
 use Rattle.control_model.specs.declared.fault.ControlFault.TheVariants.{Unasked, Memory}
-use Rattle.control_serve.specs.Sides.{Side}
+use Rattle.control_side.specs.Sides.{Side}
 
 -- a side never says this
 abbrev pub NeverSays : Side → Msg → Type 0

@@ -1,8 +1,8 @@
 -- A part of one side, from its side to what it leaves.
 use Rattle.std.specs.Prelude.{◌≡◌, []}
 use Rattle.contact.specs.declared.part.Part.{Part}
-use Rattle.control_serve.specs.declared.part_left.PartLeft.{PartLeft}
-use Rattle.control_serve.specs.Sides.{Side, AtRest, Served}
+use Rattle.control_side.specs.declared.part_left.PartLeft.{PartLeft}
+use Rattle.control_side.specs.Sides.{Side, AtRest, Served}
 use Rattle.part_run.specs.declared.part_side.PartSide.{PartSide}
 
 module _ {C : Type 0} (seen : C → Side) (follows : C → Type 0) where

@@ -1,7 +1,7 @@
 -- The start of a side's part in a thread.
 use Rattle.std.specs.Prelude.{◌≡◌}
 use Rattle.contact.specs.declared.part.Part.{Part}
-use Rattle.control_serve.specs.Sides.{Side}
+use Rattle.control_side.specs.Sides.{Side}
 use Rattle.part_run.specs.declared.part_side.PartSide.{PartSide}
 use Rattle.part_run.specs.declared.start.Start.{Start}
 use Rattle.part_run.specs.declared.start.Start.TheVariants.{Ran, Back}

@@ -1,11 +1,11 @@
 //! The end of both queues.
 ghost use Rattle.std.specs.Prelude.{◌≡◌, []};
-ghost use Rattle.control_serve.specs.Sides.{Serves};
+ghost use Rattle.control_side.specs.Sides.{Serves};
 ghost use Rattle.mail_box.specs.Mail.{Closes};
 ghost use Rattle.part_run.specs.Ends.{Hears, IsExplained, IsFedFrom};
 
 use control_model::ControlFault;
-use control_serve::{Control, PartDone};
+use control_side::{Control, PartDone};
 use mail_box::{ClosedQueue, MailBox};
 use std::sync::Wait;
 

@@ -2,7 +2,7 @@
 ghost use Rattle.part_run.specs.Parts.{IsReady, Leaves};
 
 use contact::Part;
-use control_serve::{Control, PartLeft, serve};
+use control_side::{Control, PartLeft, serve};
 use mail_box::{FetchEnd, MailBox, PostEnd};
 use std::sync::Wait;
 

@@ -5,7 +5,7 @@ ghost use Rattle.part_run.specs.Starting.{Comes};
 use crate::PartSide;
 use crate::start::{Begun, Start, begin_there};
 use contact::Part;
-use control_serve::{Control, PartLeft, Serving, Turn};
+use control_side::{Control, PartLeft, Serving, Turn};
 use std::snapshot::Snapshot;
 use std::sync::Wait;
 use std::sync::atomic::AtomicBool;

@@ -4,7 +4,7 @@ ghost use Rattle.part_run.specs.Parts.{IsReady};
 
 use crate::PartSide;
 use contact::Part;
-use control_serve::{Control, PartLeft};
+use control_side::{Control, PartLeft};
 use std::snapshot::Snapshot;
 use std::sync::Wait;
 use std::sync::atomic::{AtomicBool, Ordering};

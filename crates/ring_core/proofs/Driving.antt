@@ -2,13 +2,13 @@
 use Rattle.std.proofs.Common.{◌≡◌, ◌≢◌, ℕ, suc, zero, ◌+◌, ◌-◌, ◌<◌, ◌≤◌, Bool, true, false, cond, List, [], ◌∷◌, ◌++◌, length, take, Option, Some, None, refl, sym, ap, ◌∙◌, subst, inl, inr, ◌==◌, ◌*◌, arith, length-set, length-append}
 use Rattle.std.specs.Prelude.{slice_index}
 use Rattle.std.proofs.lemmas.List.{length-take-le}
-use Rattle.chan_run.specs.declared.event.Event.{Event}
-use Rattle.chan_run.specs.declared.event.Event.TheVariants.{Got as GotEvent}
+use Rattle.channel_trace.specs.declared.event.Event.{Event}
+use Rattle.channel_trace.specs.declared.event.Event.TheVariants.{Got as GotEvent}
 use Rattle.ring_machine.specs.declared.machine.Stage.{Stage}
 use Rattle.ring_machine.specs.declared.machine.Stage.TheVariants.{Idle, Stopped, SendRead, SendCell, SendWrite, SendMask, TakeWrite, TakeFirst, TakeCell, CommitRead, CommitFeature, CommitPending, ArmPending, ArmMask, PollSignal, MarkStore, PeerMark}
 use Rattle.ring_machine.specs.declared.machine.Ending.{Ending}
 use Rattle.ring_machine.specs.declared.machine.Ending.TheVariants.{Fresh, SentQuiet, SentRaised, Full, BadPeer, Took, Empty, BadIndex, BadLength, BadOffset, CommittedQuiet, CommittedRaised, FellAsleep, FoundWork, NoSignal, Woke, Marked, PeerMarkDown, PeerMarkUp}
-use Rattle.ring_machine.specs.declared.machine.Machine.{Machine}
+use Rattle.ring_machine.specs.declared.machine.EndMachine.{EndMachine}
 use Rattle.ring_machine.specs.declared.state.EndState.{EndState}
 use Rattle.ring_machine.specs.declared.place.Op.{Op}
 use Rattle.page_kept.specs.declared.kept.Kept.{Kept}
@@ -35,14 +35,14 @@ use Rattle.ring_machine.proofs.Tables.{copied_by, fed_cells, busy_next, Lists, l
 record Opens (st : Stage) : Type 0 where
   busy : is_busy_at st ≡ true
   sent : (ps : List (List ℕ)) (p : List ℕ) → sent_while st ps p ≡ ps
-  past : (m : Machine) (es : List (Event (List ℕ))) (p : List ℕ) → past_while st m es p ≡ es
-  write : (how : Ending) (b : Machine) (n : ℕ) → write_at st how b n ≡ b.write
-  read : (how : Ending) (b : Machine) (n : ℕ) → read_at st how b n ≡ b.read
-  start : (how : Ending) (b : Machine) → start_at st how b ≡ b.start
+  past : (m : EndMachine) (es : List (Event (List ℕ))) (p : List ℕ) → past_while st m es p ≡ es
+  write : (how : Ending) (b : EndMachine) (n : ℕ) → write_at st how b n ≡ b.write
+  read : (how : Ending) (b : EndMachine) (n : ℕ) → read_at st how b n ≡ b.read
+  start : (how : Ending) (b : EndMachine) → start_at st how b ≡ b.start
   asleep : (how : Ending) → asleep_at st how ≡ is_polling_at st
   marked : (how : Ending) → marked_at st how ≡ false
   formed : (how : Ending) → is_formed st how ≡ false
-  pages : (m : Machine) (k : Kept) (p buf : List ℕ) → pages_at st m k p buf ≡ k
+  pages : (m : EndMachine) (k : Kept) (p buf : List ℕ) → pages_at st m k p buf ≡ k
 
 opens : (st : Stage) → is_opening_at st ≡ true → Opens st
 opens SendRead h = record { busy = refl; sent = λ ps p. refl; past = λ m es p. refl; write = λ how b n. refl; read = λ how b n. refl; start = λ how b. refl; asleep = λ how. refl; marked = λ how. refl; formed = λ how. refl; pages = λ m k p buf. refl }
@@ -55,16 +55,16 @@ opens MarkStore h = record { busy = refl; sent = λ ps p. refl; past = λ m es p
 opens PeerMark h = record { busy = refl; sent = λ ps p. refl; past = λ m es p. refl; write = λ how b n. refl; read = λ how b n. refl; start = λ how b. refl; asleep = λ how. refl; marked = λ how. refl; formed = λ how. refl; pages = λ m k p buf. refl }
 opens _ h = absurd (cc)
 
-pub opens_busy : (m : Machine) → Starts m → is_busy_at m.stage ≡ true
+pub opens_busy : (m : EndMachine) → Starts m → is_busy_at m.stage ≡ true
 opens_busy m h = (opens m.stage h.opens).busy
 
 -- an arm starts, whether it wants room or not
-pub arm_starts : (m : Machine) (want : ℕ) → m.asleep ≡ false → Starts (arm_begun m want)
+pub arm_starts : (m : EndMachine) (want : ℕ) → m.asleep ≡ false → Starts (arm_begun m want)
 arm_starts m want awake = at_cond (λ (st : Stage). Starts (record m { stage = st; len = 0; done = 0; want = want; saw = false })) (want == 0) _ _
     (λ _. record { opens = refl; asleep = awake; unseen = λ _. refl })
     (λ _. record { opens = refl; asleep = awake; unseen = λ _. refl })
 
-moves_first : (m : Machine) → IsSound m → Starts m → Moves m m
+moves_first : (m : EndMachine) → IsSound m → Starts m → Moves m m
 moves_first m s h =
     let o = opens m.stage h.opens in
     record {
@@ -92,7 +92,7 @@ pub record Counts (base : EndState) (values : List ℕ) (u s : Told) : Type 0 wh
   pub raised : s.raised ≡ u.raised + raises_of base values
   pub woke : s.woke ≡ u.woke + wakes_of base values
 
-pub record Going (base : EndState) (told told' : Option Told) (memory memory' : Option Memory) (m : Machine) (p buf : List ℕ) : Type 0 where
+pub record Going (base : EndState) (told told' : Option Told) (memory memory' : Option Memory) (m : EndMachine) (p buf : List ℕ) : Type 0 where
   pub values : List ℕ
   pub state : EndState
   pub is_after : state ≡ afters base values
@@ -111,7 +111,7 @@ pub record Going (base : EndState) (told told' : Option Told) (memory memory' : 
   pub ends : (u : Told) → told ≡ Some u → is_busy_at m.stage ≡ false → (told' ≡ Some (told_by base values state u)) × (m.stage ≢ Stopped)
   pub runs : (k : Memory) → memory ≡ Some k → (k' : Memory) × (memory' ≡ Some k') × (run (length values) (pair base k) ≡ pair state k')
 
-pub going_first : (told : Option Told) (memory : Option Memory) (m : Machine) (p buf : List ℕ) (sent got : List (List ℕ)) (past : List (Event (List ℕ))) (k : Kept) → length buf ≡ m.cells → IsSound m → Starts m
+pub going_first : (told : Option Told) (memory : Option Memory) (m : EndMachine) (p buf : List ℕ) (sent got : List (List ℕ)) (past : List (Event (List ℕ))) (k : Kept) → length buf ≡ m.cells → IsSound m → Starts m
     → ((u : Told) → told ≡ Some u → Continues u.state m p × (entered u.state m p ≡ shown m p buf sent got past k)) → Going (shown m p buf sent got past k) told told memory memory m p buf
 going_first told memory m p buf sent got past k w s h may =
     let o = opens m.stage h.opens in
@@ -135,7 +135,7 @@ going_first told memory m p buf sent got past k w s h may =
       runs = λ a e. (a, e, refl);
     }
 
-module _ (base : EndState) (told told' told'' : Option Told) (memory memory' memory'' : Option Memory) (m : Machine) (p buf : List ℕ) (v : ℕ)
+module _ (base : EndState) (told told' told'' : Option Told) (memory memory' memory'' : Option Memory) (m : EndMachine) (p buf : List ℕ) (v : ℕ)
     (s : IsSound m) (b : is_busy_at m.stage ≡ true) (it : Going base told told' memory memory' m p buf)
     (quiet : told' ≡ None → told'' ≡ None)
     (tells : (u : Told) → told' ≡ Some u → (told'' ≡ Some (told_next (told_at u m p) v)) × ((fed m v).stage ≢ Stopped))
@@ -145,7 +145,7 @@ module _ (base : EndState) (told told' told'' : Option Told) (memory memory' mem
 
   -- the stage of the step
   stage_is : (afters base it.values).machine.stage ≡ m.stage
-  stage_is = ap (λ (x : EndState). x.machine.stage) (sym it.is_after) ∙ ap (λ (k : Machine). k.stage) it.machine
+  stage_is = ap (λ (x : EndState). x.machine.stage) (sym it.is_after) ∙ ap (λ (k : EndMachine). k.stage) it.machine
 
   told_more : (u s : Told) → entered s.state m p ≡ it.state → Counts base it.values u s → told_next (told_at s m p) v ≡ told_by base (v ∷ it.values) (after it.state v) u
   told_more u s same n =
@@ -164,25 +164,25 @@ module _ (base : EndState) (told told' told'' : Option Told) (memory memory' mem
 
   next_copied : (after it.state v).copied ≡ copied_at (fed m v).stage (take (fed m v).done (stored (is_copying_at m.stage) buf m.done v))
   next_copied =
-      ap (λ (k : Machine). copied_after k.stage (fed k v) it.state.copied v) it.machine
+      ap (λ (k : EndMachine). copied_after k.stage (fed k v) it.state.copied v) it.machine
       ∙ (ap (λ (xs : List ℕ). copied_after m.stage (fed m v) xs v) it.copied ∙ copied_by m v buf s it.wide m.stage refl)
 
   next_sent : sent_after m.stage (sent_while m.stage base.sent p) p ≡ (after it.state v).sent
   next_sent =
       ap (λ (x : List (List ℕ)). sent_after m.stage x p) (sym (it.lists.busy b).1)
-      ∙ (ap (λ (x : List ℕ). sent_after m.stage it.state.sent x) (sym same_packet) ∙ ap (λ (k : Machine). sent_after k.stage it.state.sent it.state.packet) (sym it.machine))
+      ∙ (ap (λ (x : List ℕ). sent_after m.stage it.state.sent x) (sym same_packet) ∙ ap (λ (k : EndMachine). sent_after k.stage it.state.sent it.state.packet) (sym it.machine))
 
   next_got : got_after m.stage m base.got (copied_at m.stage (take m.done buf)) v ≡ (after it.state v).got
   next_got =
       ap (λ (x : List (List ℕ)). got_after m.stage m x (copied_at m.stage (take m.done buf)) v) (sym (it.lists.busy b).2)
-      ∙ (ap (λ (x : List ℕ). got_after m.stage m it.state.got x v) (sym it.copied) ∙ ap (λ (k : Machine). got_after k.stage k it.state.got it.state.copied v) (sym it.machine))
+      ∙ (ap (λ (x : List ℕ). got_after m.stage m it.state.got x v) (sym it.copied) ∙ ap (λ (k : EndMachine). got_after k.stage k it.state.got it.state.copied v) (sym it.machine))
 
   next_past : past_after m.stage m (past_while m.stage m base.past p) p (copied_at m.stage (take m.done buf)) v ≡ (after it.state v).past
   next_past =
       ap (λ (x : List (Event (List ℕ))). past_after m.stage m x p (copied_at m.stage (take m.done buf)) v) (sym (it.lists.busy b).3)
       ∙ (ap (λ (x : List ℕ). past_after m.stage m it.state.past x (copied_at m.stage (take m.done buf)) v) (sym same_packet)
       ∙ (ap (λ (x : List ℕ). past_after m.stage m it.state.past it.state.packet x v) (sym it.copied)
-      ∙ ap (λ (k : Machine). past_after k.stage k it.state.past it.state.packet it.state.copied v) (sym it.machine)))
+      ∙ ap (λ (k : EndMachine). past_after k.stage k it.state.past it.state.packet it.state.copied v) (sym it.machine)))
 
   next_lists : Lists (call_at base.machine.stage) base.sent base.got base.past p (fed m v) (stored (is_copying_at m.stage) buf m.done v) (after it.state v).sent (after it.state v).got (after it.state v).past
   next_lists =
@@ -199,7 +199,7 @@ module _ (base : EndState) (told told' told'' : Option Told) (memory memory' mem
 
   next_pages : (after it.state v).pages ≡ pages_at (fed m v).stage (fed m v) base.pages p (stored (is_copying_at m.stage) buf m.done v)
   next_pages =
-      ap (λ (q : Machine). pages_after q.stage q it.state.pages it.state.packet it.state.copied v) it.machine
+      ap (λ (q : EndMachine). pages_after q.stage q it.state.pages it.state.packet it.state.copied v) it.machine
       ∙ (ap (λ (q : Kept). pages_after m.stage m q it.state.packet it.state.copied v) it.pages
       ∙ (ap (λ (x : List ℕ). pages_after m.stage m (pages_at m.stage m base.pages p buf) x it.state.copied v) same_packet
       ∙ (ap (λ (x : List ℕ). pages_after m.stage m (pages_at m.stage m base.pages p buf) p x v) it.copied ∙ pages_moved m v base.pages p buf s it.wide m.stage refl b)))
@@ -210,15 +210,15 @@ module _ (base : EndState) (told told' told'' : Option Told) (memory memory' mem
       (λ _. it.wide ∙ sym (fed_cells m v m.stage))
 
   next_packet : (after it.state v).packet ≡ kept_at (fed m v).stage p
-  next_packet = ap (λ (k : Machine). kept_at (fed k v).stage it.state.packet) it.machine ∙ ap (kept_at (fed m v).stage) same_packet
+  next_packet = ap (λ (k : EndMachine). kept_at (fed k v).stage it.state.packet) it.machine ∙ ap (kept_at (fed m v).stage) same_packet
 
   next_run : (k : Memory) → memory ≡ Some k → (k' : Memory) × (memory'' ≡ Some k') × (run (suc (length it.values)) (pair base k) ≡ pair (after it.state v) k')
   next_run k e =
       let r = it.runs k e in
       let o = busy_next m p m.stage b in
       let t = runs r.0 o.0 r.1 o.1 in
-      let named : next_of it.state.machine it.state.packet ≡ Some o.0 = ap (λ (q : Machine). next_of q it.state.packet) it.machine ∙ (ap (next_of m) same_packet ∙ o.1) in
-      let d : it.state.machine.cells ≡ m.cells = ap (λ (q : Machine). q.cells) it.machine in (
+      let named : next_of it.state.machine it.state.packet ≡ Some o.0 = ap (λ (q : EndMachine). next_of q it.state.packet) it.machine ∙ (ap (next_of m) same_packet ∙ o.1) in
+      let d : it.state.machine.cells ≡ m.cells = ap (λ (q : EndMachine). q.cells) it.machine in (
         memory_after m.cells o.0 r.0,
         t.0,
         ap step r.2
@@ -234,7 +234,7 @@ module _ (base : EndState) (told told' told'' : Option Told) (memory memory' mem
     is_after = ap (λ (x : EndState). after x v) it.is_after;
     each = (ap is_busy_at stage_is ∙ b, it.each);
     few = (let n = fed_made m v s b in omega (arith, it.few));
-    machine = ap (λ (k : Machine). fed k v) it.machine;
+    machine = ap (λ (k : EndMachine). fed k v) it.machine;
     packet = next_packet;
     copied = next_copied;
     wide = next_wide;
@@ -247,8 +247,8 @@ module _ (base : EndState) (told told' told'' : Option Told) (memory memory' mem
         let packet : p ≡ (after it.state v).packet = sym (next_packet ∙ ap (λ (t : Bool). cond t p []) b') in (
           told_by base (v ∷ it.values) (after it.state v) u,
           (next_told u e).0,
-          inl (sym (ap (λ (k : Machine). fed k v) it.machine), packet),
-          λ i. record { machine = sym (ap (λ (k : Machine). fed k v) it.machine) i; packet = packet i; copied = (after it.state v).copied; sent = (after it.state v).sent; got = (after it.state v).got; past = (after it.state v).past; pages = (after it.state v).pages },
+          inl (sym (ap (λ (k : EndMachine). fed k v) it.machine), packet),
+          λ i. record { machine = sym (ap (λ (k : EndMachine). fed k v) it.machine) i; packet = packet i; copied = (after it.state v).copied; sent = (after it.state v).sent; got = (after it.state v).got; past = (after it.state v).past; pages = (after it.state v).pages },
           record { steps = refl; raised = refl; woke = refl },
         );
     ends = λ u e n. next_told u e;
@@ -256,7 +256,7 @@ module _ (base : EndState) (told told' told'' : Option Told) (memory memory' mem
   }
 
 -- what the seat asks at the next step
-pub going_asks : (base : EndState) (told told' : Option Told) (memory memory' : Option Memory) (m : Machine) (p buf : List ℕ) → Going base told told' memory memory' m p buf → is_busy_at m.stage ≡ true
+pub going_asks : (base : EndState) (told told' : Option Told) (memory memory' : Option Memory) (m : EndMachine) (p buf : List ℕ) → Going base told told' memory memory' m p buf → is_busy_at m.stage ≡ true
     → (s : Told) → told' ≡ Some s → Continues s.state m p
 going_asks base None told' memory memory' m p buf it b s e = absurd (none_some (sym (it.silent refl) ∙ e))
 going_asks base (Some u) told' memory memory' m p buf it b s e =
@@ -264,10 +264,10 @@ going_asks base (Some u) told' memory memory' m p buf it b s e =
     let same : t.0 ≡ s = cc in
     subst (λ (x : Told). Continues x.state m p) same t.2
 
-rested : (t : EndState) (m : Machine) (sent got : List (List ℕ)) (past : List (Event (List ℕ))) (k : Kept) → t.machine ≡ m → t.packet ≡ [] → t.copied ≡ [] → t.sent ≡ sent → t.got ≡ got → t.past ≡ past → t.pages ≡ k → t ≡ resting_with m sent got past k
+rested : (t : EndState) (m : EndMachine) (sent got : List (List ℕ)) (past : List (Event (List ℕ))) (k : Kept) → t.machine ≡ m → t.packet ≡ [] → t.copied ≡ [] → t.sent ≡ sent → t.got ≡ got → t.past ≡ past → t.pages ≡ k → t ≡ resting_with m sent got past k
 rested t m sent got past k a b c d e f g = λ i. record { machine = a i; packet = b i; copied = c i; sent = d i; got = e i; past = f i; pages = g i }
 
-left_by : (base : EndState) (told told' : Option Told) (memory memory' : Option Memory) (m : Machine) (sent got : List (List ℕ)) (past : List (Event (List ℕ))) (k : Kept) (t : EndState) → t ≡ resting_with m sent got past k → Ran base t told told' memory memory' → Left base told told' memory memory' m sent got past k
+left_by : (base : EndState) (told told' : Option Told) (memory memory' : Option Memory) (m : EndMachine) (sent got : List (List ℕ)) (past : List (Event (List ℕ))) (k : Kept) (t : EndState) → t ≡ resting_with m sent got past k → Ran base t told told' memory memory' → Left base told told' memory memory' m sent got past k
 left_by base None told' memory memory' m sent got past k t e r = record {
   ran = subst (λ (x : EndState). Ran base x None told' memory memory') e r;
   told_is = λ s h. absurd (none_some (sym (r.silent refl) ∙ h));
@@ -289,7 +289,7 @@ unbroken : (x : Bool) → (x ≡ true → ⊥) → x ≡ false
 unbroken true n = absurd (n refl)
 unbroken false n = refl
 
-module _ (b m : Machine) (it : Moves b m) (s : IsSound m) where
+module _ (b m : EndMachine) (it : Moves b m) (s : IsSound m) where
   leaves_at : (st : Stage) → m.stage ≡ st → is_busy_at st ≡ false → Leaves b m
   leaves_at Idle e n =
       let whole : is_broken m.ended ≡ false = unbroken (is_broken m.ended) (λ h. let z : Idle ≡ Stopped = sym e ∙ s.broken h in cc) in
@@ -317,7 +317,7 @@ module _ (b m : Machine) (it : Moves b m) (s : IsSound m) where
       }
   leaves_at _ e n = absurd (cc)
 
-formed_end : (m : Machine) → IsSound m → (st : Stage) → m.stage ≡ st → is_busy_at st ≡ false → is_took m.ended ≡ true → is_formed st m.ended ≡ true
+formed_end : (m : EndMachine) → IsSound m → (st : Stage) → m.stage ≡ st → is_busy_at st ≡ false → is_took m.ended ≡ true → is_formed st m.ended ≡ true
 formed_end m s Idle e n h = h
 formed_end m s Stopped e n h = absurd (no_true (broken_sent m.ended (s.stopped e)).1 h)
 formed_end m s _ e n h = absurd (cc)
@@ -338,7 +338,7 @@ packet_of n buf le f =
       offset = subst (λ (x : ℕ). (2 ≤ offset8_of x) × (offset8_of x ≤ length (take n buf))) (sym same) (f.offset.0, omega (arith, f.offset.1, long));
     }
 
-module _ (base : EndState) (told told' : Option Told) (memory memory' : Option Memory) (m : Machine) (p buf : List ℕ) (it : Going base told told' memory memory' m p buf) (s : IsSound m) (n : is_busy_at m.stage ≡ false) where
+module _ (base : EndState) (told told' : Option Told) (memory memory' : Option Memory) (m : EndMachine) (p buf : List ℕ) (it : Going base told told' memory memory' m p buf) (s : IsSound m) (n : is_busy_at m.stage ≡ false) where
   pub going_calls : call_by m.ended ≡ call_at base.machine.stage
   going_calls = (it.lists.ended n).0
 
@@ -357,9 +357,9 @@ module _ (base : EndState) (told told' : Option Told) (memory memory' : Option M
         values = it.values;
         state = it.is_after;
         each = it.each;
-        few = subst (λ (k : Machine). length it.values ≤ made_at k.stage k) (sym it.machine) it.few;
+        few = subst (λ (k : EndMachine). length it.values ≤ made_at k.stage k) (sym it.machine) it.few;
         silent = it.silent;
-        tells = λ u e. ((it.ends u e n).0, λ h. (it.ends u e n).1 (sym (ap (λ (k : Machine). k.stage) it.machine) ∙ h));
+        tells = λ u e. ((it.ends u e n).0, λ h. (it.ends u e n).1 (sym (ap (λ (k : EndMachine). k.stage) it.machine) ∙ h));
         runs = it.runs;
       })
 
@@ -367,15 +367,15 @@ module _ (base : EndState) (told told' : Option Told) (memory memory' : Option M
 pub pages_stay : (k k' : PageCore) (s s' g g' : Listed) (t t' : Table) → ArePages k s g t → k' ≡ k → s' ≡ s → g' ≡ g → t' ≡ t → ArePages k' s' g' t'
 pages_stay k k' s s' g g' t t' fit a b c d = subst (λ (z : PageCore × Listed × Listed × Table). ArePages z.0 z.1 z.2 z.3) (λ i. (sym a i, sym b i, sym c i, sym d i)) fit
 
-pub going_honest : (base : EndState) (told told' : Option Told) (memory memory' : Option Memory) (m : Machine) (p buf : List ℕ) → Going base told told' memory memory' m p buf → is_busy_at m.stage ≡ false
+pub going_honest : (base : EndState) (told told' : Option Told) (memory memory' : Option Memory) (m : EndMachine) (p buf : List ℕ) → Going base told told' memory memory' m p buf → is_busy_at m.stage ≡ false
     → (u : Told) → told' ≡ Some u → m.stage ≢ Stopped
 going_honest base None told' memory memory' m p buf it n u e = absurd (none_some (sym (it.silent refl) ∙ e))
 going_honest base (Some t) told' memory memory' m p buf it n u e = (it.ends t refl n).1
 
 -- the buffer stays as long as the ring
-pub stored_wide : (b : Bool) (m k : Machine) (buf buf' : List ℕ) (v : ℕ) → length buf ≡ m.cells → k ≡ fed m v → buf' ≡ stored b buf m.done v → length buf' ≡ k.cells
+pub stored_wide : (b : Bool) (m k : EndMachine) (buf buf' : List ℕ) (v : ℕ) → length buf ≡ m.cells → k ≡ fed m v → buf' ≡ stored b buf m.done v → length buf' ≡ k.cells
 stored_wide b m k buf buf' v w e is =
-    ap length is ∙ (at_cond (λ (xs : List ℕ). length xs ≡ length buf) b _ _ (λ _. length-set buf m.done v) (λ _. refl) ∙ (w ∙ (sym (fed_cells m v m.stage) ∙ ap (λ (x : Machine). x.cells) (sym e))))
+    ap length is ∙ (at_cond (λ (xs : List ℕ). length xs ≡ length buf) b _ _ (λ _. length-set buf m.done v) (λ _. refl) ∙ (w ∙ (sym (fed_cells m v m.stage) ∙ ap (λ (x : EndMachine). x.cells) (sym e))))
 
 pub storing_busy : (st : Stage) → is_storing_at st ≡ true → is_busy_at st ≡ true
 storing_busy SendCell e = refl
@@ -459,7 +459,7 @@ called Marked = record { sent = λ h. absurd (cc); took = λ h. absurd (cc); com
 called PeerMarkDown = record { sent = λ h. absurd (cc); took = λ h. absurd (cc); committed = λ h. absurd (cc); commits = λ h. absurd (cc); dozed = λ h x y. absurd (cc); marked = λ h. absurd (cc); marks = λ h. absurd (cc); broken = λ h x y. absurd (cc) }
 called PeerMarkUp = record { sent = λ h. absurd (cc); took = λ h. absurd (cc); committed = λ h. absurd (cc); commits = λ h. absurd (cc); dozed = λ h x y. absurd (cc); marked = λ h. absurd (cc); marks = λ h. absurd (cc); broken = λ h x y. absurd (cc) }
 
-module _ (b m : Machine) (h : Leaves b m) (n : EndCall) (call : call_by m.ended ≡ n) where
+module _ (b m : EndMachine) (h : Leaves b m) (n : EndCall) (call : call_by m.ended ≡ n) where
   all : Called m.ended
   all = called m.ended
 
@@ -483,7 +483,7 @@ module _ (b m : Machine) (h : Leaves b m) (n : EndCall) (call : call_by m.ended 
   }
 
 -- only a take changes the past by the words in its buffer
-pub past_other : (how : Ending) (m : Machine) (past : List (Event (List ℕ))) (p buf : List ℕ) → is_took how ≡ false → past_by_ending how m past p buf ≡ past_of how m.saw p past
+pub past_other : (how : Ending) (m : EndMachine) (past : List (Event (List ℕ))) (p buf : List ℕ) → is_took how ≡ false → past_by_ending how m past p buf ≡ past_of how m.saw p past
 past_other Fresh m past p buf n = refl
 past_other SentQuiet m past p buf n = refl
 past_other SentRaised m past p buf n = refl
@@ -504,7 +504,7 @@ past_other Marked m past p buf n = refl
 past_other PeerMarkDown m past p buf n = refl
 past_other PeerMarkUp m past p buf n = refl
 
-pub past_took : (how : Ending) (m : Machine) (past : List (Event (List ℕ))) (p buf : List ℕ) → is_took how ≡ true → past_by_ending how m past p buf ≡ GotEvent (take m.len buf) ∷ past
+pub past_took : (how : Ending) (m : EndMachine) (past : List (Event (List ℕ))) (p buf : List ℕ) → is_took how ≡ true → past_by_ending how m past p buf ≡ GotEvent (take m.len buf) ∷ past
 past_took Took m past p buf h = refl
 past_took _ m past p buf h = absurd (cc)
 
@@ -515,9 +515,9 @@ rests_at Stopped n h = absurd (h refl)
 rests_at _ n h = absurd (cc)
 
 -- the calls that an end can begin, as its seat asks for them
-module _ (s : EndState) (m : Machine) (sent got : List (List ℕ)) (past : List (Event (List ℕ))) (k : Kept) (buf : List ℕ) (is : s ≡ resting_with m sent got past k) (idle : m.stage ≡ Idle) (off : k.call ≡ Off) where
+module _ (s : EndState) (m : EndMachine) (sent got : List (List ℕ)) (past : List (Event (List ℕ))) (k : Kept) (buf : List ℕ) (is : s ≡ resting_with m sent got past k) (idle : m.stage ≡ Idle) (off : k.call ≡ Off) where
   -- where the call begins from the state that the seat tells
-  at_rest : (n : Machine) (p : List ℕ) → Begins (resting_with m sent got past k) n p → copied_at n.stage (take n.done buf) ≡ [] → Continues s n p × (entered s n p ≡ shown n p buf sent got past k)
+  at_rest : (n : EndMachine) (p : List ℕ) → Begins (resting_with m sent got past k) n p → copied_at n.stage (take n.done buf) ≡ [] → Continues s n p × (entered s n p ≡ shown n p buf sent got past k)
   at_rest n p b none = (
     subst (λ (x : EndState). Continues x n p) (sym is) (inr b),
     ap (λ (x : EndState). entered x n p) is ∙ (λ i. record { machine = n; packet = p; copied = sym none i; sent = sent; got = got; past = past; pages = k }),
@@ -573,7 +573,7 @@ lent n got got' past past' w g e =
     )
 
 -- a send that breaks nothing is answered as an honest peer has it
-pub honest_send : (how : Ending) (m : Machine) → call_by how ≡ Send → is_broken how ≡ false → is_honest_send (send_answer how m) ≡ true
+pub honest_send : (how : Ending) (m : EndMachine) → call_by how ≡ Send → is_broken how ≡ false → is_honest_send (send_answer how m) ≡ true
 honest_send SentQuiet m call whole = refl
 honest_send SentRaised m call whole = refl
 honest_send Full m call whole = refl
@@ -581,7 +581,7 @@ honest_send BadPeer m call whole = absurd (cc)
 honest_send _ m call whole = absurd (cc)
 
 -- a call leaves to the machine before it what it leaves to the machine that has begun it
-pub rebased : (n : EndCall) (m b new : Machine) → b.write ≡ m.write → b.read ≡ m.read → b.start ≡ m.start → LeavesBy n b new → LeavesBy n m new
+pub rebased : (n : EndCall) (m b new : EndMachine) → b.write ≡ m.write → b.read ≡ m.read → b.start ≡ m.start → LeavesBy n b new → LeavesBy n m new
 rebased n m b new write read start h = record {
   awake = h.awake;
   unmarked = h.unmarked;
@@ -596,7 +596,7 @@ rebased n m b new write read start h = record {
 }
 
 -- a take that breaks nothing is answered as an honest peer has it
-pub honest_take : (how : Ending) (m : Machine) → call_by how ≡ Take → is_broken how ≡ false → is_honest_take (cond (is_took how) None (Some (take_refusal how m))) ≡ true
+pub honest_take : (how : Ending) (m : EndMachine) → call_by how ≡ Take → is_broken how ≡ false → is_honest_take (cond (is_took how) None (Some (take_refusal how m))) ≡ true
 honest_take Took m call whole = refl
 honest_take Empty m call whole = refl
 honest_take BadIndex m call whole = absurd (cc)
@@ -605,5 +605,5 @@ honest_take BadOffset m call whole = absurd (cc)
 honest_take _ m call whole = absurd (cc)
 
 -- what a take leaves to the machine that has begun it, it leaves to the one before it
-pub take_leaves : (m new : Machine) → Leaves (take_begun m) new → Leaves m new
+pub take_leaves : (m new : EndMachine) → Leaves (take_begun m) new → Leaves m new
 take_leaves m new h = record { cells = h.cells; side = h.side; write = h.write; read = h.read; start = h.start; asleep = h.asleep; marked = h.marked; stage = h.stage }

@@ -2,7 +2,7 @@
 use Rattle.std.proofs.Common.{◌≡◌, ℕ, suc, ◌+◌, ◌*◌, ◌<◌, Bool, true, false, ltb, cond, List, [], ◌∷◌, ◌++◌, length, Option, Some, None, refl, sym, ap, ◌∙◌, subst, inl, arith}
 use Rattle.std.specs.Prelude.{slice_set}
 use Rattle.std.proofs.lemmas.Bool.Decides.{nat_tests}
-use Rattle.chan_run.specs.declared.event.Event.{Event}
+use Rattle.channel_trace.specs.declared.event.Event.{Event}
 use Rattle.page_kept.specs.declared.due.Due.TheVariants.{Clear, Loads}
 use Rattle.page_kept.specs.declared.item.Item.{Item}
 use Rattle.page_kept.specs.declared.kept.Kept.{Kept}
@@ -11,7 +11,7 @@ use Rattle.page_kept.specs.declared.page_call.PageCall.TheVariants.{Off, StoreWo
 use Rattle.page_kept.specs.Items.{item_of, values}
 use Rattle.page_kept.specs.Stepped.{with_call, page_fed}
 use Rattle.page_table.specs.Table.{Table, word_of}
-use Rattle.ring_machine.specs.declared.machine.Machine.{Machine}
+use Rattle.ring_machine.specs.declared.machine.EndMachine.{EndMachine}
 use Rattle.ring_machine.specs.declared.page_core.PageCore.{PageCore}
 use Rattle.ring_machine.specs.declared.place.Op.{Op}
 use Rattle.ring_machine.specs.declared.place.Op.TheVariants.{Load, Store}
@@ -229,7 +229,7 @@ pub record LoadedSome (s : EndState) (k : PageCore) (sent got : Listed) (t : Tab
   pub paging : Paging s (LoadWords q n 0) (call_in k sent got t q n j) told told' memory memory' j
   pub kept : (page_afters s (LoadWords q n 0) paging.values).pages ≡ kept_in k sent got t q n j copy
 
-module _ (m : Machine) (k : PageCore) (sent got : Listed) (past : List (Event (List ℕ))) (t : Table) (q n : ℕ) where
+module _ (m : EndMachine) (k : PageCore) (sent got : Listed) (past : List (Event (List ℕ))) (t : Table) (q n : ℕ) where
   abbrev base : EndState
   base = resting_in m k sent got past t
 
@@ -256,7 +256,7 @@ module _ (m : Machine) (k : PageCore) (sent got : Listed) (past : List (Event (L
       }
 
   -- all words are loaded, and kept with the packet that was taken last
-  pub some_all : (told told' : Option Told) (memory memory' : Option Memory) (got' : Listed) (t' : Table) (m' : Machine) (k' : PageCore) (sent' : Listed) (past' : List (Event (List ℕ))) → LoadedSome base k sent got t q n n t'.copy told told' memory memory' → 0 < n
+  pub some_all : (told told' : Option Told) (memory memory' : Option Memory) (got' : Listed) (t' : Table) (m' : EndMachine) (k' : PageCore) (sent' : Listed) (past' : List (Event (List ℕ))) → LoadedSome base k sent got t q n n t'.copy told told' memory memory' → 0 < n
       → length got.list ≡ length got.lent + 1 → m' ≡ m → sent' ≡ sent → past' ≡ past → k' ≡ core_in k sent got t q n n → t'.owners ≡ t.owners → got'.list ≡ got.list → got'.lent ≡ got.lent ++ values n (word_of t'.copy q) ∷ []
       → RanPages base (resting_in m' k' sent' got' past' t') (LoadWords q n 0) told told' memory memory'
   some_all told told' memory memory' got' t' m' k' sent' past' it some long machine sents pasts core owners list lent =
@@ -268,7 +268,7 @@ module _ (m : Machine) (k : PageCore) (sent got : Listed) (past : List (Event (L
       ran_pages base (resting_in m' k' sent' got' past' t') (LoadWords q n 0) (call_in k sent got t q n n) told told' memory memory' n it.paging some (omega arith) is
 
   -- a word was stored
-  pub stored_one : (w x v : ℕ) (told told' : Option Told) (memory memory' : Option Memory) (t' : Table) (m' : Machine) (k' : PageCore) (sent' got' : Listed) (past' : List (Event (List ℕ))) → ((u : Told) → told ≡ Some u → u.state ≡ base)
+  pub stored_one : (w x v : ℕ) (told told' : Option Told) (memory memory' : Option Memory) (t' : Table) (m' : EndMachine) (k' : PageCore) (sent' got' : Listed) (past' : List (Event (List ℕ))) → ((u : Told) → told ≡ Some u → u.state ≡ base)
       → (told ≡ None → told' ≡ None)
       → ((u : Told) → told ≡ Some u → told' ≡ Some (told_page u (StoreWord q w x) v))
       → ((y : Memory) (op : Op) → memory ≡ Some y → page_op (StoreWord q w x) ≡ Some op → (memory' ≡ Some (memory_after m.cells op y)) × (v ≡ answer_of m.cells op y))

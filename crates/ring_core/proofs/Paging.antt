@@ -16,7 +16,7 @@ use Rattle.page_table.specs.Table.{Table, KeepsPages, sent_by, took_by, word_of}
 use Rattle.ring_machine.specs.declared.page_core.PageCore.{PageCore}
 use Rattle.ring_machine.specs.declared.machine.Ending.{Ending}
 use Rattle.ring_machine.specs.declared.machine.Ending.TheVariants.{SentQuiet, SentRaised, Took}
-use Rattle.ring_machine.specs.declared.machine.Machine.{Machine}
+use Rattle.ring_machine.specs.declared.machine.EndMachine.{EndMachine}
 use Rattle.ring_machine.specs.declared.machine.Stage.{Stage}
 use Rattle.ring_machine.specs.PageCalls.{PagesFit, is_call_of, load_of, newest, owes}
 use Rattle.ring_machine.specs.States.{pages_by_ending}
@@ -227,20 +227,20 @@ newest_more (q ∷ []) p = refl
 newest_more (q ∷ r ∷ ps) p = newest_tail q r (ps ++ p ∷ []) ∙ newest_more (r ∷ ps) p
 
 -- what a call leaves of the pages: a send that went on gives its packet's words along, a take that got a packet has its words to load, and other calls do nothing
-pub by_send : (how : Ending) (m : Machine) (k : Kept) (p buf : List ℕ) → call_by how ≡ Send → pages_by_ending how m k p buf ≡ cond (is_sent how) (pages_sent (layout k.count) k p) k
+pub by_send : (how : Ending) (m : EndMachine) (k : Kept) (p buf : List ℕ) → call_by how ≡ Send → pages_by_ending how m k p buf ≡ cond (is_sent how) (pages_sent (layout k.count) k p) k
 by_send SentQuiet m k p buf call = refl
 by_send SentRaised m k p buf call = refl
 by_send Took m k p buf call = absurd (cc)
 by_send _ m k p buf call = refl
 
-pub by_take : (how : Ending) (m : Machine) (k : Kept) (p buf : List ℕ) (got got' : List (List ℕ)) → call_by how ≡ Take → got' ≡ cond (is_took how) (got ++ take m.len buf ∷ []) got
+pub by_take : (how : Ending) (m : EndMachine) (k : Kept) (p buf : List ℕ) (got got' : List (List ℕ)) → call_by how ≡ Take → got' ≡ cond (is_took how) (got ++ take m.len buf ∷ []) got
     → pages_by_ending how m k p buf ≡ cond (is_took how) (pages_took (layout k.count) k (newest got')) k
 by_take SentQuiet m k p buf got got' call is = absurd (cc)
 by_take SentRaised m k p buf got got' call is = absurd (cc)
 by_take Took m k p buf got got' call is = ap (λ (w : List ℕ). pages_took (layout k.count) k w) (sym (ap newest is ∙ newest_more got (take m.len buf)))
 by_take _ m k p buf got got' call is = refl
 
-pub by_other : (how : Ending) (m : Machine) (k : Kept) (p buf : List ℕ) → (call_by how ≡ Send → ⊥) → (call_by how ≡ Take → ⊥) → pages_by_ending how m k p buf ≡ k
+pub by_other : (how : Ending) (m : EndMachine) (k : Kept) (p buf : List ℕ) → (call_by how ≡ Send → ⊥) → (call_by how ≡ Take → ⊥) → pages_by_ending how m k p buf ≡ k
 by_other SentQuiet m k p buf x y = absurd (x refl)
 by_other SentRaised m k p buf x y = absurd (x refl)
 by_other Took m k p buf x y = absurd (y refl)

@@ -3,7 +3,7 @@ use Rattle.std.proofs.Common.{◌≡◌, ℕ, Bool, true, false, ◌||◌, List,
 use Rattle.page_kept.specs.declared.page_call.PageCall.{PageCall}
 use Rattle.page_kept.specs.declared.page_call.PageCall.TheVariants.{Off, StoreWord, LoadWords}
 use Rattle.ring_machine.specs.declared.machine.Stage.{Stage}
-use Rattle.ring_machine.specs.declared.machine.Machine.{Machine}
+use Rattle.ring_machine.specs.declared.machine.EndMachine.{EndMachine}
 use Rattle.ring_machine.specs.declared.state.EndState.{EndState}
 use Rattle.ring_machine.specs.declared.place.Op.{Op}
 use Rattle.ring_machine.specs.declared.page_core.PageCore.{PageCore}
@@ -15,26 +15,26 @@ use Rattle.ring_machine.proofs.Fitting.{inside_store, inside_load}
 use Rattle.ring_core.specs.declared.told.Told.{Told}
 use Rattle.ring_core.specs.Told.{GoesOn, told_at, told_next, told_page, told_step}
 
-pub ring_goes : (b : Bool) (s : EndState) (m : Machine) (c : PageCall) (p : List ℕ) → b ≡ true → Continues s m p → GoesOn b s m c p
+pub ring_goes : (b : Bool) (s : EndState) (m : EndMachine) (c : PageCall) (p : List ℕ) → b ≡ true → Continues s m p → GoesOn b s m c p
 ring_goes b s m c p e h = subst (λ (x : Bool). GoesOn x s m c p) (sym e) h
 
-pub ring_went : (b : Bool) (s : EndState) (m : Machine) (c : PageCall) (p : List ℕ) → b ≡ true → GoesOn b s m c p → Continues s m p
+pub ring_went : (b : Bool) (s : EndState) (m : EndMachine) (c : PageCall) (p : List ℕ) → b ≡ true → GoesOn b s m c p → Continues s m p
 ring_went b s m c p e h = subst (λ (x : Bool). GoesOn x s m c p) e h
 
-pub page_goes : (b : Bool) (s : EndState) (m : Machine) (c : PageCall) (p : List ℕ) → b ≡ false → ContinuesPage s c → GoesOn b s m c p
+pub page_goes : (b : Bool) (s : EndState) (m : EndMachine) (c : PageCall) (p : List ℕ) → b ≡ false → ContinuesPage s c → GoesOn b s m c p
 page_goes b s m c p e h = subst (λ (x : Bool). GoesOn x s m c p) (sym e) h
 
-pub ring_tells : (b : Bool) (u : Told) (m : Machine) (c : PageCall) (p : List ℕ) (v : ℕ) → b ≡ true → told_step b u m c p v ≡ told_next (told_at u m p) v
+pub ring_tells : (b : Bool) (u : Told) (m : EndMachine) (c : PageCall) (p : List ℕ) (v : ℕ) → b ≡ true → told_step b u m c p v ≡ told_next (told_at u m p) v
 ring_tells b u m c p v e = ap (λ (x : Bool). told_step x u m c p v) e
 
-pub page_tells : (b : Bool) (u : Told) (m : Machine) (c : PageCall) (p : List ℕ) (v : ℕ) → b ≡ false → told_step b u m c p v ≡ told_page u c v
+pub page_tells : (b : Bool) (u : Told) (m : EndMachine) (c : PageCall) (p : List ℕ) (v : ℕ) → b ≡ false → told_step b u m c p v ≡ told_page u c v
 page_tells b u m c p v e = ap (λ (x : Bool). told_step x u m c p v) e
 
 -- the next step is that of the call of the rings, where one is under way, and else that of the page call
-pub ring_next : (m : Machine) (c : PageCall) (p : List ℕ) (op : Op) → next_of m p ≡ Some op → next_in m c p ≡ Some op
+pub ring_next : (m : EndMachine) (c : PageCall) (p : List ℕ) (op : Op) → next_of m p ≡ Some op → next_in m c p ≡ Some op
 ring_next m c p op e = ap (λ (o : Option Op). or_else o (page_op c)) e
 
-pub page_next : (m : Machine) (c : PageCall) (p : List ℕ) → is_busy_at m.stage ≡ false → next_in m c p ≡ page_op c
+pub page_next : (m : EndMachine) (c : PageCall) (p : List ℕ) → is_busy_at m.stage ≡ false → next_in m c p ≡ page_op c
 page_next m c p e = ap (λ (o : Option Op). or_else o (page_op c)) (rests_none m p m.stage e)
 
 -- a call that is under way, of the rings or of pages

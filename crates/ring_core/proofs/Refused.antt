@@ -2,7 +2,7 @@
 use Rattle.std.proofs.Common.{◌≡◌, ℕ, Bool, true, false, List, [], ◌∷◌, ◌++◌, refl, sym, ap, ◌∙◌, subst}
 use Rattle.ring_machine.specs.declared.machine.Stage.{Stage}
 use Rattle.ring_machine.specs.declared.machine.Stage.TheVariants.{Idle, Stopped}
-use Rattle.ring_machine.specs.declared.machine.Machine.{Machine}
+use Rattle.ring_machine.specs.declared.machine.EndMachine.{EndMachine}
 use Rattle.ring_machine.specs.declared.last.Why.{Why}
 use Rattle.ring_machine.specs.declared.state.EndState.{EndState}
 use Rattle.ring_machine.specs.Steps.{fed, fed_at, is_busy_at}
@@ -13,7 +13,7 @@ use Rattle.ring_machine.proofs.Refusing.{caused, refused}
 use Rattle.ring_core.specs.Refused.{BreaksIn}
 
 -- a machine with no call under way makes no step
-still : (m : Machine) (v : ℕ) (st : Stage) → m.stage ≡ st → is_busy_at st ≡ false → fed m v ≡ m
+still : (m : EndMachine) (v : ℕ) (st : Stage) → m.stage ≡ st → is_busy_at st ≡ false → fed m v ≡ m
 still m v Idle e n = ap (λ (s : Stage). fed_at s m v) e
 still m v Stopped e n = ap (λ (s : Stage). fed_at s m v) e
 still m v _ e n = absurd (cc)
@@ -27,13 +27,13 @@ module _ (s : EndState) where
       by_busy earlier true b = record { later = []; value = v; before = vs; is = refl; breaks = caused (afters s vs).machine v (afters s vs).machine.stage refl b h }
       by_busy earlier false b =
           let same : fed (afters s vs).machine v ≡ (afters s vs).machine = still (afters s vs).machine v _ refl b in
-          let it : BreaksIn s vs (why_of (afters s vs).machine) = earlier (sym (ap (λ (m : Machine). m.stage) same) ∙ h) in
+          let it : BreaksIn s vs (why_of (afters s vs).machine) = earlier (sym (ap (λ (m : EndMachine). m.stage) same) ∙ h) in
           record {
             later = v ∷ it.later;
             value = it.value;
             before = it.before;
             is = ap (λ (l : List ℕ). v ∷ l) it.is;
-            breaks = subst (λ (m : Machine). Breaks (why_of m) (afters s it.before).machine it.value) (sym same) it.breaks;
+            breaks = subst (λ (m : EndMachine). Breaks (why_of m) (afters s it.before).machine it.value) (sym same) it.breaks;
           }
 
   refused_by : (later : List ℕ) (v : ℕ) (before : List ℕ) (why : Why) → Breaks why (afters s before).machine v
@@ -42,7 +42,7 @@ module _ (s : EndState) where
   refused_by (x ∷ later) v before why b =
       let it = refused_by later v before why b in
       let same : fed (afters s (later ++ v ∷ before)).machine x ≡ (afters s (later ++ v ∷ before)).machine = still (afters s (later ++ v ∷ before)).machine x Stopped it.0 refl in
-      (ap (λ (m : Machine). m.stage) same ∙ it.0, ap why_of same ∙ it.1)
+      (ap (λ (m : EndMachine). m.stage) same ∙ it.0, ap why_of same ∙ it.1)
 
   pub refused_in : (vs : List ℕ) (why : Why) → BreaksIn s vs why → ((afters s vs).machine.stage ≡ Stopped) × (why_of (afters s vs).machine ≡ why)
   refused_in vs why b =

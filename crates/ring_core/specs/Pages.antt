@@ -1,6 +1,6 @@
 -- What an end keeps of its pages, by its machine, its two lists and its table.
 use Rattle.std.specs.Prelude.{◌≡◌, ◌≢◌, ℕ, ◌+◌, ◌*◌, ◌<◌, ◌==◌, Bool, true, not, cond, List, [], ◌∷◌, length, replicate, Option, Some, None}
-use Rattle.chan_run.specs.declared.event.Event.{Event}
+use Rattle.channel_trace.specs.declared.event.Event.{Event}
 use Rattle.io_edge.specs.declared.side.Side.{Side}
 use Rattle.page_kept.specs.declared.item.Item.{Item}
 use Rattle.page_kept.specs.Items.{item_of, values}
@@ -12,7 +12,7 @@ use Rattle.page_kept.specs.declared.kept.Kept.{Kept}
 use Rattle.page_kept.specs.declared.page_call.PageCall.TheVariants.{Off}
 use Rattle.page_table.specs.declared.loan.Loan.{Loan as Part}
 use Rattle.page_table.specs.Table.{Table, first_owners, word_of}
-use Rattle.ring_machine.specs.declared.machine.Machine.{Machine}
+use Rattle.ring_machine.specs.declared.machine.EndMachine.{EndMachine}
 use Rattle.ring_machine.specs.declared.state.EndState.{EndState}
 use Rattle.ring_machine.specs.States.{resting_with}
 use Rattle.ring_machine.specs.declared.page_core.PageCore.{PageCore}
@@ -28,7 +28,7 @@ abbrev pub kept_of : PageCore → Listed → Listed → Table → Kept
 kept_of k sent got t = record { count = k.count; sent = items_of sent.list sent.lent; got = items_of got.list got.lent; owners = t.owners; copy = t.copy; due = k.due; call = k.call }
 
 -- an end between two calls, by its machine, what that knows of the pages, its lists, its past and its table
-abbrev pub resting_in : Machine → PageCore → Listed → Listed → List (Event (List ℕ)) → Table → EndState
+abbrev pub resting_in : EndMachine → PageCore → Listed → Listed → List (Event (List ℕ)) → Table → EndState
 resting_in m k sent got past t = resting_with m sent.list got.list past (kept_of k sent got t)
 
 -- the pages of a new end

@@ -1,6 +1,6 @@
 -- What a seat tells: of its end, and of its memory, whose words, steps made and changes still due count. And a call of an end there.
 use Rattle.std.specs.Prelude.{◌≡◌, ◌≢◌, ◌≤◌, Bool, true, false, ℕ, zero, suc, ◌+◌, ◌%◌, ◌^◌, cond, leb, List, [], ◌∷◌, length, replicate, slice_index, slice_set, ◌*◌, ◌++◌, Option, Some, None, ◌==◌}
-use Rattle.chan_run.specs.declared.event.Event.{Event}
+use Rattle.channel_trace.specs.declared.event.Event.{Event}
 use Rattle.page_kept.specs.declared.kept.Kept.{Kept}
 use Rattle.page_kept.specs.declared.page_call.PageCall.{PageCall}
 use Rattle.ring_machine.specs.PageCalls.{ContinuesPage, after_page, paged}
@@ -9,7 +9,7 @@ use Rattle.ring_core.specs.declared.told.Told.{Told}
 use Rattle.ring_core.specs.declared.told_mem.Change.{Change}
 use Rattle.ring_machine.specs.declared.place.Op.{Op}
 use Rattle.ring_machine.specs.declared.place.Op.TheVariants.{Load, Store, Raise, TakeSignal, StoreMark}
-use Rattle.ring_machine.specs.declared.machine.Machine.{Machine}
+use Rattle.ring_machine.specs.declared.machine.EndMachine.{EndMachine}
 use Rattle.ring_machine.specs.declared.machine.Stage.{Stage}
 use Rattle.ring_machine.specs.declared.machine.Stage.TheVariants.{Stopped, SendRaise, CommitRaise, PollSignal, MarkRaise}
 use Rattle.ring_machine.specs.declared.state.EndState.{EndState}
@@ -97,7 +97,7 @@ wakes_at PollSignal v = cond (v == 0) 0 1
 wakes_at _ v = 0
 
 -- what is told where the machine m goes on, or begins a call, with the packet p: no step is made by that
-abbrev pub told_at : Told → Machine → List ℕ → Told
+abbrev pub told_at : Told → EndMachine → List ℕ → Told
 told_at u m p = record { state = entered u.state m p; steps = u.steps; raised = u.raised; woke = u.woke }
 
 -- and after one step that answered v
@@ -110,11 +110,11 @@ told_page u c v = record { state = after_page (paged u.state c) v; steps = u.ste
 
 -- A step of an end whose machine is m and whose page call is c: of the call of the rings where one is under way, and else of the page call. What it asks of the
 -- end's state, and what is told after it
-abbrev pub GoesOn : Bool → EndState → Machine → PageCall → List ℕ → Type 0
+abbrev pub GoesOn : Bool → EndState → EndMachine → PageCall → List ℕ → Type 0
 GoesOn true s m c p = Continues s m p
 GoesOn false s m c p = ContinuesPage s c
 
-abbrev pub told_step : Bool → Told → Machine → PageCall → List ℕ → ℕ → Told
+abbrev pub told_step : Bool → Told → EndMachine → PageCall → List ℕ → ℕ → Told
 told_step true u m c p v = told_next (told_at u m p) v
 told_step false u m c p v = told_page u c v
 
@@ -149,11 +149,11 @@ pub record Ran (s t : EndState) (told told' : Option Told) (memory memory' : Opt
   pub runs : (m : Memory) → memory ≡ Some m → (m' : Memory) × (memory' ≡ Some m') × (run (length values) (pair s m) ≡ pair t m')
 
 -- the call that this machine has begun, with this packet, made its steps: from what a contract saw of the end before it to what it sees after it
-abbrev pub MakesSteps : {S : Type 0} → (S → Option Told) → (S → Option Memory) → Machine → List ℕ → Seen S → Seen S → Type 0
+abbrev pub MakesSteps : {S : Type 0} → (S → Option Told) → (S → Option Memory) → EndMachine → List ℕ → Seen S → Seen S → Type 0
 MakesSteps told memory begun packet old new = Ran (entered old.state begun packet) new.state (told old.seat) (told new.seat) (memory old.seat) (memory new.seat)
 
 -- what a call leaves, where its lists and its pages are as they should be
-pub record Left (base : EndState) (told told' : Option Told) (memory memory' : Option Memory) (m : Machine) (sent got : List (List ℕ)) (past : List (Event (List ℕ))) (k : Kept) : Type 0 where
+pub record Left (base : EndState) (told told' : Option Told) (memory memory' : Option Memory) (m : EndMachine) (sent got : List (List ℕ)) (past : List (Event (List ℕ))) (k : Kept) : Type 0 where
   pub ran : Ran base (resting_with m sent got past k) told told' memory memory'
   pub told_is : (u : Told) → told' ≡ Some u → u.state ≡ resting_with m sent got past k
 

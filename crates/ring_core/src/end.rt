@@ -33,7 +33,7 @@ use crate::parts::Parts;
 use crate::room::Room;
 use crate::seat::Seatlike;
 use crate::solo_mem::SoloMem;
-use chan_run::Past;
+use channel_trace::Past;
 use page_kept::Due;
 use page_table::{Loan, PageTable};
 use ring_machine::{Armed, EndCore, SendRefusal, Side, Signalled, Stage, TakeRefusal};

@@ -23,12 +23,12 @@ ghost use Rattle.ring_machine.specs.Steps.{is_busy_at, is_sent, is_took, call_at
 ghost use Rattle.ring_core.specs.Told.{Left};
 ghost use Rattle.ring_machine.specs.declared.machine.Stage.TheVariants.{Idle, Stopped};
 ghost use Rattle.ring_core.specs.declared.told.Told.{Told};
-ghost use Rattle.chan_run.specs.declared.event.Event.TheVariants.{Sent as SentEvent, Got as GotEvent};
+ghost use Rattle.channel_trace.specs.declared.event.Event.TheVariants.{Sent as SentEvent, Got as GotEvent};
 
 use crate::driver::{Driver, page_step};
 use crate::packets::Packets;
 use crate::seat::Seatlike;
-use chan_run::Past;
+use channel_trace::Past;
 use page_table::{COMPLETION, Loan, PageTable};
 use ring_machine::{EndCore, Ending};
 
@@ -72,7 +72,7 @@ impl<S: Seatlike> Parts<S> {
     // else the compiler takes the way of a plain packet for that, and makes a call of it.
     #[cold]
     #[inline(never)]
-    fn keep_along(&mut self, packet: &[u64])
+    fn log_sent_page(&mut self, packet: &[u64])
         requires some { self.old.core.pages.count ≢ 0 }
         requires packet { IsPacket packet.now }
         requires room { (0 < self.old.sent.room.packets) × (length packet.now + along (kept_of self.old.core.pages self.old.sent self.old.got self.old.table) packet.now ≤ self.old.sent.room.words) }
@@ -100,14 +100,14 @@ impl<S: Seatlike> Parts<S> {
         if self.core.pages.count == 0 {
             self.sent.push_packet(packet);
         } else {
-            self.keep_along(packet);
+            self.log_sent_page(packet);
         }
     }
 
-    // Keeps the packet that was taken, in a channel with pages: where a part of a page comes with it, that is to be loaded. It stands apart, as `keep_along`.
+    // Keeps the packet that was taken, in a channel with pages: where a part of a page comes with it, that is to be loaded. It stands apart, as `log_sent_page`.
     #[cold]
     #[inline(never)]
-    fn keep_due(&mut self)
+    fn log_taken_page(&mut self)
         requires some { self.old.core.pages.count ≢ 0 }
         requires clear { self.old.core.pages.due ≡ Clear }
         requires packet { IsPacket (take self.old.core.machine.len self.old.buf.items) }
@@ -122,7 +122,7 @@ impl<S: Seatlike> Parts<S> {
         match self.table.took(words) {
             Some(part) => {
                 self.got.push_packet(words);
-                self.core.owe(part.page, part.words);
+                self.core.queue_load(part.page, part.words);
             }
             None => self.got.push_with(words, &[]),
         }
@@ -146,7 +146,7 @@ impl<S: Seatlike> Parts<S> {
         if self.core.pages.count == 0 {
             self.got.push_packet(words);
         } else {
-            self.keep_due();
+            self.log_taken_page();
         }
     }
 

@@ -3,7 +3,7 @@ use Rattle.std.proofs.Common.{◌≡◌, ℕ, ◌*◌, ◌%◌, ◌<◌, true, f
 use Rattle.std.proofs.lemmas.Bool.Decides.{nat_tests}
 use Rattle.ring_machine.specs.declared.machine.Stage.{Stage}
 use Rattle.ring_machine.specs.declared.machine.Stage.TheVariants.{Idle, Stopped, SendRead, SendCell, SendWrite, SendMask, SendLook, SendRaise, TakeWrite, TakeFirst, TakeCell, CommitRead, CommitFeature, CommitPending, CommitWrite, CommitRaise, ArmPending, ArmMask, ArmWrite, ArmRead, ArmMark, ArmUndoMask, ArmUndoPending, PollSignal, PollMask, PollPending, MarkStore, MarkRaise, PeerMark}
-use Rattle.ring_machine.specs.declared.machine.Machine.{Machine}
+use Rattle.ring_machine.specs.declared.machine.EndMachine.{EndMachine}
 use Rattle.io_edge.specs.declared.side.Side.{Side}
 use Rattle.page_kept.specs.declared.page_call.PageCall.{PageCall}
 use Rattle.page_kept.specs.declared.page_call.PageCall.TheVariants.{Off, StoreWord, LoadWords}
@@ -20,7 +20,7 @@ use Rattle.ring_machine.proofs.Sound.{ahead_below}
 cell_inside : (n k : ℕ) → k < n → (8 * k % 8 ≡ 0) × (8 * k < 8 * n)
 cell_inside n k h = (omega arith, omega (arith, h))
 
-pub inside_at : (m : Machine) (c : ℕ) (p : List ℕ) → IsSound m → (st : Stage) → m.stage ≡ st → IsInside m.cells c (next_at st m p)
+pub inside_at : (m : EndMachine) (c : ℕ) (p : List ℕ) → IsSound m → (st : Stage) → m.stage ≡ st → IsInside m.cells c (next_at st m p)
 inside_at m c p s Idle e = tt
 inside_at m c p s Stopped e = tt
 inside_at m c p s SendRead e = tt
@@ -61,7 +61,7 @@ page_inside n c Off h = tt
 page_inside n c (StoreWord q w v) h = inside_store c q w v h
 page_inside n c (LoadWords q m j) h = let i = inside_load c q m j h in (i.0, omega (arith, i.1, i.2))
 
-pub inside_in : (m : Machine) (k : PageCore) (p : List ℕ) → IsSound m → PagesFit k m.stage → IsInside m.cells k.count (next_in m k.call p)
+pub inside_in : (m : EndMachine) (k : PageCore) (p : List ℕ) → IsSound m → PagesFit k m.stage → IsInside m.cells k.count (next_in m k.call p)
 inside_in m k p s f = or_inside m.cells k.count _ _ (inside_at m k.count p s m.stage refl) (page_inside m.cells k.count k.call f.call)
 
 pub free_bytes_are : (n r w : ℕ) → r < n → w < n → 8 * free n r w ≡ free (8 * n) (8 * r) (8 * w)
@@ -74,7 +74,7 @@ pub ahead_bytes_are : (n i k : ℕ) → i < n → k < n → 8 * ahead n i k ≡ 
 ahead_bytes_are n i k a b = grind (arith, nat_tests)
 
 -- the words that a step of each call may change
-changes_at : (m : Machine) (p : List ℕ) (st : Stage) → ChangesOnly (call_at st) m.side (next_at st m p)
+changes_at : (m : EndMachine) (p : List ℕ) (st : Stage) → ChangesOnly (call_at st) m.side (next_at st m p)
 changes_at m p SendCell = (refl, refl)
 changes_at m p SendWrite = (refl, refl)
 changes_at m p SendRaise = (inl refl, refl)
@@ -96,19 +96,19 @@ or_changes call x None b f g = g
 or_changes call x (Some op) b f g = f
 
 -- an idle machine names no step
-idle_none : (m : Machine) (p : List ℕ) → m.stage ≡ Idle → next_of m p ≡ None
+idle_none : (m : EndMachine) (p : List ℕ) → m.stage ≡ Idle → next_of m p ≡ None
 idle_none m p e = ap (λ (st : Stage). next_at st m p) e
 
-only_page : (call : EndCall) (m : Machine) (c : PageCall) (p : List ℕ) → m.stage ≡ Idle → ChangesOnly call m.side (page_op c) → ChangesOnly call m.side (next_in m c p)
+only_page : (call : EndCall) (m : EndMachine) (c : PageCall) (p : List ℕ) → m.stage ≡ Idle → ChangesOnly call m.side (page_op c) → ChangesOnly call m.side (next_in m c p)
 only_page call m c p e h = subst (λ (a : Option Op). ChangesOnly call m.side (or_else a (page_op c))) (sym (idle_none m p e)) h
 
-pub changes_in : (m : Machine) (c : PageCall) (p : List ℕ) → (is_paging c ≡ true → m.stage ≡ Idle) → ChangesOnly (call_in m.stage c) m.side (next_in m c p)
+pub changes_in : (m : EndMachine) (c : PageCall) (p : List ℕ) → (is_paging c ≡ true → m.stage ≡ Idle) → ChangesOnly (call_in m.stage c) m.side (next_in m c p)
 changes_in m Off p f = or_changes (call_at m.stage) m.side (next_of m p) None (changes_at m p m.stage) tt
 changes_in m (StoreWord q w v) p f = only_page StorePage m (StoreWord q w v) p (f refl) refl
 changes_in m (LoadWords q n j) p f = only_page LoadLent m (LoadWords q n j) p (f refl) tt
 
 -- a machine with no call under way names no step
-pub rests_none : (m : Machine) (p : List ℕ) (st : Stage) → is_busy_at st ≡ false → next_at st m p ≡ None
+pub rests_none : (m : EndMachine) (p : List ℕ) (st : Stage) → is_busy_at st ≡ false → next_at st m p ≡ None
 rests_none m p Idle n = refl
 rests_none m p Stopped n = refl
 rests_none m p _ n = absurd (cc)

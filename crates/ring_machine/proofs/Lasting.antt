@@ -4,7 +4,7 @@ use Rattle.ring_machine.specs.declared.machine.Stage.{Stage}
 use Rattle.ring_machine.specs.declared.machine.Stage.TheVariants.{Idle, Stopped, SendRead, SendCell, SendWrite, SendMask, SendLook, SendRaise, TakeWrite, TakeFirst, TakeCell, CommitRead, CommitFeature, CommitPending, CommitWrite, CommitRaise, ArmPending, ArmMask, ArmWrite, ArmRead, ArmMark, ArmUndoMask, ArmUndoPending, PollSignal, PollMask, PollPending, MarkStore, MarkRaise, PeerMark}
 use Rattle.ring_machine.specs.declared.machine.Ending.{Ending}
 use Rattle.ring_machine.specs.declared.machine.Ending.TheVariants.{Full, BadPeer, Took, Empty, BadIndex, BadLength, BadOffset}
-use Rattle.ring_machine.specs.declared.machine.Machine.{Machine}
+use Rattle.ring_machine.specs.declared.machine.EndMachine.{EndMachine}
 use Rattle.ring_machine.specs.declared.last.Last.TheVariants.{Full as LastFull, Took as LastTook, Empty as LastEmpty}
 use Rattle.ring_machine.specs.declared.state.EndState.{EndState}
 use Rattle.ring_machine.specs.Places.{low, is_index, cell_of, used, free, len8_of, offset8_of}
@@ -14,7 +14,7 @@ use Rattle.ring_machine.specs.Endings.{last_by, last_of}
 use Rattle.ring_machine.proofs.Sound.{at_cond}
 
 -- a call that begins changes nothing that the last ending is told by
-begun_last : (how : Ending) (m : Machine) (st : Stage) (len want : ℕ) (saw : Bool) → last_by how (record m { stage = st; len = len; done = 0; want = want; saw = saw }) ≡ last_by how m
+begun_last : (how : Ending) (m : EndMachine) (st : Stage) (len want : ℕ) (saw : Bool) → last_by how (record m { stage = st; len = len; done = 0; want = want; saw = saw }) ≡ last_by how m
 begun_last Full m st len want saw = refl
 begun_last BadPeer m st len want saw = refl
 begun_last Took m st len want saw = refl
@@ -24,7 +24,7 @@ begun_last BadLength m st len want saw = refl
 begun_last BadOffset m st len want saw = refl
 begun_last _ m st len want saw = refl
 
-pub last_begins : (s : EndState) (m : Machine) (p : List ℕ) → Begins s m p → last_of m ≡ last_of s.machine
+pub last_begins : (s : EndState) (m : EndMachine) (p : List ℕ) → Begins s m p → last_of m ≡ last_of s.machine
 last_begins s m p b =
     ⊎_elim (λ (c : BeginsSend s m p). ap last_of c.0 ∙ begun _ _ s.machine.want s.machine.saw)
     (⊎_elim (λ (c : BeginsTake s m p). ap last_of c.0 ∙ begun _ _ s.machine.want s.machine.saw)
@@ -38,13 +38,13 @@ last_begins s m p b =
     begun st len want saw = begun_last s.machine.ended s.machine st len want saw
 
 -- what the last ending is told by, where it is no refusal
-record Same (m k : Machine) : Type 0 where
+record Same (m k : EndMachine) : Type 0 where
   ended : k.ended ≡ m.ended
   room : k.room ≡ m.room
   words : k.words ≡ m.words
   read : k.read ≡ m.read
 
-last_same : (how : Ending) (m k : Machine) → is_broken how ≡ false → Same m k → last_by how k ≡ last_by how m
+last_same : (how : Ending) (m k : EndMachine) → is_broken how ≡ false → Same m k → last_by how k ≡ last_by how m
 last_same Full m k n s = λ j. LastFull (8 * s.room j) (8 * s.words j + 8)
 last_same Took m k n s = ap LastTook s.words
 last_same Empty m k n s = λ j. LastEmpty (8 * s.read j)
@@ -54,11 +54,11 @@ last_same BadLength m k n s = absurd (cc)
 last_same BadOffset m k n s = absurd (cc)
 last_same _ m k n s = refl
 
-module _ (m : Machine) (v : ℕ) where
-  abbrev Stays : Machine → Type 0
+module _ (m : EndMachine) (v : ℕ) where
+  abbrev Stays : EndMachine → Type 0
   Stays k = is_busy_at k.stage ≡ true → Same m k
 
-  on : {k : Machine} → k.ended ≡ m.ended → k.room ≡ m.room → k.words ≡ m.words → k.read ≡ m.read → Stays k
+  on : {k : EndMachine} → k.ended ≡ m.ended → k.room ≡ m.room → k.words ≡ m.words → k.read ≡ m.read → Stays k
   on e f w r = λ h. record { ended = e; room = f; words = w; read = r }
 
   stays_at : (st : Stage) → m.stage ≡ st → Stays (fed_at st m v)

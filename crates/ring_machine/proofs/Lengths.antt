@@ -2,7 +2,7 @@
 use Rattle.std.proofs.Common.{◌≡◌, ℕ, ◌+◌, ◌*◌, List, [], ◌∷◌, sym, subst, leb, ltb, eqb}
 use Rattle.ring_machine.specs.declared.machine.Stage.{Stage}
 use Rattle.ring_machine.specs.declared.machine.Stage.TheVariants.{Idle, Stopped, SendRead, SendCell, SendWrite, SendMask, SendLook, SendRaise}
-use Rattle.ring_machine.specs.declared.machine.Machine.{Machine}
+use Rattle.ring_machine.specs.declared.machine.EndMachine.{EndMachine}
 use Rattle.ring_machine.specs.declared.state.EndState.{EndState}
 use Rattle.ring_machine.specs.Places.{low, is_index, cell_of, free}
 use Rattle.ring_machine.specs.Steps.{fed_at}
@@ -21,14 +21,14 @@ Sends n SendLook len = len ≡ n
 Sends n SendRaise len = len ≡ n
 Sends n _ len = ⊥
 
-step_sends : (m : Machine) (v n : ℕ) (st : Stage) → m.stage ≡ st → Sends n st m.len → Sends n (fed_at st m v).stage (fed_at st m v).len
+step_sends : (m : EndMachine) (v n : ℕ) (st : Stage) → m.stage ≡ st → Sends n st m.len → Sends n (fed_at st m v).stage (fed_at st m v).len
 step_sends m v n Idle i k = subst (λ (s : Stage). Sends n s m.len) (sym i) k
 step_sends m v n Stopped i k = subst (λ (s : Stage). Sends n s m.len) (sym i) k
-step_sends m v n SendRead i k = at_cond (λ (x : Machine). Sends n x.stage x.len) (is_index m.cells v) _ _ (λ t. at_cond (λ (x : Machine). Sends n x.stage x.len) (leb (free m.cells (cell_of v) m.write) (m.len + 1)) _ _ (λ u. k) (λ u. k)) (λ t. k)
-step_sends m v n SendCell i k = at_cond (λ (x : Machine). Sends n x.stage x.len) (ltb m.done m.len) _ _ (λ t. subst (λ (s : Stage). Sends n s m.len) (sym i) k) (λ t. k)
+step_sends m v n SendRead i k = at_cond (λ (x : EndMachine). Sends n x.stage x.len) (is_index m.cells v) _ _ (λ t. at_cond (λ (x : EndMachine). Sends n x.stage x.len) (leb (free m.cells (cell_of v) m.write) (m.len + 1)) _ _ (λ u. k) (λ u. k)) (λ t. k)
+step_sends m v n SendCell i k = at_cond (λ (x : EndMachine). Sends n x.stage x.len) (ltb m.done m.len) _ _ (λ t. subst (λ (s : Stage). Sends n s m.len) (sym i) k) (λ t. k)
 step_sends m v n SendWrite i k = k
-step_sends m v n SendMask i k = at_cond (λ (x : Machine). Sends n x.stage x.len) (eqb (low v) 0) _ _ (λ t. k) (λ t. k)
-step_sends m v n SendLook i k = at_cond (λ (x : Machine). Sends n x.stage x.len) (eqb (low v) (8 * m.old)) _ _ (λ t. k) (λ t. k)
+step_sends m v n SendMask i k = at_cond (λ (x : EndMachine). Sends n x.stage x.len) (eqb (low v) 0) _ _ (λ t. k) (λ t. k)
+step_sends m v n SendLook i k = at_cond (λ (x : EndMachine). Sends n x.stage x.len) (eqb (low v) (8 * m.old)) _ _ (λ t. k) (λ t. k)
 step_sends m v n SendRaise i k = k
 step_sends m v n _ i k = absurd k
 

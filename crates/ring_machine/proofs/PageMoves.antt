@@ -8,31 +8,31 @@ use Rattle.page_kept.specs.Layouts.{layout}
 use Rattle.ring_machine.specs.declared.machine.Stage.{Stage}
 use Rattle.ring_machine.specs.declared.machine.Stage.TheVariants.{Idle, Stopped, SendRead, SendCell, SendWrite, SendMask, SendLook, SendRaise, TakeWrite, TakeFirst, TakeCell, CommitRead, CommitFeature, CommitPending, CommitWrite, CommitRaise, ArmPending, ArmMask, ArmWrite, ArmRead, ArmMark, ArmUndoMask, ArmUndoPending, PollSignal, PollMask, PollPending, MarkStore, MarkRaise, PeerMark}
 use Rattle.ring_machine.specs.declared.machine.Ending.TheVariants.{Took}
-use Rattle.ring_machine.specs.declared.machine.Machine.{Machine}
+use Rattle.ring_machine.specs.declared.machine.EndMachine.{EndMachine}
 use Rattle.ring_machine.specs.Places.{ahead, used, free, low, is_index, cell_of, len8_of, offset8_of}
 use Rattle.ring_machine.specs.Steps.{IsSound, fed_at, ends, is_busy_at, is_copying_at, makes_room, finds_room}
 use Rattle.ring_machine.specs.States.{copied_at, pages_after, pages_while, pages_by_ending, stored}
 use Rattle.ring_machine.proofs.Sound.{at_cond}
 
 -- the pages at a stage of a call that began with k, or after the call
-abbrev pub pages_at : Stage → Machine → Kept → List ℕ → List ℕ → Kept
+abbrev pub pages_at : Stage → EndMachine → Kept → List ℕ → List ℕ → Kept
 pages_at Idle m k p buf = pages_by_ending m.ended m k p buf
 pages_at Stopped m k p buf = pages_by_ending m.ended m k p buf
 pages_at st m k p buf = pages_while st k p
 
-module _ (m : Machine) (v : ℕ) (k : Kept) (p buf : List ℕ) (s : IsSound m) (w : length buf ≡ m.cells) where
+module _ (m : EndMachine) (v : ℕ) (k : Kept) (p buf : List ℕ) (s : IsSound m) (w : length buf ≡ m.cells) where
   abbrev sent : Kept
   sent = pages_sent (layout k.count) k p
 
   -- a machine with these pages
-  abbrev With : Kept → List ℕ → Machine → Type 0
+  abbrev With : Kept → List ℕ → EndMachine → Type 0
   With j b n = j ≡ pages_at n.stage n k p b
 
-  two : (j : Kept) (b : List ℕ) (c : Bool) (x y : Machine) → With j b x → With j b y → With j b (cond c x y)
+  two : (j : Kept) (b : List ℕ) (c : Bool) (x y : EndMachine) → With j b x → With j b y → With j b (cond c x y)
   two j b c x y f g = at_cond (With j b) c x y (λ _. f) (λ _. g)
 
   -- the stage stays
-  stays : (st : Stage) → m.stage ≡ st → k ≡ pages_while st k p → (n : Machine) → n.stage ≡ m.stage → pages_at n.stage n k p buf ≡ pages_at st n k p buf
+  stays : (st : Stage) → m.stage ≡ st → k ≡ pages_while st k p → (n : EndMachine) → n.stage ≡ m.stage → pages_at n.stage n k p buf ≡ pages_at st n k p buf
   stays st e q n same = ap (λ (x : Stage). pages_at x n k p buf) (same ∙ e)
 
   pub pages_moved : (st : Stage) → m.stage ≡ st → is_busy_at st ≡ true → pages_after st m (pages_at st m k p buf) p (copied_at st (take m.done buf)) v ≡ pages_at (fed_at st m v).stage (fed_at st m v) k p (stored (is_copying_at st) buf m.done v)
@@ -77,7 +77,7 @@ module _ (m : Machine) (v : ℕ) (k : Kept) (p buf : List ℕ) (s : IsSound m) (
   pages_moved PeerMark e b = two k buf (eqb v 0) _ _ refl refl
 
 -- after a call
-pub pages_over : (m : Machine) (k : Kept) (p buf : List ℕ) (st : Stage) → is_busy_at st ≡ false → pages_at st m k p buf ≡ pages_by_ending m.ended m k p buf
+pub pages_over : (m : EndMachine) (k : Kept) (p buf : List ℕ) (st : Stage) → is_busy_at st ≡ false → pages_at st m k p buf ≡ pages_by_ending m.ended m k p buf
 pages_over m k p buf Idle n = refl
 pages_over m k p buf Stopped n = refl
 pages_over m k p buf _ n = absurd (cc)

@@ -3,7 +3,7 @@ use Rattle.std.proofs.Common.{◌≡◌, ◌⊎◌, ℕ, ◌+◌, ◌*◌, ◌/�
 use Rattle.std.proofs.lemmas.Bool.Decides.{nat_tests}
 use Rattle.ring_machine.specs.declared.machine.Stage.{Stage}
 use Rattle.ring_machine.specs.declared.machine.Stage.TheVariants.{Idle, Stopped, SendRead, SendCell, SendWrite, SendMask, SendLook, SendRaise, TakeWrite, TakeFirst, TakeCell, CommitRead, CommitFeature, CommitPending, CommitWrite, CommitRaise, ArmPending, ArmMask, ArmWrite, ArmRead, ArmMark, ArmUndoMask, ArmUndoPending, PollSignal, PollMask, PollPending, MarkStore, MarkRaise, PeerMark}
-use Rattle.ring_machine.specs.declared.machine.Machine.{Machine}
+use Rattle.ring_machine.specs.declared.machine.EndMachine.{EndMachine}
 use Rattle.ring_machine.specs.Places.{low, is_index, cell_of, used, free, len8_of, offset8_of}
 use Rattle.ring_machine.specs.declared.machine.Ending.{Ending}
 use Rattle.ring_machine.specs.declared.machine.Ending.TheVariants.{BadPeer, BadIndex, BadLength, BadOffset}
@@ -15,8 +15,8 @@ use Rattle.ring_machine.specs.Endings.{why_of}
 use Rattle.ring_machine.specs.Causes.{Breaks}
 use Rattle.ring_machine.proofs.Sound.{at_cond, and_left, and_right}
 
-module _ (m : Machine) (v : ℕ) where
-  abbrev Caused : Machine → Type 0
+module _ (m : EndMachine) (v : ℕ) where
+  abbrev Caused : EndMachine → Type 0
   Caused x = x.stage ≡ Stopped → Breaks (why_of x) m v
 
   short_or_long : (l u : ℕ) → (leb 2 l && ltb l u) ≡ false → (l < 2) ⊎ (8 * u < 8 * l + 8)
@@ -39,7 +39,7 @@ module _ (m : Machine) (v : ℕ) where
   lower : v / 65536 % 4294967296 % 65536 ≡ offset8_of v
   lower = omega arith
 
-  goes_on : (st : Stage) → m.stage ≡ st → (x : Machine) → x.stage ≡ m.stage → is_busy_at st ≡ true → Caused x
+  goes_on : (st : Stage) → m.stage ≡ st → (x : EndMachine) → x.stage ≡ m.stage → is_busy_at st ≡ true → Caused x
   goes_on st e x same b h = absurd (let no : is_busy_at Stopped ≡ true = sym (ap is_busy_at (sym (e) ∙ (sym same ∙ h))) ∙ b in cc)
 
   pub caused : (st : Stage) → m.stage ≡ st → is_busy_at st ≡ true → Caused (fed_at st m v)
@@ -105,7 +105,7 @@ module _ (m : Machine) (v : ℕ) where
   wrong_offset o l h = neither (leb 2 o) (leb o l) (⊎_elim (λ (x : o < 2). inl (let n : leb 2 o ≡ false = grind (arith, nat_tests) in n)) (λ (x : l < o). inr (let n : leb o l ≡ false = grind (arith, nat_tests) in n)) h)
 
   stops : (why : Why) (how : Ending) (u : ℕ) → fed m v ≡ breaks m how u → why_of (breaks m how u) ≡ why → ((fed m v).stage ≡ Stopped) × (why_of (fed m v) ≡ why)
-  stops why how u e w = (ap (λ (x : Machine). x.stage) e, ap why_of e ∙ w)
+  stops why how u e w = (ap (λ (x : EndMachine). x.stage) e, ap why_of e ∙ w)
 
   -- at such a value it stops, and that rule is named
   pub refused : (why : Why) → Breaks why m v → ((fed m v).stage ≡ Stopped) × (why_of (fed m v) ≡ why)

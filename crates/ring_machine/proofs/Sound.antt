@@ -5,7 +5,7 @@ use Rattle.ring_machine.specs.declared.machine.Stage.{Stage}
 use Rattle.ring_machine.specs.declared.machine.Stage.TheVariants.{Idle, Stopped, SendRead, SendCell, SendWrite, SendMask, SendLook, SendRaise, TakeWrite, TakeFirst, TakeCell, CommitRead, CommitFeature, CommitPending, CommitWrite, CommitRaise, ArmPending, ArmMask, ArmWrite, ArmRead, ArmMark, ArmUndoMask, ArmUndoPending, PollSignal, PollMask, PollPending, MarkStore, MarkRaise, PeerMark}
 use Rattle.ring_machine.specs.declared.machine.Ending.{Ending}
 use Rattle.ring_machine.specs.declared.machine.Ending.TheVariants.{SentQuiet, SentRaised, BadPeer, BadIndex, BadLength, BadOffset, CommittedQuiet, CommittedRaised, PeerMarkDown}
-use Rattle.ring_machine.specs.declared.machine.Machine.{Machine}
+use Rattle.ring_machine.specs.declared.machine.EndMachine.{EndMachine}
 use Rattle.ring_machine.specs.Places.{ahead, used, free, low, is_index, cell_of, len8_of, offset8_of}
 use Rattle.ring_machine.specs.Steps.{IsSound, fed, fed_at, ends, breaks, left_at, steps_left, made_at, is_busy_at, is_arming_at, is_looking_at, is_broken, sleeps_at, makes_room, finds_room, send_begun, take_begun, commit_begun, arm_begun, poll_begun, mark_begun, peer_mark_begun}
 
@@ -71,7 +71,7 @@ pub record Staged (st : Stage) (how : Ending) (a b c : Bool) (t r q l k : ℕ) :
   pub broken : is_broken how ≡ true → st ≡ Stopped
   pub stopped : st ≡ Stopped → is_broken how ≡ true
 
-pub sound_of : (m : Machine) → Sized m.cells m.write m.read m.start m.seen m.old m.len m.done m.value m.want m.room m.words
+pub sound_of : (m : EndMachine) → Sized m.cells m.write m.read m.start m.seen m.old m.len m.done m.value m.want m.room m.words
     → Staged m.stage m.ended m.asleep m.marked m.masked m.start m.read m.want m.len m.done → IsSound m
 sound_of m s h = record {
   cells = s.cells;
@@ -159,7 +159,7 @@ dozing how a b c t r q l k z n = record { arming = λ h. absurd (cc); looking = 
 polling : (how : Ending) (a b c : Bool) (t r q l k : ℕ) → (a ≡ true → (c ≡ false) × (t ≡ r) × (b ≡ false)) → b ≡ false → (is_broken how ≡ true → ⊥) → Staged PollSignal how a b c t r q l k
 polling how a b c t r q l k z u n = record { arming = λ h. absurd (cc); looking = λ h. absurd (cc); asleep = λ h. ((z h).0, (z h).1, refl, (z h).2); unmarked = λ _. u; first = λ h. absurd (cc); copying = λ h. absurd (cc); wanting = (λ h. absurd (cc), λ h. absurd (cc)); broken = λ h. absurd (n h); stopped = λ h. absurd (cc) }
 
-module _ (m : Machine) (v : ℕ) (s : IsSound m) where
+module _ (m : EndMachine) (v : ℕ) (s : IsSound m) where
   awake_at : (st : Stage) → m.stage ≡ st → sleeps_at st ≡ false → m.asleep ≡ true → ⊥
   awake_at st e n h = no_true n (subst (λ (x : Stage). sleeps_at x ≡ true) e (s.asleep h).2)
 
@@ -233,33 +233,33 @@ module _ (m : Machine) (v : ℕ) (s : IsSound m) where
   left_less : (st : Stage) → m.stage ≡ st → is_busy_at st ≡ true → steps_left (fed_at st m v) < left_at st m
   left_less Idle e b = absurd (cc)
   left_less Stopped e b = absurd (cc)
-  left_less SendRead e b = at_cond (λ (k : Machine). steps_left k < left_at SendRead m) (is_index m.cells v) _ _ (λ t. at_cond (λ (k : Machine). steps_left k < left_at SendRead m) (leb (free m.cells (cell_of v) m.write) (m.len + 1)) _ _ (λ u. omega (arith, s.cells)) (λ u. omega (arith, s.cells))) (λ t. omega (arith, s.cells))
-  left_less SendCell e b = at_cond (λ (k : Machine). steps_left k < left_at SendCell m) (ltb m.done m.len) _ _ (λ t. (let more : m.done < m.len = grind (arith, nat_tests) in subst (λ (x : Stage). left_at x (record m { done = m.done + 1 }) < m.len - m.done + 5) (sym e) (omega arith))) (λ t. omega (arith, s.cells))
+  left_less SendRead e b = at_cond (λ (k : EndMachine). steps_left k < left_at SendRead m) (is_index m.cells v) _ _ (λ t. at_cond (λ (k : EndMachine). steps_left k < left_at SendRead m) (leb (free m.cells (cell_of v) m.write) (m.len + 1)) _ _ (λ u. omega (arith, s.cells)) (λ u. omega (arith, s.cells))) (λ t. omega (arith, s.cells))
+  left_less SendCell e b = at_cond (λ (k : EndMachine). steps_left k < left_at SendCell m) (ltb m.done m.len) _ _ (λ t. (let more : m.done < m.len = grind (arith, nat_tests) in subst (λ (x : Stage). left_at x (record m { done = m.done + 1 }) < m.len - m.done + 5) (sym e) (omega arith))) (λ t. omega (arith, s.cells))
   left_less SendWrite e b = omega (arith, s.cells)
-  left_less SendMask e b = at_cond (λ (k : Machine). steps_left k < left_at SendMask m) (eqb (low v) 0) _ _ (λ t. omega (arith, s.cells)) (λ t. omega (arith, s.cells))
-  left_less SendLook e b = at_cond (λ (k : Machine). steps_left k < left_at SendLook m) (eqb (low v) (8 * m.old)) _ _ (λ t. omega (arith, s.cells)) (λ t. omega (arith, s.cells))
+  left_less SendMask e b = at_cond (λ (k : EndMachine). steps_left k < left_at SendMask m) (eqb (low v) 0) _ _ (λ t. omega (arith, s.cells)) (λ t. omega (arith, s.cells))
+  left_less SendLook e b = at_cond (λ (k : EndMachine). steps_left k < left_at SendLook m) (eqb (low v) (8 * m.old)) _ _ (λ t. omega (arith, s.cells)) (λ t. omega (arith, s.cells))
   left_less SendRaise e b = omega (arith, s.cells)
-  left_less TakeWrite e b = at_cond (λ (k : Machine). steps_left k < left_at TakeWrite m) (is_index m.cells v) _ _ (λ t. at_cond (λ (k : Machine). steps_left k < left_at TakeWrite m) (eqb (cell_of v) m.read) _ _ (λ u. omega (arith, s.cells)) (λ u. omega (arith, s.cells))) (λ t. omega (arith, s.cells))
-  left_less TakeFirst e b = at_cond (λ (k : Machine). steps_left k < left_at TakeFirst m) (leb 2 (len8_of v) && ltb (len8_of v) (used m.cells m.read m.seen)) _ _ (λ t. at_cond (λ (k : Machine). steps_left k < left_at TakeFirst m) (leb 2 (offset8_of v) && leb (offset8_of v) (len8_of v)) _ _ (λ u. (let few = used_below m.cells m.read m.seen s.read s.seen in let short : len8_of v < used m.cells m.read m.seen = (let x = and_right (leb 2 (len8_of v)) _ t in grind (arith, nat_tests)) in omega arith)) (λ u. omega (arith, s.cells))) (λ t. omega (arith, s.cells))
-  left_less TakeCell e b = at_cond (λ (k : Machine). steps_left k < left_at TakeCell m) (ltb (m.done + 1) m.len) _ _ (λ t. (let more : m.done + 1 < m.len = grind (arith, nat_tests) in subst (λ (x : Stage). left_at x (record m { done = m.done + 1 }) < m.len - m.done) (sym e) (omega arith))) (λ t. (let busy : m.done < m.len = (s.copying e).1 in omega arith))
+  left_less TakeWrite e b = at_cond (λ (k : EndMachine). steps_left k < left_at TakeWrite m) (is_index m.cells v) _ _ (λ t. at_cond (λ (k : EndMachine). steps_left k < left_at TakeWrite m) (eqb (cell_of v) m.read) _ _ (λ u. omega (arith, s.cells)) (λ u. omega (arith, s.cells))) (λ t. omega (arith, s.cells))
+  left_less TakeFirst e b = at_cond (λ (k : EndMachine). steps_left k < left_at TakeFirst m) (leb 2 (len8_of v) && ltb (len8_of v) (used m.cells m.read m.seen)) _ _ (λ t. at_cond (λ (k : EndMachine). steps_left k < left_at TakeFirst m) (leb 2 (offset8_of v) && leb (offset8_of v) (len8_of v)) _ _ (λ u. (let few = used_below m.cells m.read m.seen s.read s.seen in let short : len8_of v < used m.cells m.read m.seen = (let x = and_right (leb 2 (len8_of v)) _ t in grind (arith, nat_tests)) in omega arith)) (λ u. omega (arith, s.cells))) (λ t. omega (arith, s.cells))
+  left_less TakeCell e b = at_cond (λ (k : EndMachine). steps_left k < left_at TakeCell m) (ltb (m.done + 1) m.len) _ _ (λ t. (let more : m.done + 1 < m.len = grind (arith, nat_tests) in subst (λ (x : Stage). left_at x (record m { done = m.done + 1 }) < m.len - m.done) (sym e) (omega arith))) (λ t. (let busy : m.done < m.len = (s.copying e).1 in omega arith))
   left_less CommitRead e b = omega (arith, s.cells)
-  left_less CommitFeature e b = at_cond (λ (k : Machine). steps_left k < left_at CommitFeature m) (eqb (low v % 2) 1) _ _ (λ t. omega (arith, s.cells)) (λ t. omega (arith, s.cells))
-  left_less CommitPending e b = at_cond (λ (k : Machine). steps_left k < left_at CommitPending m) (eqb (low v) 0) _ _ (λ t. omega (arith, s.cells)) (λ t. omega (arith, s.cells))
-  left_less CommitWrite e b = at_cond (λ (k : Machine). steps_left k < left_at CommitWrite m) (makes_room m v) _ _ (λ t. omega (arith, s.cells)) (λ t. omega (arith, s.cells))
+  left_less CommitFeature e b = at_cond (λ (k : EndMachine). steps_left k < left_at CommitFeature m) (eqb (low v % 2) 1) _ _ (λ t. omega (arith, s.cells)) (λ t. omega (arith, s.cells))
+  left_less CommitPending e b = at_cond (λ (k : EndMachine). steps_left k < left_at CommitPending m) (eqb (low v) 0) _ _ (λ t. omega (arith, s.cells)) (λ t. omega (arith, s.cells))
+  left_less CommitWrite e b = at_cond (λ (k : EndMachine). steps_left k < left_at CommitWrite m) (makes_room m v) _ _ (λ t. omega (arith, s.cells)) (λ t. omega (arith, s.cells))
   left_less CommitRaise e b = omega (arith, s.cells)
   left_less ArmPending e b = omega (arith, s.cells)
   left_less ArmMask e b = omega (arith, s.cells)
-  left_less ArmWrite e b = at_cond (λ (k : Machine). steps_left k < left_at ArmWrite m) (eqb (low v) (8 * m.read)) _ _ (λ t. at_cond (λ (k : Machine). steps_left k < left_at ArmWrite m) (eqb m.want 0) _ _ (λ u. omega (arith, s.cells)) (λ u. omega (arith, s.cells))) (λ t. omega (arith, s.cells))
-  left_less ArmRead e b = at_cond (λ (k : Machine). steps_left k < left_at ArmRead m) (finds_room m v) _ _ (λ t. omega (arith, s.cells)) (λ t. omega (arith, s.cells))
-  left_less ArmMark e b = at_cond (λ (k : Machine). steps_left k < left_at ArmMark m) (eqb v 0) _ _ (λ t. omega (arith, s.cells)) (λ t. omega (arith, s.cells))
-  left_less ArmUndoMask e b = at_cond (λ (k : Machine). steps_left k < left_at ArmUndoMask m) (eqb m.want 0) _ _ (λ t. omega (arith, s.cells)) (λ t. omega (arith, s.cells))
+  left_less ArmWrite e b = at_cond (λ (k : EndMachine). steps_left k < left_at ArmWrite m) (eqb (low v) (8 * m.read)) _ _ (λ t. at_cond (λ (k : EndMachine). steps_left k < left_at ArmWrite m) (eqb m.want 0) _ _ (λ u. omega (arith, s.cells)) (λ u. omega (arith, s.cells))) (λ t. omega (arith, s.cells))
+  left_less ArmRead e b = at_cond (λ (k : EndMachine). steps_left k < left_at ArmRead m) (finds_room m v) _ _ (λ t. omega (arith, s.cells)) (λ t. omega (arith, s.cells))
+  left_less ArmMark e b = at_cond (λ (k : EndMachine). steps_left k < left_at ArmMark m) (eqb v 0) _ _ (λ t. omega (arith, s.cells)) (λ t. omega (arith, s.cells))
+  left_less ArmUndoMask e b = at_cond (λ (k : EndMachine). steps_left k < left_at ArmUndoMask m) (eqb m.want 0) _ _ (λ t. omega (arith, s.cells)) (λ t. omega (arith, s.cells))
   left_less ArmUndoPending e b = omega (arith, s.cells)
-  left_less PollSignal e b = at_cond (λ (k : Machine). steps_left k < left_at PollSignal m) (eqb v 0) _ _ (λ t. omega (arith, s.cells)) (λ t. omega (arith, s.cells))
-  left_less PollMask e b = at_cond (λ (k : Machine). steps_left k < left_at PollMask m) (eqb m.want 0) _ _ (λ t. omega (arith, s.cells)) (λ t. omega (arith, s.cells))
+  left_less PollSignal e b = at_cond (λ (k : EndMachine). steps_left k < left_at PollSignal m) (eqb v 0) _ _ (λ t. omega (arith, s.cells)) (λ t. omega (arith, s.cells))
+  left_less PollMask e b = at_cond (λ (k : EndMachine). steps_left k < left_at PollMask m) (eqb m.want 0) _ _ (λ t. omega (arith, s.cells)) (λ t. omega (arith, s.cells))
   left_less PollPending e b = omega (arith, s.cells)
   left_less MarkStore e b = omega (arith, s.cells)
   left_less MarkRaise e b = omega (arith, s.cells)
-  left_less PeerMark e b = at_cond (λ (k : Machine). steps_left k < left_at PeerMark m) (eqb v 0) _ _ (λ t. omega (arith, s.cells)) (λ t. omega (arith, s.cells))
+  left_less PeerMark e b = at_cond (λ (k : EndMachine). steps_left k < left_at PeerMark m) (eqb v 0) _ _ (λ t. omega (arith, s.cells)) (λ t. omega (arith, s.cells))
 
   pub fed_nearer : is_busy_at m.stage ≡ true → steps_left (fed m v) < steps_left m
   fed_nearer b = left_less m.stage refl b
@@ -267,39 +267,39 @@ module _ (m : Machine) (v : ℕ) (s : IsSound m) where
   made_more : (st : Stage) → m.stage ≡ st → is_busy_at st ≡ true → made_at st m + 1 ≤ made_at (fed_at st m v).stage (fed_at st m v)
   made_more Idle e b = absurd (cc)
   made_more Stopped e b = absurd (cc)
-  made_more SendRead e b = at_cond (λ (k : Machine). made_at SendRead m + 1 ≤ made_at k.stage k) (is_index m.cells v) _ _ (λ t. at_cond (λ (k : Machine). made_at SendRead m + 1 ≤ made_at k.stage k) (leb (free m.cells (cell_of v) m.write) (m.len + 1)) _ _ (λ u. omega arith) (λ u. omega arith)) (λ t. omega arith)
-  made_more SendCell e b = at_cond (λ (k : Machine). made_at SendCell m + 1 ≤ made_at k.stage k) (ltb m.done m.len) _ _ (λ t. subst (λ (x : Stage). m.done + 1 + 1 ≤ made_at x (record m { done = m.done + 1 })) (sym e) (omega arith)) (λ t. (let over : m.len ≤ m.done = grind (arith, nat_tests) in omega (arith, s.done)))
+  made_more SendRead e b = at_cond (λ (k : EndMachine). made_at SendRead m + 1 ≤ made_at k.stage k) (is_index m.cells v) _ _ (λ t. at_cond (λ (k : EndMachine). made_at SendRead m + 1 ≤ made_at k.stage k) (leb (free m.cells (cell_of v) m.write) (m.len + 1)) _ _ (λ u. omega arith) (λ u. omega arith)) (λ t. omega arith)
+  made_more SendCell e b = at_cond (λ (k : EndMachine). made_at SendCell m + 1 ≤ made_at k.stage k) (ltb m.done m.len) _ _ (λ t. subst (λ (x : Stage). m.done + 1 + 1 ≤ made_at x (record m { done = m.done + 1 })) (sym e) (omega arith)) (λ t. (let over : m.len ≤ m.done = grind (arith, nat_tests) in omega (arith, s.done)))
   made_more SendWrite e b = omega arith
-  made_more SendMask e b = at_cond (λ (k : Machine). made_at SendMask m + 1 ≤ made_at k.stage k) (eqb (low v) 0) _ _ (λ t. omega arith) (λ t. omega arith)
-  made_more SendLook e b = at_cond (λ (k : Machine). made_at SendLook m + 1 ≤ made_at k.stage k) (eqb (low v) (8 * m.old)) _ _ (λ t. omega arith) (λ t. omega arith)
+  made_more SendMask e b = at_cond (λ (k : EndMachine). made_at SendMask m + 1 ≤ made_at k.stage k) (eqb (low v) 0) _ _ (λ t. omega arith) (λ t. omega arith)
+  made_more SendLook e b = at_cond (λ (k : EndMachine). made_at SendLook m + 1 ≤ made_at k.stage k) (eqb (low v) (8 * m.old)) _ _ (λ t. omega arith) (λ t. omega arith)
   made_more SendRaise e b = omega arith
-  made_more TakeWrite e b = at_cond (λ (k : Machine). made_at TakeWrite m + 1 ≤ made_at k.stage k) (is_index m.cells v) _ _ (λ t. at_cond (λ (k : Machine). made_at TakeWrite m + 1 ≤ made_at k.stage k) (eqb (cell_of v) m.read) _ _ (λ u. omega arith) (λ u. omega arith)) (λ t. omega arith)
-  made_more TakeFirst e b = at_cond (λ (k : Machine). made_at TakeFirst m + 1 ≤ made_at k.stage k) (leb 2 (len8_of v) && ltb (len8_of v) (used m.cells m.read m.seen)) _ _ (λ t. at_cond (λ (k : Machine). made_at TakeFirst m + 1 ≤ made_at k.stage k) (leb 2 (offset8_of v) && leb (offset8_of v) (len8_of v)) _ _ (λ u. omega arith) (λ u. omega arith)) (λ t. omega arith)
-  made_more TakeCell e b = at_cond (λ (k : Machine). made_at TakeCell m + 1 ≤ made_at k.stage k) (ltb (m.done + 1) m.len) _ _ (λ t. subst (λ (x : Stage). m.done + 1 + 1 ≤ made_at x (record m { done = m.done + 1 })) (sym e) (omega arith)) (λ t. (let busy : m.done < m.len = (s.copying e).1 in omega arith))
+  made_more TakeWrite e b = at_cond (λ (k : EndMachine). made_at TakeWrite m + 1 ≤ made_at k.stage k) (is_index m.cells v) _ _ (λ t. at_cond (λ (k : EndMachine). made_at TakeWrite m + 1 ≤ made_at k.stage k) (eqb (cell_of v) m.read) _ _ (λ u. omega arith) (λ u. omega arith)) (λ t. omega arith)
+  made_more TakeFirst e b = at_cond (λ (k : EndMachine). made_at TakeFirst m + 1 ≤ made_at k.stage k) (leb 2 (len8_of v) && ltb (len8_of v) (used m.cells m.read m.seen)) _ _ (λ t. at_cond (λ (k : EndMachine). made_at TakeFirst m + 1 ≤ made_at k.stage k) (leb 2 (offset8_of v) && leb (offset8_of v) (len8_of v)) _ _ (λ u. omega arith) (λ u. omega arith)) (λ t. omega arith)
+  made_more TakeCell e b = at_cond (λ (k : EndMachine). made_at TakeCell m + 1 ≤ made_at k.stage k) (ltb (m.done + 1) m.len) _ _ (λ t. subst (λ (x : Stage). m.done + 1 + 1 ≤ made_at x (record m { done = m.done + 1 })) (sym e) (omega arith)) (λ t. (let busy : m.done < m.len = (s.copying e).1 in omega arith))
   made_more CommitRead e b = omega arith
-  made_more CommitFeature e b = at_cond (λ (k : Machine). made_at CommitFeature m + 1 ≤ made_at k.stage k) (eqb (low v % 2) 1) _ _ (λ t. omega arith) (λ t. omega arith)
-  made_more CommitPending e b = at_cond (λ (k : Machine). made_at CommitPending m + 1 ≤ made_at k.stage k) (eqb (low v) 0) _ _ (λ t. omega arith) (λ t. omega arith)
-  made_more CommitWrite e b = at_cond (λ (k : Machine). made_at CommitWrite m + 1 ≤ made_at k.stage k) (makes_room m v) _ _ (λ t. omega arith) (λ t. omega arith)
+  made_more CommitFeature e b = at_cond (λ (k : EndMachine). made_at CommitFeature m + 1 ≤ made_at k.stage k) (eqb (low v % 2) 1) _ _ (λ t. omega arith) (λ t. omega arith)
+  made_more CommitPending e b = at_cond (λ (k : EndMachine). made_at CommitPending m + 1 ≤ made_at k.stage k) (eqb (low v) 0) _ _ (λ t. omega arith) (λ t. omega arith)
+  made_more CommitWrite e b = at_cond (λ (k : EndMachine). made_at CommitWrite m + 1 ≤ made_at k.stage k) (makes_room m v) _ _ (λ t. omega arith) (λ t. omega arith)
   made_more CommitRaise e b = omega arith
   made_more ArmPending e b = omega arith
   made_more ArmMask e b = omega arith
-  made_more ArmWrite e b = at_cond (λ (k : Machine). made_at ArmWrite m + 1 ≤ made_at k.stage k) (eqb (low v) (8 * m.read)) _ _ (λ t. at_cond (λ (k : Machine). made_at ArmWrite m + 1 ≤ made_at k.stage k) (eqb m.want 0) _ _ (λ u. omega arith) (λ u. omega arith)) (λ t. omega arith)
-  made_more ArmRead e b = at_cond (λ (k : Machine). made_at ArmRead m + 1 ≤ made_at k.stage k) (finds_room m v) _ _ (λ t. omega arith) (λ t. omega arith)
-  made_more ArmMark e b = at_cond (λ (k : Machine). made_at ArmMark m + 1 ≤ made_at k.stage k) (eqb v 0) _ _ (λ t. omega arith) (λ t. omega arith)
-  made_more ArmUndoMask e b = at_cond (λ (k : Machine). made_at ArmUndoMask m + 1 ≤ made_at k.stage k) (eqb m.want 0) _ _ (λ t. omega arith) (λ t. omega arith)
+  made_more ArmWrite e b = at_cond (λ (k : EndMachine). made_at ArmWrite m + 1 ≤ made_at k.stage k) (eqb (low v) (8 * m.read)) _ _ (λ t. at_cond (λ (k : EndMachine). made_at ArmWrite m + 1 ≤ made_at k.stage k) (eqb m.want 0) _ _ (λ u. omega arith) (λ u. omega arith)) (λ t. omega arith)
+  made_more ArmRead e b = at_cond (λ (k : EndMachine). made_at ArmRead m + 1 ≤ made_at k.stage k) (finds_room m v) _ _ (λ t. omega arith) (λ t. omega arith)
+  made_more ArmMark e b = at_cond (λ (k : EndMachine). made_at ArmMark m + 1 ≤ made_at k.stage k) (eqb v 0) _ _ (λ t. omega arith) (λ t. omega arith)
+  made_more ArmUndoMask e b = at_cond (λ (k : EndMachine). made_at ArmUndoMask m + 1 ≤ made_at k.stage k) (eqb m.want 0) _ _ (λ t. omega arith) (λ t. omega arith)
   made_more ArmUndoPending e b = omega arith
-  made_more PollSignal e b = at_cond (λ (k : Machine). made_at PollSignal m + 1 ≤ made_at k.stage k) (eqb v 0) _ _ (λ t. omega arith) (λ t. omega arith)
-  made_more PollMask e b = at_cond (λ (k : Machine). made_at PollMask m + 1 ≤ made_at k.stage k) (eqb m.want 0) _ _ (λ t. omega arith) (λ t. omega arith)
+  made_more PollSignal e b = at_cond (λ (k : EndMachine). made_at PollSignal m + 1 ≤ made_at k.stage k) (eqb v 0) _ _ (λ t. omega arith) (λ t. omega arith)
+  made_more PollMask e b = at_cond (λ (k : EndMachine). made_at PollMask m + 1 ≤ made_at k.stage k) (eqb m.want 0) _ _ (λ t. omega arith) (λ t. omega arith)
   made_more PollPending e b = omega arith
   made_more MarkStore e b = omega arith
   made_more MarkRaise e b = omega arith
-  made_more PeerMark e b = at_cond (λ (k : Machine). made_at PeerMark m + 1 ≤ made_at k.stage k) (eqb v 0) _ _ (λ t. omega arith) (λ t. omega arith)
+  made_more PeerMark e b = at_cond (λ (k : EndMachine). made_at PeerMark m + 1 ≤ made_at k.stage k) (eqb v 0) _ _ (λ t. omega arith) (λ t. omega arith)
 
   pub fed_made : is_busy_at m.stage ≡ true → made_at m.stage m + 1 ≤ made_at (fed m v).stage (fed m v)
   fed_made b = made_more m.stage refl b
 
 -- the calls that an end that is awake and unmarked begins
-module _ (m : Machine) (s : IsSound m) (idle : m.stage ≡ Idle) (awake : m.asleep ≡ false) (unmarked : m.marked ≡ false) where
+module _ (m : EndMachine) (s : IsSound m) (idle : m.stage ≡ Idle) (awake : m.asleep ≡ false) (unmarked : m.marked ≡ false) where
   unbroken : is_broken m.ended ≡ true → ⊥
   unbroken h = let z : Idle ≡ Stopped = sym idle ∙ s.broken h in cc
 
@@ -327,7 +327,7 @@ module _ (m : Machine) (s : IsSound m) (idle : m.stage ≡ Idle) (awake : m.asle
       (λ t. let wants : 0 < want = grind (arith, nat_tests) in sound_of _ (record { cells = s.cells; write = s.write; read = s.read; start = s.start; seen = s.seen; old = s.old; len = omega (arith, s.cells); done = omega arith; value = s.value; want = small; room = s.room; words = s.words }) (armed _ _ _ _ _ _ _ _ _ (no_true awake) ArmPending refl (λ _. same) (λ h. absurd (cc)) (λ _. wants, λ h. absurd (cc)) unmarked unbroken refl))
 
 -- the call of an end that is asleep
-pub poll_sound : (m : Machine) → IsSound m → m.stage ≡ Idle → m.asleep ≡ true → IsSound (poll_begun m)
+pub poll_sound : (m : EndMachine) → IsSound m → m.stage ≡ Idle → m.asleep ≡ true → IsSound (poll_begun m)
 poll_sound m s idle asleep =
     let a = s.asleep asleep in
     sound_of _ (record { cells = s.cells; write = s.write; read = s.read; start = s.start; seen = s.seen; old = s.old; len = omega (arith, s.cells); done = omega arith; value = s.value; want = s.want; room = s.room; words = s.words })

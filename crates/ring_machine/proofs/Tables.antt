@@ -3,13 +3,13 @@ use Rattle.std.proofs.Common.{◌≡◌, ℕ, suc, ◌+◌, ◌*◌, ◌%◌, �
 use Rattle.std.specs.Prelude.{slice_index}
 use Rattle.std.proofs.Math.Seq.{take-suc-set}
 use Rattle.std.proofs.lemmas.Bool.Decides.{nat_tests}
-use Rattle.chan_run.specs.declared.event.Event.{Event}
-use Rattle.chan_run.specs.declared.event.Event.TheVariants.{Sent as SentEvent, Got as GotEvent, Marked as MarkedEvent, Saw as SawEvent}
+use Rattle.channel_trace.specs.declared.event.Event.{Event}
+use Rattle.channel_trace.specs.declared.event.Event.TheVariants.{Sent as SentEvent, Got as GotEvent, Marked as MarkedEvent, Saw as SawEvent}
 use Rattle.ring_machine.specs.declared.machine.Stage.{Stage}
 use Rattle.ring_machine.specs.declared.machine.Stage.TheVariants.{Idle, Stopped, SendRead, SendCell, SendWrite, SendMask, SendLook, SendRaise, TakeWrite, TakeFirst, TakeCell, CommitRead, CommitFeature, CommitPending, CommitWrite, CommitRaise, ArmPending, ArmMask, ArmWrite, ArmRead, ArmMark, ArmUndoMask, ArmUndoPending, PollSignal, PollMask, PollPending, MarkStore, MarkRaise, PeerMark}
 use Rattle.ring_machine.specs.declared.machine.Ending.{Ending}
 use Rattle.ring_machine.specs.declared.machine.Ending.TheVariants.{Took}
-use Rattle.ring_machine.specs.declared.machine.Machine.{Machine}
+use Rattle.ring_machine.specs.declared.machine.EndMachine.{EndMachine}
 use Rattle.ring_machine.specs.declared.place.Op.{Op}
 use Rattle.ring_machine.specs.EndCalls.{EndCall, Send, Take, Commit, Arm, Poll, Mark as MarkCall, PeerMark as PeerMarkCall}
 use Rattle.ring_machine.specs.Places.{ahead, used, free, low, is_index, cell_of, len8_of, offset8_of}
@@ -20,38 +20,38 @@ use Rattle.ring_machine.specs.Endings.{is_committed, is_dozed, is_marked}
 use Rattle.ring_machine.proofs.Sound.{at_cond, at_both, and_left, and_right, no_true}
 
 -- a step that isn't a load of a take leaves no take's loop
-none_copied : (m : Machine) (v : ℕ) (buf : List ℕ) (st : Stage) → m.stage ≡ st → is_copying_at st ≡ false → [] ≡ copied_at (fed_at st m v).stage (take (fed_at st m v).done buf)
+none_copied : (m : EndMachine) (v : ℕ) (buf : List ℕ) (st : Stage) → m.stage ≡ st → is_copying_at st ≡ false → [] ≡ copied_at (fed_at st m v).stage (take (fed_at st m v).done buf)
 none_copied m v buf Idle e n = rw e refl
 none_copied m v buf Stopped e n = rw e refl
-none_copied m v buf SendRead e n = at_cond (λ (k : Machine). [] ≡ copied_at k.stage (take k.done buf)) (is_index m.cells v) _ _ (λ t. at_cond (λ (k : Machine). [] ≡ copied_at k.stage (take k.done buf)) (leb (free m.cells (cell_of v) m.write) (m.len + 1)) _ _ (λ u. refl) (λ u. refl)) (λ t. refl)
-none_copied m v buf SendCell e n = at_cond (λ (k : Machine). [] ≡ copied_at k.stage (take k.done buf)) (ltb m.done m.len) _ _ (λ t. rw e refl) (λ t. refl)
+none_copied m v buf SendRead e n = at_cond (λ (k : EndMachine). [] ≡ copied_at k.stage (take k.done buf)) (is_index m.cells v) _ _ (λ t. at_cond (λ (k : EndMachine). [] ≡ copied_at k.stage (take k.done buf)) (leb (free m.cells (cell_of v) m.write) (m.len + 1)) _ _ (λ u. refl) (λ u. refl)) (λ t. refl)
+none_copied m v buf SendCell e n = at_cond (λ (k : EndMachine). [] ≡ copied_at k.stage (take k.done buf)) (ltb m.done m.len) _ _ (λ t. rw e refl) (λ t. refl)
 none_copied m v buf SendWrite e n = refl
-none_copied m v buf SendMask e n = at_cond (λ (k : Machine). [] ≡ copied_at k.stage (take k.done buf)) (eqb (low v) 0) _ _ (λ t. refl) (λ t. refl)
-none_copied m v buf SendLook e n = at_cond (λ (k : Machine). [] ≡ copied_at k.stage (take k.done buf)) (eqb (low v) (8 * m.old)) _ _ (λ t. refl) (λ t. refl)
+none_copied m v buf SendMask e n = at_cond (λ (k : EndMachine). [] ≡ copied_at k.stage (take k.done buf)) (eqb (low v) 0) _ _ (λ t. refl) (λ t. refl)
+none_copied m v buf SendLook e n = at_cond (λ (k : EndMachine). [] ≡ copied_at k.stage (take k.done buf)) (eqb (low v) (8 * m.old)) _ _ (λ t. refl) (λ t. refl)
 none_copied m v buf SendRaise e n = refl
-none_copied m v buf TakeWrite e n = at_cond (λ (k : Machine). [] ≡ copied_at k.stage (take k.done buf)) (is_index m.cells v) _ _ (λ t. at_cond (λ (k : Machine). [] ≡ copied_at k.stage (take k.done buf)) (eqb (cell_of v) m.read) _ _ (λ u. refl) (λ u. refl)) (λ t. refl)
+none_copied m v buf TakeWrite e n = at_cond (λ (k : EndMachine). [] ≡ copied_at k.stage (take k.done buf)) (is_index m.cells v) _ _ (λ t. at_cond (λ (k : EndMachine). [] ≡ copied_at k.stage (take k.done buf)) (eqb (cell_of v) m.read) _ _ (λ u. refl) (λ u. refl)) (λ t. refl)
 none_copied m v buf TakeFirst e n = absurd (cc)
 none_copied m v buf TakeCell e n = absurd (cc)
 none_copied m v buf CommitRead e n = refl
-none_copied m v buf CommitFeature e n = at_cond (λ (k : Machine). [] ≡ copied_at k.stage (take k.done buf)) (eqb (low v % 2) 1) _ _ (λ t. refl) (λ t. refl)
-none_copied m v buf CommitPending e n = at_cond (λ (k : Machine). [] ≡ copied_at k.stage (take k.done buf)) (eqb (low v) 0) _ _ (λ t. refl) (λ t. refl)
-none_copied m v buf CommitWrite e n = at_cond (λ (k : Machine). [] ≡ copied_at k.stage (take k.done buf)) (makes_room m v) _ _ (λ t. refl) (λ t. refl)
+none_copied m v buf CommitFeature e n = at_cond (λ (k : EndMachine). [] ≡ copied_at k.stage (take k.done buf)) (eqb (low v % 2) 1) _ _ (λ t. refl) (λ t. refl)
+none_copied m v buf CommitPending e n = at_cond (λ (k : EndMachine). [] ≡ copied_at k.stage (take k.done buf)) (eqb (low v) 0) _ _ (λ t. refl) (λ t. refl)
+none_copied m v buf CommitWrite e n = at_cond (λ (k : EndMachine). [] ≡ copied_at k.stage (take k.done buf)) (makes_room m v) _ _ (λ t. refl) (λ t. refl)
 none_copied m v buf CommitRaise e n = refl
 none_copied m v buf ArmPending e n = refl
 none_copied m v buf ArmMask e n = refl
-none_copied m v buf ArmWrite e n = at_cond (λ (k : Machine). [] ≡ copied_at k.stage (take k.done buf)) (eqb (low v) (8 * m.read)) _ _ (λ t. at_cond (λ (k : Machine). [] ≡ copied_at k.stage (take k.done buf)) (eqb m.want 0) _ _ (λ u. refl) (λ u. refl)) (λ t. refl)
-none_copied m v buf ArmRead e n = at_cond (λ (k : Machine). [] ≡ copied_at k.stage (take k.done buf)) (finds_room m v) _ _ (λ t. refl) (λ t. refl)
-none_copied m v buf ArmMark e n = at_cond (λ (k : Machine). [] ≡ copied_at k.stage (take k.done buf)) (eqb v 0) _ _ (λ t. refl) (λ t. refl)
-none_copied m v buf ArmUndoMask e n = at_cond (λ (k : Machine). [] ≡ copied_at k.stage (take k.done buf)) (eqb m.want 0) _ _ (λ t. refl) (λ t. refl)
+none_copied m v buf ArmWrite e n = at_cond (λ (k : EndMachine). [] ≡ copied_at k.stage (take k.done buf)) (eqb (low v) (8 * m.read)) _ _ (λ t. at_cond (λ (k : EndMachine). [] ≡ copied_at k.stage (take k.done buf)) (eqb m.want 0) _ _ (λ u. refl) (λ u. refl)) (λ t. refl)
+none_copied m v buf ArmRead e n = at_cond (λ (k : EndMachine). [] ≡ copied_at k.stage (take k.done buf)) (finds_room m v) _ _ (λ t. refl) (λ t. refl)
+none_copied m v buf ArmMark e n = at_cond (λ (k : EndMachine). [] ≡ copied_at k.stage (take k.done buf)) (eqb v 0) _ _ (λ t. refl) (λ t. refl)
+none_copied m v buf ArmUndoMask e n = at_cond (λ (k : EndMachine). [] ≡ copied_at k.stage (take k.done buf)) (eqb m.want 0) _ _ (λ t. refl) (λ t. refl)
 none_copied m v buf ArmUndoPending e n = refl
-none_copied m v buf PollSignal e n = at_cond (λ (k : Machine). [] ≡ copied_at k.stage (take k.done buf)) (eqb v 0) _ _ (λ t. refl) (λ t. refl)
-none_copied m v buf PollMask e n = at_cond (λ (k : Machine). [] ≡ copied_at k.stage (take k.done buf)) (eqb m.want 0) _ _ (λ t. refl) (λ t. refl)
+none_copied m v buf PollSignal e n = at_cond (λ (k : EndMachine). [] ≡ copied_at k.stage (take k.done buf)) (eqb v 0) _ _ (λ t. refl) (λ t. refl)
+none_copied m v buf PollMask e n = at_cond (λ (k : EndMachine). [] ≡ copied_at k.stage (take k.done buf)) (eqb m.want 0) _ _ (λ t. refl) (λ t. refl)
 none_copied m v buf PollPending e n = refl
 none_copied m v buf MarkStore e n = refl
 none_copied m v buf MarkRaise e n = refl
-none_copied m v buf PeerMark e n = at_cond (λ (k : Machine). [] ≡ copied_at k.stage (take k.done buf)) (eqb v 0) _ _ (λ t. refl) (λ t. refl)
+none_copied m v buf PeerMark e n = at_cond (λ (k : EndMachine). [] ≡ copied_at k.stage (take k.done buf)) (eqb v 0) _ _ (λ t. refl) (λ t. refl)
 
-pub copied_by : (m : Machine) (v : ℕ) (buf : List ℕ) → IsSound m → length buf ≡ m.cells → (st : Stage) → m.stage ≡ st
+pub copied_by : (m : EndMachine) (v : ℕ) (buf : List ℕ) → IsSound m → length buf ≡ m.cells → (st : Stage) → m.stage ≡ st
     → copied_after st (fed_at st m v) (copied_at st (take m.done buf)) v ≡ copied_at (fed_at st m v).stage (take (fed_at st m v).done (stored (is_copying_at st) buf m.done v))
 copied_by m v buf s w Idle e = none_copied m v buf Idle e refl
 copied_by m v buf s w Stopped e = none_copied m v buf Stopped e refl
@@ -63,12 +63,12 @@ copied_by m v buf s w SendLook e = none_copied m v buf SendLook e refl
 copied_by m v buf s w SendRaise e = none_copied m v buf SendRaise e refl
 copied_by m v buf s w TakeWrite e = none_copied m v buf TakeWrite e refl
 copied_by m v buf s w TakeFirst e =
-    let P : Machine → Type 0 = λ k. copied_at k.stage (v ∷ []) ≡ copied_at k.stage (take k.done (set buf m.done v)) in
+    let P : EndMachine → Type 0 = λ k. copied_at k.stage (v ∷ []) ≡ copied_at k.stage (take k.done (set buf m.done v)) in
     let here : m.done ≡ 0 = s.first e in
     let room : 0 < length buf = omega (arith, s.cells) in
     at_cond P (leb 2 (len8_of v) && ltb (len8_of v) (used m.cells m.read m.seen)) _ _ (λ t. at_cond P (leb 2 (offset8_of v) && leb (offset8_of v) (len8_of v)) _ _ (λ u. rw here (sym (take-suc-set buf 0 v room))) (λ u. refl)) (λ t. refl)
 copied_by m v buf s w TakeCell e =
-    let P : Machine → Type 0 = λ k. copied_at k.stage (take m.done buf ++ v ∷ []) ≡ copied_at k.stage (take k.done (set buf m.done v)) in
+    let P : EndMachine → Type 0 = λ k. copied_at k.stage (take m.done buf ++ v ∷ []) ≡ copied_at k.stage (take k.done (set buf m.done v)) in
     let room : m.done < length buf = omega (arith, s.len, s.done) in
     at_cond P (ltb (m.done + 1) m.len) _ _ (λ t. ap (copied_at m.stage) (rw add-one (sym (take-suc-set buf m.done v room)))) (λ t. refl)
 copied_by m v buf s w CommitRead e = none_copied m v buf CommitRead e refl
@@ -90,38 +90,38 @@ copied_by m v buf s w MarkStore e = none_copied m v buf MarkStore e refl
 copied_by m v buf s w MarkRaise e = none_copied m v buf MarkRaise e refl
 copied_by m v buf s w PeerMark e = none_copied m v buf PeerMark e refl
 
-pub fed_cells : (m : Machine) (v : ℕ) (st : Stage) → (fed_at st m v).cells ≡ m.cells
+pub fed_cells : (m : EndMachine) (v : ℕ) (st : Stage) → (fed_at st m v).cells ≡ m.cells
 fed_cells m v Idle = refl
 fed_cells m v Stopped = refl
-fed_cells m v SendRead = at_cond (λ (k : Machine). k.cells ≡ m.cells) (is_index m.cells v) _ _ (λ t. at_cond (λ (k : Machine). k.cells ≡ m.cells) (leb (free m.cells (cell_of v) m.write) (m.len + 1)) _ _ (λ u. refl) (λ u. refl)) (λ t. refl)
-fed_cells m v SendCell = at_cond (λ (k : Machine). k.cells ≡ m.cells) (ltb m.done m.len) _ _ (λ t. refl) (λ t. refl)
+fed_cells m v SendRead = at_cond (λ (k : EndMachine). k.cells ≡ m.cells) (is_index m.cells v) _ _ (λ t. at_cond (λ (k : EndMachine). k.cells ≡ m.cells) (leb (free m.cells (cell_of v) m.write) (m.len + 1)) _ _ (λ u. refl) (λ u. refl)) (λ t. refl)
+fed_cells m v SendCell = at_cond (λ (k : EndMachine). k.cells ≡ m.cells) (ltb m.done m.len) _ _ (λ t. refl) (λ t. refl)
 fed_cells m v SendWrite = refl
-fed_cells m v SendMask = at_cond (λ (k : Machine). k.cells ≡ m.cells) (eqb (low v) 0) _ _ (λ t. refl) (λ t. refl)
-fed_cells m v SendLook = at_cond (λ (k : Machine). k.cells ≡ m.cells) (eqb (low v) (8 * m.old)) _ _ (λ t. refl) (λ t. refl)
+fed_cells m v SendMask = at_cond (λ (k : EndMachine). k.cells ≡ m.cells) (eqb (low v) 0) _ _ (λ t. refl) (λ t. refl)
+fed_cells m v SendLook = at_cond (λ (k : EndMachine). k.cells ≡ m.cells) (eqb (low v) (8 * m.old)) _ _ (λ t. refl) (λ t. refl)
 fed_cells m v SendRaise = refl
-fed_cells m v TakeWrite = at_cond (λ (k : Machine). k.cells ≡ m.cells) (is_index m.cells v) _ _ (λ t. at_cond (λ (k : Machine). k.cells ≡ m.cells) (eqb (cell_of v) m.read) _ _ (λ u. refl) (λ u. refl)) (λ t. refl)
-fed_cells m v TakeFirst = at_cond (λ (k : Machine). k.cells ≡ m.cells) (leb 2 (len8_of v) && ltb (len8_of v) (used m.cells m.read m.seen)) _ _ (λ t. at_cond (λ (k : Machine). k.cells ≡ m.cells) (leb 2 (offset8_of v) && leb (offset8_of v) (len8_of v)) _ _ (λ u. refl) (λ u. refl)) (λ t. refl)
-fed_cells m v TakeCell = at_cond (λ (k : Machine). k.cells ≡ m.cells) (ltb (m.done + 1) m.len) _ _ (λ t. refl) (λ t. refl)
+fed_cells m v TakeWrite = at_cond (λ (k : EndMachine). k.cells ≡ m.cells) (is_index m.cells v) _ _ (λ t. at_cond (λ (k : EndMachine). k.cells ≡ m.cells) (eqb (cell_of v) m.read) _ _ (λ u. refl) (λ u. refl)) (λ t. refl)
+fed_cells m v TakeFirst = at_cond (λ (k : EndMachine). k.cells ≡ m.cells) (leb 2 (len8_of v) && ltb (len8_of v) (used m.cells m.read m.seen)) _ _ (λ t. at_cond (λ (k : EndMachine). k.cells ≡ m.cells) (leb 2 (offset8_of v) && leb (offset8_of v) (len8_of v)) _ _ (λ u. refl) (λ u. refl)) (λ t. refl)
+fed_cells m v TakeCell = at_cond (λ (k : EndMachine). k.cells ≡ m.cells) (ltb (m.done + 1) m.len) _ _ (λ t. refl) (λ t. refl)
 fed_cells m v CommitRead = refl
-fed_cells m v CommitFeature = at_cond (λ (k : Machine). k.cells ≡ m.cells) (eqb (low v % 2) 1) _ _ (λ t. refl) (λ t. refl)
-fed_cells m v CommitPending = at_cond (λ (k : Machine). k.cells ≡ m.cells) (eqb (low v) 0) _ _ (λ t. refl) (λ t. refl)
-fed_cells m v CommitWrite = at_cond (λ (k : Machine). k.cells ≡ m.cells) (makes_room m v) _ _ (λ t. refl) (λ t. refl)
+fed_cells m v CommitFeature = at_cond (λ (k : EndMachine). k.cells ≡ m.cells) (eqb (low v % 2) 1) _ _ (λ t. refl) (λ t. refl)
+fed_cells m v CommitPending = at_cond (λ (k : EndMachine). k.cells ≡ m.cells) (eqb (low v) 0) _ _ (λ t. refl) (λ t. refl)
+fed_cells m v CommitWrite = at_cond (λ (k : EndMachine). k.cells ≡ m.cells) (makes_room m v) _ _ (λ t. refl) (λ t. refl)
 fed_cells m v CommitRaise = refl
 fed_cells m v ArmPending = refl
 fed_cells m v ArmMask = refl
-fed_cells m v ArmWrite = at_cond (λ (k : Machine). k.cells ≡ m.cells) (eqb (low v) (8 * m.read)) _ _ (λ t. at_cond (λ (k : Machine). k.cells ≡ m.cells) (eqb m.want 0) _ _ (λ u. refl) (λ u. refl)) (λ t. refl)
-fed_cells m v ArmRead = at_cond (λ (k : Machine). k.cells ≡ m.cells) (finds_room m v) _ _ (λ t. refl) (λ t. refl)
-fed_cells m v ArmMark = at_cond (λ (k : Machine). k.cells ≡ m.cells) (eqb v 0) _ _ (λ t. refl) (λ t. refl)
-fed_cells m v ArmUndoMask = at_cond (λ (k : Machine). k.cells ≡ m.cells) (eqb m.want 0) _ _ (λ t. refl) (λ t. refl)
+fed_cells m v ArmWrite = at_cond (λ (k : EndMachine). k.cells ≡ m.cells) (eqb (low v) (8 * m.read)) _ _ (λ t. at_cond (λ (k : EndMachine). k.cells ≡ m.cells) (eqb m.want 0) _ _ (λ u. refl) (λ u. refl)) (λ t. refl)
+fed_cells m v ArmRead = at_cond (λ (k : EndMachine). k.cells ≡ m.cells) (finds_room m v) _ _ (λ t. refl) (λ t. refl)
+fed_cells m v ArmMark = at_cond (λ (k : EndMachine). k.cells ≡ m.cells) (eqb v 0) _ _ (λ t. refl) (λ t. refl)
+fed_cells m v ArmUndoMask = at_cond (λ (k : EndMachine). k.cells ≡ m.cells) (eqb m.want 0) _ _ (λ t. refl) (λ t. refl)
 fed_cells m v ArmUndoPending = refl
-fed_cells m v PollSignal = at_cond (λ (k : Machine). k.cells ≡ m.cells) (eqb v 0) _ _ (λ t. refl) (λ t. refl)
-fed_cells m v PollMask = at_cond (λ (k : Machine). k.cells ≡ m.cells) (eqb m.want 0) _ _ (λ t. refl) (λ t. refl)
+fed_cells m v PollSignal = at_cond (λ (k : EndMachine). k.cells ≡ m.cells) (eqb v 0) _ _ (λ t. refl) (λ t. refl)
+fed_cells m v PollMask = at_cond (λ (k : EndMachine). k.cells ≡ m.cells) (eqb m.want 0) _ _ (λ t. refl) (λ t. refl)
 fed_cells m v PollPending = refl
 fed_cells m v MarkStore = refl
 fed_cells m v MarkRaise = refl
-fed_cells m v PeerMark = at_cond (λ (k : Machine). k.cells ≡ m.cells) (eqb v 0) _ _ (λ t. refl) (λ t. refl)
+fed_cells m v PeerMark = at_cond (λ (k : EndMachine). k.cells ≡ m.cells) (eqb v 0) _ _ (λ t. refl) (λ t. refl)
 
-pub busy_next : (m : Machine) (p : List ℕ) (st : Stage) → is_busy_at st ≡ true → (op : Op) × (next_at st m p ≡ Some op)
+pub busy_next : (m : EndMachine) (p : List ℕ) (st : Stage) → is_busy_at st ≡ true → (op : Op) × (next_at st m p ≡ Some op)
 busy_next m p Idle b = absurd (cc)
 busy_next m p Stopped b = absurd (cc)
 busy_next m p SendRead b = (_, refl)
@@ -153,31 +153,31 @@ busy_next m p MarkRaise b = (_, refl)
 busy_next m p PeerMark b = (_, refl)
 
 -- the lists and the past, while a call is under way and after it
-pub record Lists (call : EndCall) (sent got : List (List ℕ)) (past : List (Event (List ℕ))) (p : List ℕ) (m : Machine) (buf : List ℕ) (sent' got' : List (List ℕ)) (past' : List (Event (List ℕ))) : Type 0 where
+pub record Lists (call : EndCall) (sent got : List (List ℕ)) (past : List (Event (List ℕ))) (p : List ℕ) (m : EndMachine) (buf : List ℕ) (sent' got' : List (List ℕ)) (past' : List (Event (List ℕ))) : Type 0 where
   pub busy : is_busy_at m.stage ≡ true → (call_at m.stage ≡ call) × (sent' ≡ sent_while m.stage sent p) × (got' ≡ got) × (past' ≡ past_while m.stage m past p)
   pub ended : is_busy_at m.stage ≡ false → (call_by m.ended ≡ call) × (sent' ≡ sent_by m sent p) × (got' ≡ got_by m got buf) × (past' ≡ past_by m past p buf)
 
 module _ (sent got : List (List ℕ)) (past : List (Event (List ℕ))) (p : List ℕ) (buf : List ℕ) where
   -- a machine that goes on, and one whose call has ended
-  more : (call : EndCall) (m : Machine) (sent' got' : List (List ℕ)) (past' : List (Event (List ℕ))) → is_busy_at m.stage ≡ true → (call_at m.stage ≡ call) × (sent' ≡ sent_while m.stage sent p) × (got' ≡ got) × (past' ≡ past_while m.stage m past p) → Lists call sent got past p m buf sent' got' past'
+  more : (call : EndCall) (m : EndMachine) (sent' got' : List (List ℕ)) (past' : List (Event (List ℕ))) → is_busy_at m.stage ≡ true → (call_at m.stage ≡ call) × (sent' ≡ sent_while m.stage sent p) × (got' ≡ got) × (past' ≡ past_while m.stage m past p) → Lists call sent got past p m buf sent' got' past'
   more call m sent' got' past' b x = record { busy = λ _. x; ended = λ n. absurd (no_true n b) }
 
-  over : (call : EndCall) (m : Machine) (sent' got' : List (List ℕ)) (past' : List (Event (List ℕ))) → is_busy_at m.stage ≡ false → (call_by m.ended ≡ call) × (sent' ≡ sent_by m sent p) × (got' ≡ got_by m got buf) × (past' ≡ past_by m past p buf) → Lists call sent got past p m buf sent' got' past'
+  over : (call : EndCall) (m : EndMachine) (sent' got' : List (List ℕ)) (past' : List (Event (List ℕ))) → is_busy_at m.stage ≡ false → (call_by m.ended ≡ call) × (sent' ≡ sent_by m sent p) × (got' ≡ got_by m got buf) × (past' ≡ past_by m past p buf) → Lists call sent got past p m buf sent' got' past'
   over call m sent' got' past' n x = record { busy = λ b. absurd (no_true n b); ended = λ _. x }
 
-module _ (sent got : List (List ℕ)) (past : List (Event (List ℕ))) (p : List ℕ) (m : Machine) (buf : List ℕ) (v : ℕ) (s : IsSound m) (w : length buf ≡ m.cells) (unseen : is_unseen_at m.stage ≡ true → m.saw ≡ false) where
+module _ (sent got : List (List ℕ)) (past : List (Event (List ℕ))) (p : List ℕ) (m : EndMachine) (buf : List ℕ) (v : ℕ) (s : IsSound m) (w : length buf ≡ m.cells) (unseen : is_unseen_at m.stage ≡ true → m.saw ≡ false) where
   saw_none : (st : Stage) → m.stage ≡ st → is_unseen_at st ≡ true → past ≡ cond m.saw (SawEvent ∷ past) past
   saw_none st e u = sym (ap (λ (b : Bool). cond b (SawEvent ∷ past) past) (unseen (ap is_unseen_at e ∙ u)))
 
   pub lists_by : (st : Stage) → m.stage ≡ st → is_busy_at st ≡ true → Lists (call_at st) sent got past p (fed_at st m v) (stored (is_copying_at st) buf m.done v) (sent_after st (sent_while st sent p) p) (got_after st m got (copied_at st (take m.done buf)) v) (past_after st m (past_while st m past p) p (copied_at st (take m.done buf)) v)
-  lists_by SendRead e b = at_cond (λ (k : Machine). Lists Send sent got past p k buf sent got past) (is_index m.cells v) _ _ (λ t. at_cond (λ (k : Machine). Lists Send sent got past p k buf sent got past) (leb (free m.cells (cell_of v) m.write) (m.len + 1)) _ _ (λ u. over sent got past p buf Send _ sent got past refl (refl, refl, refl, refl)) (λ u. more sent got past p buf Send _ sent got past refl (refl, refl, refl, refl))) (λ t. over sent got past p buf Send _ sent got past refl (refl, refl, refl, refl))
-  lists_by SendCell e b = at_cond (λ (k : Machine). Lists Send sent got past p k buf sent got past) (ltb m.done m.len) _ _ (λ t. more sent got past p buf Send _ sent got past (ap is_busy_at e) (ap call_at e, sym (ap (λ (x : Stage). sent_while x sent p) e), refl, sym (ap (λ (x : Stage). past_while x (record m { done = m.done + 1 }) past p) e))) (λ t. more sent got past p buf Send _ sent got past refl (refl, refl, refl, refl))
+  lists_by SendRead e b = at_cond (λ (k : EndMachine). Lists Send sent got past p k buf sent got past) (is_index m.cells v) _ _ (λ t. at_cond (λ (k : EndMachine). Lists Send sent got past p k buf sent got past) (leb (free m.cells (cell_of v) m.write) (m.len + 1)) _ _ (λ u. over sent got past p buf Send _ sent got past refl (refl, refl, refl, refl)) (λ u. more sent got past p buf Send _ sent got past refl (refl, refl, refl, refl))) (λ t. over sent got past p buf Send _ sent got past refl (refl, refl, refl, refl))
+  lists_by SendCell e b = at_cond (λ (k : EndMachine). Lists Send sent got past p k buf sent got past) (ltb m.done m.len) _ _ (λ t. more sent got past p buf Send _ sent got past (ap is_busy_at e) (ap call_at e, sym (ap (λ (x : Stage). sent_while x sent p) e), refl, sym (ap (λ (x : Stage). past_while x (record m { done = m.done + 1 }) past p) e))) (λ t. more sent got past p buf Send _ sent got past refl (refl, refl, refl, refl))
   lists_by SendWrite e b = more sent got past p buf Send _ (sent ++ p ∷ []) got (SentEvent p ∷ past) refl (refl, refl, refl, refl)
-  lists_by SendMask e b = at_cond (λ (k : Machine). Lists Send sent got past p k buf (sent ++ p ∷ []) got (SentEvent p ∷ past)) (eqb (low v) 0) _ _ (λ t. more sent got past p buf Send _ (sent ++ p ∷ []) got (SentEvent p ∷ past) refl (refl, refl, refl, refl)) (λ t. over sent got past p buf Send _ (sent ++ p ∷ []) got (SentEvent p ∷ past) refl (refl, refl, refl, refl))
-  lists_by SendLook e b = at_cond (λ (k : Machine). Lists Send sent got past p k buf (sent ++ p ∷ []) got (SentEvent p ∷ past)) (eqb (low v) (8 * m.old)) _ _ (λ t. more sent got past p buf Send _ (sent ++ p ∷ []) got (SentEvent p ∷ past) refl (refl, refl, refl, refl)) (λ t. over sent got past p buf Send _ (sent ++ p ∷ []) got (SentEvent p ∷ past) refl (refl, refl, refl, refl))
+  lists_by SendMask e b = at_cond (λ (k : EndMachine). Lists Send sent got past p k buf (sent ++ p ∷ []) got (SentEvent p ∷ past)) (eqb (low v) 0) _ _ (λ t. more sent got past p buf Send _ (sent ++ p ∷ []) got (SentEvent p ∷ past) refl (refl, refl, refl, refl)) (λ t. over sent got past p buf Send _ (sent ++ p ∷ []) got (SentEvent p ∷ past) refl (refl, refl, refl, refl))
+  lists_by SendLook e b = at_cond (λ (k : EndMachine). Lists Send sent got past p k buf (sent ++ p ∷ []) got (SentEvent p ∷ past)) (eqb (low v) (8 * m.old)) _ _ (λ t. more sent got past p buf Send _ (sent ++ p ∷ []) got (SentEvent p ∷ past) refl (refl, refl, refl, refl)) (λ t. over sent got past p buf Send _ (sent ++ p ∷ []) got (SentEvent p ∷ past) refl (refl, refl, refl, refl))
   lists_by SendRaise e b = over sent got past p buf Send _ (sent ++ p ∷ []) got (SentEvent p ∷ past) refl (refl, refl, refl, refl)
-  lists_by TakeWrite e b = at_both (λ (k : Machine) (es : List (Event (List ℕ))). Lists Take sent got past p k buf sent got es) (is_index m.cells v) _ _ _ _ (λ t. at_both (λ (k : Machine) (es : List (Event (List ℕ))). Lists Take sent got past p k buf sent got es) (eqb (cell_of v) m.read) _ _ _ _ (λ u. over sent got past p buf Take _ sent got _ refl (refl, refl, refl, refl)) (λ u. more sent got past p buf Take _ sent got _ refl (refl, refl, refl, refl))) (λ t. over sent got past p buf Take _ sent got _ refl (refl, refl, refl, refl))
-  lists_by TakeFirst e b = at_cond (λ (k : Machine). Lists Take sent got past p k (set buf m.done v) sent got past) (leb 2 (len8_of v) && ltb (len8_of v) (used m.cells m.read m.seen)) _ _ (λ t. at_cond (λ (k : Machine). Lists Take sent got past p k (set buf m.done v) sent got past) (leb 2 (offset8_of v) && leb (offset8_of v) (len8_of v)) _ _ (λ u. more sent got past p (set buf m.done v) Take _ sent got past refl (refl, refl, refl, refl)) (λ u. over sent got past p (set buf m.done v) Take _ sent got past refl (refl, refl, refl, refl))) (λ t. over sent got past p (set buf m.done v) Take _ sent got past refl (refl, refl, refl, refl))
+  lists_by TakeWrite e b = at_both (λ (k : EndMachine) (es : List (Event (List ℕ))). Lists Take sent got past p k buf sent got es) (is_index m.cells v) _ _ _ _ (λ t. at_both (λ (k : EndMachine) (es : List (Event (List ℕ))). Lists Take sent got past p k buf sent got es) (eqb (cell_of v) m.read) _ _ _ _ (λ u. over sent got past p buf Take _ sent got _ refl (refl, refl, refl, refl)) (λ u. more sent got past p buf Take _ sent got _ refl (refl, refl, refl, refl))) (λ t. over sent got past p buf Take _ sent got _ refl (refl, refl, refl, refl))
+  lists_by TakeFirst e b = at_cond (λ (k : EndMachine). Lists Take sent got past p k (set buf m.done v) sent got past) (leb 2 (len8_of v) && ltb (len8_of v) (used m.cells m.read m.seen)) _ _ (λ t. at_cond (λ (k : EndMachine). Lists Take sent got past p k (set buf m.done v) sent got past) (leb 2 (offset8_of v) && leb (offset8_of v) (len8_of v)) _ _ (λ u. more sent got past p (set buf m.done v) Take _ sent got past refl (refl, refl, refl, refl)) (λ u. over sent got past p (set buf m.done v) Take _ sent got past refl (refl, refl, refl, refl))) (λ t. over sent got past p (set buf m.done v) Take _ sent got past refl (refl, refl, refl, refl))
   lists_by TakeCell e b = took (ltb (m.done + 1) m.len) refl
     where
       took : (t : Bool) → ltb (m.done + 1) m.len ≡ t
@@ -190,39 +190,39 @@ module _ (sent got : List (List ℕ)) (past : List (Event (List ℕ))) (p : List
           let words : take m.done buf ++ v ∷ [] ≡ take m.len (set buf m.done v) = sym (take-suc-set buf m.done v room) ∙ ap (λ (n : ℕ). take n (set buf m.done v)) (sym (last ∙ add-one m.done)) in
           over sent got past p (set buf m.done v) Take _ sent _ _ refl (refl, refl, ap (λ (xs : List ℕ). got ++ xs ∷ []) words, ap (λ (xs : List ℕ). GotEvent xs ∷ past) words)
   lists_by CommitRead e b = more sent got past p buf Commit _ sent got past refl (refl, refl, refl, refl)
-  lists_by CommitFeature e b = at_cond (λ (k : Machine). Lists Commit sent got past p k buf sent got past) (eqb (low v % 2) 1) _ _ (λ t. more sent got past p buf Commit _ sent got past refl (refl, refl, refl, refl)) (λ t. over sent got past p buf Commit _ sent got past refl (refl, refl, refl, refl))
-  lists_by CommitPending e b = at_cond (λ (k : Machine). Lists Commit sent got past p k buf sent got past) (eqb (low v) 0) _ _ (λ t. over sent got past p buf Commit _ sent got past refl (refl, refl, refl, refl)) (λ t. more sent got past p buf Commit _ sent got past refl (refl, refl, refl, refl))
-  lists_by CommitWrite e b = at_cond (λ (k : Machine). Lists Commit sent got past p k buf sent got past) (makes_room m v) _ _ (λ t. more sent got past p buf Commit _ sent got past refl (refl, refl, refl, refl)) (λ t. over sent got past p buf Commit _ sent got past refl (refl, refl, refl, refl))
+  lists_by CommitFeature e b = at_cond (λ (k : EndMachine). Lists Commit sent got past p k buf sent got past) (eqb (low v % 2) 1) _ _ (λ t. more sent got past p buf Commit _ sent got past refl (refl, refl, refl, refl)) (λ t. over sent got past p buf Commit _ sent got past refl (refl, refl, refl, refl))
+  lists_by CommitPending e b = at_cond (λ (k : EndMachine). Lists Commit sent got past p k buf sent got past) (eqb (low v) 0) _ _ (λ t. over sent got past p buf Commit _ sent got past refl (refl, refl, refl, refl)) (λ t. more sent got past p buf Commit _ sent got past refl (refl, refl, refl, refl))
+  lists_by CommitWrite e b = at_cond (λ (k : EndMachine). Lists Commit sent got past p k buf sent got past) (makes_room m v) _ _ (λ t. more sent got past p buf Commit _ sent got past refl (refl, refl, refl, refl)) (λ t. over sent got past p buf Commit _ sent got past refl (refl, refl, refl, refl))
   lists_by CommitRaise e b = over sent got past p buf Commit _ sent got past refl (refl, refl, refl, refl)
   lists_by ArmPending e b = more sent got past p buf Arm _ sent got past refl (refl, refl, refl, refl)
   lists_by ArmMask e b = more sent got past p buf Arm _ sent got past refl (refl, refl, refl, refl)
-  lists_by ArmWrite e b = at_cond (λ (k : Machine). Lists Arm sent got past p k buf sent got past) (eqb (low v) (8 * m.read)) _ _ (λ t. at_cond (λ (k : Machine). Lists Arm sent got past p k buf sent got past) (eqb m.want 0) _ _ (λ u. more sent got past p buf Arm _ sent got past refl (refl, refl, refl, refl)) (λ u. more sent got past p buf Arm _ sent got past refl (refl, refl, refl, refl))) (λ t. more sent got past p buf Arm _ sent got past refl (refl, refl, refl, saw_none ArmWrite e refl))
-  lists_by ArmRead e b = at_cond (λ (k : Machine). Lists Arm sent got past p k buf sent got past) (finds_room m v) _ _ (λ t. more sent got past p buf Arm _ sent got past refl (refl, refl, refl, saw_none ArmRead e refl)) (λ t. more sent got past p buf Arm _ sent got past refl (refl, refl, refl, refl))
-  lists_by ArmMark e b = at_both (λ (k : Machine) (es : List (Event (List ℕ))). Lists Arm sent got past p k buf sent got es) (eqb v 0) _ _ _ _ (λ t. over sent got past p buf Arm _ sent got _ refl (refl, refl, refl, refl)) (λ t. more sent got past p buf Arm _ sent got _ refl (refl, refl, refl, refl))
-  lists_by ArmUndoMask e b = at_cond (λ (k : Machine). Lists Arm sent got past p k buf sent got (cond m.saw (SawEvent ∷ past) past)) (eqb m.want 0) _ _ (λ t. over sent got past p buf Arm _ sent got (cond m.saw (SawEvent ∷ past) past) refl (refl, refl, refl, refl)) (λ t. more sent got past p buf Arm _ sent got (cond m.saw (SawEvent ∷ past) past) refl (refl, refl, refl, refl))
+  lists_by ArmWrite e b = at_cond (λ (k : EndMachine). Lists Arm sent got past p k buf sent got past) (eqb (low v) (8 * m.read)) _ _ (λ t. at_cond (λ (k : EndMachine). Lists Arm sent got past p k buf sent got past) (eqb m.want 0) _ _ (λ u. more sent got past p buf Arm _ sent got past refl (refl, refl, refl, refl)) (λ u. more sent got past p buf Arm _ sent got past refl (refl, refl, refl, refl))) (λ t. more sent got past p buf Arm _ sent got past refl (refl, refl, refl, saw_none ArmWrite e refl))
+  lists_by ArmRead e b = at_cond (λ (k : EndMachine). Lists Arm sent got past p k buf sent got past) (finds_room m v) _ _ (λ t. more sent got past p buf Arm _ sent got past refl (refl, refl, refl, saw_none ArmRead e refl)) (λ t. more sent got past p buf Arm _ sent got past refl (refl, refl, refl, refl))
+  lists_by ArmMark e b = at_both (λ (k : EndMachine) (es : List (Event (List ℕ))). Lists Arm sent got past p k buf sent got es) (eqb v 0) _ _ _ _ (λ t. over sent got past p buf Arm _ sent got _ refl (refl, refl, refl, refl)) (λ t. more sent got past p buf Arm _ sent got _ refl (refl, refl, refl, refl))
+  lists_by ArmUndoMask e b = at_cond (λ (k : EndMachine). Lists Arm sent got past p k buf sent got (cond m.saw (SawEvent ∷ past) past)) (eqb m.want 0) _ _ (λ t. over sent got past p buf Arm _ sent got (cond m.saw (SawEvent ∷ past) past) refl (refl, refl, refl, refl)) (λ t. more sent got past p buf Arm _ sent got (cond m.saw (SawEvent ∷ past) past) refl (refl, refl, refl, refl))
   lists_by ArmUndoPending e b = over sent got past p buf Arm _ sent got (cond m.saw (SawEvent ∷ past) past) refl (refl, refl, refl, refl)
-  lists_by PollSignal e b = at_cond (λ (k : Machine). Lists Poll sent got past p k buf sent got past) (eqb v 0) _ _ (λ t. over sent got past p buf Poll _ sent got past refl (refl, refl, refl, refl)) (λ t. more sent got past p buf Poll _ sent got past refl (refl, refl, refl, refl))
-  lists_by PollMask e b = at_cond (λ (k : Machine). Lists Poll sent got past p k buf sent got past) (eqb m.want 0) _ _ (λ t. over sent got past p buf Poll _ sent got past refl (refl, refl, refl, refl)) (λ t. more sent got past p buf Poll _ sent got past refl (refl, refl, refl, refl))
+  lists_by PollSignal e b = at_cond (λ (k : EndMachine). Lists Poll sent got past p k buf sent got past) (eqb v 0) _ _ (λ t. over sent got past p buf Poll _ sent got past refl (refl, refl, refl, refl)) (λ t. more sent got past p buf Poll _ sent got past refl (refl, refl, refl, refl))
+  lists_by PollMask e b = at_cond (λ (k : EndMachine). Lists Poll sent got past p k buf sent got past) (eqb m.want 0) _ _ (λ t. over sent got past p buf Poll _ sent got past refl (refl, refl, refl, refl)) (λ t. more sent got past p buf Poll _ sent got past refl (refl, refl, refl, refl))
   lists_by PollPending e b = over sent got past p buf Poll _ sent got past refl (refl, refl, refl, refl)
   lists_by MarkStore e b = more sent got past p buf MarkCall _ sent got (MarkedEvent ∷ past) refl (refl, refl, refl, refl)
   lists_by MarkRaise e b = over sent got past p buf MarkCall _ sent got (MarkedEvent ∷ past) refl (refl, refl, refl, refl)
-  lists_by PeerMark e b = at_both (λ (k : Machine) (es : List (Event (List ℕ))). Lists PeerMarkCall sent got past p k buf sent got es) (eqb v 0) _ _ _ _ (λ t. over sent got past p buf PeerMarkCall _ sent got _ refl (refl, refl, refl, refl)) (λ t. over sent got past p buf PeerMarkCall _ sent got _ refl (refl, refl, refl, refl))
+  lists_by PeerMark e b = at_both (λ (k : EndMachine) (es : List (Event (List ℕ))). Lists PeerMarkCall sent got past p k buf sent got es) (eqb v 0) _ _ _ _ (λ t. over sent got past p buf PeerMarkCall _ sent got _ refl (refl, refl, refl, refl)) (λ t. over sent got past p buf PeerMarkCall _ sent got _ refl (refl, refl, refl, refl))
   lists_by Idle e b = absurd (cc)
   lists_by Stopped e b = absurd (cc)
 
 -- the indices and flags, while a call is under way and after it
-abbrev pub write_at : Stage → Ending → Machine → ℕ → ℕ
+abbrev pub write_at : Stage → Ending → EndMachine → ℕ → ℕ
 write_at SendMask how b n = ahead b.cells b.write (n + 1)
 write_at SendLook how b n = ahead b.cells b.write (n + 1)
 write_at SendRaise how b n = ahead b.cells b.write (n + 1)
 write_at Idle how b n = cond (is_sent how) (ahead b.cells b.write (n + 1)) b.write
 write_at _ how b n = b.write
 
-abbrev pub read_at : Stage → Ending → Machine → ℕ → ℕ
+abbrev pub read_at : Stage → Ending → EndMachine → ℕ → ℕ
 read_at Idle how b n = cond (is_took how) (ahead b.cells b.read (n + 1)) b.read
 read_at _ how b n = b.read
 
-abbrev pub start_at : Stage → Ending → Machine → ℕ
+abbrev pub start_at : Stage → Ending → EndMachine → ℕ
 start_at Idle how b = cond (is_committed how) b.read b.start
 start_at st how b = cond (is_given_at st) b.read b.start
 
@@ -234,7 +234,7 @@ abbrev pub marked_at : Stage → Ending → Bool
 marked_at Idle how = is_marked how
 marked_at _ how = false
 
-pub record Moves (b m : Machine) : Type 0 where
+pub record Moves (b m : EndMachine) : Type 0 where
   pub cells : m.cells ≡ b.cells
   pub side : m.side ≡ b.side
   pub write : m.write ≡ write_at m.stage m.ended b m.len
@@ -244,7 +244,7 @@ pub record Moves (b m : Machine) : Type 0 where
   pub marked : m.marked ≡ marked_at m.stage m.ended
   pub unseen : is_unseen_at m.stage ≡ true → m.saw ≡ false
 
-module _ (b m : Machine) (v : ℕ) (it : Moves b m) where
+module _ (b m : EndMachine) (v : ℕ) (it : Moves b m) where
   pub w_at : (st : Stage) → m.stage ≡ st → m.write ≡ write_at st m.ended b m.len
   w_at st e = it.write ∙ ap (λ (x : Stage). write_at x m.ended b m.len) e
 
@@ -263,7 +263,7 @@ module _ (b m : Machine) (v : ℕ) (it : Moves b m) where
   pub u_at : (st : Stage) → m.stage ≡ st → is_unseen_at st ≡ true → m.saw ≡ false
   u_at st e h = it.unseen (ap is_unseen_at e ∙ h)
 
-  moved : (k : Machine) → k.cells ≡ b.cells → k.side ≡ b.side → k.write ≡ write_at k.stage k.ended b k.len → k.read ≡ read_at k.stage k.ended b k.len → k.start ≡ start_at k.stage k.ended b → k.asleep ≡ asleep_at k.stage k.ended → k.marked ≡ marked_at k.stage k.ended → (is_unseen_at k.stage ≡ true → k.saw ≡ false) → Moves b k
+  moved : (k : EndMachine) → k.cells ≡ b.cells → k.side ≡ b.side → k.write ≡ write_at k.stage k.ended b k.len → k.read ≡ read_at k.stage k.ended b k.len → k.start ≡ start_at k.stage k.ended b → k.asleep ≡ asleep_at k.stage k.ended → k.marked ≡ marked_at k.stage k.ended → (is_unseen_at k.stage ≡ true → k.saw ≡ false) → Moves b k
   moved k c d w r s a l u = record { cells = c; side = d; write = w; read = r; start = s; asleep = a; marked = l; unseen = u }
 
   ahead_same : m.write ≡ b.write → ahead m.cells m.write (m.len + 1) ≡ ahead b.cells b.write (m.len + 1)
@@ -330,34 +330,34 @@ formed_as x n buf here l o two = record {
   two = two;
 }
 
-module _ (m : Machine) (buf : List ℕ) (v : ℕ) (s : IsSound m) (w : length buf ≡ m.cells) (it : is_formed m.stage m.ended ≡ true → Form m.len buf) where
+module _ (m : EndMachine) (buf : List ℕ) (v : ℕ) (s : IsSound m) (w : length buf ≡ m.cells) (it : is_formed m.stage m.ended ≡ true → Form m.len buf) where
   pub form_by : (st : Stage) → m.stage ≡ st → is_busy_at st ≡ true → is_formed (fed_at st m v).stage (fed_at st m v).ended ≡ true → Form (fed_at st m v).len (stored (is_copying_at st) buf m.done v)
   form_by Idle e y = absurd (cc)
   form_by Stopped e y = absurd (cc)
-  form_by SendRead e y = at_cond (λ (k : Machine). is_formed k.stage k.ended ≡ true → Form k.len buf) (is_index m.cells v) _ _ (λ t. at_cond (λ (k : Machine). is_formed k.stage k.ended ≡ true → Form k.len buf) (leb (free m.cells (cell_of v) m.write) (m.len + 1)) _ _ (λ u. λ h. absurd (no_true refl h)) (λ u. λ h. absurd (no_true refl h))) (λ t. λ h. absurd (no_true refl h))
-  form_by SendCell e y = at_cond (λ (k : Machine). is_formed k.stage k.ended ≡ true → Form k.len buf) (ltb m.done m.len) _ _ (λ t. λ h. absurd (no_true (ap (λ (x : Stage). is_formed x m.ended) e) h)) (λ t. λ h. absurd (no_true refl h))
+  form_by SendRead e y = at_cond (λ (k : EndMachine). is_formed k.stage k.ended ≡ true → Form k.len buf) (is_index m.cells v) _ _ (λ t. at_cond (λ (k : EndMachine). is_formed k.stage k.ended ≡ true → Form k.len buf) (leb (free m.cells (cell_of v) m.write) (m.len + 1)) _ _ (λ u. λ h. absurd (no_true refl h)) (λ u. λ h. absurd (no_true refl h))) (λ t. λ h. absurd (no_true refl h))
+  form_by SendCell e y = at_cond (λ (k : EndMachine). is_formed k.stage k.ended ≡ true → Form k.len buf) (ltb m.done m.len) _ _ (λ t. λ h. absurd (no_true (ap (λ (x : Stage). is_formed x m.ended) e) h)) (λ t. λ h. absurd (no_true refl h))
   form_by SendWrite e y = λ h. absurd (no_true refl h)
-  form_by SendMask e y = at_cond (λ (k : Machine). is_formed k.stage k.ended ≡ true → Form k.len buf) (eqb (low v) 0) _ _ (λ t. λ h. absurd (no_true refl h)) (λ t. λ h. absurd (no_true refl h))
-  form_by SendLook e y = at_cond (λ (k : Machine). is_formed k.stage k.ended ≡ true → Form k.len buf) (eqb (low v) (8 * m.old)) _ _ (λ t. λ h. absurd (no_true refl h)) (λ t. λ h. absurd (no_true refl h))
+  form_by SendMask e y = at_cond (λ (k : EndMachine). is_formed k.stage k.ended ≡ true → Form k.len buf) (eqb (low v) 0) _ _ (λ t. λ h. absurd (no_true refl h)) (λ t. λ h. absurd (no_true refl h))
+  form_by SendLook e y = at_cond (λ (k : EndMachine). is_formed k.stage k.ended ≡ true → Form k.len buf) (eqb (low v) (8 * m.old)) _ _ (λ t. λ h. absurd (no_true refl h)) (λ t. λ h. absurd (no_true refl h))
   form_by SendRaise e y = λ h. absurd (no_true refl h)
-  form_by TakeWrite e y = at_cond (λ (k : Machine). is_formed k.stage k.ended ≡ true → Form k.len buf) (is_index m.cells v) _ _ (λ t. at_cond (λ (k : Machine). is_formed k.stage k.ended ≡ true → Form k.len buf) (eqb (cell_of v) m.read) _ _ (λ u. λ h. absurd (no_true refl h)) (λ u. λ h. absurd (no_true refl h))) (λ t. λ h. absurd (no_true refl h))
-  form_by TakeFirst e y = at_cond (λ (k : Machine). is_formed k.stage k.ended ≡ true → Form k.len (set buf m.done v)) (leb 2 (len8_of v) && ltb (len8_of v) (used m.cells m.read m.seen)) _ _ (λ t. at_cond (λ (k : Machine). is_formed k.stage k.ended ≡ true → Form k.len (set buf m.done v)) (leb 2 (offset8_of v) && leb (offset8_of v) (len8_of v)) _ _ (λ u. λ _. (let here : slice_index (set buf m.done v) 0 ≡ v = ap (λ (i : ℕ). slice_index (set buf i v) 0) (s.first e) ∙ set_first buf v (omega (arith, s.cells)) in let low : 2 ≤ offset8_of v = (let x = and_left (leb 2 (offset8_of v)) _ u in grind (arith, nat_tests)) in let high : offset8_of v ≤ len8_of v = (let x = and_right (leb 2 (offset8_of v)) _ u in grind (arith, nat_tests)) in let two : 1 < len8_of v = (let x = and_left (leb 2 (len8_of v)) _ t in grind (arith, nat_tests)) in formed_as v (len8_of v) (set buf m.done v) here refl (low, high) two)) (λ u. λ h. absurd (no_true refl h))) (λ t. λ h. absurd (no_true refl h))
-  form_by TakeCell e y = at_cond (λ (k : Machine). is_formed k.stage k.ended ≡ true → Form k.len (set buf m.done v)) (ltb (m.done + 1) m.len) _ _ (λ t. λ _. (let f = it (ap (λ (x : Stage). is_formed x m.ended) e) in formed_as (slice_index buf 0) m.len (set buf m.done v) (first_set buf m.done v (s.copying e).0) f.length_is f.offset f.two)) (λ t. λ _. (let f = it (ap (λ (x : Stage). is_formed x m.ended) e) in formed_as (slice_index buf 0) m.len (set buf m.done v) (first_set buf m.done v (s.copying e).0) f.length_is f.offset f.two))
+  form_by TakeWrite e y = at_cond (λ (k : EndMachine). is_formed k.stage k.ended ≡ true → Form k.len buf) (is_index m.cells v) _ _ (λ t. at_cond (λ (k : EndMachine). is_formed k.stage k.ended ≡ true → Form k.len buf) (eqb (cell_of v) m.read) _ _ (λ u. λ h. absurd (no_true refl h)) (λ u. λ h. absurd (no_true refl h))) (λ t. λ h. absurd (no_true refl h))
+  form_by TakeFirst e y = at_cond (λ (k : EndMachine). is_formed k.stage k.ended ≡ true → Form k.len (set buf m.done v)) (leb 2 (len8_of v) && ltb (len8_of v) (used m.cells m.read m.seen)) _ _ (λ t. at_cond (λ (k : EndMachine). is_formed k.stage k.ended ≡ true → Form k.len (set buf m.done v)) (leb 2 (offset8_of v) && leb (offset8_of v) (len8_of v)) _ _ (λ u. λ _. (let here : slice_index (set buf m.done v) 0 ≡ v = ap (λ (i : ℕ). slice_index (set buf i v) 0) (s.first e) ∙ set_first buf v (omega (arith, s.cells)) in let low : 2 ≤ offset8_of v = (let x = and_left (leb 2 (offset8_of v)) _ u in grind (arith, nat_tests)) in let high : offset8_of v ≤ len8_of v = (let x = and_right (leb 2 (offset8_of v)) _ u in grind (arith, nat_tests)) in let two : 1 < len8_of v = (let x = and_left (leb 2 (len8_of v)) _ t in grind (arith, nat_tests)) in formed_as v (len8_of v) (set buf m.done v) here refl (low, high) two)) (λ u. λ h. absurd (no_true refl h))) (λ t. λ h. absurd (no_true refl h))
+  form_by TakeCell e y = at_cond (λ (k : EndMachine). is_formed k.stage k.ended ≡ true → Form k.len (set buf m.done v)) (ltb (m.done + 1) m.len) _ _ (λ t. λ _. (let f = it (ap (λ (x : Stage). is_formed x m.ended) e) in formed_as (slice_index buf 0) m.len (set buf m.done v) (first_set buf m.done v (s.copying e).0) f.length_is f.offset f.two)) (λ t. λ _. (let f = it (ap (λ (x : Stage). is_formed x m.ended) e) in formed_as (slice_index buf 0) m.len (set buf m.done v) (first_set buf m.done v (s.copying e).0) f.length_is f.offset f.two))
   form_by CommitRead e y = λ h. absurd (no_true refl h)
-  form_by CommitFeature e y = at_cond (λ (k : Machine). is_formed k.stage k.ended ≡ true → Form k.len buf) (eqb (low v % 2) 1) _ _ (λ t. λ h. absurd (no_true refl h)) (λ t. λ h. absurd (no_true refl h))
-  form_by CommitPending e y = at_cond (λ (k : Machine). is_formed k.stage k.ended ≡ true → Form k.len buf) (eqb (low v) 0) _ _ (λ t. λ h. absurd (no_true refl h)) (λ t. λ h. absurd (no_true refl h))
-  form_by CommitWrite e y = at_cond (λ (k : Machine). is_formed k.stage k.ended ≡ true → Form k.len buf) (makes_room m v) _ _ (λ t. λ h. absurd (no_true refl h)) (λ t. λ h. absurd (no_true refl h))
+  form_by CommitFeature e y = at_cond (λ (k : EndMachine). is_formed k.stage k.ended ≡ true → Form k.len buf) (eqb (low v % 2) 1) _ _ (λ t. λ h. absurd (no_true refl h)) (λ t. λ h. absurd (no_true refl h))
+  form_by CommitPending e y = at_cond (λ (k : EndMachine). is_formed k.stage k.ended ≡ true → Form k.len buf) (eqb (low v) 0) _ _ (λ t. λ h. absurd (no_true refl h)) (λ t. λ h. absurd (no_true refl h))
+  form_by CommitWrite e y = at_cond (λ (k : EndMachine). is_formed k.stage k.ended ≡ true → Form k.len buf) (makes_room m v) _ _ (λ t. λ h. absurd (no_true refl h)) (λ t. λ h. absurd (no_true refl h))
   form_by CommitRaise e y = λ h. absurd (no_true refl h)
   form_by ArmPending e y = λ h. absurd (no_true refl h)
   form_by ArmMask e y = λ h. absurd (no_true refl h)
-  form_by ArmWrite e y = at_cond (λ (k : Machine). is_formed k.stage k.ended ≡ true → Form k.len buf) (eqb (low v) (8 * m.read)) _ _ (λ t. at_cond (λ (k : Machine). is_formed k.stage k.ended ≡ true → Form k.len buf) (eqb m.want 0) _ _ (λ u. λ h. absurd (no_true refl h)) (λ u. λ h. absurd (no_true refl h))) (λ t. λ h. absurd (no_true refl h))
-  form_by ArmRead e y = at_cond (λ (k : Machine). is_formed k.stage k.ended ≡ true → Form k.len buf) (finds_room m v) _ _ (λ t. λ h. absurd (no_true refl h)) (λ t. λ h. absurd (no_true refl h))
-  form_by ArmMark e y = at_cond (λ (k : Machine). is_formed k.stage k.ended ≡ true → Form k.len buf) (eqb v 0) _ _ (λ t. λ h. absurd (no_true refl h)) (λ t. λ h. absurd (no_true refl h))
-  form_by ArmUndoMask e y = at_cond (λ (k : Machine). is_formed k.stage k.ended ≡ true → Form k.len buf) (eqb m.want 0) _ _ (λ t. λ h. absurd (no_true refl h)) (λ t. λ h. absurd (no_true refl h))
+  form_by ArmWrite e y = at_cond (λ (k : EndMachine). is_formed k.stage k.ended ≡ true → Form k.len buf) (eqb (low v) (8 * m.read)) _ _ (λ t. at_cond (λ (k : EndMachine). is_formed k.stage k.ended ≡ true → Form k.len buf) (eqb m.want 0) _ _ (λ u. λ h. absurd (no_true refl h)) (λ u. λ h. absurd (no_true refl h))) (λ t. λ h. absurd (no_true refl h))
+  form_by ArmRead e y = at_cond (λ (k : EndMachine). is_formed k.stage k.ended ≡ true → Form k.len buf) (finds_room m v) _ _ (λ t. λ h. absurd (no_true refl h)) (λ t. λ h. absurd (no_true refl h))
+  form_by ArmMark e y = at_cond (λ (k : EndMachine). is_formed k.stage k.ended ≡ true → Form k.len buf) (eqb v 0) _ _ (λ t. λ h. absurd (no_true refl h)) (λ t. λ h. absurd (no_true refl h))
+  form_by ArmUndoMask e y = at_cond (λ (k : EndMachine). is_formed k.stage k.ended ≡ true → Form k.len buf) (eqb m.want 0) _ _ (λ t. λ h. absurd (no_true refl h)) (λ t. λ h. absurd (no_true refl h))
   form_by ArmUndoPending e y = λ h. absurd (no_true refl h)
-  form_by PollSignal e y = at_cond (λ (k : Machine). is_formed k.stage k.ended ≡ true → Form k.len buf) (eqb v 0) _ _ (λ t. λ h. absurd (no_true refl h)) (λ t. λ h. absurd (no_true refl h))
-  form_by PollMask e y = at_cond (λ (k : Machine). is_formed k.stage k.ended ≡ true → Form k.len buf) (eqb m.want 0) _ _ (λ t. λ h. absurd (no_true refl h)) (λ t. λ h. absurd (no_true refl h))
+  form_by PollSignal e y = at_cond (λ (k : EndMachine). is_formed k.stage k.ended ≡ true → Form k.len buf) (eqb v 0) _ _ (λ t. λ h. absurd (no_true refl h)) (λ t. λ h. absurd (no_true refl h))
+  form_by PollMask e y = at_cond (λ (k : EndMachine). is_formed k.stage k.ended ≡ true → Form k.len buf) (eqb m.want 0) _ _ (λ t. λ h. absurd (no_true refl h)) (λ t. λ h. absurd (no_true refl h))
   form_by PollPending e y = λ h. absurd (no_true refl h)
   form_by MarkStore e y = λ h. absurd (no_true refl h)
   form_by MarkRaise e y = λ h. absurd (no_true refl h)
-  form_by PeerMark e y = at_cond (λ (k : Machine). is_formed k.stage k.ended ≡ true → Form k.len buf) (eqb v 0) _ _ (λ t. λ h. absurd (no_true refl h)) (λ t. λ h. absurd (no_true refl h))
+  form_by PeerMark e y = at_cond (λ (k : EndMachine). is_formed k.stage k.ended ≡ true → Form k.len buf) (eqb v 0) _ _ (λ t. λ h. absurd (no_true refl h)) (λ t. λ h. absurd (no_true refl h))

@@ -7,7 +7,7 @@ use Rattle.ring_machine.specs.declared.last.Mode.TheVariants.{Awake, Asleep as M
 use Rattle.ring_machine.specs.declared.last.Indices.{Indices}
 use Rattle.ring_machine.specs.declared.machine.Ending.{Ending}
 use Rattle.ring_machine.specs.declared.machine.Ending.TheVariants.{Fresh, SentQuiet, SentRaised, Full, BadPeer, Took, Empty, BadIndex, BadLength, BadOffset, CommittedQuiet, CommittedRaised, FellAsleep, FoundWork, NoSignal, Woke, Marked, PeerMarkDown, PeerMarkUp}
-use Rattle.ring_machine.specs.declared.machine.Machine.{Machine}
+use Rattle.ring_machine.specs.declared.machine.EndMachine.{EndMachine}
 use Rattle.ring_machine.specs.declared.last.Signalled.{Signalled}
 use Rattle.ring_machine.specs.declared.last.Signalled.TheVariants.{Raised, Quiet}
 use Rattle.ring_machine.specs.declared.last.Armed.{Armed as ArmedIs}
@@ -27,23 +27,23 @@ use Rattle.ring_machine.specs.Places.{used, ahead}
 use Rattle.ring_machine.specs.Steps.{is_sent, is_took, is_broken}
 
 -- what is wrong with the packet that the machine stopped at, or with the index
-abbrev pub bad_by : Ending → Machine → Bad
+abbrev pub bad_by : Ending → EndMachine → Bad
 bad_by BadIndex m = Index m.value
 bad_by BadLength m = Length (m.value / 65536) (8 * used m.cells m.read m.seen)
 bad_by _ m = Offset (m.value % 65536) (m.value / 65536)
 
-abbrev pub why_by : Ending → Machine → Why
+abbrev pub why_by : Ending → EndMachine → Why
 why_by BadPeer m = WhyBadPeer m.value
 why_by how m = Malformed (bad_by how m)
 
 -- the free bytes that the last send found which had too little room, and the bytes that its packet needs with the trailer
-abbrev pub free_bytes : Machine → ℕ
+abbrev pub free_bytes : EndMachine → ℕ
 free_bytes m = 8 * m.room
 
-abbrev pub need_bytes : Machine → ℕ
+abbrev pub need_bytes : EndMachine → ℕ
 need_bytes m = 8 * m.words + 8
 
-abbrev pub last_by : Ending → Machine → Last
+abbrev pub last_by : Ending → EndMachine → Last
 last_by Fresh m = LastFresh
 last_by SentQuiet m = Sent Quiet
 last_by SentRaised m = Sent Raised
@@ -65,25 +65,25 @@ last_by PeerMarkDown m = PeerMark false
 last_by PeerMarkUp m = PeerMark true
 
 -- how the last call ended, with its numbers in bytes, also while a later one is under way
-abbrev pub last_of : Machine → Last
+abbrev pub last_of : EndMachine → Last
 last_of m = last_by m.ended m
 
 -- why the machine stopped
-abbrev pub why_of : Machine → Why
+abbrev pub why_of : EndMachine → Why
 why_of m = why_by m.ended m
 
 -- whether an end can make calls: an end that wakes counts as asleep until its poll is over
-abbrev pub mode_by : Stage → Machine → Mode
+abbrev pub mode_by : Stage → EndMachine → Mode
 mode_by Stopped m = ModeStopped (why_of m)
 mode_by PollMask m = ModeAsleep
 mode_by PollPending m = ModeAsleep
 mode_by _ m = cond m.marked ModeMarked (cond m.asleep ModeAsleep Awake)
 
-abbrev pub mode_of : Machine → Mode
+abbrev pub mode_of : EndMachine → Mode
 mode_of m = mode_by m.stage m
 
 -- the private indices in bytes
-abbrev pub indices_of : Machine → Indices
+abbrev pub indices_of : EndMachine → Indices
 indices_of m = record { write = 8 * m.write; read = 8 * m.read; start = 8 * m.start }
 
 -- the room in bytes that an arm waits for, or 0
@@ -113,7 +113,7 @@ is_marked _ = false
 
 -- What a call leaves: the write index moves where it sent a packet, the read index where it took one, the committed one where it committed.
 -- The end is asleep exactly where it fell asleep or found no signal, marked exactly where it marked itself, and stopped exactly where it refused
-pub record Leaves (before after : Machine) : Type 0 where
+pub record Leaves (before after : EndMachine) : Type 0 where
   pub cells : after.cells ≡ before.cells
   pub side : after.side ≡ before.side
   pub write : after.write ≡ cond (is_sent after.ended) (ahead before.cells before.write (after.len + 1)) before.write
@@ -124,13 +124,13 @@ pub record Leaves (before after : Machine) : Type 0 where
   pub stage : after.stage ≡ cond (is_broken after.ended) Stopped Idle
 
 -- what the calls answer, by how they ended
-abbrev pub send_answer : Ending → Machine → Result Signalled SendRefusal
+abbrev pub send_answer : Ending → EndMachine → Result Signalled SendRefusal
 send_answer SentQuiet m = Ok Quiet
 send_answer SentRaised m = Ok Raised
 send_answer Full m = Err (SendFull (free_bytes m) (need_bytes m))
 send_answer _ m = Err (SendBadPeer m.value)
 
-abbrev pub take_refusal : Ending → Machine → TakeRefusal
+abbrev pub take_refusal : Ending → EndMachine → TakeRefusal
 take_refusal Empty m = TakeEmpty (8 * m.read)
 take_refusal how m = TakeMalformed (bad_by how m)
 
@@ -159,7 +159,7 @@ is_empty_refusal (TakeEmpty _) = true
 is_empty_refusal _ = false
 
 -- What each call leaves
-pub record LeavesBy (call : EndCall) (before after : Machine) : Type 0 where
+pub record LeavesBy (call : EndCall) (before after : EndMachine) : Type 0 where
   pub awake : (call ≡ Arm → ⊥) → (call ≡ Poll → ⊥) → after.asleep ≡ false
   pub unmarked : (call ≡ MarkCall → ⊥) → after.marked ≡ false
   pub marked : call ≡ MarkCall → after.marked ≡ true

@@ -2,7 +2,7 @@
 use Rattle.std.specs.Prelude.{◌≡◌, Bool, true, false}
 use Rattle.ring_machine.specs.declared.machine.Stage.{Stage}
 use Rattle.ring_machine.specs.declared.machine.Stage.TheVariants.{SendRead, SendCell, SendWrite, SendMask, TakeWrite, TakeFirst, TakeCell, CommitRead, CommitFeature, CommitPending, CommitWrite, CommitRaise, ArmPending, ArmMask, ArmWrite, ArmRead, ArmMark, PollSignal, MarkStore, PeerMark}
-use Rattle.ring_machine.specs.declared.machine.Machine.{Machine}
+use Rattle.ring_machine.specs.declared.machine.EndMachine.{EndMachine}
 
 -- the next step stores a cell of the packet, or its trailer
 abbrev pub is_storing_at : Stage → Bool
@@ -89,13 +89,13 @@ is_opening_at PeerMark = true
 is_opening_at _ = false
 
 -- a machine that has begun a call, and made no step of it: it is asleep exactly for a poll
-pub record Starts (m : Machine) : Type 0 where
+pub record Starts (m : EndMachine) : Type 0 where
   pub opens : is_opening_at m.stage ≡ true
   pub asleep : m.asleep ≡ is_polling_at m.stage
   pub unseen : is_unseen_at m.stage ≡ true → m.saw ≡ false
 
 -- what the frequent steps of a send leave as it was
-pub record SendKeeps (m k : Machine) : Type 0 where
+pub record SendKeeps (m k : EndMachine) : Type 0 where
   pub cells : m.cells ≡ k.cells
   pub read : m.read ≡ k.read
   pub start : m.start ≡ k.start
@@ -110,7 +110,7 @@ pub record SendKeeps (m k : Machine) : Type 0 where
   pub saw : m.saw ≡ k.saw
 
 -- what the frequent steps of a take leave as it was
-pub record TakeKeeps (m k : Machine) : Type 0 where
+pub record TakeKeeps (m k : EndMachine) : Type 0 where
   pub cells : m.cells ≡ k.cells
   pub write : m.write ≡ k.write
   pub start : m.start ≡ k.start
@@ -125,7 +125,7 @@ pub record TakeKeeps (m k : Machine) : Type 0 where
   pub saw : m.saw ≡ k.saw
 
 -- what the frequent steps of a commit leave as it was
-pub record CommitKeeps (m k : Machine) : Type 0 where
+pub record CommitKeeps (m k : EndMachine) : Type 0 where
   pub cells : m.cells ≡ k.cells
   pub write : m.write ≡ k.write
   pub read : m.read ≡ k.read

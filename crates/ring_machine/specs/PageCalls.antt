@@ -10,7 +10,7 @@ use Rattle.page_kept.specs.Keepers.{MayStore}
 use Rattle.page_kept.specs.Stepped.{call_fed, with_call, page_fed}
 use Rattle.ring_machine.specs.declared.machine.Stage.{Stage}
 use Rattle.ring_machine.specs.declared.machine.Stage.TheVariants.{Idle}
-use Rattle.ring_machine.specs.declared.machine.Machine.{Machine}
+use Rattle.ring_machine.specs.declared.machine.EndMachine.{EndMachine}
 use Rattle.ring_machine.specs.declared.page_core.PageCore.{PageCore}
 use Rattle.ring_machine.specs.declared.state.EndState.{EndState}
 use Rattle.ring_machine.specs.declared.place.Place.TheVariants.{Page}
@@ -38,7 +38,7 @@ abbrev pub or_else : Option Op → Option Op → Option Op
 or_else (Some op) other = Some op
 or_else None other = other
 
-abbrev pub next_in : Machine → PageCall → List ℕ → Option Op
+abbrev pub next_in : EndMachine → PageCall → List ℕ → Option Op
 next_in m c p = or_else (next_of m p) (page_op c)
 
 -- the load of all that is due

@@ -1,7 +1,7 @@
 -- The state of an end, and what a step makes of it.
 use Rattle.std.specs.Prelude.{◌≡◌, ◌≢◌, ◌⊎◌, ℕ, ◌+◌, ◌*◌, ◌<◌, ◌≤◌, ◌==◌, cond, ltb, Bool, true, false, List, [], ◌∷◌, ◌++◌, length, slice_index, slice_set, take}
-use Rattle.chan_run.specs.declared.event.Event.{Event}
-use Rattle.chan_run.specs.declared.event.Event.TheVariants.{Sent as SentEvent, Got as GotEvent, Empty as EmptyEvent, Marked as MarkedEvent, Saw as SawEvent}
+use Rattle.channel_trace.specs.declared.event.Event.{Event}
+use Rattle.channel_trace.specs.declared.event.Event.TheVariants.{Sent as SentEvent, Got as GotEvent, Empty as EmptyEvent, Marked as MarkedEvent, Saw as SawEvent}
 use Rattle.page_kept.specs.declared.due.Due.TheVariants.{Clear}
 use Rattle.page_kept.specs.declared.kept.Kept.{Kept}
 use Rattle.page_kept.specs.declared.page_call.PageCall.TheVariants.{Off}
@@ -12,7 +12,7 @@ use Rattle.ring_machine.specs.declared.machine.Stage.{Stage}
 use Rattle.ring_machine.specs.declared.machine.Stage.TheVariants.{Idle, SendWrite, SendMask, SendLook, SendRaise, TakeWrite, TakeFirst, TakeCell, ArmMark, ArmUndoMask, ArmUndoPending, MarkStore, MarkRaise, PeerMark}
 use Rattle.ring_machine.specs.declared.machine.Ending.{Ending}
 use Rattle.ring_machine.specs.declared.machine.Ending.TheVariants.{SentQuiet, SentRaised, Took, Empty, FoundWork, Marked, PeerMarkUp}
-use Rattle.ring_machine.specs.declared.machine.Machine.{Machine}
+use Rattle.ring_machine.specs.declared.machine.EndMachine.{EndMachine}
 use Rattle.ring_machine.specs.declared.state.EndState.{EndState}
 use Rattle.ring_machine.specs.Places.{len8_of, offset8_of, is_index, cell_of}
 use Rattle.ring_machine.specs.Steps.{fed, is_busy_at, is_sent, is_took, send_begun, take_begun, commit_begun, arm_begun, poll_begun, mark_begun, peer_mark_begun}
@@ -36,7 +36,7 @@ abbrev pub copied_at : Stage → List ℕ → List ℕ
 copied_at TakeCell xs = xs
 copied_at _ xs = []
 
-abbrev pub copied_after : Stage → Machine → List ℕ → ℕ → List ℕ
+abbrev pub copied_after : Stage → EndMachine → List ℕ → ℕ → List ℕ
 copied_after TakeFirst m xs v = copied_at m.stage (v ∷ [])
 copied_after TakeCell m xs v = copied_at m.stage (xs ++ v ∷ [])
 copied_after _ m xs v = []
@@ -47,12 +47,12 @@ sent_after SendWrite ps p = ps ++ p ∷ []
 sent_after _ ps p = ps
 
 -- a packet is got at the last load of its words
-abbrev pub got_after : Stage → Machine → List (List ℕ) → List ℕ → ℕ → List (List ℕ)
+abbrev pub got_after : Stage → EndMachine → List (List ℕ) → List ℕ → ℕ → List (List ℕ)
 got_after TakeCell m ps xs v = cond (ltb (m.done + 1) m.len) ps (ps ++ (xs ++ v ∷ []) ∷ [])
 got_after _ m ps xs v = ps
 
 -- What a step adds to the end's past, the last event first: a packet was sent, got, or found to be none; a mark was stored, or seen
-abbrev pub past_after : Stage → Machine → List (Event (List ℕ)) → List ℕ → List ℕ → ℕ → List (Event (List ℕ))
+abbrev pub past_after : Stage → EndMachine → List (Event (List ℕ)) → List ℕ → List ℕ → ℕ → List (Event (List ℕ))
 past_after SendWrite m past p xs v = SentEvent p ∷ past
 past_after TakeWrite m past p xs v = cond (is_index m.cells v) (cond (cell_of v == m.read) (EmptyEvent ∷ past) past) past
 past_after TakeCell m past p xs v = cond (ltb (m.done + 1) m.len) past (GotEvent (xs ++ v ∷ []) ∷ past)
@@ -62,7 +62,7 @@ past_after PeerMark m past p xs v = cond (v == 0) past (SawEvent ∷ past)
 past_after _ m past p xs v = past
 
 -- what a step makes of the pages: a packet is sent at the store of the write index, and taken at the last load of its words
-abbrev pub pages_after : Stage → Machine → Kept → List ℕ → List ℕ → ℕ → Kept
+abbrev pub pages_after : Stage → EndMachine → Kept → List ℕ → List ℕ → ℕ → Kept
 pages_after SendWrite m k p xs v = pages_sent (layout k.count) k p
 pages_after TakeCell m k p xs v = cond (ltb (m.done + 1) m.len) k (pages_took (layout k.count) k (xs ++ v ∷ []))
 pages_after _ m k p xs v = k
@@ -85,18 +85,18 @@ afters s [] = s
 afters s (v ∷ vs) = after (afters s vs) v
 
 -- an end with no call of the rings under way; and one of a channel without pages
-abbrev pub resting_with : Machine → List (List ℕ) → List (List ℕ) → List (Event (List ℕ)) → Kept → EndState
+abbrev pub resting_with : EndMachine → List (List ℕ) → List (List ℕ) → List (Event (List ℕ)) → Kept → EndState
 resting_with m sent got past k = record { machine = m; packet = []; copied = []; sent = sent; got = got; past = past; pages = k }
 
-abbrev pub resting : Machine → List (List ℕ) → List (List ℕ) → List (Event (List ℕ)) → EndState
+abbrev pub resting : EndMachine → List (List ℕ) → List (List ℕ) → List (Event (List ℕ)) → EndState
 resting m sent got past = resting_with m sent got past no_pages
 
 -- the same state, with this call under way
-abbrev pub entered : EndState → Machine → List ℕ → EndState
+abbrev pub entered : EndState → EndMachine → List ℕ → EndState
 entered s m p = record { machine = m; packet = p; copied = s.copied; sent = s.sent; got = s.got; past = s.past; pages = s.pages }
 
 -- the state of an end by what it keeps: the words of the packet under way are the first of its buffer
-abbrev pub shown : Machine → List ℕ → List ℕ → List (List ℕ) → List (List ℕ) → List (Event (List ℕ)) → Kept → EndState
+abbrev pub shown : EndMachine → List ℕ → List ℕ → List (List ℕ) → List (List ℕ) → List (Event (List ℕ)) → Kept → EndState
 shown m p buf sent got past k = record { machine = m; packet = p; copied = copied_at m.stage (take m.done buf); sent = sent; got = got; past = past; pages = k }
 
 -- the buffer, where it takes the loaded word
@@ -111,7 +111,7 @@ sent_while SendRaise ps p = ps ++ p ∷ []
 sent_while _ ps p = ps
 
 -- the past during a call, where the packet was sent, the mark stored, or the peer's mark seen already
-abbrev pub past_while : Stage → Machine → List (Event (List ℕ)) → List ℕ → List (Event (List ℕ))
+abbrev pub past_while : Stage → EndMachine → List (Event (List ℕ)) → List ℕ → List (Event (List ℕ))
 past_while SendMask m past p = SentEvent p ∷ past
 past_while SendLook m past p = SentEvent p ∷ past
 past_while SendRaise m past p = SentEvent p ∷ past
@@ -121,14 +121,14 @@ past_while MarkRaise m past p = MarkedEvent ∷ past
 past_while _ m past p = past
 
 -- the lists after a call that ended so: it sent the packet p, or it took the first words of the buffer
-abbrev pub sent_by : Machine → List (List ℕ) → List ℕ → List (List ℕ)
+abbrev pub sent_by : EndMachine → List (List ℕ) → List ℕ → List (List ℕ)
 sent_by m ps p = cond (is_sent m.ended) (ps ++ p ∷ []) ps
 
-abbrev pub got_by : Machine → List (List ℕ) → List ℕ → List (List ℕ)
+abbrev pub got_by : EndMachine → List (List ℕ) → List ℕ → List (List ℕ)
 got_by m ps buf = cond (is_took m.ended) (ps ++ take m.len buf ∷ []) ps
 
 -- the past after a call that ended so
-abbrev pub past_by_ending : Ending → Machine → List (Event (List ℕ)) → List ℕ → List ℕ → List (Event (List ℕ))
+abbrev pub past_by_ending : Ending → EndMachine → List (Event (List ℕ)) → List ℕ → List ℕ → List (Event (List ℕ))
 past_by_ending SentQuiet m past p buf = SentEvent p ∷ past
 past_by_ending SentRaised m past p buf = SentEvent p ∷ past
 past_by_ending Took m past p buf = GotEvent (take m.len buf) ∷ past
@@ -138,7 +138,7 @@ past_by_ending Marked m past p buf = MarkedEvent ∷ past
 past_by_ending PeerMarkUp m past p buf = SawEvent ∷ past
 past_by_ending _ m past p buf = past
 
-abbrev pub past_by : Machine → List (Event (List ℕ)) → List ℕ → List ℕ → List (Event (List ℕ))
+abbrev pub past_by : EndMachine → List (Event (List ℕ)) → List ℕ → List ℕ → List (Event (List ℕ))
 past_by m past p buf = past_by_ending m.ended m past p buf
 
 -- the pages during a call, where the packet was sent already
@@ -149,13 +149,13 @@ pages_while SendRaise k p = pages_sent (layout k.count) k p
 pages_while _ k p = k
 
 -- the pages after a call that ended so: it sent the packet p, or it took the first words of the buffer
-abbrev pub pages_by_ending : Ending → Machine → Kept → List ℕ → List ℕ → Kept
+abbrev pub pages_by_ending : Ending → EndMachine → Kept → List ℕ → List ℕ → Kept
 pages_by_ending SentQuiet m k p buf = pages_sent (layout k.count) k p
 pages_by_ending SentRaised m k p buf = pages_sent (layout k.count) k p
 pages_by_ending Took m k p buf = pages_took (layout k.count) k (take m.len buf)
 pages_by_ending _ m k p buf = k
 
-abbrev pub pages_by : Machine → Kept → List ℕ → List ℕ → Kept
+abbrev pub pages_by : EndMachine → Kept → List ℕ → List ℕ → Kept
 pages_by m k p buf = pages_by_ending m.ended m k p buf
 
 -- the calls that an end that is awake can begin, and the one of an end that is asleep
@@ -168,33 +168,33 @@ pub record IsAwake (s : EndState) : Type 0 where
 abbrev pub MayLend : EndState → List ℕ → Type 0
 MayLend s p = s.pages.count ≢ 0 → MaySend (layout s.pages.count) (keeper (layout s.pages.count) s.machine.side s.got s.pages) p
 
-abbrev pub BeginsSend : EndState → Machine → List ℕ → Type 0
+abbrev pub BeginsSend : EndState → EndMachine → List ℕ → Type 0
 BeginsSend s m p = (m ≡ send_begun s.machine (length p)) × IsPacket p × (length p + 1 < s.machine.cells) × IsAwake s × MayLend s p
 
-abbrev pub BeginsTake : EndState → Machine → List ℕ → Type 0
+abbrev pub BeginsTake : EndState → EndMachine → List ℕ → Type 0
 BeginsTake s m p = (m ≡ take_begun s.machine) × (p ≡ []) × IsAwake s × (s.pages.due ≡ Clear)
 
-abbrev pub BeginsCommit : EndState → Machine → List ℕ → Type 0
+abbrev pub BeginsCommit : EndState → EndMachine → List ℕ → Type 0
 BeginsCommit s m p = (m ≡ commit_begun s.machine) × (p ≡ []) × IsAwake s × (s.pages.due ≡ Clear)
 
-abbrev pub BeginsArm : EndState → Machine → List ℕ → Type 0
+abbrev pub BeginsArm : EndState → EndMachine → List ℕ → Type 0
 BeginsArm s m p = (want : ℕ) × (m ≡ arm_begun s.machine want) × (want < 8 * s.machine.cells) × (p ≡ []) × IsAwake s × (s.machine.start ≡ s.machine.read) × (s.pages.due ≡ Clear)
 
-abbrev pub BeginsPoll : EndState → Machine → List ℕ → Type 0
+abbrev pub BeginsPoll : EndState → EndMachine → List ℕ → Type 0
 BeginsPoll s m p = (m ≡ poll_begun s.machine) × (p ≡ []) × (s.machine.stage ≡ Idle) × (s.machine.asleep ≡ true)
 
-abbrev pub BeginsMark : EndState → Machine → List ℕ → Type 0
+abbrev pub BeginsMark : EndState → EndMachine → List ℕ → Type 0
 BeginsMark s m p = (m ≡ mark_begun s.machine) × (p ≡ []) × IsAwake s × (s.pages.due ≡ Clear)
 
-abbrev pub BeginsPeerMark : EndState → Machine → List ℕ → Type 0
+abbrev pub BeginsPeerMark : EndState → EndMachine → List ℕ → Type 0
 BeginsPeerMark s m p = (m ≡ peer_mark_begun s.machine) × (p ≡ []) × IsAwake s
 
 -- m has begun a call from the state s, which is in no page call
-abbrev pub Begins : EndState → Machine → List ℕ → Type 0
+abbrev pub Begins : EndState → EndMachine → List ℕ → Type 0
 Begins s m p = ((s.copied ≡ []) × (s.pages.call ≡ Off)) × (BeginsSend s m p ⊎ (BeginsTake s m p ⊎ (BeginsCommit s m p ⊎ (BeginsArm s m p ⊎ (BeginsPoll s m p ⊎ (BeginsMark s m p ⊎ BeginsPeerMark s m p))))))
 
 -- m goes on from the state s, or begins a call there
-abbrev pub Continues : EndState → Machine → List ℕ → Type 0
+abbrev pub Continues : EndState → EndMachine → List ℕ → Type 0
 Continues s m p = ((m ≡ s.machine) × (p ≡ s.packet)) ⊎ Begins s m p
 
 -- what a call that ended so adds to the past, where w is the packet that it sent or took

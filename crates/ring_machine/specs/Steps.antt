@@ -5,7 +5,7 @@ use Rattle.ring_machine.specs.declared.machine.Stage.{Stage}
 use Rattle.ring_machine.specs.declared.machine.Stage.TheVariants.{Idle, Stopped, SendRead, SendCell, SendWrite, SendMask, SendLook, SendRaise, TakeWrite, TakeFirst, TakeCell, CommitRead, CommitFeature, CommitPending, CommitWrite, CommitRaise, ArmPending, ArmMask, ArmWrite, ArmRead, ArmMark, ArmUndoMask, ArmUndoPending, PollSignal, PollMask, PollPending, MarkStore, MarkRaise, PeerMark}
 use Rattle.ring_machine.specs.declared.machine.Ending.{Ending}
 use Rattle.ring_machine.specs.declared.machine.Ending.TheVariants.{Fresh, SentQuiet, SentRaised, Full, BadPeer, Took, Empty, BadIndex, BadLength, BadOffset, CommittedQuiet, CommittedRaised, FellAsleep, FoundWork, NoSignal, Woke, Marked, PeerMarkDown, PeerMarkUp}
-use Rattle.ring_machine.specs.declared.machine.Machine.{Machine}
+use Rattle.ring_machine.specs.declared.machine.EndMachine.{EndMachine}
 use Rattle.ring_machine.specs.EndCalls.{EndCall, NoCall, Send, Take, Commit, Arm, Poll, Mark as MarkCall, PeerMark as PeerMarkCall}
 use Rattle.io_edge.specs.declared.side.Side.{Side}
 use Rattle.ring_machine.specs.declared.place.Place.TheVariants.{Write, Read, Mask, Pending, Feature, Cell, Mark}
@@ -17,7 +17,7 @@ use Rattle.ring_machine.specs.Places.{out_of, in_of, peer_of, low, is_index, cel
 -- A take loads write, and then each cell once. A commit stores read, loads feature, pending and write, and raises the peer.
 -- An arm stores pending where it wants room, stores mask 0, loads write, loads read where it wants room, and loads the peer's mark; a look that
 -- finds something makes it store mask 1, and pending 0. A poll takes the signal, stores mask 1, and pending 0.
-abbrev pub next_at : Stage → Machine → List ℕ → Option Op
+abbrev pub next_at : Stage → EndMachine → List ℕ → Option Op
 next_at Idle m p = None
 next_at Stopped m p = None
 next_at SendRead m p = Some (Load (Read (out_of m.side)))
@@ -48,31 +48,31 @@ next_at MarkStore m p = Some (StoreMark m.side)
 next_at MarkRaise m p = Some (Raise (peer_of m.side))
 next_at PeerMark m p = Some (Load (Mark (peer_of m.side)))
 
-abbrev pub next_of : Machine → List ℕ → Option Op
+abbrev pub next_of : EndMachine → List ℕ → Option Op
 next_of m p = next_at m.stage m p
 
 -- a call ended so
-abbrev pub ends : Machine → Ending → Machine
+abbrev pub ends : EndMachine → Ending → EndMachine
 ends m how = record m { stage = Idle; ended = how; done = 0 }
 
 -- the end refused the value v
-abbrev pub breaks : Machine → Ending → ℕ → Machine
+abbrev pub breaks : EndMachine → Ending → ℕ → EndMachine
 breaks m how v = record m { stage = Stopped; ended = how; value = v; done = 0 }
 
 -- what a look that found something goes on with
-abbrev pub undoes : Machine → Machine
+abbrev pub undoes : EndMachine → EndMachine
 undoes m = record m { stage = ArmUndoMask }
 
 -- the consumer's room test on a loaded write index
-abbrev pub makes_room : Machine → ℕ → Bool
+abbrev pub makes_room : EndMachine → ℕ → Bool
 makes_room m v = is_index m.cells v && raises_on_commit (8 * m.cells) (low v) (8 * m.old) (8 * m.read) m.value
 
 -- a loaded read index is none, or leaves more room than is wanted
-abbrev pub finds_room : Machine → ℕ → Bool
+abbrev pub finds_room : EndMachine → ℕ → Bool
 finds_room m v = not (is_index m.cells v) || ltb m.want (8 * free m.cells (cell_of v) m.write)
 
 -- What the answer v of the step makes of the machine
-abbrev pub fed_at : Stage → Machine → ℕ → Machine
+abbrev pub fed_at : Stage → EndMachine → ℕ → EndMachine
 fed_at Idle m v = m
 fed_at Stopped m v = m
 fed_at SendRead m v =
@@ -113,7 +113,7 @@ fed_at MarkStore m v = record m { stage = MarkRaise }
 fed_at MarkRaise m v = record (ends m Marked) { marked = true }
 fed_at PeerMark m v = cond (v == 0) (ends m PeerMarkDown) (record (ends m PeerMarkUp) { peer_marked = true })
 
-abbrev pub fed : Machine → ℕ → Machine
+abbrev pub fed : EndMachine → ℕ → EndMachine
 fed m v = fed_at m.stage m v
 
 -- a call is under way
@@ -155,34 +155,34 @@ sleeps_at Idle = true
 sleeps_at PollSignal = true
 sleeps_at _ = false
 
-abbrev pub machine_new : Side → ℕ → Machine
+abbrev pub machine_new : Side → ℕ → EndMachine
 machine_new side n = record { cells = n; write = 0; read = 0; start = 0; old = 0; seen = 0; len = 0; done = 0; value = 0; want = 0; room = 0; words = 0; side = side; stage = Idle; ended = Fresh; masked = true; asleep = false; marked = false; peer_marked = false; drained = false; saw = false }
 
 -- the calls
-abbrev pub send_begun : Machine → ℕ → Machine
+abbrev pub send_begun : EndMachine → ℕ → EndMachine
 send_begun m n = record m { stage = SendRead; len = n; done = 0 }
 
-abbrev pub take_begun : Machine → Machine
+abbrev pub take_begun : EndMachine → EndMachine
 take_begun m = record m { stage = TakeWrite; len = 0; done = 0 }
 
-abbrev pub commit_begun : Machine → Machine
+abbrev pub commit_begun : EndMachine → EndMachine
 commit_begun m = record m { stage = CommitRead; len = 0; done = 0 }
 
 -- an arm that wants this room in bytes, or none where it is 0
-abbrev pub arm_begun : Machine → ℕ → Machine
+abbrev pub arm_begun : EndMachine → ℕ → EndMachine
 arm_begun m want = record m { stage = cond (want == 0) ArmMask ArmPending; len = 0; done = 0; want = want; saw = false }
 
-abbrev pub poll_begun : Machine → Machine
+abbrev pub poll_begun : EndMachine → EndMachine
 poll_begun m = record m { stage = PollSignal; len = 0; done = 0 }
 
-abbrev pub mark_begun : Machine → Machine
+abbrev pub mark_begun : EndMachine → EndMachine
 mark_begun m = record m { stage = MarkStore; len = 0; done = 0 }
 
-abbrev pub peer_mark_begun : Machine → Machine
+abbrev pub peer_mark_begun : EndMachine → EndMachine
 peer_mark_begun m = record m { stage = PeerMark; len = 0; done = 0 }
 
 -- the steps that a call can still make
-abbrev pub left_at : Stage → Machine → ℕ
+abbrev pub left_at : Stage → EndMachine → ℕ
 left_at Idle m = 0
 left_at Stopped m = 0
 left_at SendRead m = m.len + 6
@@ -213,7 +213,7 @@ left_at MarkStore m = 2
 left_at MarkRaise m = 1
 left_at PeerMark m = 1
 
-abbrev pub steps_left : Machine → ℕ
+abbrev pub steps_left : EndMachine → ℕ
 steps_left m = left_at m.stage m
 
 -- The most steps that a call made which ended so: a send of n words makes at most n + 6, a take of n words n + 1, one that refused a packet 2,
@@ -240,7 +240,7 @@ most_by PeerMarkDown n = 1
 most_by PeerMarkUp n = 1
 
 -- the most steps that a call has made so far, or made in all
-abbrev pub made_at : Stage → Machine → ℕ
+abbrev pub made_at : Stage → EndMachine → ℕ
 made_at Idle m = most_by m.ended m.len
 made_at Stopped m = most_by m.ended m.len
 made_at SendRead m = 0
@@ -342,7 +342,7 @@ is_broken BadOffset = true
 is_broken _ = false
 
 -- What holds of every machine that the code makes
-pub record IsSound (m : Machine) : Type 0 where
+pub record IsSound (m : EndMachine) : Type 0 where
   pub cells : (512 ≤ m.cells) × (m.cells ≤ 16777216)
   pub write : m.write < m.cells
   pub read : m.read < m.cells

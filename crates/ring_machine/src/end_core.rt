@@ -11,7 +11,7 @@ ghost use Rattle.ring_machine.specs.PageCalls.{PagesFit, IsQuiet, is_paging, is_
 
 use crate::fed::feed_machine;
 use crate::last::{Armed, Bad, Indices, Last, Mode, SendRefusal, Signalled, TakeRefusal, Why};
-use crate::machine::{Ending, Machine, Stage};
+use crate::machine::{Ending, EndMachine, Stage};
 use crate::next::next_machine;
 use crate::page_core::PageCore;
 use crate::place::{Op, Side};
@@ -22,7 +22,7 @@ use page_kept::{Due, PageCall};
 #[derive(Clone, Copy)]
 pub struct EndCore {
     /// The end as plain data.
-    pub machine: Machine,
+    pub machine: EndMachine,
     /// What it knows of its channel's data pages.
     pub pages: PageCore,
     /// Its indices and lengths lie in their ranges, and its stage and flags fit each other.
@@ -41,7 +41,7 @@ impl EndCore {
         ensures pages { result.pages ≡ core_pages pages }
     {
         EndCore {
-            machine: Machine {
+            machine: EndMachine {
                 cells: d / 8,
                 write: 0,
                 read: 0,
@@ -213,7 +213,7 @@ impl EndCore {
 
     /// Takes that a take left the first words of a page to load.
     #[tactic(auto, using(crate::proofs::Fitting::fit_owes))]
-    pub fn owe(&mut self, page: u32, words: u32)
+    pub fn queue_load(&mut self, page: u32, words: u32)
         requires page { page < self.old.pages.count }
         requires words { (0 < words) × (words ≤ 512) }
         ensures machine { self.new.machine ≡ self.old.machine }

@@ -6,7 +6,7 @@ ghost use Rattle.ring_machine.specs.declared.machine.Stage.TheVariants.{CommitRe
 ghost use Rattle.ring_machine.specs.declared.machine.Stage.TheVariants.{ArmMask, ArmWrite, ArmRead, ArmMark, ArmUndoMask, ArmUndoPending};
 ghost use Rattle.ring_machine.specs.declared.machine.Stage.TheVariants.{PollSignal, PollMask, PollPending, MarkRaise, PeerMark};
 
-use crate::machine::{Ending, Machine, Stage};
+use crate::machine::{Ending, EndMachine, Stage};
 use crate::ring::{
     free_in, low_half, named_cell, names_cell, packet_len, payload_offset, raise_with, step_ahead,
     used_in,
@@ -14,7 +14,7 @@ use crate::ring::{
 
 // The call ended so.
 #[inline(always)]
-fn end(m: &mut Machine, how: Ending)
+fn end(m: &mut EndMachine, how: Ending)
     ensures { m.exit.now ≡ ends m.entry.now how }
 {
     m.stage = Stage::Idle;
@@ -24,7 +24,7 @@ fn end(m: &mut Machine, how: Ending)
 
 // The end refuses the value that it loaded, and makes no step any more.
 #[inline(always)]
-fn stop(m: &mut Machine, how: Ending, value: u32)
+fn stop(m: &mut EndMachine, how: Ending, value: u32)
     ensures { m.exit.now ≡ breaks m.entry.now how value }
 {
     m.stage = Stage::Stopped;
@@ -35,7 +35,7 @@ fn stop(m: &mut Machine, how: Ending, value: u32)
 
 // The read index must be in form and leave more room than the packet and its trailer need.
 #[inline(always)]
-fn fed_send_read(m: &mut Machine, v: u64)
+fn fed_send_read(m: &mut EndMachine, v: u64)
     requires { IsSound m.now }
     ensures { m.exit.now ≡ fed_at SendRead m.entry.now v }
 {
@@ -56,7 +56,7 @@ fn fed_send_read(m: &mut Machine, v: u64)
 
 // After the packet's cells comes its trailer, and then the store of write.
 #[inline(always)]
-fn fed_send_cell(m: &mut Machine, _v: u64)
+fn fed_send_cell(m: &mut EndMachine, _v: u64)
     requires { IsSound m.now }
     ensures { m.exit.now ≡ fed_at SendCell m.entry.now _v }
 {
@@ -69,7 +69,7 @@ fn fed_send_cell(m: &mut Machine, _v: u64)
 
 // The packet is sent: the private write index goes on past its trailer.
 #[inline(always)]
-fn fed_send_write(m: &mut Machine, _v: u64)
+fn fed_send_write(m: &mut EndMachine, _v: u64)
     requires { IsSound m.now }
     ensures { m.exit.now ≡ fed_at SendWrite m.entry.now _v }
 {
@@ -80,7 +80,7 @@ fn fed_send_write(m: &mut Machine, _v: u64)
 
 // A peer whose mask isn't 0 asks for no signal.
 #[inline(always)]
-fn fed_send_mask(m: &mut Machine, v: u64)
+fn fed_send_mask(m: &mut EndMachine, v: u64)
     ensures { m.exit.now ≡ fed_at SendMask m.entry.now v }
 {
     if low_half(v) == 0 {
@@ -92,7 +92,7 @@ fn fed_send_mask(m: &mut Machine, v: u64)
 
 // The peer is signalled only where it had read all that was sent before, so that its read index is the old write index.
 #[inline(always)]
-fn fed_send_look(m: &mut Machine, v: u64)
+fn fed_send_look(m: &mut EndMachine, v: u64)
     requires { IsSound m.now }
     ensures { m.exit.now ≡ fed_at SendLook m.entry.now v }
 {
@@ -105,7 +105,7 @@ fn fed_send_look(m: &mut Machine, v: u64)
 
 // The write index must be in form. Where it is the private read index there is no packet.
 #[inline(always)]
-fn fed_take_write(m: &mut Machine, v: u64)
+fn fed_take_write(m: &mut EndMachine, v: u64)
     ensures { m.exit.now ≡ fed_at TakeWrite m.entry.now v }
 {
     if !names_cell(m.cells, v) {
@@ -131,7 +131,7 @@ fn form_of(v: u64) -> u32
 
 // The length must be at least 2 words, and with its trailer inside what the write index showed. The offset lies inside the packet.
 #[inline(always)]
-fn fed_take_first(m: &mut Machine, v: u64)
+fn fed_take_first(m: &mut EndMachine, v: u64)
     requires { IsSound m.now }
     ensures { m.exit.now ≡ fed_at TakeFirst m.entry.now v }
 {
@@ -150,7 +150,7 @@ fn fed_take_first(m: &mut Machine, v: u64)
 
 // Each cell of the packet once; after the last one the private read index goes on past the trailer.
 #[inline(always)]
-fn fed_take_cell(m: &mut Machine, _v: u64)
+fn fed_take_cell(m: &mut EndMachine, _v: u64)
     requires { IsSound m.now }
     ensures { m.exit.now ≡ fed_at TakeCell m.entry.now _v }
 {
@@ -165,7 +165,7 @@ fn fed_take_cell(m: &mut Machine, _v: u64)
 
 // The cells are given back. The index that was committed before is kept for the test of room.
 #[inline(always)]
-fn fed_commit_read(m: &mut Machine, _v: u64)
+fn fed_commit_read(m: &mut EndMachine, _v: u64)
     ensures { m.exit.now ≡ fed_at CommitRead m.entry.now _v }
 {
     m.stage = Stage::CommitFeature;
@@ -175,7 +175,7 @@ fn fed_commit_read(m: &mut Machine, _v: u64)
 
 // A producer that doesn't set bit 0 of feature never waits for room.
 #[inline(always)]
-fn fed_commit_feature(m: &mut Machine, v: u64)
+fn fed_commit_feature(m: &mut EndMachine, v: u64)
     ensures { m.exit.now ≡ fed_at CommitFeature m.entry.now v }
 {
     if low_half(v) % 2 == 1 {
@@ -187,7 +187,7 @@ fn fed_commit_feature(m: &mut Machine, v: u64)
 
 // A producer that waits for no room stores pending 0.
 #[inline(always)]
-fn fed_commit_pending(m: &mut Machine, v: u64)
+fn fed_commit_pending(m: &mut EndMachine, v: u64)
     ensures { m.exit.now ≡ fed_at CommitPending m.entry.now v }
 {
     let pending = low_half(v);
@@ -200,7 +200,7 @@ fn fed_commit_pending(m: &mut Machine, v: u64)
 
 // The signal is owed where this commit made the room that the producer waits for. A write index in no form owes none.
 #[inline(always)]
-fn commit_raises(m: &Machine, v: u64) -> bool
+fn commit_raises(m: &EndMachine, v: u64) -> bool
     requires { IsSound m.now }
     ensures { result ≡ makes_room m.now v }
 {
@@ -209,7 +209,7 @@ fn commit_raises(m: &Machine, v: u64) -> bool
 
 // The last look of a commit: it raises the producer, or ends.
 #[inline(always)]
-fn fed_commit_write(m: &mut Machine, v: u64)
+fn fed_commit_write(m: &mut EndMachine, v: u64)
     requires { IsSound m.now }
     ensures { m.exit.now ≡ fed_at CommitWrite m.entry.now v }
 {
@@ -222,7 +222,7 @@ fn fed_commit_write(m: &mut Machine, v: u64)
 
 // From here on the peer's sends signal.
 #[inline(always)]
-fn fed_arm_mask(m: &mut Machine)
+fn fed_arm_mask(m: &mut EndMachine)
     ensures { m.exit.now ≡ fed_at ArmMask m.entry.now 0 }
 {
     m.stage = Stage::ArmWrite;
@@ -231,7 +231,7 @@ fn fed_arm_mask(m: &mut Machine)
 
 // A write index that isn't the private read index means packets. Room is looked at only where it is wanted.
 #[inline(always)]
-fn fed_arm_write(m: &mut Machine, v: u64)
+fn fed_arm_write(m: &mut EndMachine, v: u64)
     requires { IsSound m.now }
     ensures { m.exit.now ≡ fed_at ArmWrite m.entry.now v }
 {
@@ -248,7 +248,7 @@ fn fed_arm_write(m: &mut Machine, v: u64)
 
 // A read index in no form counts as room: the next send decides on it.
 #[inline(always)]
-fn has_room(m: &Machine, v: u64) -> bool
+fn has_room(m: &EndMachine, v: u64) -> bool
     requires { IsSound m.now }
     ensures { result ≡ finds_room m.now v }
 {
@@ -257,7 +257,7 @@ fn has_room(m: &Machine, v: u64) -> bool
 
 // More room than is wanted means work.
 #[inline(always)]
-fn fed_arm_read(m: &mut Machine, v: u64)
+fn fed_arm_read(m: &mut EndMachine, v: u64)
     requires { IsSound m.now }
     ensures { m.exit.now ≡ fed_at ArmRead m.entry.now v }
 {
@@ -270,7 +270,7 @@ fn fed_arm_read(m: &mut Machine, v: u64)
 
 // The last look: the peer's mark means work, and nothing found means sleep.
 #[inline(always)]
-fn fed_arm_mark(m: &mut Machine, v: u64)
+fn fed_arm_mark(m: &mut EndMachine, v: u64)
     ensures { m.exit.now ≡ fed_at ArmMark m.entry.now v }
 {
     if v == 0 {
@@ -284,7 +284,7 @@ fn fed_arm_mark(m: &mut Machine, v: u64)
 
 // Work was found: mask is 1 again, and pending is put back where it was stored.
 #[inline(always)]
-fn fed_arm_undo_mask(m: &mut Machine)
+fn fed_arm_undo_mask(m: &mut EndMachine)
     ensures { m.exit.now ≡ fed_at ArmUndoMask m.entry.now 0 }
 {
     m.masked = true;
@@ -296,7 +296,7 @@ fn fed_arm_undo_mask(m: &mut Machine)
 
 // The call ended so, and no room is wanted any more.
 #[inline(always)]
-fn end_unwanted(m: &mut Machine, how: Ending)
+fn end_unwanted(m: &mut EndMachine, how: Ending)
     ensures { m.exit.now ≡ record (ends m.entry.now how) { want = 0 } }
 {
     m.want = 0;
@@ -305,7 +305,7 @@ fn end_unwanted(m: &mut Machine, how: Ending)
 
 // A signal that was down leaves the end asleep. One that was up wakes it.
 #[inline(always)]
-fn fed_poll_signal(m: &mut Machine, v: u64)
+fn fed_poll_signal(m: &mut EndMachine, v: u64)
     ensures { m.exit.now ≡ fed_at PollSignal m.entry.now v }
 {
     if v == 0 {
@@ -317,7 +317,7 @@ fn fed_poll_signal(m: &mut Machine, v: u64)
 
 // Mask is 1 again, and pending is put back where it was stored.
 #[inline(always)]
-fn fed_poll_mask(m: &mut Machine)
+fn fed_poll_mask(m: &mut EndMachine)
     ensures { m.exit.now ≡ fed_at PollMask m.entry.now 0 }
 {
     m.masked = true;
@@ -329,7 +329,7 @@ fn fed_poll_mask(m: &mut Machine)
 
 // The end sends nothing more.
 #[inline(always)]
-fn fed_mark_raise(m: &mut Machine)
+fn fed_mark_raise(m: &mut EndMachine)
     ensures { m.exit.now ≡ fed_at MarkRaise m.entry.now 0 }
 {
     m.marked = true;
@@ -338,7 +338,7 @@ fn fed_mark_raise(m: &mut Machine)
 
 // A mark that was seen is remembered.
 #[inline(always)]
-fn fed_peer_mark(m: &mut Machine, v: u64)
+fn fed_peer_mark(m: &mut EndMachine, v: u64)
     ensures { m.exit.now ≡ fed_at PeerMark m.entry.now v }
 {
     if v == 0 {
@@ -350,7 +350,7 @@ fn fed_peer_mark(m: &mut Machine, v: u64)
 
 // The machine at any stage: it stands apart and takes a copy, so that the frequent stages are small, and the driver's copy stays in registers.
 #[inline(never)]
-fn fed_rest(mut m: Machine, v: u64) -> Machine
+fn fed_rest(mut m: EndMachine, v: u64) -> EndMachine
     requires { IsSound m }
     ensures { result ≡ fed m v }
 {
@@ -391,7 +391,7 @@ fn fed_rest(mut m: Machine, v: u64) -> Machine
 /// Makes the machine what it is once its step has answered `v`: only the fields that change are written. The frequent stages come first, inlined
 /// into the driver's loops.
 #[inline(always)]
-pub(crate) fn feed_machine(m: &mut Machine, v: u64)
+pub(crate) fn feed_machine(m: &mut EndMachine, v: u64)
     requires { IsSound m.now }
     ensures { m.exit.now ≡ fed m.entry.now v }
 {

@@ -8,7 +8,7 @@ ghost use Rattle.ring_machine.specs.States.{Begins};
 ghost use Rattle.ring_machine.specs.Endings.{last_of, why_of};
 ghost use Rattle.ring_machine.specs.Causes.{Breaks};
 ghost use Rattle.ring_machine.specs.declared.last.Why.{Why};
-ghost use Rattle.ring_machine.specs.declared.machine.Machine.{Machine};
+ghost use Rattle.ring_machine.specs.declared.machine.EndMachine.{EndMachine};
 ghost use Rattle.ring_machine.specs.declared.machine.Stage.TheVariants.{Stopped};
 ghost use Rattle.ring_machine.specs.declared.state.EndState.{EndState};
 
@@ -36,7 +36,7 @@ pub fn counts_bytes()
 
 /// How the last call ended stands as it is where a later one begins, and after each of its steps but the last.
 pub fn last_stays(_core: &EndCore)
-    ensures begins { (s : EndState) (m : Machine) (p : List ℕ) → Begins s m p → last_of m ≡ last_of s.machine }
+    ensures begins { (s : EndState) (m : EndMachine) (p : List ℕ) → Begins s m p → last_of m ≡ last_of s.machine }
     ensures feeds { (v : ℕ) → is_busy_at (fed _core.now.machine v).stage ≡ true → last_of (fed _core.now.machine v) ≡ last_of _core.now.machine }
 {}
 

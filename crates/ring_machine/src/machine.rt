@@ -63,7 +63,7 @@ pub enum Ending {
 
 /// One end as plain data. Indices and lengths count cells of 8 bytes.
 #[derive(Clone, Copy)]
-pub struct Machine {
+pub struct EndMachine {
     /// The cells of a ring.
     pub cells: u32,
     /// The private write index of the outgoing ring.

@@ -3,13 +3,13 @@ ghost use Rattle.std.specs.Prelude.{◌≡◌, ℕ, Some};
 ghost use Rattle.ring_machine.specs.Steps.{IsSound, next_at, next_of};
 ghost use Rattle.ring_machine.specs.declared.machine.Stage.TheVariants.{SendCell, SendWrite, TakeCell};
 
-use crate::machine::{Machine, Stage};
+use crate::machine::{EndMachine, Stage};
 use crate::place::{Op, Place};
 use crate::ring::{incoming, outgoing, peer, step_ahead};
 
 // A word of the packet, or after all of them the trailer: the write index before the send, in bytes, in its upper half.
 #[inline(always)]
-fn store_cell(m: &Machine, packet: &[u64]) -> Op
+fn store_cell(m: &EndMachine, packet: &[u64]) -> Op
     requires { IsSound m.now }
     ensures { Some result ≡ next_at SendCell m.now packet.now }
 {
@@ -27,7 +27,7 @@ fn store_cell(m: &Machine, packet: &[u64]) -> Op
 
 // The write index past the packet and its trailer.
 #[inline(always)]
-fn store_write(m: &Machine, packet: &[u64]) -> Op
+fn store_write(m: &EndMachine, packet: &[u64]) -> Op
     requires { IsSound m.now }
     ensures { Some result ≡ next_at SendWrite m.now packet.now }
 {
@@ -37,7 +37,7 @@ fn store_write(m: &Machine, packet: &[u64]) -> Op
 
 // The next cell of the packet that is taken.
 #[inline(always)]
-fn load_cell(m: &Machine, packet: &[u64]) -> Op
+fn load_cell(m: &EndMachine, packet: &[u64]) -> Op
     requires { IsSound m.now }
     ensures { Some result ≡ next_at TakeCell m.now packet.now }
 {
@@ -47,7 +47,7 @@ fn load_cell(m: &Machine, packet: &[u64]) -> Op
 
 // The step of any stage. It stands apart, so that the frequent stages are small enough to be inlined.
 #[inline(never)]
-fn next_rest(m: Machine, packet: &[u64]) -> Option<Op>
+fn next_rest(m: EndMachine, packet: &[u64]) -> Option<Op>
     requires { IsSound m }
     ensures { result ≡ next_of m packet.now }
 {
@@ -86,7 +86,7 @@ fn next_rest(m: Machine, packet: &[u64]) -> Option<Op>
 
 /// The next step of a machine, or none exactly where no command is under way. The frequent stages come first, inlined into the driver's loops.
 #[inline(always)]
-pub(crate) fn next_machine(m: &Machine, packet: &[u64]) -> Option<Op>
+pub(crate) fn next_machine(m: &EndMachine, packet: &[u64]) -> Option<Op>
     requires { IsSound m.now }
     ensures { result ≡ next_of m.now packet.now }
 {

@@ -11,7 +11,7 @@ use Rattle.page_kept.specs.declared.page_call.PageCall.{PageCall}
 use Rattle.page_kept.specs.declared.page_call.PageCall.TheVariants.{Off, StoreWord, LoadWords}
 use Rattle.ring_machine.specs.declared.machine.Stage.{Stage}
 use Rattle.ring_machine.specs.declared.machine.Stage.TheVariants.{Stopped}
-use Rattle.ring_machine.specs.declared.machine.Machine.{Machine}
+use Rattle.ring_machine.specs.declared.machine.EndMachine.{EndMachine}
 use Rattle.ring_machine.specs.declared.page_core.PageCore.{PageCore}
 use Rattle.ring_machine.specs.declared.state.EndState.{EndState}
 use Rattle.ring_machine.specs.declared.place.Op.{Op}
@@ -24,7 +24,7 @@ use Rattle.ring_machine.proofs.Fitting.{inside_store, inside_load}
 use Rattle.ring_core.specs.declared.told.Told.{Told}
 use Rattle.ring_core.specs.Told.{written, answer_in, GoesOn}
 use Rattle.ring_core.proofs.Performed.{ring_went, ring_tells, page_tells, page_next}
-use Rattle.ring_model.proofs.Sides.{fed_side}
+use Rattle.ring_pair_laws.proofs.Sides.{fed_side}
 use Rattle.ring_machine.proofs.Tables.{fed_cells}
 use Rattle.ring_seat.proofs.Loading.{step_count, fed_count}
 use Rattle.page_kept.specs.Stepped.{with_call}
@@ -162,7 +162,7 @@ call_in a c (LoadWords q n j) h e = subst (λ (b : ℕ). is_call_of b (LoadWords
 pub paging_of : (st : Stage) (d : PageCall) → is_under_way st d ≡ true → is_busy_at st ≡ false → is_paging d ≡ true
 paging_of st d h e = sym (ap (λ (b : Bool). b || is_paging d) e) ∙ h
 
-pub went : (c : ℕ) (told : Told) (core : PageCore) (m : Machine) (p : List ℕ) (op : Op) → PagesFit core m.stage → is_under_way m.stage core.call ≡ true → (is_paging core.call ≡ true → core.count ≡ c)
+pub went : (c : ℕ) (told : Told) (core : PageCore) (m : EndMachine) (p : List ℕ) (op : Op) → PagesFit core m.stage → is_under_way m.stage core.call ≡ true → (is_paging core.call ≡ true → core.count ≡ c)
     → GoesOn (is_busy_at m.stage) told.state m core.call p → (is_busy_at m.stage ≡ true → next_of m p ≡ Some op) → next_in m core.call p ≡ Some op → Goes c record { told = told; machine = m; call = core.call; packet = p } op
 went c told core m p op fit way pages on ring named = record {
   goes_on = on;
@@ -173,15 +173,15 @@ went c told core m p op fit way pages on ring named = record {
 }
 
 -- a machine that goes on from a state, or begins a call there, is of the same end
-pub continues_side : (e : EndState) (m : Machine) (q : List ℕ) → Continues e m q → m.side ≡ e.machine.side
-continues_side e m q (inl c) = ap (λ (k : Machine). k.side) c.0
+pub continues_side : (e : EndState) (m : EndMachine) (q : List ℕ) → Continues e m q → m.side ≡ e.machine.side
+continues_side e m q (inl c) = ap (λ (k : EndMachine). k.side) c.0
 continues_side e m q (inr c) =
-    ⊎_elim (λ (b : BeginsSend e m q). ap (λ (k : Machine). k.side) b.0)
-    (⊎_elim (λ (b : BeginsTake e m q). ap (λ (k : Machine). k.side) b.0)
-    (⊎_elim (λ (b : BeginsCommit e m q). ap (λ (k : Machine). k.side) b.0)
-    (⊎_elim (λ (b : BeginsArm e m q). ap (λ (k : Machine). k.side) b.1)
-    (⊎_elim (λ (b : BeginsPoll e m q). ap (λ (k : Machine). k.side) b.0)
-    (⊎_elim (λ (b : BeginsMark e m q). ap (λ (k : Machine). k.side) b.0) (λ (b : BeginsPeerMark e m q). ap (λ (k : Machine). k.side) b.0)))))) c.1
+    ⊎_elim (λ (b : BeginsSend e m q). ap (λ (k : EndMachine). k.side) b.0)
+    (⊎_elim (λ (b : BeginsTake e m q). ap (λ (k : EndMachine). k.side) b.0)
+    (⊎_elim (λ (b : BeginsCommit e m q). ap (λ (k : EndMachine). k.side) b.0)
+    (⊎_elim (λ (b : BeginsArm e m q). ap (λ (k : EndMachine). k.side) b.1)
+    (⊎_elim (λ (b : BeginsPoll e m q). ap (λ (k : EndMachine). k.side) b.0)
+    (⊎_elim (λ (b : BeginsMark e m q). ap (λ (k : EndMachine). k.side) b.0) (λ (b : BeginsPeerMark e m q). ap (λ (k : EndMachine). k.side) b.0)))))) c.1
 
 -- what a step leaves of an end's side, of its cells and of its pages
 pub made_side : (k : Making) (v : ℕ) → GoesOn (is_busy_at k.machine.stage) k.told.state k.machine k.call k.packet → (made k v).state.machine.side ≡ k.told.state.machine.side

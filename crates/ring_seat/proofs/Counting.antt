@@ -4,7 +4,7 @@ use Rattle.io_edge.specs.declared.side.Side.{Side}
 use Rattle.io_edge.specs.declared.side.Side.TheVariants.{Guest, Host}
 use Rattle.ring_machine.specs.declared.machine.Stage.{Stage}
 use Rattle.ring_machine.specs.declared.machine.Stage.TheVariants.{SendRaise, CommitRaise, PollSignal, MarkRaise}
-use Rattle.ring_machine.specs.declared.machine.Machine.{Machine}
+use Rattle.ring_machine.specs.declared.machine.EndMachine.{EndMachine}
 use Rattle.ring_machine.specs.declared.place.Op.{Op}
 use Rattle.ring_machine.specs.Places.{peer_of, signal_of}
 use Rattle.ring_machine.specs.Steps.{next_of}
@@ -30,7 +30,7 @@ counted_of n ws ends i s Guest = record { sided = sided_of n ws (states ends) i 
 counted_of n ws ends i s Host = record { sided = sided_of n ws (states ends) i Host; mine = s Host; peers = s Guest }
 
 -- an end that wakes found its signal up
-own_raised : (st : Stage) (sig v woke raised : ℕ) (k : Machine) → KnownBy st sig k v → woke + sig ≤ raised → woke + wakes_at st v + signal_after st sig ≤ raised
+own_raised : (st : Stage) (sig v woke raised : ℕ) (k : EndMachine) → KnownBy st sig k v → woke + sig ≤ raised → woke + wakes_at st v + signal_after st sig ≤ raised
 own_raised PollSignal sig v woke raised k l h =
     at_cond (λ (c : ℕ). woke + c + 0 ≤ raised) (v == 0) _ _
     (λ z. omega (arith, h))
@@ -47,7 +47,7 @@ peers_raised _ sig woke raised h = omega (arith, h)
 next_own : (ws : List ℕ) (u p : Told) → Counted u.state.machine.cells u.state.machine.side ws u p → (op : Op) → next_of u.state.machine u.state.packet ≡ Some op
     → Counted u.state.machine.cells u.state.machine.side (written u.state.machine.cells op ws) (told_next u (answer_in u.state.machine.cells op ws)) p
 next_own ws u p c op h =
-    let m : Machine = u.state.machine in
+    let m : EndMachine = u.state.machine in
     let ws' : List ℕ = written m.cells op ws in
     let v : ℕ = answer_in m.cells op ws in
     let w : WaitsBy m.stage m.cells m.side m.want ws ws' = step_waits m u.state.packet ws c.sided.both.fits.sound c.sided.both.words op h in
@@ -65,7 +65,7 @@ next_counted n x ws u p c =
     (λ j. (c.sided.both.fits.cells j, c.sided.both.fits.side j)) (next_own ws u p) c
 
 -- a call that begins, or goes on
-pub at_counted : (n : ℕ) (x : Side) (ws : List ℕ) (u p : Told) → Counted n x ws u p → (m : Machine) (q : List ℕ) → Continues u.state m q → Counted n x ws (told_at u m q) p
+pub at_counted : (n : ℕ) (x : Side) (ws : List ℕ) (u p : Told) → Counted n x ws u p → (m : EndMachine) (q : List ℕ) → Continues u.state m q → Counted n x ws (told_at u m q) p
 at_counted n x ws u p c m q go = record { sided = continued n x ws u.state p.state c.sided m q go; mine = c.mine; peers = c.peers }
 
 -- what is told of both ends, after a step of one of them

@@ -14,7 +14,7 @@ use Rattle.page_kept.specs.declared.page_call.PageCall.{PageCall}
 use Rattle.page_kept.specs.declared.page_call.PageCall.TheVariants.{Off, StoreWord, LoadWords}
 use Rattle.ring_machine.specs.declared.machine.Stage.{Stage}
 use Rattle.ring_machine.specs.declared.machine.Stage.TheVariants.{Idle, Stopped}
-use Rattle.ring_machine.specs.declared.machine.Machine.{Machine}
+use Rattle.ring_machine.specs.declared.machine.EndMachine.{EndMachine}
 use Rattle.ring_machine.specs.declared.state.EndState.{EndState}
 use Rattle.ring_machine.specs.declared.place.Op.{Op}
 use Rattle.ring_machine.specs.declared.place.Op.TheVariants.{Raise}
@@ -66,12 +66,12 @@ loads_with Host u ends a b Guest = b Guest
 loads_with Host u ends a b Host = a
 
 -- a call of the rings that begins, or goes on
-at_known : (n c : ℕ) (x : Side) (ws : List ℕ) (u p : Told) → Known n c x ws u p → (m : Machine) (q : List ℕ) → Continues u.state m q → Known n c x ws (told_at u m q) p
+at_known : (n c : ℕ) (x : Side) (ws : List ℕ) (u p : Told) → Known n c x ws u p → (m : EndMachine) (q : List ℕ) → Continues u.state m q → Known n c x ws (told_at u m q) p
 at_known n c x ws u p k m q go = record { rings = at_counted n x (ring_words n ws) u p k.rings m q go; pages = λ some. part some go; count = k.count; loads = k.loads }
   where
     part : c ≢ 0 → Continues u.state m q → PagesPart n c ws x (entered u.state m q) p.state
     part some go =
-        ⊎_elim (λ (z : (m ≡ u.state.machine) × (q ≡ u.state.packet)). subst (λ (w : Machine × List ℕ). PagesPart n c ws x (entered u.state w.0 w.1) p.state) (λ j. (sym z.0 j, sym z.1 j)) (k.pages some))
+        ⊎_elim (λ (z : (m ≡ u.state.machine) × (q ≡ u.state.packet)). subst (λ (w : EndMachine × List ℕ). PagesPart n c ws x (entered u.state w.0 w.1) p.state) (λ j. (sym z.0 j, sym z.1 j)) (k.pages some))
         (λ (b : Begins u.state m q). part_begun n c x ws u.state p.state m q some k.rings.sided.both.fits.side (k.pages some) b) go
 
 -- a step of the rings
@@ -180,7 +180,7 @@ pub record Goes (c : ℕ) (k : Making) (op : Op) : Type 0 where
   pub ring : is_busy_at k.machine.stage ≡ true → next_of k.machine k.packet ≡ Some op
   pub page : is_busy_at k.machine.stage ≡ false → page_op k.call ≡ Some op
 
-page_went : (b : Bool) (s : EndState) (m : Machine) (d : PageCall) (p : List ℕ) → b ≡ false → GoesOn b s m d p → ContinuesPage s d
+page_went : (b : Bool) (s : EndState) (m : EndMachine) (d : PageCall) (p : List ℕ) → b ≡ false → GoesOn b s m d p → ContinuesPage s d
 page_went b s m d p e h = subst (λ (x : Bool). GoesOn x s m d p) e h
 
 pub made_known : (n c : ℕ) (x : Side) (ws : List ℕ) (k : Making) (p : Told) (op : Op) → Known n c x ws k.told p → Goes c k op → Known n c x (written n op ws) (made k (answer_in n op ws)) p × ((fed k.machine (answer_in n op ws)).stage ≢ Stopped)

@@ -14,7 +14,7 @@ use Rattle.pkt_desc.specs.Packets.{kind_of, id_of}
 use Rattle.page_kept.specs.declared.owner.Owner.TheVariants.{Has}
 use Rattle.ring_machine.specs.declared.machine.Stage.{Stage}
 use Rattle.ring_machine.specs.declared.machine.Stage.TheVariants.{SendWrite, TakeCell}
-use Rattle.ring_machine.specs.declared.machine.Machine.{Machine}
+use Rattle.ring_machine.specs.declared.machine.EndMachine.{EndMachine}
 use Rattle.ring_machine.specs.PageCalls.{newest}
 use Rattle.ring_machine.specs.States.{pages_after}
 use Rattle.ring_machine.proofs.Sound.{at_cond}
@@ -63,7 +63,7 @@ last_on true k p = record { count = refl; call = refl }
 last_on false k p = takes_on (layout k.count) k p
 
 -- a step of the rings
-pub step_count : (st : Stage) (m : Machine) (k : Kept) (p xs : List ℕ) (v : ℕ) → (pages_after st m k p xs v).count ≡ k.count
+pub step_count : (st : Stage) (m : EndMachine) (k : Kept) (p xs : List ℕ) (v : ℕ) → (pages_after st m k p xs v).count ≡ k.count
 step_count SendWrite m k p xs v = (sends_on (layout k.count) k p).count
 step_count TakeCell m k p xs v = (last_on (ltb (m.done + 1) m.len) k (xs ++ v ∷ [])).count
 step_count _ m k p xs v = refl
@@ -77,7 +77,7 @@ loading_off (LoadWords q n j) h = absurd (cc)
 off_loading : (c : PageCall) (d : Due) → c ≡ Off → IsLoading c d
 off_loading c d e = subst (λ (z : PageCall). IsLoading z d) (sym e) tt
 
-pub step_loading : (st : Stage) (m : Machine) (k : Kept) (p xs : List ℕ) (v : ℕ) → (is_taking_at st ≡ true → k.due ≡ Clear) → IsLoading k.call k.due → IsLoading (pages_after st m k p xs v).call (pages_after st m k p xs v).due
+pub step_loading : (st : Stage) (m : EndMachine) (k : Kept) (p xs : List ℕ) (v : ℕ) → (is_taking_at st ≡ true → k.due ≡ Clear) → IsLoading k.call k.due → IsLoading (pages_after st m k p xs v).call (pages_after st m k p xs v).due
 step_loading SendWrite m k p xs v clear h = let s = sends_on (layout k.count) k p in subst (λ (z : PageCall × Due). IsLoading z.0 z.1) (λ j. (sym s.call j, sym s.due j)) h
 step_loading TakeCell m k p xs v clear h =
     let off : k.call ≡ Off = loading_off k.call (subst (IsLoading k.call) (clear refl) h) in

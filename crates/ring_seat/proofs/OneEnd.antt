@@ -9,9 +9,9 @@ use Rattle.page_kept.specs.Layouts.{other_end, Layout, layout}
 use Rattle.page_kept.specs.declared.due.Due.TheVariants.{Clear}
 use Rattle.page_kept.specs.declared.owner.Owner.{Owner}
 use Rattle.page_kept.specs.declared.owner.Owner.TheVariants.{Held, Away}
-use Rattle.page_rule.specs.Laws.{HoldsOpen}
-use Rattle.page_rule.proofs.Holding.{holds_open}
-use Rattle.page_rule.proofs.Reading.{turned}
+use Rattle.ring_loan_rule.specs.Laws.{HoldsOpen}
+use Rattle.ring_loan_rule.proofs.Holding.{holds_open}
+use Rattle.ring_loan_rule.proofs.Reading.{turned}
 use Rattle.page_table.specs.Table.{first_owners}
 use Rattle.ring_machine.specs.declared.state.EndState.{EndState}
 use Rattle.ring_core.specs.declared.told.Told.{Told}

@@ -4,25 +4,25 @@ use Rattle.std.proofs.lemmas.Bool.Decides.{nat_tests}
 use Rattle.ring_machine.specs.declared.machine.Stage.{Stage}
 use Rattle.ring_machine.specs.declared.machine.Stage.TheVariants.{Idle, Stopped, SendRead, SendCell, SendWrite, SendMask, SendLook, SendRaise, TakeWrite, TakeFirst, TakeCell, CommitRead, CommitFeature, CommitPending, CommitWrite, CommitRaise, ArmPending, ArmMask, ArmWrite, ArmRead, ArmMark, ArmUndoMask, ArmUndoPending, PollSignal, PollMask, PollPending, MarkStore, MarkRaise, PeerMark}
 use Rattle.ring_machine.specs.declared.machine.Ending.TheVariants.{NoSignal}
-use Rattle.ring_machine.specs.declared.machine.Machine.{Machine}
+use Rattle.ring_machine.specs.declared.machine.EndMachine.{EndMachine}
 use Rattle.ring_machine.specs.Places.{low, is_index, cell_of, free}
 use Rattle.ring_machine.specs.Steps.{IsSound, fed, fed_at, finds_room, sleeps_at}
 use Rattle.ring_machine.proofs.Sound.{at_cond}
-use Rattle.ring_model.specs.Ring.{is_marking_at}
-use Rattle.ring_model.proofs.Turns.{low_is, cell_here}
+use Rattle.ring_pair_laws.specs.Ring.{is_marking_at}
+use Rattle.ring_pair_laws.proofs.Turns.{low_is, cell_here}
 use Rattle.ring_seat.specs.Points.{AtPoint, pending_of}
 use Rattle.ring_seat.specs.Waking.{packets_looked_at, packets_looked, room_looked_at, room_looked, IsSendingFrom, IsGivingBack}
 use Rattle.ring_seat.proofs.Waits.{signal_after}
 use Rattle.ring_seat.proofs.WakeTables.{Shut, is_shut_at, shut_by}
 
 -- What an end's looks have found, by the machines of both ends and the end's signal
-pub record Waking (sig : ℕ) (m k : Machine) : Type 0 where
+pub record Waking (sig : ℕ) (m k : EndMachine) : Type 0 where
   pub packets : packets_looked m ≡ true → (k.write ≡ m.read) ⊎ ((sig ≢ 0) ⊎ IsSendingFrom k m.read)
   pub room : room_looked m ≡ true → m.want ≢ 0 → (8 * free m.cells k.start m.write ≤ m.want) ⊎ ((sig ≢ 0) ⊎ IsGivingBack k m.cells m.write m.want)
   pub mark : m.asleep ≡ true → ((k.marked || is_marking_at k.stage) ≡ false) ⊎ ((sig ≢ 0) ⊎ (k.stage ≡ MarkRaise))
 
 -- what a step loads, by the machines of both ends and the end's signal
-abbrev pub KnownBy : Stage → ℕ → Machine → ℕ → Type 0
+abbrev pub KnownBy : Stage → ℕ → EndMachine → ℕ → Type 0
 KnownBy SendMask sig k v = v ≡ cond k.masked 1 0
 KnownBy SendLook sig k v = v ≡ 8 * k.start
 KnownBy CommitFeature sig k v = v ≡ 1
@@ -35,7 +35,7 @@ KnownBy PollSignal sig k v = v ≡ sig
 KnownBy _ sig k v = Unit {0}
 
 -- where no look is in force there is nothing to show
-pub shut_waking : (sig : ℕ) (m k : Machine) → Shut m → Waking sig m k
+pub shut_waking : (sig : ℕ) (m k : EndMachine) → Shut m → Waking sig m k
 shut_waking sig m k s = record {
   packets = λ h. let never : packets_looked m ≡ false = (λ j. s.stage j || s.awake j) in absurd (cc);
   room = λ h. let never : room_looked m ≡ false = ap (λ (b : Bool). b || m.asleep) (room_shut m.stage s.stage) ∙ s.awake in absurd (cc);
@@ -60,7 +60,7 @@ down z (inl a) = inl a
 down z (inr (inl b)) = absurd (b z)
 down z (inr (inr c)) = inr (inr c)
 
-module _ (m k : Machine) (v sig : ℕ) (s : IsSound m) (p : AtPoint m) (t : IsSound k) (same : k.cells ≡ m.cells) (w : Waking sig m k) where
+module _ (m k : EndMachine) (v sig : ℕ) (s : IsSound m) (p : AtPoint m) (t : IsSound k) (same : k.cells ≡ m.cells) (w : Waking sig m k) where
   awake_at : (st : Stage) → m.stage ≡ st → sleeps_at st ≡ false → m.asleep ≡ false
   awake_at st e dozes = by_case m.asleep refl
     where
@@ -72,7 +72,7 @@ module _ (m k : Machine) (v sig : ℕ) (s : IsSound m) (p : AtPoint m) (t : IsSo
   closed st e a b c = shut_waking c _ k (shut_by m v (awake_at st e a) st e b)
 
   -- an arm that undoes what it stored
-  undone : (st : Stage) → m.stage ≡ st → sleeps_at st ≡ false → (c : Machine) → c.stage ≡ ArmUndoMask → c.asleep ≡ m.asleep → Waking sig c k
+  undone : (st : Stage) → m.stage ≡ st → sleeps_at st ≡ false → (c : EndMachine) → c.stage ≡ ArmUndoMask → c.asleep ≡ m.asleep → Waking sig c k
   undone st e a c i same_asleep = shut_waking sig c k (record { stage = ap packets_looked_at i; awake = same_asleep ∙ awake_at st e a })
 
   packets_at : (st : Stage) → m.stage ≡ st → packets_looked_at st ≡ true → (k.write ≡ m.read) ⊎ ((sig ≢ 0) ⊎ IsSendingFrom k m.read)
@@ -131,10 +131,10 @@ module _ (m k : Machine) (v sig : ℕ) (s : IsSound m) (p : AtPoint m) (t : IsSo
   own_at MarkStore e l = closed MarkStore e refl refl sig
   own_at MarkRaise e l = closed MarkRaise e refl refl sig
   own_at PeerMark e l = closed PeerMark e refl refl sig
-  own_at ArmWrite e l = at_cond (λ (c : Machine). Waking sig c k) (eqb (low v) (8 * m.read)) _ _ (λ t0. at_cond (λ (c : Machine). Waking sig c k) (eqb m.want 0) _ _ (λ u. record { packets = λ h. inl (none_there l t0); room = λ h wants. absurd (wants (grind (arith, nat_tests))); mark = λ h. absurd (let up : m.asleep ≡ true = h in let down : m.asleep ≡ false = awake_at ArmWrite e refl in cc) }) (λ u. record { packets = λ h. inl (none_there l t0); room = λ h. absurd (let up : m.asleep ≡ true = h in let down : m.asleep ≡ false = awake_at ArmWrite e refl in cc); mark = λ h. absurd (let up : m.asleep ≡ true = h in let down : m.asleep ≡ false = awake_at ArmWrite e refl in cc) })) (λ t0. undone ArmWrite e refl _ refl refl)
-  own_at ArmRead e l = at_cond (λ (c : Machine). Waking sig c k) (finds_room m v) _ _ (λ t0. undone ArmRead e refl _ refl refl) (λ t0. record { packets = λ h. packets_at ArmRead e refl; room = λ h wants. inl (no_room l t0); mark = λ h. absurd (let up : m.asleep ≡ true = h in let down : m.asleep ≡ false = awake_at ArmRead e refl in cc) })
-  own_at ArmMark e l = at_cond (λ (c : Machine). Waking sig c k) (eqb v 0) _ _ (λ t0. record { packets = λ h. packets_at ArmMark e refl; room = λ h. room_at ArmMark e refl; mark = λ h. inl (is_down (k.marked || is_marking_at k.stage) (sym l ∙ grind (arith, nat_tests))) }) (λ t0. undone ArmMark e refl _ refl refl)
-  own_at PollSignal e l = at_cond (λ (c : Machine). Waking 0 c k) (eqb v 0) _ _ (λ t0. slept (p.polls e) (sym l ∙ grind (arith, nat_tests))) (λ t0. shut_waking 0 _ k (record { stage = refl; awake = refl }))
+  own_at ArmWrite e l = at_cond (λ (c : EndMachine). Waking sig c k) (eqb (low v) (8 * m.read)) _ _ (λ t0. at_cond (λ (c : EndMachine). Waking sig c k) (eqb m.want 0) _ _ (λ u. record { packets = λ h. inl (none_there l t0); room = λ h wants. absurd (wants (grind (arith, nat_tests))); mark = λ h. absurd (let up : m.asleep ≡ true = h in let down : m.asleep ≡ false = awake_at ArmWrite e refl in cc) }) (λ u. record { packets = λ h. inl (none_there l t0); room = λ h. absurd (let up : m.asleep ≡ true = h in let down : m.asleep ≡ false = awake_at ArmWrite e refl in cc); mark = λ h. absurd (let up : m.asleep ≡ true = h in let down : m.asleep ≡ false = awake_at ArmWrite e refl in cc) })) (λ t0. undone ArmWrite e refl _ refl refl)
+  own_at ArmRead e l = at_cond (λ (c : EndMachine). Waking sig c k) (finds_room m v) _ _ (λ t0. undone ArmRead e refl _ refl refl) (λ t0. record { packets = λ h. packets_at ArmRead e refl; room = λ h wants. inl (no_room l t0); mark = λ h. absurd (let up : m.asleep ≡ true = h in let down : m.asleep ≡ false = awake_at ArmRead e refl in cc) })
+  own_at ArmMark e l = at_cond (λ (c : EndMachine). Waking sig c k) (eqb v 0) _ _ (λ t0. record { packets = λ h. packets_at ArmMark e refl; room = λ h. room_at ArmMark e refl; mark = λ h. inl (is_down (k.marked || is_marking_at k.stage) (sym l ∙ grind (arith, nat_tests))) }) (λ t0. undone ArmMark e refl _ refl refl)
+  own_at PollSignal e l = at_cond (λ (c : EndMachine). Waking 0 c k) (eqb v 0) _ _ (λ t0. slept (p.polls e) (sym l ∙ grind (arith, nat_tests))) (λ t0. shut_waking 0 _ k (record { stage = refl; awake = refl }))
 
   pub own_waking : KnownBy m.stage sig k v → Waking (signal_after m.stage sig) (fed m v) k
   own_waking l = own_at m.stage refl l

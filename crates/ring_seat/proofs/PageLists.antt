@@ -7,7 +7,7 @@ use Rattle.page_kept.specs.declared.kept.Kept.{Kept}
 use Rattle.page_kept.specs.declared.owner.Owner.{Owner}
 use Rattle.page_kept.specs.declared.owner.Owner.TheVariants.{Away, Has, Held, Lent}
 use Rattle.pkt_desc.specs.Packets.{kind_of, id_of}
-use Rattle.page_rule.proofs.Counts.{packets_append, no_is}
+use Rattle.ring_loan_rule.proofs.Counts.{packets_append, no_is}
 use Rattle.ring_machine.proofs.Sound.{at_cond}
 
 pub record SentSame (k j : Kept) (p : List ℕ) : Type 0 where

@@ -2,7 +2,7 @@
 use Rattle.std.proofs.Common.{◌≡◌, ℕ, ◌+◌, ◌*◌, ◌%◌, Bool, true, false, cond, eqb, leb, ltb, ◌&&◌, refl, ap}
 use Rattle.ring_machine.specs.declared.machine.Stage.{Stage}
 use Rattle.ring_machine.specs.declared.machine.Stage.TheVariants.{Idle, Stopped, SendRead, SendCell, SendWrite, SendMask, SendLook, SendRaise, TakeWrite, TakeFirst, TakeCell, CommitRead, CommitFeature, CommitPending, CommitWrite, CommitRaise, ArmPending, ArmMask, ArmWrite, ArmRead, ArmMark, ArmUndoMask, ArmUndoPending, PollSignal, PollMask, PollPending, MarkStore, MarkRaise, PeerMark}
-use Rattle.ring_machine.specs.declared.machine.Machine.{Machine}
+use Rattle.ring_machine.specs.declared.machine.EndMachine.{EndMachine}
 use Rattle.ring_machine.specs.Places.{low, is_index, cell_of, used, free, len8_of, offset8_of}
 use Rattle.ring_machine.specs.Steps.{fed_at, makes_room, finds_room}
 use Rattle.ring_machine.proofs.Sound.{at_cond}
@@ -37,11 +37,11 @@ takes st to a b = record { unsent = λ e. absurd (apart _ b e); taking = λ e. a
     apart : (c : Bool) → c ≡ false → c ≡ true → ⊥
     apart c f t = cc
 
-module _ (m : Machine) (v : ℕ) where
-  abbrev To : Stage → Machine → Type 0
+module _ (m : EndMachine) (v : ℕ) where
+  abbrev To : Stage → EndMachine → Type 0
   To st k = Comes st k.stage
 
-  two : (st : Stage) (b : Bool) (j k : Machine) → To st j → To st k → To st (cond b j k)
+  two : (st : Stage) (b : Bool) (j k : EndMachine) → To st j → To st k → To st (cond b j k)
   two st b j k x y = at_cond (To st) b j k (λ _. x) (λ _. y)
 
   pub comes : (st : Stage) → m.stage ≡ st → Comes st (fed_at st m v).stage

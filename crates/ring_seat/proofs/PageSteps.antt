@@ -11,19 +11,19 @@ use Rattle.page_kept.specs.Stepped.{word_in, page_stored, page_loaded, page_load
 use Rattle.page_kept.specs.declared.due.Due.{Due}
 use Rattle.page_kept.specs.declared.due.Due.TheVariants.{Loads, Clear}
 use Rattle.page_kept.specs.declared.kept.Kept.{Kept}
-use Rattle.page_rule.specs.Laws.{Lawful}
-use Rattle.page_rule.specs.Pages.{PagesOwned}
+use Rattle.ring_loan_rule.specs.Laws.{Lawful}
+use Rattle.ring_loan_rule.specs.Pages.{PagesOwned}
 use Rattle.ring_machine.specs.PageCalls.{with_pages}
 use Rattle.ring_seat.proofs.PageLists.{sent_same, TookSame, took_refl, took_same}
 use Rattle.ring_seat.proofs.PageStages.{is_early_at, Comes, comes}
 use Rattle.ring_seat.specs.PageRule.{is_unsent_at, is_taking_at, keeper_of, PagesPart, page_index}
 use Rattle.page_kept.proofs.Loans.{fits}
-use Rattle.page_rule.proofs.Counts.{by_test, yes_is, no_is}
-use Rattle.page_rule.proofs.Flows.{next_of as next_item}
-use Rattle.page_rule.proofs.Keeping.{keeps_sent, keeps_took}
+use Rattle.ring_loan_rule.proofs.Counts.{by_test, yes_is, no_is}
+use Rattle.ring_loan_rule.proofs.Flows.{next_of as next_item}
+use Rattle.ring_loan_rule.proofs.Keeping.{keeps_sent, keeps_took}
 use Rattle.ring_machine.specs.declared.machine.Stage.{Stage}
 use Rattle.ring_machine.specs.declared.machine.Stage.TheVariants.{Idle, SendRead, SendCell, SendWrite, TakeWrite, TakeFirst, TakeCell, CommitRead, ArmMask, ArmPending, PollSignal, MarkStore, PeerMark}
-use Rattle.ring_machine.specs.declared.machine.Machine.{Machine}
+use Rattle.ring_machine.specs.declared.machine.EndMachine.{EndMachine}
 use Rattle.ring_machine.specs.declared.state.EndState.{EndState}
 use Rattle.ring_machine.specs.declared.place.Op.{Op}
 use Rattle.ring_machine.specs.declared.place.Op.TheVariants.{Load, Store, Raise, TakeSignal, StoreMark}
@@ -36,10 +36,10 @@ use Rattle.ring_seat.specs.Seats.{word_at}
 use Rattle.ring_seat.proofs.Places.{word_small}
 use Rattle.ring_seat.proofs.Reading.{keeps_begin}
 use Rattle.ring_seat.proofs.Sided.{Sided, sided_of, invariant_of, stepped}
-use Rattle.ring_model.specs.Ring.{Sending_at, Taking_at}
-use Rattle.ring_model.proofs.Frame.{producer_same, consumer_same}
+use Rattle.ring_pair_laws.specs.Ring.{Sending_at, Taking_at}
+use Rattle.ring_pair_laws.proofs.Frame.{producer_same, consumer_same}
 use Rattle.ring_machine.proofs.Sound.{at_cond}
-use Rattle.page_rule.proofs.Steps.{keeps_stored, last_packet, last_is, keeps_loaded}
+use Rattle.ring_loan_rule.proofs.Steps.{keeps_stored, last_packet, last_is, keeps_loaded}
 
 written_far : (n : ℕ) (op : Op) (ws : List ℕ) (i : ℕ) → word_at n op < words_of n → words_of n ≤ i → get_or (written n op ws) i 0 ≡ get_or ws i 0
 written_far n (Load pl) ws i a b = refl
@@ -164,7 +164,7 @@ module _ (n c : ℕ) (x : Side) (ws : List ℕ) (e p : EndState) (some : c ≢ 0
   still_taking TakeCell a i j =
       by_test (ltb (e.machine.done + 1) e.machine.len)
       (λ t. ap (λ (b : Bool). (cond b e.pages (pages_took (layout e.pages.count) e.pages (e.copied ++ v ∷ []))).due) t)
-      (λ t. absurd (let z : is_taking_at (fed_at TakeCell e.machine v).stage ≡ false = ap (λ (k : Machine). is_taking_at k.stage) (no_is (ltb (e.machine.done + 1) e.machine.len) _ _ t) in let w : true ≡ false = sym i ∙ z in (cc)))
+      (λ t. absurd (let z : is_taking_at (fed_at TakeCell e.machine v).stage ≡ false = ap (λ (k : EndMachine). is_taking_at k.stage) (no_is (ltb (e.machine.done + 1) e.machine.len) _ _ t) in let w : true ≡ false = sym i ∙ z in (cc)))
   still_taking _ a i j = absurd (cc)
 
   unsent_busy : (st : Stage) → is_unsent_at st ≡ true → is_busy_at st ≡ true
@@ -175,7 +175,7 @@ module _ (n c : ℕ) (x : Side) (ws : List ℕ) (e p : EndState) (some : c ≢ 0
 
   pub page_step : PagesPart n c (written n op ws) x (after e v) p
   page_step =
-      let m : Machine = e.machine in
+      let m : EndMachine = e.machine in
       let l : Listed (after e v).pages (after e v).sent = lists_by m.stage in
       let from : Comes m.stage (fed m v).stage = comes m v m.stage refl in
       record {
@@ -202,7 +202,7 @@ steps_keep n c x ws ends op some i g h =
     (invariant_of n x _ (after (ends x) (answer_in n op ws)) ends (made n c x ws (ends x) (ends (peer_of x)) some s g op h), page_step n c x ws (ends x) (ends (peer_of x)) some s g op h)
 
 -- what a call that begins asks of the pages
-module _ (c : ℕ) (x : Side) (e : EndState) (m : Machine) (q : List ℕ) (some : c ≢ 0) (count : e.pages.count ≡ c) (side : e.machine.side ≡ x) where
+module _ (c : ℕ) (x : Side) (e : EndState) (m : EndMachine) (q : List ℕ) (some : c ≢ 0) (count : e.pages.count ≡ c) (side : e.machine.side ≡ x) where
   pub record Asks (st : Stage) : Type 0 where
     pub sends : is_unsent_at st ≡ true → MaySend (layout c) (keeper_of c x e) q
     pub takes : is_taking_at st ≡ true → e.pages.due ≡ Clear
@@ -213,10 +213,10 @@ module _ (c : ℕ) (x : Side) (e : EndState) (m : Machine) (q : List ℕ) (some 
   send_asks : BeginsSend e m q → Asks m.stage
   send_asks b =
       let may : MaySend (layout e.pages.count) (keeper (layout e.pages.count) e.machine.side e.got e.pages) q = b.4 (λ z. some (sym count ∙ z)) in
-      subst Asks (sym (ap (λ (k : Machine). k.stage) b.0)) (record { sends = λ u. subst (λ (z : ℕ × Side). MaySend (layout z.0) (keeper (layout z.0) z.1 e.got e.pages) q) (λ j. (count j, side j)) may; takes = λ u. absurd (cc) })
+      subst Asks (sym (ap (λ (k : EndMachine). k.stage) b.0)) (record { sends = λ u. subst (λ (z : ℕ × Side). MaySend (layout z.0) (keeper (layout z.0) z.1 e.got e.pages) q) (λ j. (count j, side j)) may; takes = λ u. absurd (cc) })
 
   take_asks : BeginsTake e m q → Asks m.stage
-  take_asks b = subst Asks (sym (ap (λ (k : Machine). k.stage) b.0)) (record { sends = λ u. absurd (cc); takes = λ u. b.3 })
+  take_asks b = subst Asks (sym (ap (λ (k : EndMachine). k.stage) b.0)) (record { sends = λ u. absurd (cc); takes = λ u. b.3 })
 
   arm_asks : (want : ℕ) (t : Bool) → m.stage ≡ cond t ArmMask ArmPending → Asks m.stage
   arm_asks want true s = none_asks ArmMask refl refl s
@@ -226,13 +226,13 @@ module _ (c : ℕ) (x : Side) (e : EndState) (m : Machine) (q : List ℕ) (some 
   begins_ask b =
       ⊎_elim send_asks
       (⊎_elim take_asks
-      (⊎_elim (λ (d : BeginsCommit e m q). none_asks CommitRead refl refl (ap (λ (k : Machine). k.stage) d.0))
-      (⊎_elim (λ (d : BeginsArm e m q). arm_asks d.0 (eqb d.0 0) (ap (λ (k : Machine). k.stage) d.1))
-      (⊎_elim (λ (d : BeginsPoll e m q). none_asks PollSignal refl refl (ap (λ (k : Machine). k.stage) d.0))
-      (⊎_elim (λ (d : BeginsMark e m q). none_asks MarkStore refl refl (ap (λ (k : Machine). k.stage) d.0))
-      (λ (d : BeginsPeerMark e m q). none_asks PeerMark refl refl (ap (λ (k : Machine). k.stage) d.0))))))) b.1
+      (⊎_elim (λ (d : BeginsCommit e m q). none_asks CommitRead refl refl (ap (λ (k : EndMachine). k.stage) d.0))
+      (⊎_elim (λ (d : BeginsArm e m q). arm_asks d.0 (eqb d.0 0) (ap (λ (k : EndMachine). k.stage) d.1))
+      (⊎_elim (λ (d : BeginsPoll e m q). none_asks PollSignal refl refl (ap (λ (k : EndMachine). k.stage) d.0))
+      (⊎_elim (λ (d : BeginsMark e m q). none_asks MarkStore refl refl (ap (λ (k : EndMachine). k.stage) d.0))
+      (λ (d : BeginsPeerMark e m q). none_asks PeerMark refl refl (ap (λ (k : EndMachine). k.stage) d.0))))))) b.1
 
-pub part_begun : (n c : ℕ) (x : Side) (ws : List ℕ) (e p : EndState) (m : Machine) (q : List ℕ) → c ≢ 0 → e.machine.side ≡ x → PagesPart n c ws x e p → Begins e m q → PagesPart n c ws x (entered e m q) p
+pub part_begun : (n c : ℕ) (x : Side) (ws : List ℕ) (e p : EndState) (m : EndMachine) (q : List ℕ) → c ≢ 0 → e.machine.side ≡ x → PagesPart n c ws x e p → Begins e m q → PagesPart n c ws x (entered e m q) p
 part_begun n c x ws e p m q some side g b =
     let asks = begins_ask c x e m q some g.mine.count side b in
     record {
@@ -242,7 +242,7 @@ part_begun n c x ws e p m q some side g b =
       owned = g.owned;
     }
 
-pub calls_keep : (n c : ℕ) (x : Side) (ws : List ℕ) (ends : Side → EndState) (m : Machine) (q : List ℕ) → c ≢ 0 → ChannelInvariant n (take (words_of n) ws) ends → PagesPart n c ws x (ends x) (ends (peer_of x)) → Begins (ends x) m q
+pub calls_keep : (n c : ℕ) (x : Side) (ws : List ℕ) (ends : Side → EndState) (m : EndMachine) (q : List ℕ) → c ≢ 0 → ChannelInvariant n (take (words_of n) ws) ends → PagesPart n c ws x (ends x) (ends (peer_of x)) → Begins (ends x) m q
     → ChannelInvariant n (take (words_of n) ws) (with_end x (entered (ends x) m q) ends) × PagesPart n c ws x (entered (ends x) m q) (ends (peer_of x))
 calls_keep n c x ws ends m q some i g b =
     let s : Sided n x (take (words_of n) ws) (ends x) (ends (peer_of x)) = sided_of n (take (words_of n) ws) ends i x in

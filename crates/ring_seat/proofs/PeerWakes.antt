@@ -3,13 +3,13 @@ use Rattle.std.proofs.Common.{◌≡◌, ◌≢◌, ◌⊎◌, ℕ, ◌*◌, ◌
 use Rattle.std.proofs.lemmas.Bool.Decides.{nat_tests}
 use Rattle.ring_machine.specs.declared.machine.Stage.{Stage}
 use Rattle.ring_machine.specs.declared.machine.Stage.TheVariants.{Idle, Stopped, SendRead, SendCell, SendWrite, SendMask, SendLook, SendRaise, TakeWrite, TakeFirst, TakeCell, CommitRead, CommitFeature, CommitPending, CommitWrite, CommitRaise, ArmPending, ArmMask, ArmWrite, ArmRead, ArmMark, ArmUndoMask, ArmUndoPending, PollSignal, PollMask, PollPending, MarkStore, MarkRaise, PeerMark}
-use Rattle.ring_machine.specs.declared.machine.Machine.{Machine}
+use Rattle.ring_machine.specs.declared.machine.EndMachine.{EndMachine}
 use Rattle.ring_machine.specs.Places.{low, is_index, free, raises_on_commit}
 use Rattle.ring_machine.specs.Steps.{IsSound, fed, fed_at, makes_room, sleeps_at, is_arming_at}
 use Rattle.ring_machine.specs.Loops.{is_given_at}
 use Rattle.ring_machine.proofs.Sound.{at_cond}
-use Rattle.ring_model.specs.Ring.{is_marking_at}
-use Rattle.ring_model.proofs.Turns.{low_is, index_here}
+use Rattle.ring_pair_laws.specs.Ring.{is_marking_at}
+use Rattle.ring_pair_laws.proofs.Turns.{low_is, index_here}
 use Rattle.ring_seat.specs.Points.{AtPoint, is_unmasked_at, pending_at, pending_of}
 use Rattle.ring_seat.specs.Waking.{packets_looked_at, packets_looked, room_looked_at, room_looked, is_sent_at, is_weighing_at, IsSendingFrom, IsGivingBack}
 use Rattle.ring_seat.proofs.Waits.{raised_after}
@@ -41,7 +41,7 @@ room_packets ArmMark h = refl
 room_packets _ h = absurd (cc)
 
 -- k sleeps, and m makes a step
-module _ (m k : Machine) (v own sig : ℕ) (s : IsSound m) (t : IsSound k) (q : AtPoint k) (given : IsGiven m) (same : k.cells ≡ m.cells) (w : Waking sig k m) where
+module _ (m k : EndMachine) (v own sig : ℕ) (s : IsSound m) (t : IsSound k) (q : AtPoint k) (given : IsGiven m) (same : k.cells ≡ m.cells) (w : Waking sig k m) where
   -- the sleeper's mask is 0, and it has given back all that it took
   unmasked : packets_looked k ≡ true → k.masked ≡ false
   unmasked h = q.masked ∙ ap not (by_stage (packets_looked_at k.stage) refl)
@@ -69,13 +69,13 @@ module _ (m k : Machine) (v own sig : ℕ) (s : IsSound m) (t : IsSound k) (q : 
       by_stage ArmPending e = let a : k.asleep ≡ true = sym (ap (λ (z : Stage). room_looked_at z || k.asleep) e) ∙ h in let b : sleeps_at ArmPending ≡ true = sym (ap sleeps_at e) ∙ (t.asleep a).2 in absurd (cc)
       by_stage _ e = refl
 
-  abbrev Packets : ℕ → Machine → Type 0
+  abbrev Packets : ℕ → EndMachine → Type 0
   Packets c a = packets_looked k ≡ true → (a.write ≡ k.read) ⊎ ((c ≢ 0) ⊎ IsSendingFrom a k.read)
 
-  abbrev Room : ℕ → Machine → Type 0
+  abbrev Room : ℕ → EndMachine → Type 0
   Room c a = room_looked k ≡ true → k.want ≢ 0 → (8 * free k.cells a.start k.write ≤ k.want) ⊎ ((c ≢ 0) ⊎ IsGivingBack a k.cells k.write k.want)
 
-  abbrev Mark : ℕ → Machine → Type 0
+  abbrev Mark : ℕ → EndMachine → Type 0
   Mark c a = k.asleep ≡ true → ((a.marked || is_marking_at a.stage) ≡ false) ⊎ ((c ≢ 0) ⊎ (a.stage ≡ MarkRaise))
 
   not_sent : (st : Stage) → m.stage ≡ st → is_sent_at st ≡ false → {A : Type 0} → IsSendingFrom m k.read → A

@@ -2,7 +2,7 @@
 use Rattle.std.proofs.Common.{◌≡◌, ℕ, ◌+◌, ◌*◌, ◌<◌, List, Some, refl, subst, arith}
 use Rattle.io_edge.specs.declared.side.Side.{Side}
 use Rattle.io_edge.specs.declared.side.Side.TheVariants.{Guest, Host}
-use Rattle.ring_machine.specs.declared.machine.Machine.{Machine}
+use Rattle.ring_machine.specs.declared.machine.EndMachine.{EndMachine}
 use Rattle.ring_machine.specs.declared.place.Ring.TheVariants.{ToHost, ToGuest}
 use Rattle.ring_machine.specs.declared.place.Place.{Place}
 use Rattle.ring_machine.specs.declared.place.Place.TheVariants.{Write, Read, Mask, Pending, Feature, Cell, Signal, Mark, Page}
@@ -44,7 +44,7 @@ pub signal_small : (n : ℕ) (x : Side) → signal_of n x < words_of n
 signal_small n x = place_small n (Signal x) tt
 
 -- a step of the rings
-pub word_small : (m : Machine) (q : List ℕ) (op : Op) (i words : ℕ) → IsSound m → next_of m q ≡ Some op → i ≡ word_at m.cells op → words ≡ words_of m.cells → i < words
+pub word_small : (m : EndMachine) (q : List ℕ) (op : Op) (i words : ℕ) → IsSound m → next_of m q ≡ Some op → i ≡ word_at m.cells op → words ≡ words_of m.cells → i < words
 word_small m q op i words sound h at all =
     let small : word_at m.cells op < words_of m.cells = op_small m.cells op (subst (IsInside m.cells 0) h (inside_at m 0 q sound m.stage refl)) in
     omega (arith, at, all)

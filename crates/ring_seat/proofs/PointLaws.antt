@@ -4,7 +4,7 @@ use Rattle.std.proofs.lemmas.Bool.Decides.{nat_tests}
 use Rattle.io_edge.specs.declared.side.Side.{Side}
 use Rattle.ring_machine.specs.declared.machine.Stage.{Stage}
 use Rattle.ring_machine.specs.declared.machine.Stage.TheVariants.{Idle, Stopped, SendRead, SendCell, SendWrite, SendMask, SendLook, SendRaise, TakeWrite, TakeFirst, TakeCell, CommitRead, CommitFeature, CommitPending, CommitWrite, CommitRaise, ArmPending, ArmMask, ArmWrite, ArmRead, ArmMark, ArmUndoMask, ArmUndoPending, PollSignal, PollMask, PollPending, MarkStore, MarkRaise, PeerMark}
-use Rattle.ring_machine.specs.declared.machine.Machine.{Machine}
+use Rattle.ring_machine.specs.declared.machine.EndMachine.{EndMachine}
 use Rattle.ring_machine.specs.declared.state.EndState.{EndState}
 use Rattle.ring_machine.specs.Places.{low, is_index, cell_of, used, free, len8_of, offset8_of}
 use Rattle.ring_machine.specs.Steps.{IsSound, fed, fed_at, makes_room, finds_room, is_arming_at, is_waking_at, sleeps_at, machine_new, poll_begun}
@@ -68,7 +68,7 @@ plain_waking _ h = refl
 plain_polls : (st : Stage) → is_plain_at st ≡ true → st ≢ PollSignal
 plain_polls st h i = let never : is_plain_at st ≡ false = ap is_plain_at i in cc
 
-module _ (m : Machine) (p : AtPoint m) where
+module _ (m : EndMachine) (p : AtPoint m) where
   masked_at : (st : Stage) → m.stage ≡ st → m.masked ≡ not (is_unmasked_at st || m.asleep)
   masked_at st e = p.masked ∙ ap (λ (k : Stage). not (is_unmasked_at k || m.asleep)) e
 
@@ -76,14 +76,14 @@ module _ (m : Machine) (p : AtPoint m) where
   want_at st e h = p.want (ap (λ (k : Stage). is_arming_at k || (is_waking_at k || m.asleep)) e ∙ h)
 
   -- a step with no arm and no poll under way, before and after it
-  plain : is_plain_at m.stage ≡ true → (k : Machine) → is_plain_at k.stage ≡ true → k.masked ≡ m.masked → k.asleep ≡ m.asleep → k.want ≡ m.want → AtPoint k
+  plain : is_plain_at m.stage ≡ true → (k : EndMachine) → is_plain_at k.stage ≡ true → k.masked ≡ m.masked → k.asleep ≡ m.asleep → k.want ≡ m.want → AtPoint k
   plain b k a masked asleep want = record {
     masked = masked ∙ (p.masked ∙ ((λ j. not (plain_unmasked m.stage b j || sym asleep j)) ∙ ap (λ (c : Bool). not (c || k.asleep)) (sym (plain_unmasked k.stage a))));
     want = λ h. want ∙ p.want ((λ j. plain_arming m.stage b j || (plain_waking m.stage b j || sym asleep j)) ∙ ((λ j. sym (plain_arming k.stage a) j || (sym (plain_waking k.stage a) j || k.asleep)) ∙ h));
     polls = λ h. absurd (plain_polls k.stage a h);
   }
 
-module _ (m : Machine) (v : ℕ) (s : IsSound m) (p : AtPoint m) where
+module _ (m : EndMachine) (v : ℕ) (s : IsSound m) (p : AtPoint m) where
   awake : (st : Stage) → m.stage ≡ st → sleeps_at st ≡ false → m.asleep ≡ false
   awake st e dozes = by_case m.asleep refl
     where
@@ -91,7 +91,7 @@ module _ (m : Machine) (v : ℕ) (s : IsSound m) (p : AtPoint m) where
       by_case true h = let yes : sleeps_at st ≡ true = sym (ap sleeps_at e) ∙ (s.asleep h).2 in absurd (cc)
       by_case false h = refl
 
-  rest : (st : Stage) → m.stage ≡ st → is_plain_at st ≡ true → (k : Machine) → is_plain_at k.stage ≡ true → k.masked ≡ m.masked → k.asleep ≡ m.asleep → k.want ≡ m.want → AtPoint k
+  rest : (st : Stage) → m.stage ≡ st → is_plain_at st ≡ true → (k : EndMachine) → is_plain_at k.stage ≡ true → k.masked ≡ m.masked → k.asleep ≡ m.asleep → k.want ≡ m.want → AtPoint k
   rest st e b k = plain m p (ap is_plain_at e ∙ b) k
 
   -- a mask that is 1 again: the end is awake
@@ -136,8 +136,8 @@ pub new_point : (n : ℕ) (x : Side) → AtPoint (machine_new x n)
 new_point n x = record { masked = refl; want = λ h. refl; polls = λ h. absurd (cc) }
 
 -- a machine that has begun a call
-module _ (m : Machine) (p : AtPoint m) (idle : m.stage ≡ Idle) where
-  opens : (k : Machine) → is_plain_at k.stage ≡ true → k.masked ≡ m.masked → k.asleep ≡ m.asleep → k.want ≡ m.want → AtPoint k
+module _ (m : EndMachine) (p : AtPoint m) (idle : m.stage ≡ Idle) where
+  opens : (k : EndMachine) → is_plain_at k.stage ≡ true → k.masked ≡ m.masked → k.asleep ≡ m.asleep → k.want ≡ m.want → AtPoint k
   opens k = plain m p (ap is_plain_at idle) k
 
   arms : (want : ℕ) (b : Bool) → AtPoint record m { stage = cond b ArmMask ArmPending; len = 0; done = 0; want = want; saw = false }
@@ -147,7 +147,7 @@ module _ (m : Machine) (p : AtPoint m) (idle : m.stage ≡ Idle) where
   polls_on : m.asleep ≡ true → AtPoint (poll_begun m)
   polls_on a = record { masked = masked_at m p Idle idle; want = λ h. want_at m p Idle idle h; polls = λ h. a }
 
-pub begins_point : (e : EndState) (m : Machine) (q : List ℕ) → AtPoint e.machine → Begins e m q → AtPoint m
+pub begins_point : (e : EndState) (m : EndMachine) (q : List ℕ) → AtPoint e.machine → Begins e m q → AtPoint m
 begins_point e m q p b =
     ⊎_elim (λ (c : BeginsSend e m q). subst AtPoint (sym c.0) (opens e.machine p c.3.idle _ refl refl refl refl))
     (⊎_elim (λ (c : BeginsTake e m q). subst AtPoint (sym c.0) (opens e.machine p c.2.idle _ refl refl refl refl))

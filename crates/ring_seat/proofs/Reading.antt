@@ -1,20 +1,20 @@
 -- What the rule says of an end that is awake, that sleeps, that saw a mark, or that is drained.
 use Rattle.std.proofs.Common.{◌≡◌, ℕ, Bool, true, false, ◌||◌, not, cond, List, get_or, Some, refl, sym, ap, ◌∙◌}
-use Rattle.chan_run.specs.Runs.{has_marked, has_seen}
-use Rattle.chan_run.proofs.RunLaws.{sees_marks}
+use Rattle.channel_trace.specs.Runs.{has_marked, has_seen}
+use Rattle.channel_trace.proofs.RunLaws.{sees_marks}
 use Rattle.io_edge.specs.declared.side.Side.{Side}
 use Rattle.io_edge.specs.declared.side.Side.TheVariants.{Guest, Host}
 use Rattle.ring_machine.specs.declared.machine.Stage.{Stage}
 use Rattle.ring_machine.specs.declared.machine.Stage.TheVariants.{ArmPending, ArmWrite, ArmRead, ArmMark, ArmUndoMask, PollMask}
-use Rattle.ring_machine.specs.declared.machine.Machine.{Machine}
+use Rattle.ring_machine.specs.declared.machine.EndMachine.{EndMachine}
 use Rattle.ring_machine.specs.declared.state.EndState.{EndState}
 use Rattle.ring_machine.specs.declared.place.Op.{Op}
 use Rattle.ring_machine.specs.Places.{out_of, in_of, peer_of, mark_of}
 use Rattle.ring_machine.specs.Steps.{IsSound, next_of, is_arming_at, is_waking_at, sleeps_at}
 use Rattle.ring_machine.specs.States.{after, entered, Begins}
 use Rattle.ring_core.specs.Told.{written, answer_in}
-use Rattle.ring_model.specs.Ring.{ring_in}
-use Rattle.ring_model.proofs.Settling.{guest_drained, host_drained}
+use Rattle.ring_pair_laws.specs.Ring.{ring_in}
+use Rattle.ring_pair_laws.proofs.Settling.{guest_drained, host_drained}
 use Rattle.ring_seat.specs.Points.{is_unmasked_at, pending_at}
 use Rattle.ring_seat.specs.Rule.{ChannelInvariant, with_end}
 use Rattle.ring_seat.specs.Waking.{WakeCause, packets_looked_at, room_looked_at}
@@ -24,7 +24,7 @@ pub keeps_step : (n : ℕ) (ws : List ℕ) (ends : Side → EndState) (x : Side)
     → ChannelInvariant n (written n op ws) (with_end x (after (ends x) (answer_in n op ws)) ends)
 keeps_step n ws ends x op i h = invariant_of n x _ _ ends (stepped n x ws (ends x) (ends (peer_of x)) (sided_of n ws ends i x) op h)
 
-pub keeps_begin : (n : ℕ) (ws : List ℕ) (ends : Side → EndState) (x : Side) (m : Machine) (p : List ℕ) → ChannelInvariant n ws ends → Begins (ends x) m p → ChannelInvariant n ws (with_end x (entered (ends x) m p) ends)
+pub keeps_begin : (n : ℕ) (ws : List ℕ) (ends : Side → EndState) (x : Side) (m : EndMachine) (p : List ℕ) → ChannelInvariant n ws ends → Begins (ends x) m p → ChannelInvariant n ws (with_end x (entered (ends x) m p) ends)
 keeps_begin n ws ends x m p i b = invariant_of n x _ _ ends (begun n x ws (ends x) (ends (peer_of x)) (sided_of n ws ends i x) m p b)
 
 plain_unmasked : (st : Stage) → is_arming_at st ≡ false → is_waking_at st ≡ false → is_unmasked_at st ≡ false
@@ -50,7 +50,7 @@ or_yes false c i = i
 module _ (n : ℕ) (ws : List ℕ) (ends : Side → EndState) (x : Side) (i : ChannelInvariant n ws ends) where
   pub awake_words : (ends x).machine.asleep ≡ false → is_arming_at (ends x).machine.stage ≡ false → is_waking_at (ends x).machine.stage ≡ false → (ring_in n ws (in_of x) 2 ≡ 1) × (ring_in n ws (out_of x) 3 ≡ 0)
   awake_words awake a w =
-      let m : Machine = (ends x).machine in
+      let m : EndMachine = (ends x).machine in
       let own = i.own x in
       let masked : m.masked ≡ true = own.point.masked ∙ (λ j. not (plain_unmasked m.stage a w j || awake j)) in
       let want : m.want ≡ 0 = own.point.want (λ j. a j || (w j || awake j)) in

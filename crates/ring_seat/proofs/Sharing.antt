@@ -13,9 +13,9 @@ use Rattle.ring_machine.specs.declared.state.EndState.{EndState}
 use Rattle.ring_machine.specs.Places.{signal_of, words_of, peer_of}
 use Rattle.ring_machine.specs.Steps.{machine_new}
 use Rattle.ring_core.specs.Told.{opening as opening_words, opening_with}
-use Rattle.ring_model.specs.Ring.{ChannelOk}
-use Rattle.ring_model.proofs.Opening.{still, new_channel}
-use Rattle.ring_model.proofs.Settling.{guest_front, host_front, one_run, guest_drained, host_drained}
+use Rattle.ring_pair_laws.specs.Ring.{ChannelOk}
+use Rattle.ring_pair_laws.proofs.Opening.{still, new_channel}
+use Rattle.ring_pair_laws.proofs.Settling.{guest_front, host_front, one_run, guest_drained, host_drained}
 use Rattle.ring_seat.specs.declared.view.View.{View}
 use Rattle.ring_seat.specs.declared.view.View.TheVariants.{Both, One, Spent}
 use Rattle.ring_seat.specs.Rule.{OwnWords, ChannelInvariant}

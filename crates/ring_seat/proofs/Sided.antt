@@ -2,15 +2,15 @@
 use Rattle.std.proofs.Common.{◌≡◌, ℕ, List, get_or, Some, refl, sym, subst, ⊎_elim}
 use Rattle.io_edge.specs.declared.side.Side.{Side}
 use Rattle.io_edge.specs.declared.side.Side.TheVariants.{Guest, Host}
-use Rattle.ring_machine.specs.declared.machine.Machine.{Machine}
+use Rattle.ring_machine.specs.declared.machine.EndMachine.{EndMachine}
 use Rattle.ring_machine.specs.declared.state.EndState.{EndState}
 use Rattle.ring_machine.specs.declared.place.Op.{Op}
 use Rattle.ring_machine.specs.Places.{peer_of, signal_of}
 use Rattle.ring_machine.specs.Steps.{fed, next_of}
 use Rattle.ring_machine.specs.States.{after, entered, Begins, Continues}
 use Rattle.ring_core.specs.Told.{written, answer_in}
-use Rattle.ring_model.proofs.Keeping.{Both, Goes, both_of, channel_of, step_both, call_began}
-use Rattle.ring_model.proofs.Pairing.{begins_sound}
+use Rattle.ring_pair_laws.proofs.Keeping.{Both, Goes, both_of, channel_of, step_both, call_began}
+use Rattle.ring_pair_laws.proofs.Pairing.{begins_sound}
 use Rattle.ring_seat.specs.Rule.{OwnPart, ChannelInvariant, with_end}
 use Rattle.ring_seat.specs.Waking.{WakePending}
 use Rattle.ring_seat.proofs.Waits.{WaitsBy, step_waits}
@@ -78,7 +78,7 @@ stepped n x ws e p s =
     (λ j. (s.both.fits.cells j, s.both.fits.side j)) (stepped_own ws e p) s
 
 -- a call that begins
-pub begun : (n : ℕ) (x : Side) (ws : List ℕ) (e p : EndState) → Sided n x ws e p → (m : Machine) (q : List ℕ) → Begins e m q → Sided n x ws (entered e m q) p
+pub begun : (n : ℕ) (x : Side) (ws : List ℕ) (e p : EndState) → Sided n x ws e p → (m : EndMachine) (q : List ℕ) → Begins e m q → Sided n x ws (entered e m q) p
 begun n x ws e p s m q b =
     let g : Goes n x q ws (entered e m q) p = call_began n x ws e p s.both m q b (begins_sound e m q s.both.fits.sound b) in
     record {
@@ -90,7 +90,7 @@ begun n x ws e p s m q b =
     }
 
 -- a call that begins, or goes on
-pub continued : (n : ℕ) (x : Side) (ws : List ℕ) (e p : EndState) → Sided n x ws e p → (m : Machine) (q : List ℕ) → Continues e m q → Sided n x ws (entered e m q) p
+pub continued : (n : ℕ) (x : Side) (ws : List ℕ) (e p : EndState) → Sided n x ws e p → (m : EndMachine) (q : List ℕ) → Continues e m q → Sided n x ws (entered e m q) p
 continued n x ws e p s m q go =
-    ⊎_elim (λ (c : (m ≡ e.machine) × (q ≡ e.packet)). subst (λ (k : Machine × List ℕ). Sided n x ws (entered e k.0 k.1) p) (λ j. (sym c.0 j, sym c.1 j)) s)
+    ⊎_elim (λ (c : (m ≡ e.machine) × (q ≡ e.packet)). subst (λ (k : EndMachine × List ℕ). Sided n x ws (entered e k.0 k.1) p) (λ j. (sym c.0 j, sym c.1 j)) s)
     (begun n x ws e p s m q) go

@@ -5,7 +5,7 @@ use Rattle.io_edge.specs.declared.side.Side.{Side}
 use Rattle.io_edge.specs.declared.side.Side.TheVariants.{Guest, Host}
 use Rattle.ring_machine.specs.declared.machine.Stage.{Stage}
 use Rattle.ring_machine.specs.declared.machine.Stage.TheVariants.{Idle, Stopped, SendRead, SendCell, SendWrite, SendMask, SendLook, SendRaise, TakeWrite, TakeFirst, TakeCell, CommitRead, CommitFeature, CommitPending, CommitWrite, CommitRaise, ArmPending, ArmMask, ArmWrite, ArmRead, ArmMark, ArmUndoMask, ArmUndoPending, PollSignal, PollMask, PollPending, MarkStore, MarkRaise, PeerMark}
-use Rattle.ring_machine.specs.declared.machine.Machine.{Machine}
+use Rattle.ring_machine.specs.declared.machine.EndMachine.{EndMachine}
 use Rattle.ring_machine.specs.declared.place.Ring.{Ring}
 use Rattle.ring_machine.specs.declared.place.Ring.TheVariants.{ToHost, ToGuest}
 use Rattle.ring_machine.specs.declared.place.Op.{Op}
@@ -13,7 +13,7 @@ use Rattle.ring_machine.specs.Places.{out_of, in_of, peer_of, base_of, signal_of
 use Rattle.ring_machine.specs.Steps.{IsSound, next_at, next_of}
 use Rattle.ring_core.specs.Told.{written}
 use Rattle.ring_machine.proofs.Sound.{ahead_below}
-use Rattle.ring_model.specs.Ring.{ring_in}
+use Rattle.ring_pair_laws.specs.Ring.{ring_in}
 
 -- The words of an end's waiting: its mask, its wanted room and its signal; its peer's three; and both feature words
 pub record Waits (n : ℕ) (x : Side) (ws : List ℕ) (a b c d : ℕ) (old : List ℕ) : Type 0 where
@@ -113,7 +113,7 @@ module _ (n : ℕ) (ws : List ℕ) where
     put_raised Guest w = record { mask = stays (n + n + 11) (n + 5 + 2) w (λ e. omega arith); pending = stays (n + n + 11) (3) w (λ e. omega arith); signal = stays (n + n + 11) (n + n + 10) w (λ e. omega arith); raised = here (n + n + 11) w (omega arith); peers_mask = stays (n + n + 11) (2) w (λ e. omega arith); peers_pending = stays (n + n + 11) (n + 5 + 3) w (λ e. omega arith); feature = stays (n + n + 11) (4) w (λ e. omega arith); peers_feature = stays (n + n + 11) (n + 5 + 4) w (λ e. omega arith) }
     put_raised Host w = record { mask = stays (n + n + 10) (2) w (λ e. omega arith); pending = stays (n + n + 10) (n + 5 + 3) w (λ e. omega arith); signal = stays (n + n + 10) (n + n + 11) w (λ e. omega arith); raised = here (n + n + 10) w (omega arith); peers_mask = stays (n + n + 10) (n + 5 + 2) w (λ e. omega arith); peers_pending = stays (n + n + 10) (3) w (λ e. omega arith); feature = stays (n + n + 10) (n + 5 + 4) w (λ e. omega arith); peers_feature = stays (n + n + 10) (4) w (λ e. omega arith) }
 
-module _ (m : Machine) (p ws : List ℕ) (s : IsSound m) (long : length ws ≡ words_of m.cells) where
+module _ (m : EndMachine) (p ws : List ℕ) (s : IsSound m) (long : length ws ≡ words_of m.cells) where
   abbrev After : Stage → Op → Type 0
   After st op = WaitsBy st m.cells m.side m.want ws (written m.cells op ws)
 

@@ -2,16 +2,16 @@
 use Rattle.std.proofs.Common.{◌≡◌, ◌≢◌, ℕ, ◌+◌, ◌*◌, ◌%◌, Bool, true, false, ◌||◌, ◌&&◌, leb, ltb, eqb, refl, sym, ap, ◌∙◌}
 use Rattle.ring_machine.specs.declared.machine.Stage.{Stage}
 use Rattle.ring_machine.specs.declared.machine.Stage.TheVariants.{Idle, Stopped, SendRead, SendCell, SendWrite, SendMask, SendLook, SendRaise, TakeWrite, TakeFirst, TakeCell, CommitRead, CommitFeature, CommitPending, CommitWrite, CommitRaise, ArmPending, ArmMask, ArmWrite, ArmRead, ArmMark, ArmUndoMask, ArmUndoPending, PollSignal, PollMask, PollPending, MarkStore, MarkRaise, PeerMark}
-use Rattle.ring_machine.specs.declared.machine.Machine.{Machine}
+use Rattle.ring_machine.specs.declared.machine.EndMachine.{EndMachine}
 use Rattle.ring_machine.specs.Places.{low, is_index, cell_of, used, free, len8_of, offset8_of}
 use Rattle.ring_machine.specs.Steps.{fed, fed_at, makes_room, finds_room}
 use Rattle.ring_machine.specs.Loops.{is_given_at}
 use Rattle.ring_machine.proofs.Sound.{at_cond}
-use Rattle.ring_model.specs.Ring.{is_marking_at}
+use Rattle.ring_pair_laws.specs.Ring.{is_marking_at}
 use Rattle.ring_seat.specs.Waking.{packets_looked_at}
 
 -- no look of the end is in force
-pub record Shut (m : Machine) : Type 0 where
+pub record Shut (m : EndMachine) : Type 0 where
   pub stage : packets_looked_at m.stage ≡ false
   pub awake : m.asleep ≡ false
 
@@ -25,7 +25,7 @@ is_shut_at ArmMark = false
 is_shut_at PollSignal = false
 is_shut_at _ = true
 
-module _ (m : Machine) (v : ℕ) (awake : m.asleep ≡ false) where
+module _ (m : EndMachine) (v : ℕ) (awake : m.asleep ≡ false) where
   pub shut_by : (st : Stage) → m.stage ≡ st → is_shut_at st ≡ true → Shut (fed_at st m v)
   shut_by Idle e h = absurd (cc)
   shut_by Stopped e h = absurd (cc)
@@ -57,72 +57,72 @@ module _ (m : Machine) (v : ℕ) (awake : m.asleep ≡ false) where
   shut_by MarkRaise e h = record { stage = refl; awake = awake }
   shut_by PeerMark e h = at_cond Shut (eqb v 0) _ _ (λ t. record { stage = refl; awake = awake }) (λ t. record { stage = refl; awake = awake })
 
-module _ (m : Machine) (v : ℕ) where
+module _ (m : EndMachine) (v : ℕ) where
   -- the write index moves at its store alone
   pub write_kept : (st : Stage) → st ≢ SendWrite → (fed_at st m v).write ≡ m.write
   write_kept Idle h = refl
   write_kept Stopped h = refl
-  write_kept SendRead h = at_cond (λ (k : Machine). k.write ≡ m.write) (is_index m.cells v) _ _ (λ t. at_cond (λ (k : Machine). k.write ≡ m.write) (leb (free m.cells (cell_of v) m.write) (m.len + 1)) _ _ (λ u. refl) (λ u. refl)) (λ t. refl)
-  write_kept SendCell h = at_cond (λ (k : Machine). k.write ≡ m.write) (ltb m.done m.len) _ _ (λ t. refl) (λ t. refl)
+  write_kept SendRead h = at_cond (λ (k : EndMachine). k.write ≡ m.write) (is_index m.cells v) _ _ (λ t. at_cond (λ (k : EndMachine). k.write ≡ m.write) (leb (free m.cells (cell_of v) m.write) (m.len + 1)) _ _ (λ u. refl) (λ u. refl)) (λ t. refl)
+  write_kept SendCell h = at_cond (λ (k : EndMachine). k.write ≡ m.write) (ltb m.done m.len) _ _ (λ t. refl) (λ t. refl)
   write_kept SendWrite h = absurd (h refl)
-  write_kept SendMask h = at_cond (λ (k : Machine). k.write ≡ m.write) (eqb (low v) 0) _ _ (λ t. refl) (λ t. refl)
-  write_kept SendLook h = at_cond (λ (k : Machine). k.write ≡ m.write) (eqb (low v) (8 * m.old)) _ _ (λ t. refl) (λ t. refl)
+  write_kept SendMask h = at_cond (λ (k : EndMachine). k.write ≡ m.write) (eqb (low v) 0) _ _ (λ t. refl) (λ t. refl)
+  write_kept SendLook h = at_cond (λ (k : EndMachine). k.write ≡ m.write) (eqb (low v) (8 * m.old)) _ _ (λ t. refl) (λ t. refl)
   write_kept SendRaise h = refl
-  write_kept TakeWrite h = at_cond (λ (k : Machine). k.write ≡ m.write) (is_index m.cells v) _ _ (λ t. at_cond (λ (k : Machine). k.write ≡ m.write) (eqb (cell_of v) m.read) _ _ (λ u. refl) (λ u. refl)) (λ t. refl)
-  write_kept TakeFirst h = at_cond (λ (k : Machine). k.write ≡ m.write) (leb 2 (len8_of v) && ltb (len8_of v) (used m.cells m.read m.seen)) _ _ (λ t. at_cond (λ (k : Machine). k.write ≡ m.write) (leb 2 (offset8_of v) && leb (offset8_of v) (len8_of v)) _ _ (λ u. refl) (λ u. refl)) (λ t. refl)
-  write_kept TakeCell h = at_cond (λ (k : Machine). k.write ≡ m.write) (ltb (m.done + 1) m.len) _ _ (λ t. refl) (λ t. refl)
+  write_kept TakeWrite h = at_cond (λ (k : EndMachine). k.write ≡ m.write) (is_index m.cells v) _ _ (λ t. at_cond (λ (k : EndMachine). k.write ≡ m.write) (eqb (cell_of v) m.read) _ _ (λ u. refl) (λ u. refl)) (λ t. refl)
+  write_kept TakeFirst h = at_cond (λ (k : EndMachine). k.write ≡ m.write) (leb 2 (len8_of v) && ltb (len8_of v) (used m.cells m.read m.seen)) _ _ (λ t. at_cond (λ (k : EndMachine). k.write ≡ m.write) (leb 2 (offset8_of v) && leb (offset8_of v) (len8_of v)) _ _ (λ u. refl) (λ u. refl)) (λ t. refl)
+  write_kept TakeCell h = at_cond (λ (k : EndMachine). k.write ≡ m.write) (ltb (m.done + 1) m.len) _ _ (λ t. refl) (λ t. refl)
   write_kept CommitRead h = refl
-  write_kept CommitFeature h = at_cond (λ (k : Machine). k.write ≡ m.write) (eqb (low v % 2) 1) _ _ (λ t. refl) (λ t. refl)
-  write_kept CommitPending h = at_cond (λ (k : Machine). k.write ≡ m.write) (eqb (low v) 0) _ _ (λ t. refl) (λ t. refl)
-  write_kept CommitWrite h = at_cond (λ (k : Machine). k.write ≡ m.write) (makes_room m v) _ _ (λ t. refl) (λ t. refl)
+  write_kept CommitFeature h = at_cond (λ (k : EndMachine). k.write ≡ m.write) (eqb (low v % 2) 1) _ _ (λ t. refl) (λ t. refl)
+  write_kept CommitPending h = at_cond (λ (k : EndMachine). k.write ≡ m.write) (eqb (low v) 0) _ _ (λ t. refl) (λ t. refl)
+  write_kept CommitWrite h = at_cond (λ (k : EndMachine). k.write ≡ m.write) (makes_room m v) _ _ (λ t. refl) (λ t. refl)
   write_kept CommitRaise h = refl
   write_kept ArmPending h = refl
   write_kept ArmMask h = refl
-  write_kept ArmWrite h = at_cond (λ (k : Machine). k.write ≡ m.write) (eqb (low v) (8 * m.read)) _ _ (λ t. at_cond (λ (k : Machine). k.write ≡ m.write) (eqb m.want 0) _ _ (λ u. refl) (λ u. refl)) (λ t. refl)
-  write_kept ArmRead h = at_cond (λ (k : Machine). k.write ≡ m.write) (finds_room m v) _ _ (λ t. refl) (λ t. refl)
-  write_kept ArmMark h = at_cond (λ (k : Machine). k.write ≡ m.write) (eqb v 0) _ _ (λ t. refl) (λ t. refl)
-  write_kept ArmUndoMask h = at_cond (λ (k : Machine). k.write ≡ m.write) (eqb m.want 0) _ _ (λ t. refl) (λ t. refl)
+  write_kept ArmWrite h = at_cond (λ (k : EndMachine). k.write ≡ m.write) (eqb (low v) (8 * m.read)) _ _ (λ t. at_cond (λ (k : EndMachine). k.write ≡ m.write) (eqb m.want 0) _ _ (λ u. refl) (λ u. refl)) (λ t. refl)
+  write_kept ArmRead h = at_cond (λ (k : EndMachine). k.write ≡ m.write) (finds_room m v) _ _ (λ t. refl) (λ t. refl)
+  write_kept ArmMark h = at_cond (λ (k : EndMachine). k.write ≡ m.write) (eqb v 0) _ _ (λ t. refl) (λ t. refl)
+  write_kept ArmUndoMask h = at_cond (λ (k : EndMachine). k.write ≡ m.write) (eqb m.want 0) _ _ (λ t. refl) (λ t. refl)
   write_kept ArmUndoPending h = refl
-  write_kept PollSignal h = at_cond (λ (k : Machine). k.write ≡ m.write) (eqb v 0) _ _ (λ t. refl) (λ t. refl)
-  write_kept PollMask h = at_cond (λ (k : Machine). k.write ≡ m.write) (eqb m.want 0) _ _ (λ t. refl) (λ t. refl)
+  write_kept PollSignal h = at_cond (λ (k : EndMachine). k.write ≡ m.write) (eqb v 0) _ _ (λ t. refl) (λ t. refl)
+  write_kept PollMask h = at_cond (λ (k : EndMachine). k.write ≡ m.write) (eqb m.want 0) _ _ (λ t. refl) (λ t. refl)
   write_kept PollPending h = refl
   write_kept MarkStore h = refl
   write_kept MarkRaise h = refl
-  write_kept PeerMark h = at_cond (λ (k : Machine). k.write ≡ m.write) (eqb v 0) _ _ (λ t. refl) (λ t. refl)
+  write_kept PeerMark h = at_cond (λ (k : EndMachine). k.write ≡ m.write) (eqb v 0) _ _ (λ t. refl) (λ t. refl)
 
   -- the committed index moves at its store alone
   pub start_kept : (st : Stage) → st ≢ CommitRead → (fed_at st m v).start ≡ m.start
   start_kept Idle h = refl
   start_kept Stopped h = refl
-  start_kept SendRead h = at_cond (λ (k : Machine). k.start ≡ m.start) (is_index m.cells v) _ _ (λ t. at_cond (λ (k : Machine). k.start ≡ m.start) (leb (free m.cells (cell_of v) m.write) (m.len + 1)) _ _ (λ u. refl) (λ u. refl)) (λ t. refl)
-  start_kept SendCell h = at_cond (λ (k : Machine). k.start ≡ m.start) (ltb m.done m.len) _ _ (λ t. refl) (λ t. refl)
+  start_kept SendRead h = at_cond (λ (k : EndMachine). k.start ≡ m.start) (is_index m.cells v) _ _ (λ t. at_cond (λ (k : EndMachine). k.start ≡ m.start) (leb (free m.cells (cell_of v) m.write) (m.len + 1)) _ _ (λ u. refl) (λ u. refl)) (λ t. refl)
+  start_kept SendCell h = at_cond (λ (k : EndMachine). k.start ≡ m.start) (ltb m.done m.len) _ _ (λ t. refl) (λ t. refl)
   start_kept SendWrite h = refl
-  start_kept SendMask h = at_cond (λ (k : Machine). k.start ≡ m.start) (eqb (low v) 0) _ _ (λ t. refl) (λ t. refl)
-  start_kept SendLook h = at_cond (λ (k : Machine). k.start ≡ m.start) (eqb (low v) (8 * m.old)) _ _ (λ t. refl) (λ t. refl)
+  start_kept SendMask h = at_cond (λ (k : EndMachine). k.start ≡ m.start) (eqb (low v) 0) _ _ (λ t. refl) (λ t. refl)
+  start_kept SendLook h = at_cond (λ (k : EndMachine). k.start ≡ m.start) (eqb (low v) (8 * m.old)) _ _ (λ t. refl) (λ t. refl)
   start_kept SendRaise h = refl
-  start_kept TakeWrite h = at_cond (λ (k : Machine). k.start ≡ m.start) (is_index m.cells v) _ _ (λ t. at_cond (λ (k : Machine). k.start ≡ m.start) (eqb (cell_of v) m.read) _ _ (λ u. refl) (λ u. refl)) (λ t. refl)
-  start_kept TakeFirst h = at_cond (λ (k : Machine). k.start ≡ m.start) (leb 2 (len8_of v) && ltb (len8_of v) (used m.cells m.read m.seen)) _ _ (λ t. at_cond (λ (k : Machine). k.start ≡ m.start) (leb 2 (offset8_of v) && leb (offset8_of v) (len8_of v)) _ _ (λ u. refl) (λ u. refl)) (λ t. refl)
-  start_kept TakeCell h = at_cond (λ (k : Machine). k.start ≡ m.start) (ltb (m.done + 1) m.len) _ _ (λ t. refl) (λ t. refl)
+  start_kept TakeWrite h = at_cond (λ (k : EndMachine). k.start ≡ m.start) (is_index m.cells v) _ _ (λ t. at_cond (λ (k : EndMachine). k.start ≡ m.start) (eqb (cell_of v) m.read) _ _ (λ u. refl) (λ u. refl)) (λ t. refl)
+  start_kept TakeFirst h = at_cond (λ (k : EndMachine). k.start ≡ m.start) (leb 2 (len8_of v) && ltb (len8_of v) (used m.cells m.read m.seen)) _ _ (λ t. at_cond (λ (k : EndMachine). k.start ≡ m.start) (leb 2 (offset8_of v) && leb (offset8_of v) (len8_of v)) _ _ (λ u. refl) (λ u. refl)) (λ t. refl)
+  start_kept TakeCell h = at_cond (λ (k : EndMachine). k.start ≡ m.start) (ltb (m.done + 1) m.len) _ _ (λ t. refl) (λ t. refl)
   start_kept CommitRead h = absurd (h refl)
-  start_kept CommitFeature h = at_cond (λ (k : Machine). k.start ≡ m.start) (eqb (low v % 2) 1) _ _ (λ t. refl) (λ t. refl)
-  start_kept CommitPending h = at_cond (λ (k : Machine). k.start ≡ m.start) (eqb (low v) 0) _ _ (λ t. refl) (λ t. refl)
-  start_kept CommitWrite h = at_cond (λ (k : Machine). k.start ≡ m.start) (makes_room m v) _ _ (λ t. refl) (λ t. refl)
+  start_kept CommitFeature h = at_cond (λ (k : EndMachine). k.start ≡ m.start) (eqb (low v % 2) 1) _ _ (λ t. refl) (λ t. refl)
+  start_kept CommitPending h = at_cond (λ (k : EndMachine). k.start ≡ m.start) (eqb (low v) 0) _ _ (λ t. refl) (λ t. refl)
+  start_kept CommitWrite h = at_cond (λ (k : EndMachine). k.start ≡ m.start) (makes_room m v) _ _ (λ t. refl) (λ t. refl)
   start_kept CommitRaise h = refl
   start_kept ArmPending h = refl
   start_kept ArmMask h = refl
-  start_kept ArmWrite h = at_cond (λ (k : Machine). k.start ≡ m.start) (eqb (low v) (8 * m.read)) _ _ (λ t. at_cond (λ (k : Machine). k.start ≡ m.start) (eqb m.want 0) _ _ (λ u. refl) (λ u. refl)) (λ t. refl)
-  start_kept ArmRead h = at_cond (λ (k : Machine). k.start ≡ m.start) (finds_room m v) _ _ (λ t. refl) (λ t. refl)
-  start_kept ArmMark h = at_cond (λ (k : Machine). k.start ≡ m.start) (eqb v 0) _ _ (λ t. refl) (λ t. refl)
-  start_kept ArmUndoMask h = at_cond (λ (k : Machine). k.start ≡ m.start) (eqb m.want 0) _ _ (λ t. refl) (λ t. refl)
+  start_kept ArmWrite h = at_cond (λ (k : EndMachine). k.start ≡ m.start) (eqb (low v) (8 * m.read)) _ _ (λ t. at_cond (λ (k : EndMachine). k.start ≡ m.start) (eqb m.want 0) _ _ (λ u. refl) (λ u. refl)) (λ t. refl)
+  start_kept ArmRead h = at_cond (λ (k : EndMachine). k.start ≡ m.start) (finds_room m v) _ _ (λ t. refl) (λ t. refl)
+  start_kept ArmMark h = at_cond (λ (k : EndMachine). k.start ≡ m.start) (eqb v 0) _ _ (λ t. refl) (λ t. refl)
+  start_kept ArmUndoMask h = at_cond (λ (k : EndMachine). k.start ≡ m.start) (eqb m.want 0) _ _ (λ t. refl) (λ t. refl)
   start_kept ArmUndoPending h = refl
-  start_kept PollSignal h = at_cond (λ (k : Machine). k.start ≡ m.start) (eqb v 0) _ _ (λ t. refl) (λ t. refl)
-  start_kept PollMask h = at_cond (λ (k : Machine). k.start ≡ m.start) (eqb m.want 0) _ _ (λ t. refl) (λ t. refl)
+  start_kept PollSignal h = at_cond (λ (k : EndMachine). k.start ≡ m.start) (eqb v 0) _ _ (λ t. refl) (λ t. refl)
+  start_kept PollMask h = at_cond (λ (k : EndMachine). k.start ≡ m.start) (eqb m.want 0) _ _ (λ t. refl) (λ t. refl)
   start_kept PollPending h = refl
   start_kept MarkStore h = refl
   start_kept MarkRaise h = refl
-  start_kept PeerMark h = at_cond (λ (k : Machine). k.start ≡ m.start) (eqb v 0) _ _ (λ t. refl) (λ t. refl)
+  start_kept PeerMark h = at_cond (λ (k : EndMachine). k.start ≡ m.start) (eqb v 0) _ _ (λ t. refl) (λ t. refl)
 
-  abbrev marks : Machine → Bool
+  abbrev marks : EndMachine → Bool
   marks k = k.marked || is_marking_at k.stage
 
   or_true : (b : Bool) → (b || true) ≡ true
@@ -133,39 +133,39 @@ module _ (m : Machine) (v : ℕ) where
   pub mark_kept : (st : Stage) → m.stage ≡ st → st ≢ MarkStore → marks (fed_at st m v) ≡ marks m
   mark_kept Idle e h = refl
   mark_kept Stopped e h = refl
-  mark_kept SendRead e h = at_cond (λ (k : Machine). marks k ≡ marks m) (is_index m.cells v) _ _ (λ t. at_cond (λ (k : Machine). marks k ≡ marks m) (leb (free m.cells (cell_of v) m.write) (m.len + 1)) _ _ (λ u. ap (λ (s : Stage). m.marked || is_marking_at s) (sym e)) (λ u. ap (λ (s : Stage). m.marked || is_marking_at s) (sym e))) (λ t. ap (λ (s : Stage). m.marked || is_marking_at s) (sym e))
-  mark_kept SendCell e h = at_cond (λ (k : Machine). marks k ≡ marks m) (ltb m.done m.len) _ _ (λ t. refl) (λ t. ap (λ (s : Stage). m.marked || is_marking_at s) (sym e))
+  mark_kept SendRead e h = at_cond (λ (k : EndMachine). marks k ≡ marks m) (is_index m.cells v) _ _ (λ t. at_cond (λ (k : EndMachine). marks k ≡ marks m) (leb (free m.cells (cell_of v) m.write) (m.len + 1)) _ _ (λ u. ap (λ (s : Stage). m.marked || is_marking_at s) (sym e)) (λ u. ap (λ (s : Stage). m.marked || is_marking_at s) (sym e))) (λ t. ap (λ (s : Stage). m.marked || is_marking_at s) (sym e))
+  mark_kept SendCell e h = at_cond (λ (k : EndMachine). marks k ≡ marks m) (ltb m.done m.len) _ _ (λ t. refl) (λ t. ap (λ (s : Stage). m.marked || is_marking_at s) (sym e))
   mark_kept SendWrite e h = ap (λ (s : Stage). m.marked || is_marking_at s) (sym e)
-  mark_kept SendMask e h = at_cond (λ (k : Machine). marks k ≡ marks m) (eqb (low v) 0) _ _ (λ t. ap (λ (s : Stage). m.marked || is_marking_at s) (sym e)) (λ t. ap (λ (s : Stage). m.marked || is_marking_at s) (sym e))
-  mark_kept SendLook e h = at_cond (λ (k : Machine). marks k ≡ marks m) (eqb (low v) (8 * m.old)) _ _ (λ t. ap (λ (s : Stage). m.marked || is_marking_at s) (sym e)) (λ t. ap (λ (s : Stage). m.marked || is_marking_at s) (sym e))
+  mark_kept SendMask e h = at_cond (λ (k : EndMachine). marks k ≡ marks m) (eqb (low v) 0) _ _ (λ t. ap (λ (s : Stage). m.marked || is_marking_at s) (sym e)) (λ t. ap (λ (s : Stage). m.marked || is_marking_at s) (sym e))
+  mark_kept SendLook e h = at_cond (λ (k : EndMachine). marks k ≡ marks m) (eqb (low v) (8 * m.old)) _ _ (λ t. ap (λ (s : Stage). m.marked || is_marking_at s) (sym e)) (λ t. ap (λ (s : Stage). m.marked || is_marking_at s) (sym e))
   mark_kept SendRaise e h = ap (λ (s : Stage). m.marked || is_marking_at s) (sym e)
-  mark_kept TakeWrite e h = at_cond (λ (k : Machine). marks k ≡ marks m) (is_index m.cells v) _ _ (λ t. at_cond (λ (k : Machine). marks k ≡ marks m) (eqb (cell_of v) m.read) _ _ (λ u. ap (λ (s : Stage). m.marked || is_marking_at s) (sym e)) (λ u. ap (λ (s : Stage). m.marked || is_marking_at s) (sym e))) (λ t. ap (λ (s : Stage). m.marked || is_marking_at s) (sym e))
-  mark_kept TakeFirst e h = at_cond (λ (k : Machine). marks k ≡ marks m) (leb 2 (len8_of v) && ltb (len8_of v) (used m.cells m.read m.seen)) _ _ (λ t. at_cond (λ (k : Machine). marks k ≡ marks m) (leb 2 (offset8_of v) && leb (offset8_of v) (len8_of v)) _ _ (λ u. ap (λ (s : Stage). m.marked || is_marking_at s) (sym e)) (λ u. ap (λ (s : Stage). m.marked || is_marking_at s) (sym e))) (λ t. ap (λ (s : Stage). m.marked || is_marking_at s) (sym e))
-  mark_kept TakeCell e h = at_cond (λ (k : Machine). marks k ≡ marks m) (ltb (m.done + 1) m.len) _ _ (λ t. refl) (λ t. ap (λ (s : Stage). m.marked || is_marking_at s) (sym e))
+  mark_kept TakeWrite e h = at_cond (λ (k : EndMachine). marks k ≡ marks m) (is_index m.cells v) _ _ (λ t. at_cond (λ (k : EndMachine). marks k ≡ marks m) (eqb (cell_of v) m.read) _ _ (λ u. ap (λ (s : Stage). m.marked || is_marking_at s) (sym e)) (λ u. ap (λ (s : Stage). m.marked || is_marking_at s) (sym e))) (λ t. ap (λ (s : Stage). m.marked || is_marking_at s) (sym e))
+  mark_kept TakeFirst e h = at_cond (λ (k : EndMachine). marks k ≡ marks m) (leb 2 (len8_of v) && ltb (len8_of v) (used m.cells m.read m.seen)) _ _ (λ t. at_cond (λ (k : EndMachine). marks k ≡ marks m) (leb 2 (offset8_of v) && leb (offset8_of v) (len8_of v)) _ _ (λ u. ap (λ (s : Stage). m.marked || is_marking_at s) (sym e)) (λ u. ap (λ (s : Stage). m.marked || is_marking_at s) (sym e))) (λ t. ap (λ (s : Stage). m.marked || is_marking_at s) (sym e))
+  mark_kept TakeCell e h = at_cond (λ (k : EndMachine). marks k ≡ marks m) (ltb (m.done + 1) m.len) _ _ (λ t. refl) (λ t. ap (λ (s : Stage). m.marked || is_marking_at s) (sym e))
   mark_kept CommitRead e h = ap (λ (s : Stage). m.marked || is_marking_at s) (sym e)
-  mark_kept CommitFeature e h = at_cond (λ (k : Machine). marks k ≡ marks m) (eqb (low v % 2) 1) _ _ (λ t. ap (λ (s : Stage). m.marked || is_marking_at s) (sym e)) (λ t. ap (λ (s : Stage). m.marked || is_marking_at s) (sym e))
-  mark_kept CommitPending e h = at_cond (λ (k : Machine). marks k ≡ marks m) (eqb (low v) 0) _ _ (λ t. ap (λ (s : Stage). m.marked || is_marking_at s) (sym e)) (λ t. ap (λ (s : Stage). m.marked || is_marking_at s) (sym e))
-  mark_kept CommitWrite e h = at_cond (λ (k : Machine). marks k ≡ marks m) (makes_room m v) _ _ (λ t. ap (λ (s : Stage). m.marked || is_marking_at s) (sym e)) (λ t. ap (λ (s : Stage). m.marked || is_marking_at s) (sym e))
+  mark_kept CommitFeature e h = at_cond (λ (k : EndMachine). marks k ≡ marks m) (eqb (low v % 2) 1) _ _ (λ t. ap (λ (s : Stage). m.marked || is_marking_at s) (sym e)) (λ t. ap (λ (s : Stage). m.marked || is_marking_at s) (sym e))
+  mark_kept CommitPending e h = at_cond (λ (k : EndMachine). marks k ≡ marks m) (eqb (low v) 0) _ _ (λ t. ap (λ (s : Stage). m.marked || is_marking_at s) (sym e)) (λ t. ap (λ (s : Stage). m.marked || is_marking_at s) (sym e))
+  mark_kept CommitWrite e h = at_cond (λ (k : EndMachine). marks k ≡ marks m) (makes_room m v) _ _ (λ t. ap (λ (s : Stage). m.marked || is_marking_at s) (sym e)) (λ t. ap (λ (s : Stage). m.marked || is_marking_at s) (sym e))
   mark_kept CommitRaise e h = ap (λ (s : Stage). m.marked || is_marking_at s) (sym e)
   mark_kept ArmPending e h = ap (λ (s : Stage). m.marked || is_marking_at s) (sym e)
   mark_kept ArmMask e h = ap (λ (s : Stage). m.marked || is_marking_at s) (sym e)
-  mark_kept ArmWrite e h = at_cond (λ (k : Machine). marks k ≡ marks m) (eqb (low v) (8 * m.read)) _ _ (λ t. at_cond (λ (k : Machine). marks k ≡ marks m) (eqb m.want 0) _ _ (λ u. ap (λ (s : Stage). m.marked || is_marking_at s) (sym e)) (λ u. ap (λ (s : Stage). m.marked || is_marking_at s) (sym e))) (λ t. ap (λ (s : Stage). m.marked || is_marking_at s) (sym e))
-  mark_kept ArmRead e h = at_cond (λ (k : Machine). marks k ≡ marks m) (finds_room m v) _ _ (λ t. ap (λ (s : Stage). m.marked || is_marking_at s) (sym e)) (λ t. ap (λ (s : Stage). m.marked || is_marking_at s) (sym e))
-  mark_kept ArmMark e h = at_cond (λ (k : Machine). marks k ≡ marks m) (eqb v 0) _ _ (λ t. ap (λ (s : Stage). m.marked || is_marking_at s) (sym e)) (λ t. ap (λ (s : Stage). m.marked || is_marking_at s) (sym e))
-  mark_kept ArmUndoMask e h = at_cond (λ (k : Machine). marks k ≡ marks m) (eqb m.want 0) _ _ (λ t. ap (λ (s : Stage). m.marked || is_marking_at s) (sym e)) (λ t. ap (λ (s : Stage). m.marked || is_marking_at s) (sym e))
+  mark_kept ArmWrite e h = at_cond (λ (k : EndMachine). marks k ≡ marks m) (eqb (low v) (8 * m.read)) _ _ (λ t. at_cond (λ (k : EndMachine). marks k ≡ marks m) (eqb m.want 0) _ _ (λ u. ap (λ (s : Stage). m.marked || is_marking_at s) (sym e)) (λ u. ap (λ (s : Stage). m.marked || is_marking_at s) (sym e))) (λ t. ap (λ (s : Stage). m.marked || is_marking_at s) (sym e))
+  mark_kept ArmRead e h = at_cond (λ (k : EndMachine). marks k ≡ marks m) (finds_room m v) _ _ (λ t. ap (λ (s : Stage). m.marked || is_marking_at s) (sym e)) (λ t. ap (λ (s : Stage). m.marked || is_marking_at s) (sym e))
+  mark_kept ArmMark e h = at_cond (λ (k : EndMachine). marks k ≡ marks m) (eqb v 0) _ _ (λ t. ap (λ (s : Stage). m.marked || is_marking_at s) (sym e)) (λ t. ap (λ (s : Stage). m.marked || is_marking_at s) (sym e))
+  mark_kept ArmUndoMask e h = at_cond (λ (k : EndMachine). marks k ≡ marks m) (eqb m.want 0) _ _ (λ t. ap (λ (s : Stage). m.marked || is_marking_at s) (sym e)) (λ t. ap (λ (s : Stage). m.marked || is_marking_at s) (sym e))
   mark_kept ArmUndoPending e h = ap (λ (s : Stage). m.marked || is_marking_at s) (sym e)
-  mark_kept PollSignal e h = at_cond (λ (k : Machine). marks k ≡ marks m) (eqb v 0) _ _ (λ t. ap (λ (s : Stage). m.marked || is_marking_at s) (sym e)) (λ t. ap (λ (s : Stage). m.marked || is_marking_at s) (sym e))
-  mark_kept PollMask e h = at_cond (λ (k : Machine). marks k ≡ marks m) (eqb m.want 0) _ _ (λ t. ap (λ (s : Stage). m.marked || is_marking_at s) (sym e)) (λ t. ap (λ (s : Stage). m.marked || is_marking_at s) (sym e))
+  mark_kept PollSignal e h = at_cond (λ (k : EndMachine). marks k ≡ marks m) (eqb v 0) _ _ (λ t. ap (λ (s : Stage). m.marked || is_marking_at s) (sym e)) (λ t. ap (λ (s : Stage). m.marked || is_marking_at s) (sym e))
+  mark_kept PollMask e h = at_cond (λ (k : EndMachine). marks k ≡ marks m) (eqb m.want 0) _ _ (λ t. ap (λ (s : Stage). m.marked || is_marking_at s) (sym e)) (λ t. ap (λ (s : Stage). m.marked || is_marking_at s) (sym e))
   mark_kept PollPending e h = ap (λ (s : Stage). m.marked || is_marking_at s) (sym e)
   mark_kept MarkStore e h = absurd (h refl)
   mark_kept MarkRaise e h = sym (or_true m.marked) ∙ ap (λ (s : Stage). m.marked || is_marking_at s) (sym e)
-  mark_kept PeerMark e h = at_cond (λ (k : Machine). marks k ≡ marks m) (eqb v 0) _ _ (λ t. ap (λ (s : Stage). m.marked || is_marking_at s) (sym e)) (λ t. ap (λ (s : Stage). m.marked || is_marking_at s) (sym e))
+  mark_kept PeerMark e h = at_cond (λ (k : EndMachine). marks k ≡ marks m) (eqb v 0) _ _ (λ t. ap (λ (s : Stage). m.marked || is_marking_at s) (sym e)) (λ t. ap (λ (s : Stage). m.marked || is_marking_at s) (sym e))
 
 -- past its store of the read index a commit has given back all that was taken
-abbrev pub IsGiven : Machine → Type 0
+abbrev pub IsGiven : EndMachine → Type 0
 IsGiven m = is_given_at m.stage ≡ true → m.start ≡ m.read
 
-module _ (m : Machine) (v : ℕ) (g : IsGiven m) where
+module _ (m : EndMachine) (v : ℕ) (g : IsGiven m) where
   given_here : (st : Stage) → m.stage ≡ st → is_given_at st ≡ true → m.start ≡ m.read
   given_here st e h = g (ap is_given_at e ∙ h)
 

@@ -4,7 +4,7 @@ use Rattle.io_edge.specs.declared.side.Side.{Side}
 use Rattle.io_edge.specs.declared.side.Side.TheVariants.{Guest, Host}
 use Rattle.ring_machine.specs.declared.machine.Stage.{Stage}
 use Rattle.ring_machine.specs.declared.machine.Stage.TheVariants.{Idle, SendMask, SendLook, CommitFeature, CommitPending, CommitWrite, ArmPending, ArmMask, ArmWrite, ArmRead, ArmMark, PollSignal, MarkRaise}
-use Rattle.ring_machine.specs.declared.machine.Machine.{Machine}
+use Rattle.ring_machine.specs.declared.machine.EndMachine.{EndMachine}
 use Rattle.ring_machine.specs.declared.state.EndState.{EndState}
 use Rattle.ring_machine.specs.declared.place.Op.{Op}
 use Rattle.ring_machine.specs.declared.place.Op.TheVariants.{Load, TakeSignal}
@@ -14,9 +14,9 @@ use Rattle.ring_machine.specs.Steps.{next_at, next_of, poll_begun}
 use Rattle.ring_machine.specs.States.{Begins, BeginsSend, BeginsTake, BeginsCommit, BeginsArm, BeginsPoll, BeginsMark, BeginsPeerMark}
 use Rattle.ring_core.specs.Told.{answer_in}
 use Rattle.ring_machine.specs.Loops.{is_given_at}
-use Rattle.ring_model.specs.Ring.{ring_in, is_marking_at}
-use Rattle.ring_model.proofs.Turns.{cell_here}
-use Rattle.ring_model.proofs.Keeping.{Both}
+use Rattle.ring_pair_laws.specs.Ring.{ring_in, is_marking_at}
+use Rattle.ring_pair_laws.proofs.Turns.{cell_here}
+use Rattle.ring_pair_laws.proofs.Keeping.{Both}
 use Rattle.ring_seat.specs.Points.{pending_of}
 use Rattle.ring_seat.specs.Rule.{OwnWords}
 use Rattle.ring_seat.specs.Waking.{packets_looked_at, room_looked, is_sent_at, IsSendingFrom, IsGivingBack, WakePending}
@@ -36,7 +36,7 @@ LoadedBy ArmMark n x ws v = v ≡ get_or ws (mark_of n (peer_of x)) 0
 LoadedBy PollSignal n x ws v = v ≡ get_or ws (signal_of n x) 0
 LoadedBy _ n x ws v = Unit {0}
 
-module _ (m : Machine) (q ws : List ℕ) where
+module _ (m : EndMachine) (q ws : List ℕ) where
   answer : (op op' : Op) → Some op ≡ Some op' → answer_in m.cells op' ws ≡ answer_in m.cells op ws
   answer op op' h = let same : op ≡ op' = cc in ap (λ (o : Op). answer_in m.cells o ws) (sym same)
 
@@ -56,15 +56,15 @@ module _ (m : Machine) (q ws : List ℕ) where
   loaded_at _ op h = tt
 
 -- the peer's words where the end finds them
-peers_mask : (n : ℕ) (x : Side) (ws : List ℕ) (k : Machine) → OwnWords n ws (peer_of x) k → ring_in n ws (out_of x) 2 ≡ cond k.masked 1 0
+peers_mask : (n : ℕ) (x : Side) (ws : List ℕ) (k : EndMachine) → OwnWords n ws (peer_of x) k → ring_in n ws (out_of x) 2 ≡ cond k.masked 1 0
 peers_mask n Guest ws k o = o.mask
 peers_mask n Host ws k o = o.mask
 
-peers_pending : (n : ℕ) (x : Side) (ws : List ℕ) (k : Machine) → OwnWords n ws (peer_of x) k → ring_in n ws (in_of x) 3 ≡ pending_of k
+peers_pending : (n : ℕ) (x : Side) (ws : List ℕ) (k : EndMachine) → OwnWords n ws (peer_of x) k → ring_in n ws (in_of x) 3 ≡ pending_of k
 peers_pending n Guest ws k o = o.pending
 peers_pending n Host ws k o = o.pending
 
-peers_feature : (n : ℕ) (x : Side) (ws : List ℕ) (k : Machine) → OwnWords n ws (peer_of x) k → ring_in n ws (in_of x) 4 ≡ 1
+peers_feature : (n : ℕ) (x : Side) (ws : List ℕ) (k : EndMachine) → OwnWords n ws (peer_of x) k → ring_in n ws (in_of x) 4 ≡ 1
 peers_feature n Guest ws k o = o.feature
 peers_feature n Host ws k o = o.feature
 
@@ -127,7 +127,7 @@ module _ (n : ℕ) (x : Side) (ws : List ℕ) (e p : EndState) (b : Both n x ws 
   }
 
 -- where a call begins: the machine that begins it has the indices and marks of the one before
-pub record Opens (m k : Machine) : Type 0 where
+pub record Opens (m k : EndMachine) : Type 0 where
   pub idle : m.stage ≡ Idle
   pub write : k.write ≡ m.write
   pub start : k.start ≡ m.start
@@ -136,10 +136,10 @@ pub record Opens (m k : Machine) : Type 0 where
   pub sleeps : m.asleep ≡ true → k ≡ poll_begun m
   pub ungiven : is_given_at k.stage ≡ false
 
-unmarking : (m : Machine) (st : Stage) → m.stage ≡ Idle → is_marking_at st ≡ false → (m.marked || is_marking_at st) ≡ (m.marked || is_marking_at m.stage)
+unmarking : (m : EndMachine) (st : Stage) → m.stage ≡ Idle → is_marking_at st ≡ false → (m.marked || is_marking_at st) ≡ (m.marked || is_marking_at m.stage)
 unmarking m st i h = ap (λ (b : Bool). m.marked || b) (h ∙ sym (ap is_marking_at i))
 
-opens_awake : (m k : Machine) → m.stage ≡ Idle → m.asleep ≡ false → k.write ≡ m.write → k.start ≡ m.start → k.marked ≡ m.marked → k.asleep ≡ m.asleep → is_marking_at k.stage ≡ false → packets_looked_at k.stage ≡ false → is_given_at k.stage ≡ false → Opens m k
+opens_awake : (m k : EndMachine) → m.stage ≡ Idle → m.asleep ≡ false → k.write ≡ m.write → k.start ≡ m.start → k.marked ≡ m.marked → k.asleep ≡ m.asleep → is_marking_at k.stage ≡ false → packets_looked_at k.stage ≡ false → is_given_at k.stage ≡ false → Opens m k
 opens_awake m k i a write start marked asleep unmarks shut ungiven = record {
   idle = i;
   write = write;
@@ -150,11 +150,11 @@ opens_awake m k i a write start marked asleep unmarks shut ungiven = record {
   ungiven = ungiven;
 }
 
-arms : (m : Machine) (want : ℕ) (c : Bool) → m.stage ≡ Idle → m.asleep ≡ false → Opens m record m { stage = cond c ArmMask ArmPending; len = 0; done = 0; want = want; saw = false }
+arms : (m : EndMachine) (want : ℕ) (c : Bool) → m.stage ≡ Idle → m.asleep ≡ false → Opens m record m { stage = cond c ArmMask ArmPending; len = 0; done = 0; want = want; saw = false }
 arms m want true i a = opens_awake m _ i a refl refl refl refl refl refl refl
 arms m want false i a = opens_awake m _ i a refl refl refl refl refl refl refl
 
-polls : (m : Machine) → m.stage ≡ Idle → m.asleep ≡ true → Opens m (poll_begun m)
+polls : (m : EndMachine) → m.stage ≡ Idle → m.asleep ≡ true → Opens m (poll_begun m)
 polls m i a = record {
   idle = i;
   write = refl;
@@ -165,7 +165,7 @@ polls m i a = record {
   ungiven = refl;
 }
 
-pub begins_opens : (e : EndState) (m : Machine) (q : List ℕ) → Begins e m q → Opens e.machine m
+pub begins_opens : (e : EndState) (m : EndMachine) (q : List ℕ) → Begins e m q → Opens e.machine m
 begins_opens e m q b =
     ⊎_elim (λ (c : BeginsSend e m q). subst (Opens e.machine) (sym c.0) (opens_awake e.machine _ c.3.idle c.3.awake refl refl refl refl refl refl refl))
     (⊎_elim (λ (c : BeginsTake e m q). subst (Opens e.machine) (sym c.0) (opens_awake e.machine _ c.2.idle c.2.awake refl refl refl refl refl refl refl))
@@ -175,12 +175,12 @@ begins_opens e m q b =
     (⊎_elim (λ (c : BeginsMark e m q). subst (Opens e.machine) (sym c.0) (opens_awake e.machine _ c.2.idle c.2.awake refl refl refl refl refl refl refl))
     (λ (c : BeginsPeerMark e m q). subst (Opens e.machine) (sym c.0) (opens_awake e.machine _ c.2.idle c.2.awake refl refl refl refl refl refl refl))))))) b.1
 
-pub begins_given : (e : EndState) (m : Machine) (q : List ℕ) → Begins e m q → IsGiven m
+pub begins_given : (e : EndState) (m : EndMachine) (q : List ℕ) → Begins e m q → IsGiven m
 begins_given e m q b h = let never : is_given_at m.stage ≡ false = (begins_opens e m q b).ungiven in absurd (cc)
 
-module _ (m k : Machine) (o : Opens m k) where
+module _ (m k : EndMachine) (o : Opens m k) where
   -- the end that begins a call
-  pub opens_own : (sig : ℕ) (p : Machine) → Waking sig m p → Waking sig k p
+  pub opens_own : (sig : ℕ) (p : EndMachine) → Waking sig m p → Waking sig k p
   opens_own sig p w = by_sleep m.asleep refl
     where
       polled : Waking sig (poll_begun m) p
@@ -194,11 +194,11 @@ module _ (m k : Machine) (o : Opens m k) where
           looks a = ap (λ (st : Stage). room_looked record m { stage = st }) o.idle ∙ a
 
       by_sleep : (b : Bool) → m.asleep ≡ b → Waking sig k p
-      by_sleep true a = subst (λ (c : Machine). Waking sig c p) (sym (o.sleeps a)) polled
+      by_sleep true a = subst (λ (c : EndMachine). Waking sig c p) (sym (o.sleeps a)) polled
       by_sleep false a = shut_waking sig k p (o.awake a)
 
   -- its peer
-  pub opens_peers : (sig : ℕ) (p : Machine) → Waking sig p m → Waking sig p k
+  pub opens_peers : (sig : ℕ) (p : EndMachine) → Waking sig p m → Waking sig p k
   opens_peers sig p w = record {
     packets = λ h. three (λ a. o.write ∙ a) (λ (c : IsSendingFrom m p.read). absurd (let yes : is_sent_at m.stage ≡ true = c.past in let never : is_sent_at m.stage ≡ false = ap is_sent_at o.idle in cc)) (w.packets h);
     room = λ h wants. three (λ (a : 8 * free p.cells m.start p.write ≤ p.want). subst (λ (c : ℕ). 8 * free p.cells c p.write ≤ p.want) (sym o.start) a)

@@ -10,17 +10,17 @@ use Rattle.page_kept.specs.Layouts.{layout}
 use Rattle.page_kept.specs.Stepped.{word_in, page_stored, page_loaded}
 use Rattle.page_kept.specs.declared.due.Due.TheVariants.{Clear, Loads}
 use Rattle.page_kept.specs.declared.owner.Owner.{Owner}
-use Rattle.page_rule.specs.Laws.{new_keeper}
-use Rattle.page_rule.specs.Pages.{PagesOwned}
+use Rattle.ring_loan_rule.specs.Laws.{new_keeper}
+use Rattle.ring_loan_rule.specs.Pages.{PagesOwned}
 use Rattle.ring_machine.specs.PageCalls.{with_pages}
 use Rattle.ring_seat.proofs.PageSteps.{steps_keep, calls_keep, idle_unsent, idle_taking, store_keeps, pk, pk_is, load_keeps, aside}
 use Rattle.ring_seat.specs.PageRule.{keeper_of, OwnPages, PagesPart, page_index}
 use Rattle.page_table.specs.Table.{first_owners}
 use Rattle.ring_core.specs.Pages.{first_kept}
-use Rattle.chan_run.specs.Runs.{IsFront}
+use Rattle.channel_trace.specs.Runs.{IsFront}
 use Rattle.ring_seat.specs.Whole.{PagesRule, WholeRule, new_paged, GotItems}
-use Rattle.page_rule.proofs.Reading.{opens_owned, turned, says}
-use Rattle.ring_machine.specs.declared.machine.Machine.{Machine}
+use Rattle.ring_loan_rule.proofs.Reading.{opens_owned, turned, says}
+use Rattle.ring_machine.specs.declared.machine.EndMachine.{EndMachine}
 use Rattle.ring_machine.specs.declared.machine.Stage.TheVariants.{Idle}
 use Rattle.ring_machine.specs.declared.state.EndState.{EndState}
 use Rattle.ring_machine.specs.declared.place.Op.{Op}
@@ -56,7 +56,7 @@ step_keeps n c x ws ends op some r h =
     let k = steps_keep n c x ws ends op some r.rings (part_of n c ws ends x p) h in
     record { rings = k.0; pages = λ _. rule_of n c (written n op ws) ends x _ p.own k.1 }
 
-pub call_keeps : (n c : ℕ) (x : Side) (ws : List ℕ) (ends : Side → EndState) (m : Machine) (q : List ℕ) → c ≢ 0 → WholeRule n c ws ends → Begins (ends x) m q
+pub call_keeps : (n c : ℕ) (x : Side) (ws : List ℕ) (ends : Side → EndState) (m : EndMachine) (q : List ℕ) → c ≢ 0 → WholeRule n c ws ends → Begins (ends x) m q
     → WholeRule n c ws (with_end x (entered (ends x) m q) ends)
 call_keeps n c x ws ends m q some r b =
     let p = r.pages some in

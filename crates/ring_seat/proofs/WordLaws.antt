@@ -5,27 +5,27 @@ use Rattle.io_edge.specs.declared.side.Side.{Side}
 use Rattle.io_edge.specs.declared.side.Side.TheVariants.{Guest, Host}
 use Rattle.ring_machine.specs.declared.machine.Stage.{Stage}
 use Rattle.ring_machine.specs.declared.machine.Stage.TheVariants.{Idle, Stopped, SendRead, SendCell, SendWrite, SendMask, SendLook, SendRaise, TakeWrite, TakeFirst, TakeCell, CommitRead, CommitFeature, CommitPending, CommitWrite, CommitRaise, ArmPending, ArmMask, ArmWrite, ArmRead, ArmMark, ArmUndoMask, ArmUndoPending, PollSignal, PollMask, PollPending, MarkStore, MarkRaise, PeerMark}
-use Rattle.ring_machine.specs.declared.machine.Machine.{Machine}
+use Rattle.ring_machine.specs.declared.machine.EndMachine.{EndMachine}
 use Rattle.ring_machine.specs.declared.state.EndState.{EndState}
 use Rattle.ring_machine.specs.Places.{out_of, in_of, peer_of, low, is_index, cell_of, used, free, len8_of, offset8_of}
 use Rattle.ring_machine.specs.Steps.{fed, fed_at, makes_room, finds_room, is_arming_at, is_waking_at}
 use Rattle.ring_machine.specs.States.{Begins, BeginsSend, BeginsTake, BeginsCommit, BeginsArm, BeginsPoll, BeginsMark, BeginsPeerMark}
 use Rattle.ring_machine.proofs.Sound.{at_cond}
-use Rattle.ring_model.specs.Ring.{ring_in}
+use Rattle.ring_pair_laws.specs.Ring.{ring_in}
 use Rattle.ring_seat.specs.Points.{AtPoint, pending_at, pending_of}
 use Rattle.ring_seat.specs.Rule.{OwnWords}
 use Rattle.ring_seat.proofs.Waits.{WaitsBy, mask_after, pending_after, signal_after, raised_after}
 
 -- these are the machine's mask and wanted room
-record Stored (a b : ℕ) (m : Machine) : Type 0 where
+record Stored (a b : ℕ) (m : EndMachine) : Type 0 where
   pub mask : a ≡ cond m.masked 1 0
   pub pending : b ≡ pending_of m
 
-module _ (m : Machine) (v a b : ℕ) (s : Stored a b m) where
+module _ (m : EndMachine) (v a b : ℕ) (s : Stored a b m) where
   pending_here : (st : Stage) → m.stage ≡ st → b ≡ pending_at st m.want
   pending_here st e = s.pending ∙ ap (λ (k : Stage). pending_at k m.want) e
 
-  keeps : (k : Machine) → k.masked ≡ m.masked → b ≡ pending_of k → Stored a b k
+  keeps : (k : EndMachine) → k.masked ≡ m.masked → b ≡ pending_of k → Stored a b k
   keeps k masked pending = record { mask = s.mask ∙ ap (λ (c : Bool). cond c 1 0) (sym masked); pending = pending }
 
   fed_stored : (st : Stage) → m.stage ≡ st → Stored (mask_after st a) (pending_after st m.want b) (fed_at st m v)
@@ -70,7 +70,7 @@ low_raised MarkRaise w h = omega arith
 low_raised _ w h = h
 
 -- a step of the end itself
-pub own_words : (n : ℕ) (x : Side) (ws ws' : List ℕ) (m : Machine) (v : ℕ) → WaitsBy m.stage n x m.want ws ws' → OwnWords n ws x m → OwnWords n ws' x (fed m v)
+pub own_words : (n : ℕ) (x : Side) (ws ws' : List ℕ) (m : EndMachine) (v : ℕ) → WaitsBy m.stage n x m.want ws ws' → OwnWords n ws x m → OwnWords n ws' x (fed m v)
 own_words n x ws ws' m v w o =
     let s : Stored (mask_after m.stage (ring_in n ws (in_of x) 2)) (pending_after m.stage m.want (ring_in n ws (out_of x) 3)) (fed m v) = fed_stored m v _ _ (record { mask = o.mask; pending = o.pending }) m.stage refl in
     record {
@@ -81,7 +81,7 @@ own_words n x ws ws' m v w o =
     }
 
 -- a step of the peer
-pub peers_words : (n : ℕ) (x : Side) (ws ws' : List ℕ) (st : Stage) (want : ℕ) (k : Machine) → WaitsBy st n x want ws ws' → OwnWords n ws (peer_of x) k → OwnWords n ws' (peer_of x) k
+pub peers_words : (n : ℕ) (x : Side) (ws ws' : List ℕ) (st : Stage) (want : ℕ) (k : EndMachine) → WaitsBy st n x want ws ws' → OwnWords n ws (peer_of x) k → OwnWords n ws' (peer_of x) k
 peers_words n Guest ws ws' st want k w o = record {
   mask = w.peers_mask ∙ o.mask;
   pending = w.peers_pending ∙ o.pending;
@@ -96,8 +96,8 @@ peers_words n Host ws ws' st want k w o = record {
 }
 
 -- where a call begins
-module _ (n : ℕ) (x : Side) (ws : List ℕ) (m : Machine) (o : OwnWords n ws x m) where
-  opens : (k : Machine) → k.masked ≡ m.masked → pending_of k ≡ pending_of m → OwnWords n ws x k
+module _ (n : ℕ) (x : Side) (ws : List ℕ) (m : EndMachine) (o : OwnWords n ws x m) where
+  opens : (k : EndMachine) → k.masked ≡ m.masked → pending_of k ≡ pending_of m → OwnWords n ws x k
   opens k masked pending = record { mask = o.mask ∙ ap (λ (c : Bool). cond c 1 0) (sym masked); pending = o.pending ∙ sym pending; feature = o.feature; signal = o.signal }
 
   at_idle : m.stage ≡ Idle → m.want ≡ pending_of m
@@ -107,12 +107,12 @@ module _ (n : ℕ) (x : Side) (ws : List ℕ) (m : Machine) (o : OwnWords n ws x
   arms want true t none = opens _ refl (let is : want ≡ 0 = grind (arith, nat_tests) in is ∙ sym none)
   arms want false t none = opens _ refl (sym none)
 
-awake_pending : (m : Machine) → AtPoint m → m.stage ≡ Idle → m.asleep ≡ false → pending_of m ≡ 0
+awake_pending : (m : EndMachine) → AtPoint m → m.stage ≡ Idle → m.asleep ≡ false → pending_of m ≡ 0
 awake_pending m p idle awake =
     let none : m.want ≡ 0 = p.want (λ j. is_arming_at (idle j) || (is_waking_at (idle j) || awake j)) in
     ap (λ (st : Stage). pending_at st m.want) idle ∙ none
 
-pub begins_words : (n : ℕ) (x : Side) (ws : List ℕ) (e : EndState) (m : Machine) (q : List ℕ) → AtPoint e.machine → OwnWords n ws x e.machine → Begins e m q → OwnWords n ws x m
+pub begins_words : (n : ℕ) (x : Side) (ws : List ℕ) (e : EndState) (m : EndMachine) (q : List ℕ) → AtPoint e.machine → OwnWords n ws x e.machine → Begins e m q → OwnWords n ws x m
 begins_words n x ws e m q p o b =
     ⊎_elim (λ (c : BeginsSend e m q). subst (OwnWords n ws x) (sym c.0) (opens n x ws e.machine o _ refl (at_idle n x ws e.machine o c.3.idle)))
     (⊎_elim (λ (c : BeginsTake e m q). subst (OwnWords n ws x) (sym c.0) (opens n x ws e.machine o _ refl (at_idle n x ws e.machine o c.2.idle)))

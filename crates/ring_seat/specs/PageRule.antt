@@ -6,7 +6,7 @@ use Rattle.page_kept.specs.Keepers.{Keeper, keeper, MaySend}
 use Rattle.page_kept.specs.Layouts.{layout}
 use Rattle.page_kept.specs.Stepped.{word_in}
 use Rattle.page_kept.specs.declared.due.Due.TheVariants.{Clear}
-use Rattle.page_rule.specs.Pages.{PagesOwned}
+use Rattle.ring_loan_rule.specs.Pages.{PagesOwned}
 use Rattle.ring_machine.specs.declared.machine.Stage.{Stage}
 use Rattle.ring_machine.specs.declared.machine.Stage.TheVariants.{SendRead, SendCell, SendWrite, TakeWrite, TakeFirst, TakeCell}
 use Rattle.ring_machine.specs.declared.state.EndState.{EndState}

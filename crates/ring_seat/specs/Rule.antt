@@ -2,18 +2,18 @@
 use Rattle.std.specs.Prelude.{◌≡◌, ◌≢◌, ℕ, ◌<◌, true, cond, List, slice_index}
 use Rattle.io_edge.specs.declared.side.Side.{Side}
 use Rattle.io_edge.specs.declared.side.Side.TheVariants.{Guest, Host}
-use Rattle.ring_machine.specs.declared.machine.Machine.{Machine}
+use Rattle.ring_machine.specs.declared.machine.EndMachine.{EndMachine}
 use Rattle.ring_machine.specs.declared.machine.Stage.TheVariants.{Stopped}
 use Rattle.ring_machine.specs.declared.state.EndState.{EndState}
 use Rattle.ring_machine.specs.Places.{out_of, in_of, peer_of, signal_of}
 use Rattle.ring_machine.specs.Loops.{is_given_at}
-use Rattle.ring_model.specs.Ring.{ChannelOk, ring_in}
+use Rattle.ring_pair_laws.specs.Ring.{ChannelOk, ring_in}
 use Rattle.ring_seat.specs.Points.{AtPoint, pending_of}
 use Rattle.ring_seat.specs.Waking.{WakePending}
 
 -- The mask word of an end's incoming ring, and the pending word of its outgoing ring, are what the end last stored there. That ring's pending word
 -- counts, and the end's signal is up or down
-pub record OwnWords (n : ℕ) (ws : List ℕ) (x : Side) (m : Machine) : Type 0 where
+pub record OwnWords (n : ℕ) (ws : List ℕ) (x : Side) (m : EndMachine) : Type 0 where
   pub mask : ring_in n ws (in_of x) 2 ≡ cond m.masked 1 0
   pub pending : ring_in n ws (out_of x) 3 ≡ pending_of m
   pub feature : ring_in n ws (out_of x) 4 ≡ 1

@@ -9,7 +9,7 @@ use Rattle.page_kept.specs.declared.page_call.PageCall.{PageCall}
 use Rattle.page_kept.specs.declared.page_call.PageCall.TheVariants.{Off, StoreWord, LoadWords}
 use Rattle.page_kept.specs.declared.due.Due.{Due}
 use Rattle.page_kept.specs.declared.due.Due.TheVariants.{Loads}
-use Rattle.ring_machine.specs.declared.machine.Machine.{Machine}
+use Rattle.ring_machine.specs.declared.machine.EndMachine.{EndMachine}
 use Rattle.ring_machine.specs.declared.machine.Stage.TheVariants.{Stopped}
 use Rattle.ring_machine.specs.declared.state.EndState.{EndState}
 use Rattle.ring_machine.specs.declared.place.Op.{Op}
@@ -109,7 +109,7 @@ IsOp n (Some op) s = (s.word ≡ word_at n op) × (s.first ≡ stored_by op)
 -- An end that makes a step: what was told of it before, and its machine, page call and packet
 pub record Making : Type 0 where
   pub told : Told
-  pub machine : Machine
+  pub machine : EndMachine
   pub call : PageCall
   pub packet : List ℕ
 

@@ -1,7 +1,7 @@
 -- What the joined view of both ends tells.
 use Rattle.std.specs.Prelude.{◌≡◌, ◌≢◌, ◌≤◌, true}
-use Rattle.chan_run.specs.Laws.{AreOfOneRun}
-use Rattle.chan_run.specs.Runs.{IsFront, sent_of, got_of}
+use Rattle.channel_trace.specs.Laws.{AreOfOneRun}
+use Rattle.channel_trace.specs.Runs.{IsFront, sent_of, got_of}
 use Rattle.io_edge.specs.declared.side.Side.TheVariants.{Guest, Host}
 use Rattle.page_kept.specs.declared.due.Due.TheVariants.{Clear}
 use Rattle.ring_machine.specs.declared.state.EndState.{EndState}

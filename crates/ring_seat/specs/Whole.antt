@@ -1,6 +1,6 @@
 -- The whole rule of the pages of a channel, over both ends, and what it tells at the end.
 use Rattle.std.specs.Prelude.{◌≡◌, ◌≢◌, ℕ, ◌+◌, ◌*◌, ◌<◌, ◌≤◌, Bool, true, List, [], ◌∷◌, ◌++◌, length, slice_set, Some}
-use Rattle.chan_run.specs.Runs.{IsFront}
+use Rattle.channel_trace.specs.Runs.{IsFront}
 use Rattle.io_edge.specs.declared.side.Side.{Side}
 use Rattle.io_edge.specs.declared.side.Side.TheVariants.{Guest, Host}
 use Rattle.page_kept.specs.Items.{packets}
@@ -9,10 +9,10 @@ use Rattle.page_kept.specs.Keepers.{MayStore}
 use Rattle.page_kept.specs.Layouts.{layout}
 use Rattle.page_kept.specs.Stepped.{word_in, page_stored, page_loaded}
 use Rattle.page_kept.specs.declared.due.Due.TheVariants.{Clear, Loads}
-use Rattle.page_rule.specs.Pages.{PagesOwned}
+use Rattle.ring_loan_rule.specs.Pages.{PagesOwned}
 use Rattle.ring_machine.specs.PageCalls.{with_pages}
 use Rattle.ring_seat.specs.PageRule.{ring_words, keeper_of, OwnPages, page_index}
-use Rattle.ring_machine.specs.declared.machine.Machine.{Machine}
+use Rattle.ring_machine.specs.declared.machine.EndMachine.{EndMachine}
 use Rattle.ring_machine.specs.declared.machine.Stage.TheVariants.{Idle}
 use Rattle.ring_machine.specs.declared.state.EndState.{EndState}
 use Rattle.ring_machine.specs.declared.place.Op.{Op}
@@ -44,7 +44,7 @@ StepKeeps = (n c : ℕ) (x : Side) (ws : List ℕ) (ends : Side → EndState) (o
     → WholeRule n c (written n op ws) (with_end x (after (ends x) (answer_in n op ws)) ends)
 
 abbrev pub CallKeeps : Type 0
-CallKeeps = (n c : ℕ) (x : Side) (ws : List ℕ) (ends : Side → EndState) (m : Machine) (q : List ℕ) → c ≢ 0 → WholeRule n c ws ends → Begins (ends x) m q
+CallKeeps = (n c : ℕ) (x : Side) (ws : List ℕ) (ends : Side → EndState) (m : EndMachine) (q : List ℕ) → c ≢ 0 → WholeRule n c ws ends → Begins (ends x) m q
     → WholeRule n c ws (with_end x (entered (ends x) m q) ends)
 
 abbrev pub StoreKeeps : Type 0

@@ -2,7 +2,7 @@
 ghost use Rattle.std.specs.Prelude.{◌≡◌, ◌⊎◌, ℕ, true, false, List, Some, slice_index};
 ghost use Rattle.io_edge.specs.declared.side.Side.{Side};
 ghost use Rattle.io_edge.specs.declared.side.Side.TheVariants.{Guest, Host};
-ghost use Rattle.ring_machine.specs.declared.machine.Machine.{Machine};
+ghost use Rattle.ring_machine.specs.declared.machine.EndMachine.{EndMachine};
 ghost use Rattle.ring_machine.specs.declared.machine.Stage.TheVariants.{Stopped, SendCell, SendWrite, TakeFirst, TakeCell};
 ghost use Rattle.ring_machine.specs.declared.state.EndState.{EndState};
 ghost use Rattle.ring_machine.specs.declared.place.Op.{Op};
@@ -11,8 +11,8 @@ ghost use Rattle.ring_machine.specs.Steps.{next_of, is_arming_at, is_waking_at};
 ghost use Rattle.ring_machine.specs.States.{after, entered, Begins};
 ghost use Rattle.ring_core.specs.Told.{written, answer_in};
 ghost use Rattle.ring_machine.specs.declared.place.Ring.TheVariants.{ToHost, ToGuest};
-ghost use Rattle.ring_model.specs.Ring.{ring_in};
-ghost use Rattle.ring_model.specs.Spelled.{StandsFor, HasRoom, HasSeen};
+ghost use Rattle.ring_pair_laws.specs.Ring.{ring_in};
+ghost use Rattle.ring_pair_laws.specs.Spelled.{StandsFor, HasRoom, HasSeen};
 ghost use Rattle.ring_seat.specs.Rule.{ChannelInvariant, with_end};
 ghost use Rattle.ring_seat.specs.Waking.{WakeCause};
 ghost use Rattle.ring_seat.specs.Whole.{StepKeeps, CallKeeps, StoreKeeps, LoadKeeps, NewKeeps, FrontTells, EndTells};
@@ -22,7 +22,7 @@ ghost use Rattle.ring_seat.specs.Whole.{StepKeeps, CallKeeps, StoreKeeps, LoadKe
 pub fn steps_keep_the_rule()
     ensures step { (n : ℕ) (ws : List ℕ) (ends : Side → EndState) (x : Side) (op : Op) → ChannelInvariant n ws ends → next_of (ends x).machine (ends x).packet ≡ Some op
         → ChannelInvariant n (written n op ws) (with_end x (after (ends x) (answer_in n op ws)) ends) }
-    ensures begin { (n : ℕ) (ws : List ℕ) (ends : Side → EndState) (x : Side) (m : Machine) (p : List ℕ) → ChannelInvariant n ws ends → Begins (ends x) m p
+    ensures begin { (n : ℕ) (ws : List ℕ) (ends : Side → EndState) (x : Side) (m : EndMachine) (p : List ℕ) → ChannelInvariant n ws ends → Begins (ends x) m p
         → ChannelInvariant n ws (with_end x (entered (ends x) m p) ends) }
 {}
 

@@ -1,7 +1,7 @@
 //! What both ends of a channel did, once they are at an end.
 ghost use Rattle.std.specs.Prelude.{◌≡◌, ◌≢◌, true, List, ℕ};
-ghost use Rattle.chan_run.specs.Laws.{AreOfOneRun};
-ghost use Rattle.chan_run.specs.Runs.{IsFront, sent_of, got_of};
+ghost use Rattle.channel_trace.specs.Laws.{AreOfOneRun};
+ghost use Rattle.channel_trace.specs.Runs.{IsFront, sent_of, got_of};
 ghost use Rattle.io_edge.specs.declared.side.Side.TheVariants.{Guest, Host};
 ghost use Rattle.page_kept.specs.declared.due.Due.TheVariants.{Clear};
 ghost use Rattle.ring_core.specs.Pages.{items_of};
@@ -27,7 +27,7 @@ pub struct Settled {
 
 impl Model for Settled {
     ghost use Rattle.ring_core.specs.Pages.{items_of};
-    ghost use Rattle.ring_model.specs.Lists.{Lists};
+    ghost use Rattle.ring_pair_laws.specs.Lists.{Lists};
 
     ghost Value = { Lists };
 

@@ -12,7 +12,7 @@ ghost use Rattle.ring_seat.specs.declared.view.View.TheVariants.{One};
 use crate::rule::{Board, ChannelRule, Extent, Intent, Loads, Stores};
 use crate::view::View;
 use atomic_table::{Seat, Table};
-use end_sleep::Parks;
+use ring_sleep::Parks;
 use ring_core::{End, EndCore, Op, Seatlike, mark_index, place_index, signal_index};
 use std::alloc::Global;
 use std::marker::Brand;

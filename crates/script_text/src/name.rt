@@ -8,7 +8,7 @@ ghost use Rattle.std.proofs.Common.{rules};
 ghost use Rattle.script_text.specs.Forms.{is_name, is_name_byte, is_lower};
 
 use crate::number::is_digit;
-use held_list::Held;
+use inline_bytes::Held;
 use std::hash::{Hash, Hasher};
 use std::marker::Model;
 

@@ -1,5 +1,5 @@
 //! The bytes that one request moves.
-use held_list::Held;
+use inline_bytes::Held;
 
 /// At most 4,096 bytes, held in place: what one request writes or one reply gives.
 pub type Chunk = Held<4096>;

@@ -5,9 +5,9 @@ use Rattle.script_lines.specs.declared.line.Line.{Line}
 use Rattle.bus_script.specs.declared.outcome.LineResult.{LineResult}
 use Rattle.script_lines.specs.Grammar.{script_of}
 use Rattle.bus_script.specs.Report.{report_of}
-use Rattle.msg_text.specs.Output.{decode_output}
-use Rattle.load_script.specs.Load.{load_lines}
-use Rattle.load_script.specs.Counts.{load_output}
+use Rattle.vmbus_msg_text.specs.Output.{decode_output}
+use Rattle.script_load.specs.Load.{load_lines}
+use Rattle.script_load.specs.Counts.{load_output}
 use Rattle.bus_model.specs.declared.channel_run.ChannelRun.{ChannelRun}
 use Rattle.bus_model.specs.declared.history.DeviceHistory.{DeviceHistory}
 use Rattle.bus_model.specs.Run.{IsBusRun}

@@ -12,7 +12,7 @@ mod gpadl_body;
 mod gpadl_header;
 mod laws;
 mod msg;
-mod part;
+mod piece;
 mod read;
 mod write;
 

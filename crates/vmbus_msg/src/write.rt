@@ -4,14 +4,14 @@ ghost use Rattle.std.specs.Prelude.{◌≡◌, ◌+◌, ◌*◌, ◌^◌, ◌<�
 ghost use Rattle.std.specs.List.{flat_map, AllByRecursion};
 ghost use Rattle.wire_table.specs.Little.{bytes_of};
 ghost use Rattle.wire_table.specs.Rows.{bytes_in, size_of, spelled_after, total};
-ghost use Rattle.vmbus_msg.specs.Parts.{kind_in, kinds_in, row_in, rows_in, word_kinds, word_rows};
+ghost use Rattle.vmbus_msg.specs.Pieces.{kind_in, kinds_in, row_in, rows_in, word_kinds, word_rows};
 ghost use Rattle.vmbus_msg.specs.declared.msg.Msg.{Msg};
 ghost use Rattle.vmbus_msg.specs.Grammar.{Fits, AllFit, bytes_of_message, length_of, type_of, kinds_of, fields_of, frames_of, IsMessage};
 
 use crate::gpadl_body::GpadlBody;
 use crate::gpadl_header::GpadlHeader;
 use crate::msg::Msg;
-use crate::part::Part;
+use crate::piece::Piece;
 use wire_table::{put_at, put_bytes};
 
 // Writes frames from a place on, with nothing changed before it.
@@ -26,18 +26,18 @@ fn put_frames(out: &mut [u8], at: usize, frames: &[u64])
 }
 
 // Writes a field at a place, with nothing changed before it, and answers where it ends.
-fn put_part(out: &mut [u8], at: usize, part: Part<'_>) -> usize
-    requires { at + size_of (kind_in part) ≤ length out.old }
-    ensures end { result ≡ at + size_of (kind_in part.entry) }
-    ensures front { take result out.new ≡ take at out.old ++ bytes_in (row_in part.entry) }
-    ensures fit { Fits (kind_in part.entry) (row_in part.entry) }
+fn put_piece(out: &mut [u8], at: usize, piece: Piece<'_>) -> usize
+    requires { at + size_of (kind_in piece) ≤ length out.old }
+    ensures end { result ≡ at + size_of (kind_in piece.entry) }
+    ensures front { take result out.new ≡ take at out.old ++ bytes_in (row_in piece.entry) }
+    ensures fit { Fits (kind_in piece.entry) (row_in piece.entry) }
 {
-    match part {
-        Part::U8(number) => put_number(out, at, 1, u64::from(number)),
-        Part::U16(number) => put_number(out, at, 2, u64::from(number)),
-        Part::U32(number) => put_number(out, at, 4, u64::from(number)),
-        Part::U64(number) => put_number(out, at, 8, number),
-        Part::Raw(bytes) => {
+    match piece {
+        Piece::U8(number) => put_number(out, at, 1, u64::from(number)),
+        Piece::U16(number) => put_number(out, at, 2, u64::from(number)),
+        Piece::U32(number) => put_number(out, at, 4, u64::from(number)),
+        Piece::U64(number) => put_number(out, at, 8, number),
+        Piece::Raw(bytes) => {
             put_bytes(out, at, bytes);
             at + bytes.len()
         }
@@ -55,14 +55,14 @@ fn put_number(out: &mut [u8], at: usize, width: usize, number: u64) -> usize
 }
 
 // Writes fields in order, from the front on.
-fn put_parts(out: &mut [u8], parts: &[Part<'_>])
-    requires { total (kinds_in parts.now) ≤ length out.old }
-    ensures front { take (total (kinds_in parts.now)) out.new ≡ spelled_after [] (rows_in parts.now) }
-    ensures fit { AllFit (kinds_in parts.now) (rows_in parts.now) }
+fn put_pieces(out: &mut [u8], pieces: &[Piece<'_>])
+    requires { total (kinds_in pieces.now) ≤ length out.old }
+    ensures front { take (total (kinds_in pieces.now)) out.new ≡ spelled_after [] (rows_in pieces.now) }
+    ensures fit { AllFit (kinds_in pieces.now) (rows_in pieces.now) }
 {
     let mut at = 0;
-    for part in parts {
-        at = put_part(out, at, *part);
+    for piece in pieces {
+        at = put_piece(out, at, *piece);
     }
 }
 
@@ -74,7 +74,7 @@ fn put_words(out: &mut [u8], words: &[u32])
 {
     let mut at = 0;
     for word in words {
-        at = put_part(out, at, Part::U32(*word));
+        at = put_piece(out, at, Piece::U32(*word));
     }
 }
 
@@ -110,17 +110,17 @@ fn write_header(h: &GpadlHeader, out: &mut [u8])
     ensures fields { AllFit (kinds_of (type_of (Msg.GpadlHeader h.now))) (fields_of (Msg.GpadlHeader h.now)) }
     ensures frames { AllByRecursion (λ f. f < 256 ^ 8) (frames_of (Msg.GpadlHeader h.now)) }
 {
-    put_parts(
+    put_pieces(
         out,
         &[
-            Part::U32(8),
-            Part::U32(h.padding),
-            Part::U32(h.relid),
-            Part::U32(h.gpadl),
-            Part::U16(h.range_buflen),
-            Part::U16(h.rangecount),
-            Part::U32(h.byte_count),
-            Part::U32(h.byte_offset),
+            Piece::U32(8),
+            Piece::U32(h.padding),
+            Piece::U32(h.relid),
+            Piece::U32(h.gpadl),
+            Piece::U16(h.range_buflen),
+            Piece::U16(h.rangecount),
+            Piece::U32(h.byte_count),
+            Piece::U32(h.byte_offset),
         ],
     );
     put_frames(out, 28, h.frames.as_slice());
@@ -134,13 +134,13 @@ fn write_body(h: &GpadlBody, out: &mut [u8])
     ensures fields { AllFit (kinds_of (type_of (Msg.GpadlBody h.now))) (fields_of (Msg.GpadlBody h.now)) }
     ensures frames { AllByRecursion (λ f. f < 256 ^ 8) (frames_of (Msg.GpadlBody h.now)) }
 {
-    put_parts(
+    put_pieces(
         out,
         &[
-            Part::U32(9),
-            Part::U32(h.padding),
-            Part::U32(h.msgnumber),
-            Part::U32(h.gpadl),
+            Piece::U32(9),
+            Piece::U32(h.padding),
+            Piece::U32(h.msgnumber),
+            Piece::U32(h.gpadl),
         ],
     );
     put_frames(out, 16, h.frames.as_slice());
@@ -172,25 +172,25 @@ fn write(m: &Msg, out: &mut [u8])
             interrupt,
             connection,
         } => {
-            put_parts(
+            put_pieces(
                 out,
                 &[
-                    Part::U32(1),
-                    Part::U32(*padding),
-                    Part::Raw(if_type),
-                    Part::Raw(if_instance),
-                    Part::U64(*reserved1),
-                    Part::U64(*reserved2),
-                    Part::U16(*chn_flags),
-                    Part::U16(*mmio),
-                    Part::Raw(user),
-                    Part::U16(*sub),
-                    Part::U16(*reserved3),
-                    Part::U32(*relid),
-                    Part::U8(*monitorid),
-                    Part::U8(*monitor),
-                    Part::U16(*interrupt),
-                    Part::U32(*connection),
+                    Piece::U32(1),
+                    Piece::U32(*padding),
+                    Piece::Raw(if_type),
+                    Piece::Raw(if_instance),
+                    Piece::U64(*reserved1),
+                    Piece::U64(*reserved2),
+                    Piece::U16(*chn_flags),
+                    Piece::U16(*mmio),
+                    Piece::Raw(user),
+                    Piece::U16(*sub),
+                    Piece::U16(*reserved3),
+                    Piece::U32(*relid),
+                    Piece::U8(*monitorid),
+                    Piece::U8(*monitor),
+                    Piece::U16(*interrupt),
+                    Piece::U32(*connection),
                 ],
             );
         }
@@ -212,17 +212,17 @@ fn write(m: &Msg, out: &mut [u8])
             downstream,
             user,
         } => {
-            put_parts(
+            put_pieces(
                 out,
                 &[
-                    Part::U32(5),
-                    Part::U32(*padding),
-                    Part::U32(*relid),
-                    Part::U32(*openid),
-                    Part::U32(*gpadl),
-                    Part::U32(*target_vp),
-                    Part::U32(*downstream),
-                    Part::Raw(user),
+                    Piece::U32(5),
+                    Piece::U32(*padding),
+                    Piece::U32(*relid),
+                    Piece::U32(*openid),
+                    Piece::U32(*gpadl),
+                    Piece::U32(*target_vp),
+                    Piece::U32(*downstream),
+                    Piece::Raw(user),
                 ],
             );
         }
@@ -268,16 +268,16 @@ fn write(m: &Msg, out: &mut [u8])
             monitor1,
             monitor2,
         } => {
-            put_parts(
+            put_pieces(
                 out,
                 &[
-                    Part::U32(14),
-                    Part::U32(*padding),
-                    Part::U32(*version),
-                    Part::U32(*target_vcpu),
-                    Part::U64(*page),
-                    Part::U64(*monitor1),
-                    Part::U64(*monitor2),
+                    Piece::U32(14),
+                    Piece::U32(*padding),
+                    Piece::U32(*version),
+                    Piece::U32(*target_vcpu),
+                    Piece::U64(*page),
+                    Piece::U64(*monitor1),
+                    Piece::U64(*monitor2),
                 ],
             );
         }
@@ -288,15 +288,15 @@ fn write(m: &Msg, out: &mut [u8])
             padding2,
             conn,
         } => {
-            put_parts(
+            put_pieces(
                 out,
                 &[
-                    Part::U32(15),
-                    Part::U32(*padding),
-                    Part::U8(*supported),
-                    Part::U8(*state),
-                    Part::U16(*padding2),
-                    Part::U32(*conn),
+                    Piece::U32(15),
+                    Piece::U32(*padding),
+                    Piece::U8(*supported),
+                    Piece::U8(*state),
+                    Piece::U16(*padding2),
+                    Piece::U32(*conn),
                 ],
             );
         }

@@ -11,6 +11,6 @@ returns-then-is_some c earlier are =
 
 pub returns : goal.returns
 returns c earlier are =
-    c.is_spoken_to.ensures
+    c.names_device.ensures
     ∙ sym (ap (λ b. b && is_some (slice_get (said_to c.args.device c.args.part.now) 0))
     (sym (still_served earlier c.args.ended.now c.args.device are c.requires.within) ∙ is_none_at (slice_index_or c.args.ended.now c.args.device None) false (sym c.is_some.ensures ∙ c.if-is_some.false)))

@@ -1,5 +1,5 @@
 use Rattle.std.proofs.Common.{◌≡◌, ◌∙◌, ap, sym, subst, get_or, Some}
-use Rattle.phase_run.specs.Pairs.{RanPair}
+use Rattle.bus_threads.specs.Pairs.{RanPair}
 use Rattle.bus_run.proofs.Closed.{same_kind}
 use Rattle.bus_run.proofs.closing.close_channel.Goals as goal
 

@@ -1,5 +1,5 @@
 use Rattle.std.proofs.Common.{◌<◌, sym, subst, arith, length, map}
-use Rattle.channel_workers.specs.Seats.{served_at}
+use Rattle.worker_pair.specs.Seats.{served_at}
 use Rattle.bus_run.specs.Seats.{ComesBack, seats_in}
 use Rattle.bus_run.specs.DeviceSlot.{GoesOn, slot_at}
 use Rattle.bus_run.proofs.Closed.{whole_start, next_whole, whole_more, whole_end}

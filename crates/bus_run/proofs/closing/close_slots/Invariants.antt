@@ -1,5 +1,5 @@
 use Rattle.std.proofs.Common.{List, ℕ}
-use Rattle.channel_workers.specs.declared.device_seat.DeviceSeat.{DeviceSeat}
+use Rattle.worker_pair.specs.declared.device_seat.DeviceSeat.{DeviceSeat}
 use Rattle.bus_run.specs.Closing.{AllBack}
 use Rattle.bus_run.specs.declared.device_slot.DeviceSlot.{DeviceSlot}
 use Rattle.bus_run.proofs.Closed.{WholeSoFar}

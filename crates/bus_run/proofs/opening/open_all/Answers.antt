@@ -1,7 +1,7 @@
 use Rattle.std.proofs.Common.{◌≡◌, ◌∙◌, ◌∷◌, [], ap, sym, subst, arith, length, length-append, length-drop, drop, slice_index_or, slice_set}
 use Rattle.std.proofs.lemmas.List.{get_or_default}
 use Rattle.std.specs.Vec.Iter.{into_iter_items}
-use Rattle.channel_workers.specs.Seats.{kind_at}
+use Rattle.worker_pair.specs.Seats.{kind_at}
 use Rattle.bus_run.specs.DeviceSlot.{subs_of, slot_at, Suits}
 use Rattle.bus_run.specs.Seats.{seats_in}
 use Rattle.bus_run.specs.Opening.{order_with, IsOpenedWith}

@@ -16,24 +16,24 @@ run_channels-requires-clause-can g c κs asked =
     let ordered = (c.in_ok-plan.ensures.plan (specs_of slots) p (known_subs (4096 * c.args.phase) slots c.requires.ready ∙ sym (c.deref-2.ensures.value ∙ (c.in_ok-subs.ensures ∙ ap (map subs_beside) c.deref.ensures.value))) this.of) in
     (p, can_run c.args.phase c.args.part.now c.args.ended.now c.args.relid.now c.in_ok-plan.plan.items slots p this ordered c.requires.ready c.requires.right c.requires.go c.requires.asks c.requires.subs c.requires.channels)
 
-pub tell-requires-clause-below : goal.tell-requires-clause-below
-tell-requires-clause-below g c =
+pub line_results-requires-clause-below : goal.line_results-requires-clause-below
+line_results-requires-clause-below g c =
     subst (λ n. AllBelow n c.args.part.now) (length-map c.args.slots.now.items spec_of ∙ sym c.requires.ended) (below_all (specs_of c.args.slots.now.items) c.args.part.now c.requires.right c.requires.go)
 
 pub mark_ended-requires : goal.mark_ended-requires
 mark_ended-requires g c =
     subst (λ n. AllBelow n c.args.part.now) (length-map c.args.slots.now.items spec_of ∙ sym c.requires.ended) (below_all (specs_of c.args.slots.now.items) c.args.part.now c.requires.right c.requires.go)
 
-pub tell-requires-clause-devices : goal.tell-requires-clause-devices
-tell-requires-clause-devices g c =
+pub line_results-requires-clause-devices : goal.line_results-requires-clause-devices
+line_results-requires-clause-devices g c =
     let p = c.requires.this.0 in
     let slots = c.args.slots.now.items in
     let ordered = (c.in_ok-plan.ensures.plan (specs_of slots) p (known_subs (4096 * c.args.phase) slots c.requires.ready ∙ sym (c.deref-2.ensures.value ∙ (c.in_ok-subs.ensures ∙ ap (map subs_beside) c.deref.ensures.value))) c.requires.this.1.of) in
     let can = can_run c.args.phase c.args.part.now c.args.ended.now c.args.relid.now c.in_ok-plan.plan.items slots p c.requires.this.1 ordered c.requires.ready c.requires.right c.requires.go c.requires.asks c.requires.subs c.requires.channels in
     (c.in_ok-outcomes.ensures.ran p can).long ∙ sym c.requires.ended
 
-pub tell-requires-clause-has : goal.tell-requires-clause-has
-tell-requires-clause-has g c =
+pub line_results-requires-clause-has : goal.line_results-requires-clause-has
+line_results-requires-clause-has g c =
     let p = c.requires.this.0 in
     let slots = c.args.slots.now.items in
     let ordered = (c.in_ok-plan.ensures.plan (specs_of slots) p (known_subs (4096 * c.args.phase) slots c.requires.ready ∙ sym (c.deref-2.ensures.value ∙ (c.in_ok-subs.ensures ∙ ap (map subs_beside) c.deref.ensures.value))) c.requires.this.1.of) in
@@ -47,7 +47,7 @@ returns-clause-ran g c p this =
     let can = can_run c.args.phase c.args.part.now c.args.ended.now c.args.relid.now c.in_ok-plan.plan.items slots p this ordered c.requires.ready c.requires.right c.requires.go c.requires.asks c.requires.subs c.requires.channels in
     let ran = c.in_ok-outcomes.ensures.ran p can in
     let told = subst (λ n. AreTold p ran.channels n c.in_ok-outcomes.outcomes) (sym c.requires.ended) ran.told in
-    phase_ran p slots c.run_channels.new.slots.items c.args.settled.now.items c.run_channels.new.settled.items c.in_ok-outcomes.outcomes c.args.results.now.items c.tell.new.results.items ran (c.in_ok-tell.ensures p ran.channels this.of.part_is this.of.ended_are told)
+    phase_ran p slots c.run_channels.new.slots.items c.args.settled.now.items c.run_channels.new.settled.items c.in_ok-outcomes.outcomes c.args.results.now.items c.line_results.new.results.items ran (c.in_ok-line_results.ensures p ran.channels this.of.part_is this.of.ended_are told)
 
 pub plan_part-requires-clause-devices : goal.plan_part-requires-clause-devices
 plan_part-requires-clause-devices g c =

@@ -1,5 +1,5 @@
 use Rattle.std.proofs.Common.{◌≡◌}
-use Rattle.control_serve.specs.Standing.{Stands, IsSame}
+use Rattle.control_side.specs.Standing.{Stands, IsSame}
 use Rattle.part_run.proofs.run.by_turns.Given as goal
 
 abbrev pub invariant-loop : goal.invariant-loop

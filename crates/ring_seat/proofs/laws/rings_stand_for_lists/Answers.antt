@@ -1,5 +1,5 @@
 use Rattle.std.proofs.Common.{arith}
-use Rattle.ring_model.proofs.Spelling.{stands_for}
+use Rattle.ring_pair_laws.proofs.Spelling.{stands_for}
 use Rattle.ring_seat.proofs.laws.rings_stand_for_lists.Goals as goal
 
 pub returns-clause-to_host : goal.returns-clause-to_host

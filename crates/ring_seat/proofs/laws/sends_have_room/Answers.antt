@@ -1,5 +1,5 @@
 use Rattle.std.proofs.Common.{⊎_elim, arith}
-use Rattle.ring_model.proofs.Spelling.{sends_cell, sends_write}
+use Rattle.ring_pair_laws.proofs.Spelling.{sends_cell, sends_write}
 use Rattle.ring_seat.proofs.laws.sends_have_room.Goals as goal
 
 pub returns-clause-guest : goal.returns-clause-guest

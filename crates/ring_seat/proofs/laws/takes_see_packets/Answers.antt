@@ -1,5 +1,5 @@
 use Rattle.std.proofs.Common.{⊎_elim, arith}
-use Rattle.ring_model.proofs.Spelling.{takes_first, takes_cell}
+use Rattle.ring_pair_laws.proofs.Spelling.{takes_first, takes_cell}
 use Rattle.ring_seat.proofs.laws.takes_see_packets.Goals as goal
 
 pub returns-clause-guest : goal.returns-clause-guest

@@ -1,5 +1,5 @@
 use Rattle.std.proofs.Common.{List, ℕ, refl, sym, ap, ◌∙◌, subst}
-use Rattle.chan_run.specs.Runs.{IsFront}
+use Rattle.channel_trace.specs.Runs.{IsFront}
 use Rattle.page_kept.specs.Items.{packets}
 use Rattle.page_kept.specs.declared.item.Item.{Item}
 use Rattle.ring_machine.specs.declared.state.EndState.{EndState}

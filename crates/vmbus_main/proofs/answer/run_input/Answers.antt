@@ -1,7 +1,7 @@
 use Rattle.std.proofs.Common.{◌∙◌, ◌≤◌, ◌+◌, ◌*◌, length, ap, sym, subst, arith}
 use Rattle.bus_script.specs.Report.{report_of, runs_back}
 use Rattle.script_lines.specs.WellFormed.{IsScript}
-use Rattle.report_room.proofs.FewBack.{report_fits_lem}
+use Rattle.bus_report_bound.proofs.FewBack.{report_fits_lem}
 use Rattle.vmbus_main.proofs.answer.run_input.Goals as goal
 
 pub returns-in-Ok-report : goal.returns-in-Ok-report

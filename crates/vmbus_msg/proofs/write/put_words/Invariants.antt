@@ -1,7 +1,7 @@
 use Rattle.std.proofs.Common.{◌≡◌, ◌+◌, [], take, drop}
 use Rattle.wire_table.specs.Rows.{spelled_after, total}
 use Rattle.vmbus_msg.specs.Grammar.{AllFit}
-use Rattle.vmbus_msg.specs.Parts.{word_kinds, word_rows}
+use Rattle.vmbus_msg.specs.Pieces.{word_kinds, word_rows}
 use Rattle.vmbus_msg.proofs.write.put_words.Given as goal
 
 abbrev pub invariant-loop-word : goal.invariant-loop-word

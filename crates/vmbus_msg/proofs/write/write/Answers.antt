@@ -118,20 +118,20 @@ returns-in-RelidReleased-clause-frames c = frames_as _ _ c.in-RelidReleased.is t
 
 pub returns-in-InitiateContact-clause-bytes : goal.returns-in-InitiateContact-clause-bytes
 unfolding bytes_of_message
-returns-in-InitiateContact-clause-bytes c = front_as _ _ _ c.in-InitiateContact.is c.put_parts-in-InitiateContact.ensures.front
+returns-in-InitiateContact-clause-bytes c = front_as _ _ _ c.in-InitiateContact.is c.put_pieces-in-InitiateContact.ensures.front
 
 pub returns-in-InitiateContact-clause-fields : goal.returns-in-InitiateContact-clause-fields
-returns-in-InitiateContact-clause-fields c = fit_as _ _ c.in-InitiateContact.is c.put_parts-in-InitiateContact.ensures.fit.1
+returns-in-InitiateContact-clause-fields c = fit_as _ _ c.in-InitiateContact.is c.put_pieces-in-InitiateContact.ensures.fit.1
 
 pub returns-in-InitiateContact-clause-frames : goal.returns-in-InitiateContact-clause-frames
 returns-in-InitiateContact-clause-frames c = frames_as _ _ c.in-InitiateContact.is tt
 
 pub returns-in-VersionResponse-clause-bytes : goal.returns-in-VersionResponse-clause-bytes
 unfolding bytes_of_message
-returns-in-VersionResponse-clause-bytes c = front_as _ _ _ c.in-VersionResponse.is c.put_parts-in-VersionResponse.ensures.front
+returns-in-VersionResponse-clause-bytes c = front_as _ _ _ c.in-VersionResponse.is c.put_pieces-in-VersionResponse.ensures.front
 
 pub returns-in-VersionResponse-clause-fields : goal.returns-in-VersionResponse-clause-fields
-returns-in-VersionResponse-clause-fields c = fit_as _ _ c.in-VersionResponse.is c.put_parts-in-VersionResponse.ensures.fit.1
+returns-in-VersionResponse-clause-fields c = fit_as _ _ c.in-VersionResponse.is c.put_pieces-in-VersionResponse.ensures.fit.1
 
 pub returns-in-VersionResponse-clause-frames : goal.returns-in-VersionResponse-clause-frames
 returns-in-VersionResponse-clause-frames c = frames_as _ _ c.in-VersionResponse.is tt

@@ -1,5 +1,5 @@
 use Rattle.std.proofs.Common.{◌∙◌, refl, sym, ap}
-use Rattle.ring_machine.specs.declared.machine.Machine.{Machine}
+use Rattle.ring_machine.specs.declared.machine.EndMachine.{EndMachine}
 use Rattle.ring_core.proofs.Driving.{going_first, going_on, going_asks, going_calls, going_leaves, going_took, going_ran, pages_stay, going_honest}
 use Rattle.ring_machine.proofs.Sound.{fed_nearer}
 use Rattle.ring_machine.proofs.Tables.{fed_cells}
@@ -22,7 +22,7 @@ loop-parts-init g c =
 pub loop-parts-preserved : goal.loop-parts-preserved
 loop-parts-preserved g c = record {
   going = rw (c.step_apart.ensures.machine, c.step_apart.ensures.items) (going_on _ _ _ _ _ _ _ c.loop-parts.parts.core.machine c.args.packet.now c.loop-parts.parts.buf.items c.step_apart.result c.loop-parts.parts.core.sound (sym c.is_busy.ensures ∙ c.loop-parts-test.true) c.loop-parts.invariant.going c.step_apart.ensures.silent c.step_apart.ensures.tells c.step_apart.ensures.runs);
-  cells = c.step_apart.ensures.cells ∙ (c.loop-parts.invariant.cells ∙ (sym (fed_cells c.loop-parts.parts.core.machine c.step_apart.result c.loop-parts.parts.core.machine.stage) ∙ sym (ap (λ (k : Machine). k.cells) c.step_apart.ensures.machine)));
+  cells = c.step_apart.ensures.cells ∙ (c.loop-parts.invariant.cells ∙ (sym (fed_cells c.loop-parts.parts.core.machine c.step_apart.result c.loop-parts.parts.core.machine.stage) ∙ sym (ap (λ (k : EndMachine). k.cells) c.step_apart.ensures.machine)));
   same = g.met.S.Seatlike.same_trans _ _ _ c.loop-parts.invariant.same c.step_apart.ensures.same;
   sent = c.loop-parts.invariant.sent;
   got = c.loop-parts.invariant.got;
@@ -39,7 +39,7 @@ step_apart-requires g c = record { busy = sym c.is_busy.ensures ∙ c.loop-parts
 
 pub invariant_of-parts : goal.invariant_of-parts
 invariant_of-parts g c = record {
-  wide = c.step_apart.ensures.len ∙ (c.loop-parts.invariant.going.wide ∙ (sym (fed_cells c.loop-parts.parts.core.machine c.step_apart.result c.loop-parts.parts.core.machine.stage) ∙ sym (ap (λ (k : Machine). k.cells) c.step_apart.ensures.machine)));
+  wide = c.step_apart.ensures.len ∙ (c.loop-parts.invariant.going.wide ∙ (sym (fed_cells c.loop-parts.parts.core.machine c.step_apart.result c.loop-parts.parts.core.machine.stage) ∙ sym (ap (λ (k : EndMachine). k.cells) c.step_apart.ensures.machine)));
   fit = pages_stay _ _ _ _ _ _ _ _ c.args.parts.now.fit (c.step_apart.ensures.pages ∙ c.loop-parts.invariant.pages) c.loop-parts.invariant.sent c.loop-parts.invariant.got c.loop-parts.invariant.table;
 }
 

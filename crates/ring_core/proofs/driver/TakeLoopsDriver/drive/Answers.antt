@@ -1,5 +1,5 @@
 use Rattle.std.proofs.Common.{◌∙◌, refl, sym, ap}
-use Rattle.ring_machine.specs.declared.machine.Machine.{Machine}
+use Rattle.ring_machine.specs.declared.machine.EndMachine.{EndMachine}
 use Rattle.ring_core.proofs.Driving.{going_first, going_on, going_asks, going_calls, going_leaves, going_took, going_ran, pages_stay, going_honest, seeking_busy, first_busy, loading_busy}
 use Rattle.ring_machine.proofs.Kept.{take_kept, take_kept_on, seeking_keeps, first_keeps, loading_keeps}
 use Rattle.ring_machine.proofs.Sound.{fed_nearer}
@@ -26,7 +26,7 @@ loop-parts-init g c =
 pub loop-parts-preserved : goal.loop-parts-preserved
 loop-parts-preserved g c = record {
   going = rw (c.step.ensures.machine, c.step.ensures.items) (going_on _ _ _ _ _ _ _ c.loop-parts.core.machine c.args.packet.now c.loop-parts.parts.buf.items c.step.result c.loop-parts.core.sound (seeking_busy _ (sym c.is_seeking.ensures ∙ c.loop-parts-test.true)) c.loop-parts.invariant.going c.step.ensures.silent c.step.ensures.tells c.step.ensures.runs);
-  cells = c.step.ensures.cells ∙ (c.loop-parts.invariant.cells ∙ (sym (fed_cells c.loop-parts.core.machine c.step.result c.loop-parts.core.machine.stage) ∙ sym (ap (λ (k : Machine). k.cells) c.step.ensures.machine)));
+  cells = c.step.ensures.cells ∙ (c.loop-parts.invariant.cells ∙ (sym (fed_cells c.loop-parts.core.machine c.step.result c.loop-parts.core.machine.stage) ∙ sym (ap (λ (k : EndMachine). k.cells) c.step.ensures.machine)));
   core = c.loop-parts.invariant.core;
   keeps = take_kept_on _ _ _ c.loop-parts.invariant.keeps (rw c.step.ensures.machine (seeking_keeps c.loop-parts.core.machine c.step.result c.loop-parts.core.machine.stage (sym c.is_seeking.ensures ∙ c.loop-parts-test.true)));
   same = g.met.S.Seatlike.same_trans _ _ _ c.loop-parts.invariant.same c.step.ensures.same;
@@ -45,7 +45,7 @@ step-requires g c = record { busy = seeking_busy _ (sym c.is_seeking.ensures ∙
 pub loop-parts-2-preserved : goal.loop-parts-2-preserved
 loop-parts-2-preserved g c = record {
   going = rw (c.step-in-loop-parts-2.ensures.machine, c.step-in-loop-parts-2.ensures.items) (going_on _ _ _ _ _ _ _ c.loop-parts-2.core.machine c.args.packet.now c.loop-parts-2.parts.buf.items c.step-in-loop-parts-2.result c.loop-parts-2.core.sound (first_busy _ (sym c.is_first.ensures ∙ c.loop-parts-2-test.true)) c.loop-parts-2.invariant.going c.step-in-loop-parts-2.ensures.silent c.step-in-loop-parts-2.ensures.tells c.step-in-loop-parts-2.ensures.runs);
-  cells = c.step-in-loop-parts-2.ensures.cells ∙ (c.loop-parts-2.invariant.cells ∙ (sym (fed_cells c.loop-parts-2.core.machine c.step-in-loop-parts-2.result c.loop-parts-2.core.machine.stage) ∙ sym (ap (λ (k : Machine). k.cells) c.step-in-loop-parts-2.ensures.machine)));
+  cells = c.step-in-loop-parts-2.ensures.cells ∙ (c.loop-parts-2.invariant.cells ∙ (sym (fed_cells c.loop-parts-2.core.machine c.step-in-loop-parts-2.result c.loop-parts-2.core.machine.stage) ∙ sym (ap (λ (k : EndMachine). k.cells) c.step-in-loop-parts-2.ensures.machine)));
   core = c.loop-parts-2.invariant.core;
   keeps = take_kept_on _ _ _ c.loop-parts-2.invariant.keeps (rw c.step-in-loop-parts-2.ensures.machine (first_keeps c.loop-parts-2.core.machine c.step-in-loop-parts-2.result c.loop-parts-2.core.machine.stage (sym c.is_first.ensures ∙ c.loop-parts-2-test.true)));
   same = g.met.S.Seatlike.same_trans _ _ _ c.loop-parts-2.invariant.same c.step-in-loop-parts-2.ensures.same;
@@ -64,7 +64,7 @@ step-requires-in-loop-parts-2 g c = record { busy = first_busy _ (sym c.is_first
 pub loop-parts-3-preserved : goal.loop-parts-3-preserved
 loop-parts-3-preserved g c = record {
   going = rw (c.step-in-loop-parts-3.ensures.machine, c.step-in-loop-parts-3.ensures.items) (going_on _ _ _ _ _ _ _ c.loop-parts-3.core.machine c.args.packet.now c.loop-parts-3.parts.buf.items c.step-in-loop-parts-3.result c.loop-parts-3.core.sound (loading_busy _ (sym c.is_loading.ensures ∙ c.loop-parts-3-test.true)) c.loop-parts-3.invariant.going c.step-in-loop-parts-3.ensures.silent c.step-in-loop-parts-3.ensures.tells c.step-in-loop-parts-3.ensures.runs);
-  cells = c.step-in-loop-parts-3.ensures.cells ∙ (c.loop-parts-3.invariant.cells ∙ (sym (fed_cells c.loop-parts-3.core.machine c.step-in-loop-parts-3.result c.loop-parts-3.core.machine.stage) ∙ sym (ap (λ (k : Machine). k.cells) c.step-in-loop-parts-3.ensures.machine)));
+  cells = c.step-in-loop-parts-3.ensures.cells ∙ (c.loop-parts-3.invariant.cells ∙ (sym (fed_cells c.loop-parts-3.core.machine c.step-in-loop-parts-3.result c.loop-parts-3.core.machine.stage) ∙ sym (ap (λ (k : EndMachine). k.cells) c.step-in-loop-parts-3.ensures.machine)));
   core = c.loop-parts-3.invariant.core;
   keeps = take_kept_on _ _ _ c.loop-parts-3.invariant.keeps (rw c.step-in-loop-parts-3.ensures.machine (loading_keeps c.loop-parts-3.core.machine c.step-in-loop-parts-3.result c.loop-parts-3.core.machine.stage (sym c.is_loading.ensures ∙ c.loop-parts-3-test.true)));
   same = g.met.S.Seatlike.same_trans _ _ _ c.loop-parts-3.invariant.same c.step-in-loop-parts-3.ensures.same;
@@ -87,12 +87,12 @@ pub take_back-requires-clause-keeps : goal.take_back-requires-clause-keeps
 take_back-requires-clause-keeps g c = c.loop-parts-3.invariant.keeps
 
 pub invariant_of-parts-2 : goal.invariant_of-parts-2
-invariant_of-parts-2 g c = record { wide = c.loop-parts-3.invariant.going.wide ∙ sym (ap (λ (k : Machine). k.cells) c.take_back.ensures.machine); fit = pages_stay _ _ _ _ _ _ _ _ c.args.parts.now.fit (c.take_back.ensures.pages ∙ ap (λ (k : EndCore). k.pages) c.loop-parts-3.invariant.core) c.loop-parts-3.invariant.sent c.loop-parts-3.invariant.got c.loop-parts-3.invariant.table }
+invariant_of-parts-2 g c = record { wide = c.loop-parts-3.invariant.going.wide ∙ sym (ap (λ (k : EndMachine). k.cells) c.take_back.ensures.machine); fit = pages_stay _ _ _ _ _ _ _ _ c.args.parts.now.fit (c.take_back.ensures.pages ∙ ap (λ (k : EndCore). k.pages) c.loop-parts-3.invariant.core) c.loop-parts-3.invariant.sent c.loop-parts-3.invariant.got c.loop-parts-3.invariant.table }
 
 pub loop-parts-4-init : goal.loop-parts-4-init
 loop-parts-4-init g c = record {
   going = rw c.take_back.ensures.machine c.loop-parts-3.invariant.going;
-  cells = c.loop-parts-3.invariant.cells ∙ sym (ap (λ (k : Machine). k.cells) c.take_back.ensures.machine);
+  cells = c.loop-parts-3.invariant.cells ∙ sym (ap (λ (k : EndMachine). k.cells) c.take_back.ensures.machine);
   same = c.loop-parts-3.invariant.same;
   sent = c.loop-parts-3.invariant.sent;
   got = c.loop-parts-3.invariant.got;
@@ -104,7 +104,7 @@ loop-parts-4-init g c = record {
 pub loop-parts-4-preserved : goal.loop-parts-4-preserved
 loop-parts-4-preserved g c = record {
   going = rw (c.step_apart.ensures.machine, c.step_apart.ensures.items) (going_on _ _ _ _ _ _ _ c.loop-parts-4.parts.core.machine c.args.packet.now c.loop-parts-4.parts.buf.items c.step_apart.result c.loop-parts-4.parts.core.sound (sym c.is_busy.ensures ∙ c.loop-parts-4-test.true) c.loop-parts-4.invariant.going c.step_apart.ensures.silent c.step_apart.ensures.tells c.step_apart.ensures.runs);
-  cells = c.step_apart.ensures.cells ∙ (c.loop-parts-4.invariant.cells ∙ (sym (fed_cells c.loop-parts-4.parts.core.machine c.step_apart.result c.loop-parts-4.parts.core.machine.stage) ∙ sym (ap (λ (k : Machine). k.cells) c.step_apart.ensures.machine)));
+  cells = c.step_apart.ensures.cells ∙ (c.loop-parts-4.invariant.cells ∙ (sym (fed_cells c.loop-parts-4.parts.core.machine c.step_apart.result c.loop-parts-4.parts.core.machine.stage) ∙ sym (ap (λ (k : EndMachine). k.cells) c.step_apart.ensures.machine)));
   same = g.met.S.Seatlike.same_trans _ _ _ c.loop-parts-4.invariant.same c.step_apart.ensures.same;
   sent = c.loop-parts-4.invariant.sent;
   got = c.loop-parts-4.invariant.got;
@@ -121,7 +121,7 @@ step_apart-requires g c = record { busy = sym c.is_busy.ensures ∙ c.loop-parts
 
 pub invariant_of-parts-in-loop-parts-4 : goal.invariant_of-parts-in-loop-parts-4
 invariant_of-parts-in-loop-parts-4 g c = record {
-  wide = c.step_apart.ensures.len ∙ (c.loop-parts-4.invariant.going.wide ∙ (sym (fed_cells c.loop-parts-4.parts.core.machine c.step_apart.result c.loop-parts-4.parts.core.machine.stage) ∙ sym (ap (λ (k : Machine). k.cells) c.step_apart.ensures.machine)));
+  wide = c.step_apart.ensures.len ∙ (c.loop-parts-4.invariant.going.wide ∙ (sym (fed_cells c.loop-parts-4.parts.core.machine c.step_apart.result c.loop-parts-4.parts.core.machine.stage) ∙ sym (ap (λ (k : EndMachine). k.cells) c.step_apart.ensures.machine)));
   fit = pages_stay _ _ _ _ _ _ _ _ c.args.parts.now.fit (c.step_apart.ensures.pages ∙ c.loop-parts-4.invariant.pages) c.loop-parts-4.invariant.sent c.loop-parts-4.invariant.got c.loop-parts-4.invariant.table;
 }
 

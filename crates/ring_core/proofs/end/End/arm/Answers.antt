@@ -1,5 +1,5 @@
 use Rattle.std.proofs.Common.{◌≡◌, ◌==◌, [], take, refl, ap, ◌∙◌, subst}
-use Rattle.ring_machine.specs.declared.machine.Machine.{Machine}
+use Rattle.ring_machine.specs.declared.machine.EndMachine.{EndMachine}
 use Rattle.ring_machine.specs.declared.machine.Stage.{Stage}
 use Rattle.ring_machine.specs.declared.page_core.PageCore.{PageCore}
 use Rattle.ring_machine.specs.declared.state.EndState.{EndState}
@@ -32,7 +32,7 @@ returns-clause-ran g c =
 pub returns-clause-answer : goal.returns-clause-answer
 returns-clause-answer g c =
     let begun = c.begin_arm.new.self.machine in
-    let call : call_at begun.stage ≡ Arm = ap (λ (m : Machine). call_at m.stage) c.begin_arm.ensures.machine ∙ at_cond (λ (st : Stage). call_at st ≡ Arm) (want_of c.args.want == 0) _ _ (λ _. refl) (λ _. refl) in
+    let call : call_at begun.stage ≡ Arm = ap (λ (m : EndMachine). call_at m.stage) c.begin_arm.ensures.machine ∙ at_cond (λ (st : Stage). call_at st ≡ Arm) (want_of c.args.want == 0) _ _ (λ _. refl) (λ _. refl) in
     (c.arm_answered.ensures, c.make_call.ensures.call ∙ call)
 
 pub returns-clause-after : goal.returns-clause-after
@@ -40,16 +40,16 @@ returns-clause-after g c =
     let begun = c.begin_arm.new.self.machine in
     let new = c.make_call.new.self.core.machine in
     let m = c.self.inside.parts.core.machine in
-    let call : call_at begun.stage ≡ Arm = ap (λ (m : Machine). call_at m.stage) c.begin_arm.ensures.machine ∙ at_cond (λ (st : Stage). call_at st ≡ Arm) (want_of c.args.want == 0) _ _ (λ _. refl) (λ _. refl) in
-    let after = subst (λ (m : Machine). LeavesBy (call_at begun.stage) m new) c.begin_arm.ensures.machine c.make_call.ensures.after in
-    subst (λ (m : Machine). LeavesBy Arm m new) (ap (λ (e : Seen _). e.state.machine) c.self.view_is)
+    let call : call_at begun.stage ≡ Arm = ap (λ (m : EndMachine). call_at m.stage) c.begin_arm.ensures.machine ∙ at_cond (λ (st : Stage). call_at st ≡ Arm) (want_of c.args.want == 0) _ _ (λ _. refl) (λ _. refl) in
+    let after = subst (λ (m : EndMachine). LeavesBy (call_at begun.stage) m new) c.begin_arm.ensures.machine c.make_call.ensures.after in
+    subst (λ (m : EndMachine). LeavesBy Arm m new) (ap (λ (e : Seen _). e.state.machine) c.self.view_is)
     (rebased Arm m (arm_begun m (want_of c.args.want)) new refl refl refl (subst (λ (n : EndCall). LeavesBy n (arm_begun m (want_of c.args.want)) new) call after))
 
 pub returns-clause-kept : goal.returns-clause-kept
 returns-clause-kept g c =
     let it = c.self.inside.parts in
     let begun = c.begin_arm.new.self.machine in
-    let call : call_at begun.stage ≡ Arm = ap (λ (m : Machine). call_at m.stage) c.begin_arm.ensures.machine ∙ at_cond (λ (st : Stage). call_at st ≡ Arm) (want_of c.args.want == 0) _ _ (λ _. refl) (λ _. refl) in
+    let call : call_at begun.stage ≡ Arm = ap (λ (m : EndMachine). call_at m.stage) c.begin_arm.ensures.machine ∙ at_cond (λ (st : Stage). call_at st ≡ Arm) (want_of c.args.want == 0) _ _ (λ _. refl) (λ _. refl) in
     let sent = c.make_call.ensures.sent_kept (λ e. cc) in
     let got = c.make_call.ensures.got_kept (c.make_call.ensures.after.untaken (λ e. cc)) in
     let pages = c.make_call.ensures.pages_kept (λ e. cc) (λ e. cc) in

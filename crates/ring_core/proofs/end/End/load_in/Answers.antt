@@ -1,6 +1,6 @@
 use Rattle.std.proofs.Common.{◌≡◌, ◌≢◌, ℕ, ◌+◌, ◌==◌, true, List, [], ◌∷◌, ◌++◌, length, sym, ap, ◌∙◌, subst, arith}
 use Rattle.std.proofs.lemmas.Bool.Decides.{nat_tests}
-use Rattle.chan_run.specs.declared.past.Past.{Past}
+use Rattle.channel_trace.specs.declared.past.Past.{Past}
 use Rattle.page_kept.specs.declared.due.Due.TheVariants.{Clear, Loads as DueLoads}
 use Rattle.page_kept.specs.declared.page_call.PageCall.TheVariants.{LoadWords}
 use Rattle.page_kept.specs.Items.{item_of, values}

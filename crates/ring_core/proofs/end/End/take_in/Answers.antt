@@ -1,5 +1,5 @@
 use Rattle.std.proofs.Common.{◌≡◌, [], refl, sym, ap, ◌∙◌, subst, arith}
-use Rattle.ring_machine.specs.declared.machine.Machine.{Machine}
+use Rattle.ring_machine.specs.declared.machine.EndMachine.{EndMachine}
 use Rattle.ring_machine.specs.declared.page_core.PageCore.{PageCore}
 use Rattle.ring_machine.specs.declared.state.EndState.{EndState}
 use Rattle.ring_machine.specs.EndCalls.{EndCall, Take}
@@ -23,14 +23,14 @@ returns-clause-takes g c =
     let e = c.make_call.ensures in
     let told = g.S.Seatlike.told in
     let memory = g.S.Seatlike.memory in
-    let call : call_at begun.machine.stage ≡ Take = ap (λ (x : Machine). call_at x.stage) c.begin_take.ensures.machine in
+    let call : call_at begun.machine.stage ≡ Take = ap (λ (x : EndMachine). call_at x.stage) c.begin_take.ensures.machine in
     let base : shown begun.machine [] it.buf.items it.sent.list it.got.list it.past.events (kept_of begun.pages it.sent it.got it.table) ≡ entered c.args.self.now.state (take_begun c.args.self.now.state.machine) [] =
     (λ i. shown (c.begin_take.ensures.machine i) [] it.buf.items it.sent.list it.got.list it.past.events (kept_of (c.begin_take.ensures.pages i) it.sent it.got it.table))
     ∙ ap (λ (x : Seen _). entered x.state (take_begun x.state.machine) []) v in
     let end = resting_in new.core.machine new.core.pages new.sent new.got new.past.events new.table in
-    let leaves = take_leaves m new.core.machine (subst (λ (x : Machine). Leaves x new.core.machine) c.begin_take.ensures.machine e.leaves) in
+    let leaves = take_leaves m new.core.machine (subst (λ (x : EndMachine). Leaves x new.core.machine) c.begin_take.ensures.machine e.leaves) in
     let after = rebased Take m (take_begun m) new.core.machine refl refl refl
-    (subst (λ (n : EndCall). LeavesBy n (take_begun m) new.core.machine) call (subst (λ (x : Machine). LeavesBy (call_at begun.machine.stage) x new.core.machine) c.begin_take.ensures.machine e.after)) in
+    (subst (λ (n : EndCall). LeavesBy n (take_begun m) new.core.machine) call (subst (λ (x : EndMachine). LeavesBy (call_at begun.machine.stage) x new.core.machine) c.begin_take.ensures.machine e.after)) in
     let sent = e.sent_kept (λ h. cc) in
     record {
       idle = λ _. record {
@@ -38,8 +38,8 @@ returns-clause-takes g c =
             (subst (λ (b : EndState). Ran b end (told it.seat) (told new.seat) (memory it.seat) (memory new.seat)) base e.left.ran);
         answer = c.take_answered.ensures;
         call = e.call ∙ call;
-        leaves = subst (λ (x : Machine). Leaves x new.core.machine) (ap (λ (x : Seen _). x.state.machine) v) leaves;
-        after = subst (λ (x : Machine). LeavesBy Take x new.core.machine) (ap (λ (x : Seen _). x.state.machine) v) after;
+        leaves = subst (λ (x : EndMachine). Leaves x new.core.machine) (ap (λ (x : Seen _). x.state.machine) v) leaves;
+        after = subst (λ (x : EndMachine). LeavesBy Take x new.core.machine) (ap (λ (x : Seen _). x.state.machine) v) after;
         took = λ h. subst (λ (x : EndState). Gets new.core.machine.len x.got new.got.list x.past new.past.events) (ap (λ (x : Seen _). x.state) v) (e.took h);
         refused = λ h. (
           ap (λ (l : Listed). l.list) (e.got_kept h) ∙ ap (λ (x : Seen _). x.state.got) v,

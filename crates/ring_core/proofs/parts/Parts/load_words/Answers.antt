@@ -1,8 +1,8 @@
 use Rattle.std.proofs.Common.{◌≡◌, ◌≢◌, ℕ, ◌+◌, ◌<◌, List, [], ◌∷◌, ◌++◌, Some, length, refl, sym, ap, ◌∙◌, subst, inr, arith}
-use Rattle.chan_run.specs.declared.past.Past.{Past}
+use Rattle.channel_trace.specs.declared.past.Past.{Past}
 use Rattle.page_kept.specs.declared.page_call.PageCall.TheVariants.{LoadWords}
 use Rattle.page_table.specs.Table.{Table, word_of}
-use Rattle.ring_machine.specs.declared.machine.Machine.{Machine}
+use Rattle.ring_machine.specs.declared.machine.EndMachine.{EndMachine}
 use Rattle.ring_machine.specs.declared.page_core.PageCore.{PageCore}
 use Rattle.ring_machine.specs.PageCalls.{ContinuesPage, is_paging, page_op, pages_fed}
 use Rattle.ring_machine.specs.Steps.{is_busy_at}
@@ -40,7 +40,7 @@ loop-word-preserved g c =
     let more = some_more it.core.machine it.core.pages it.sent it.got it.past.events it.table c.args.page c.args.words l.word s.result l.self.table.copy (g.S.Seatlike.told it.seat) (g.S.Seatlike.told l.self.seat) (g.S.Seatlike.told s.new.seat)
     (g.S.Seatlike.memory it.seat) (g.S.Seatlike.memory l.self.seat) (g.S.Seatlike.memory s.new.seat) l.invariant.loaded lt s.ensures.silent
     (λ u e. s.ensures.tells u e ∙ ap (λ (k : PageCore). Some (told_page u k.call s.result)) l.invariant.pages)
-    (λ x op e n. subst (λ (m : Machine). (g.S.Seatlike.memory s.new.seat ≡ Some (memory_after m.cells op x)) × (s.result ≡ answer_of m.cells op x)) l.invariant.machine
+    (λ x op e n. subst (λ (m : EndMachine). (g.S.Seatlike.memory s.new.seat ≡ Some (memory_after m.cells op x)) × (s.result ≡ answer_of m.cells op x)) l.invariant.machine
     (s.ensures.runs x op e (ap (λ (k : PageCore). page_op k.call) l.invariant.pages ∙ n))) in
     record {
       loaded = subst (λ (copy : List ℕ). LoadedSome (resting_in it.core.machine it.core.pages it.sent it.got it.past.events it.table) it.core.pages it.sent it.got it.table c.args.page c.args.words (l.word + 1) copy
@@ -58,7 +58,7 @@ loop-word-preserved g c =
     }
 
 pub page_step-v-requires-clause-rests : goal.page_step-v-requires-clause-rests
-page_step-v-requires-clause-rests g c = ap (λ (m : Machine). is_busy_at m.stage) c.loop-word.invariant.machine ∙ ap is_busy_at c.requires.idle
+page_step-v-requires-clause-rests g c = ap (λ (m : EndMachine). is_busy_at m.stage) c.loop-word.invariant.machine ∙ ap is_busy_at c.requires.idle
 
 pub page_step-v-requires-clause-call : goal.page_step-v-requires-clause-call
 page_step-v-requires-clause-call g c =
@@ -67,7 +67,7 @@ page_step-v-requires-clause-call g c =
     ap (λ (k : PageCore). is_paging k.call) c.loop-word.invariant.pages ∙ load_pages it.core.pages it.sent it.got it.table c.args.page c.args.words c.loop-word.word lt
 
 pub page_step-v-requires-clause-fits : goal.page_step-v-requires-clause-fits
-page_step-v-requires-clause-fits g c = c.loop-word.invariant.cells ∙ sym (ap (λ (m : Machine). m.cells) c.loop-word.invariant.machine)
+page_step-v-requires-clause-fits g c = c.loop-word.invariant.cells ∙ sym (ap (λ (m : EndMachine). m.cells) c.loop-word.invariant.machine)
 
 pub page_step-v-requires-clause-pages : goal.page_step-v-requires-clause-pages
 page_step-v-requires-clause-pages g c = g.met.S.Seatlike.same_pages _ _ c.loop-word.invariant.same ∙ (c.requires.pages ∙ sym (ap (λ (k : PageCore). k.count) c.loop-word.invariant.pages))

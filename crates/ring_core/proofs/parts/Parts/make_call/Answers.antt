@@ -2,7 +2,7 @@ use Rattle.std.proofs.Common.{◌≡◌, cond, sym, ap, ◌∙◌, subst}
 use Rattle.page_kept.specs.declared.kept.Kept.{Kept}
 use Rattle.page_kept.specs.Kept.{pages_sent, pages_took}
 use Rattle.page_kept.specs.Layouts.{layout}
-use Rattle.ring_machine.specs.declared.machine.Machine.{Machine}
+use Rattle.ring_machine.specs.declared.machine.EndMachine.{EndMachine}
 use Rattle.ring_machine.specs.declared.page_core.PageCore.{PageCore}
 use Rattle.ring_machine.specs.Endings.{LeavesBy}
 use Rattle.ring_machine.specs.PageCalls.{newest}
@@ -19,7 +19,7 @@ drive-requires g c = record { starts = c.requires.starts; fits = c.requires.fits
 pub returns-clause-after : goal.returns-clause-after
 returns-clause-after g c =
     let before = c.args.self.now.core.machine in
-    subst (λ (m : Machine). LeavesBy (call_at before.stage) before m) (sym c.keep.ensures.kept.0) (leaves_by before c.drive.new.parts.core.machine c.drive.ensures.leaves (call_at before.stage) c.drive.ensures.call c.drive.new.parts.core.sound)
+    subst (λ (m : EndMachine). LeavesBy (call_at before.stage) before m) (sym c.keep.ensures.kept.0) (leaves_by before c.drive.new.parts.core.machine c.drive.ensures.leaves (call_at before.stage) c.drive.ensures.call c.drive.new.parts.core.sound)
 
 pub returns-clause-pages : goal.returns-clause-pages
 returns-clause-pages g c =
@@ -35,7 +35,7 @@ returns-clause-pages_sent g c = λ call.
     c.keep.ensures.pages
     ∙ (ap (λ (x : Kept). pages_by d.core.machine x c.args.packet.now d.buf.items) same
     ∙ (by_send d.core.machine.ended d.core.machine k c.args.packet.now d.buf.items (c.drive.ensures.call ∙ call)
-    ∙ ap (λ (m : Machine). cond (is_sent m.ended) (pages_sent (layout k.count) k c.args.packet.now) k) (sym c.keep.ensures.kept.0)))
+    ∙ ap (λ (m : EndMachine). cond (is_sent m.ended) (pages_sent (layout k.count) k c.args.packet.now) k) (sym c.keep.ensures.kept.0)))
 
 pub returns-clause-pages_took : goal.returns-clause-pages_took
 returns-clause-pages_took g c = λ call.
@@ -46,7 +46,7 @@ returns-clause-pages_took g c = λ call.
     c.keep.ensures.pages
     ∙ (ap (λ (x : Kept). pages_by d.core.machine x c.args.packet.now d.buf.items) same
     ∙ (by_take d.core.machine.ended d.core.machine k c.args.packet.now d.buf.items d.got.list c.keep.new.self.got.list (c.drive.ensures.call ∙ call) c.keep.ensures.got
-    ∙ ap (λ (m : Machine). cond (is_took m.ended) (pages_took (layout k.count) k (newest c.keep.new.self.got.list)) k) (sym c.keep.ensures.kept.0)))
+    ∙ ap (λ (m : EndMachine). cond (is_took m.ended) (pages_took (layout k.count) k (newest c.keep.new.self.got.list)) k) (sym c.keep.ensures.kept.0)))
 
 pub returns-clause-pages_kept : goal.returns-clause-pages_kept
 returns-clause-pages_kept g c = λ x y.

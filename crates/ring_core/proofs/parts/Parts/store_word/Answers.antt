@@ -2,7 +2,7 @@ use Rattle.std.proofs.Common.{◌≡◌, Some, refl, ap, ◌∙◌, subst}
 use Rattle.page_kept.specs.declared.page_call.PageCall.{PageCall}
 use Rattle.page_kept.specs.declared.page_call.PageCall.TheVariants.{StoreWord}
 use Rattle.page_table.specs.Table.{Table}
-use Rattle.ring_machine.specs.declared.machine.Machine.{Machine}
+use Rattle.ring_machine.specs.declared.machine.EndMachine.{EndMachine}
 use Rattle.ring_machine.specs.declared.page_core.PageCore.{PageCore}
 use Rattle.ring_machine.specs.PageCalls.{page_op, pages_fed}
 use Rattle.ring_core.specs.Told.{answer_of, memory_after, told_page}
@@ -17,5 +17,5 @@ returns-clause-ran g c =
     stored_one it.core.machine it.core.pages it.sent it.got it.past.events it.table c.args.page 0 c.args.word c.args.v s.result (g.S.Seatlike.told it.seat) (g.S.Seatlike.told s.new.seat) (g.S.Seatlike.memory it.seat)
     (g.S.Seatlike.memory s.new.seat) c.set_word.new.self s.new.core.machine s.new.core.pages it.sent it.got it.past.events c.requires.told s.ensures.silent
     (λ u e. s.ensures.tells u e ∙ ap (λ (d : PageCall). Some (told_page u d s.result)) call)
-    (λ y op e n. subst (λ (m : Machine). (g.S.Seatlike.memory s.new.seat ≡ Some (memory_after m.cells op y)) × (s.result ≡ answer_of m.cells op y)) c.begin_page_store.ensures.machine (s.ensures.runs y op e (ap page_op call ∙ n)))
+    (λ y op e n. subst (λ (m : EndMachine). (g.S.Seatlike.memory s.new.seat ≡ Some (memory_after m.cells op y)) × (s.result ≡ answer_of m.cells op y)) c.begin_page_store.ensures.machine (s.ensures.runs y op e (ap page_op call ∙ n)))
     (s.ensures.machine ∙ c.begin_page_store.ensures.machine) refl refl refl (s.ensures.fed ∙ ap pages_fed c.begin_page_store.ensures.pages) (ap (λ (t : Table). t.owners) c.set_word.ensures) (ap (λ (t : Table). t.copy) c.set_word.ensures)

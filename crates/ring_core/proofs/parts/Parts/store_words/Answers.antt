@@ -6,11 +6,11 @@ use Rattle.page_kept.specs.declared.kept.Kept.{Kept}
 use Rattle.page_kept.specs.Keepers.{MayStore}
 use Rattle.page_kept.specs.Layouts.{layout}
 use Rattle.page_kept.specs.Stepped.{page_stored}
-use Rattle.chan_run.specs.declared.past.Past.{Past}
+use Rattle.channel_trace.specs.declared.past.Past.{Past}
 use Rattle.ring_machine.specs.PageCalls.{with_pages}
 use Rattle.ring_machine.specs.States.{resting_with}
 use Rattle.ring_core.specs.Seen.{Listed}
-use Rattle.ring_machine.specs.declared.machine.Machine.{Machine}
+use Rattle.ring_machine.specs.declared.machine.EndMachine.{EndMachine}
 use Rattle.ring_core.specs.Laying.{RanStores, stored_all}
 use Rattle.ring_core.specs.Pages.{kept_of, resting_in}
 use Rattle.ring_core.proofs.Laying.{may_stays, stored_is, stored_more, stores_first, stores_more, stores_told}
@@ -38,10 +38,10 @@ loop-word-init g c =
     }
 
 pub store_word-requires-clause-idle : goal.store_word-requires-clause-idle
-store_word-requires-clause-idle g c = ap (λ (m : Machine). m.stage) c.loop-word.invariant.machine ∙ c.requires.idle
+store_word-requires-clause-idle g c = ap (λ (m : EndMachine). m.stage) c.loop-word.invariant.machine ∙ c.requires.idle
 
 pub store_word-requires-clause-unmarked : goal.store_word-requires-clause-unmarked
-store_word-requires-clause-unmarked g c = ap (λ (m : Machine). m.marked) c.loop-word.invariant.machine ∙ c.requires.unmarked
+store_word-requires-clause-unmarked g c = ap (λ (m : EndMachine). m.marked) c.loop-word.invariant.machine ∙ c.requires.unmarked
 
 pub store_word-requires-clause-fits : goal.store_word-requires-clause-fits
 store_word-requires-clause-fits g c = c.loop-word.invariant.cells
@@ -88,7 +88,7 @@ store_word-requires-clause-may g c =
     let words = take l.word c.args.words.now in
     let stays = may_stays (layout it.core.pages.count) it.core.machine.side base c.args.page l.word c.args.page words (c.requires.may l.word c.loop-word-test.true) in
     let count : l.self.core.pages.count ≡ it.core.pages.count = ap (λ (k : Kept). k.count) (l.invariant.pages ∙ stored_is base c.args.page 0 words) in
-    subst (λ (z : ℕ × Side × Kept). MayStore (layout z.0) z.1 z.2 c.args.page l.word) (λ i. (sym count i, ap (λ (m : Machine). m.side) (sym l.invariant.machine) i, sym l.invariant.pages i)) stays
+    subst (λ (z : ℕ × Side × Kept). MayStore (layout z.0) z.1 z.2 c.args.page l.word) (λ i. (sym count i, ap (λ (m : EndMachine). m.side) (sym l.invariant.machine) i, sym l.invariant.pages i)) stays
 
 pub returns-clause-ran : goal.returns-clause-ran
 returns-clause-ran g c =

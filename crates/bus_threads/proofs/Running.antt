@@ -1,0 +1,248 @@
+-- What both workers of a pair come to, once they ended.
+use Rattle.std.proofs.Common.{◌≡◌, ◌≤◌, ◌+◌, ℕ, length, filter, arith, Bool, true, false, List, [], ◌++◌, map, Option, refl, sym, ap, ◌∙◌, subst}
+use Rattle.std.proofs.lemmas.List.{length-map, append-nil}
+use Rattle.channel_trace.specs.declared.event.Event.{Event}
+use Rattle.channel_trace.specs.Laws.{AreOfOneRun}
+use Rattle.channel_trace.specs.Runs.{sent_of, got_of}
+use Rattle.channel_trace.proofs.Steps.{ends_exchanged}
+use Rattle.bus_model.specs.Orders.{Order, plan_of}
+use Rattle.bus_model.specs.Channel.{IsChannelRun, Carries, replies_to, sent_by, got_by, other}
+use Rattle.bus_model.proofs.FromLists.{serves_first_lem}
+use Rattle.bus_model.specs.Served.{Served}
+use Rattle.script_lines.specs.declared.line.Ask.{Ask}
+use Rattle.bus_script.specs.declared.outcome.Reply.{Reply}
+use Rattle.device_formats.specs.Formats.{besides_on, format_of}
+use Rattle.device_formats.specs.Wants.{startup}
+use Rattle.device_formats.proofs.FormatLaws.{keeps, start_is_fixed}
+use Rattle.device_formats.specs.ChannelScript.{ChannelScript, asks_of}
+use Rattle.device_formats.specs.declared.want.Want.{Want}
+use Rattle.device_formats.specs.declared.want.Want.TheVariants.{Script}
+use Rattle.io_edge.specs.declared.side.Side.{Side}
+use Rattle.io_edge.specs.declared.side.Side.TheVariants.{Guest, Host}
+use Rattle.ring_core.specs.Seen.{Seen}
+use Rattle.ring_pair_laws.specs.Lists.{Lists}
+use Rattle.ring_seat.specs.declared.table_seat.TableSeat.{TableSeat}
+use Rattle.channel_model.specs.Channel.{AskerEnds, ServerEnds, count_of, held_of, IsProtocolRun as Runs}
+use Rattle.channel_model.specs.Roles.{side_that_asks}
+use Rattle.channel_model.specs.WireFormat.{WireFormat}
+use Rattle.worker_requester.specs.Asking.{Asking, AsksAll, AsksBy}
+use Rattle.worker_port.specs.Rooms.{AskedWithin, AskLacksFor, has_room, is_asked, is_broken}
+use Rattle.worker_server.specs.Serving.{Serving, EndsAll, EndsBy, calls_behind}
+use Rattle.worker_port.specs.declared.ended.Ended.{Ended}
+use Rattle.worker_port.specs.declared.ended.Ended.TheVariants.{Marked, PeerMarked, Room, Broken}
+use Rattle.worker_port.proofs.RoomLaws.{never_lacks}
+use Rattle.worker_pair.specs.Leaving.{Leaves, LeavesAsked, LeavesServed, WorkerDone}
+use Rattle.worker_pair.specs.Pairs.{ArePair, PlansAgree}
+use Rattle.worker_pair.specs.Seats.{served_at, device_place, IsSameSeat, at_guest, at_host}
+use Rattle.worker_pair.specs.declared.device_seat.DeviceSeat.{DeviceSeat}
+use Rattle.worker_pair.specs.declared.worker.Worker.{Worker}
+use Rattle.worker_pair.specs.declared.worker.Worker.TheVariants.{Asks, Serves}
+use Rattle.worker_pair.proofs.SeatLaws.{same_place}
+use Rattle.bus_threads.specs.Pairs.{MadeFor, MarkedFirst, RunsPair, ComesBack, ended_at, first_of, is_whole}
+use Rattle.bus_threads.specs.declared.pair.PairDone.{PairDone}
+use Rattle.bus_threads.proofs.Asked.{few_asked}
+use Rattle.bus_threads.proofs.Joining.{BothEnd, told_is, runs}
+use Rattle.bus_threads.proofs.Marks.{asks_so, serves_so, stops_nowhere, marked_first}
+
+-- what the joined ends of a channel tell: their lists, and one run of both
+pub record Joins (asker server : Seen TableSeat) (lists : Lists) (side : Side) : Type 0 where
+  pub one : AreOfOneRun asker.state.past server.state.past
+  pub asker_sent : sent_by side lists ≡ sent_of asker.state.past
+  pub asker_got : got_by side lists ≡ got_of asker.state.past
+  pub server_sent : sent_by (other side) lists ≡ sent_of server.state.past
+  pub server_got : got_by (other side) lists ≡ got_of server.state.past
+
+-- both workers have ended, and their ends were joined
+pub record BothLeave (a : Asking ChannelScript TableSeat Reply) (s : Serving ChannelScript DeviceSeat TableSeat Ask Reply) (asked served : WorkerDone) (lists : Lists) (side : Side) : Type 0 where
+  pub agree : PlansAgree a s
+  pub asker_leaves : LeavesAsked a asked
+  pub server_leaves : LeavesServed s served
+  pub joins : Joins asked.end served.end lists side
+
+is_whole_of : (how : Ended) → has_room how ≡ true → is_broken how ≡ false → is_whole how ≡ true
+is_whole_of Marked is honest = refl
+is_whole_of PeerMarked is honest = refl
+is_whole_of (Room packets words left) is honest = absurd (cc (is))
+is_whole_of Broken is honest = absurd (cc (honest))
+
+-- the one that asks asks no more of the device than the other one has calls for, unless that one stops
+few_for : (a : Asking ChannelScript TableSeat Reply) (s : Serving ChannelScript DeviceSeat TableSeat Ask Reply) (asked : WorkerDone) → PlansAgree a s → LeavesAsked a asked → s.stops ≡ false → length (filter (is_asked (format_of s.responder.protocol.kind)) (sent_of asked.end.state.past)) ≤ s.serve
+few_for a s asked agree leaves go =
+    let kind = a.protocol.kind in
+    let few = few_asked (format_of kind) (keeps kind) asked.ended (startup kind a.protocol.sub a.protocol.subs) (map Script a.protocol.asks) asked.end.state.past asked.replies.items (start_is_fixed kind a.protocol.sub a.protocol.subs) leaves.asks in
+    omega (arith, ap (λ k. length (filter (is_asked (format_of k)) (sent_of asked.end.state.past))) agree.kind, few, length-map a.protocol.asks Script, agree.calls go)
+
+-- neither ended for want of room, or of a call
+both_whole : (a : Asking ChannelScript TableSeat Reply) (s : Serving ChannelScript DeviceSeat TableSeat Ask Reply) (asked served : WorkerDone) (lists : Lists) (side : Side) → BothLeave a s asked served lists side → (is_whole asked.ended ≡ true) × (is_whole served.ended ≡ true)
+both_whole a s asked served lists side both =
+    let kind = s.responder.protocol.kind in
+    let count = length (asks_of a.protocol) in
+    let sent = subst (λ k. AskedWithin (format_of k) count asked.end.state.past) both.agree.kind both.asker_leaves.sent in
+    let lacks = subst (λ k. AskLacksFor (format_of k) (besides_on k) count asked.ended asked.end.state.past) both.agree.kind both.asker_leaves.room in
+    let whole = never_lacks (format_of kind) (besides_on kind) count (s.starts + s.come) s.serve s.stops asked.end.state.past served.end.state.past asked.ended served.ended both.agree.room (few_for a s asked both.agree both.asker_leaves) both.joins.one sent lacks both.server_leaves.sent both.server_leaves.room in
+    (is_whole_of asked.ended whole.0 both.asker_leaves.honest, is_whole_of served.ended whole.1 both.server_leaves.honest)
+
+asks_all : (s : WireFormat (List ℕ) Want Ask Reply) (how : Ended) (asks : List Want) (past : List (Event (List ℕ))) (told : List Reply) → is_whole how ≡ true → AsksBy s how asks past told → AsksAll s asks past told
+asks_all s Marked asks past told whole by = by.0
+asks_all s PeerMarked asks past told whole by = by.0
+asks_all s (Room packets words left) asks past told whole by = absurd (cc (whole))
+asks_all s Broken asks past told whole by = absurd (cc (whole))
+
+ends_all : (s : WireFormat (List ℕ) Want Ask Reply) (besides : Bool) (how : Ended) (w : Serving ChannelScript DeviceSeat TableSeat Ask Reply) (e : Seen TableSeat) (calls : List Served) → is_whole how ≡ true → EndsBy s besides how w e calls → EndsAll s w e.state.past calls
+ends_all s besides Marked w e calls whole by = by.0
+ends_all s besides PeerMarked w e calls whole by = by.0
+ends_all s besides (Room packets words left) w e calls whole by = absurd (cc (whole))
+ends_all s besides Broken w e calls whole by = absurd (cc (whole))
+
+-- the end that asks, for what the phase orders
+asker_ends : (order : Order) (protocol : ChannelScript) (past : List (Event (List ℕ))) (told : List Reply) → protocol ≡ record { kind = order.kind; sub = order.sub; subs = order.subs; asks = order.asks } → AsksAll (format_of protocol.kind) (asks_of protocol) past told
+    → AskerEnds (format_of order.kind) (plan_of order) past told
+asker_ends order protocol past told is all = subst (λ (t : ChannelScript). AsksAll (format_of t.kind) (asks_of t) past told) is all (plan_of order) refl
+
+-- and the one that serves
+server_ends : (order : Order) (seat : DeviceSeat) (a : Asking ChannelScript TableSeat Reply) (s : Serving ChannelScript DeviceSeat TableSeat Ask Reply) (past : List (Event (List ℕ))) (calls : List Served) → MadeFor order seat a s
+    → EndsAll (format_of s.responder.protocol.kind) s past calls → ServerEnds (format_of order.kind) (plan_of order) past calls
+server_ends order seat a s past calls made all =
+    subst (λ k. EndsAll (format_of k) s past calls) made.answers all (plan_of order) (record {
+      serve = made.serve ∙ ap (count_of order.stop) (sym (length-map order.asks Script));
+      held = made.held ∙ ap (held_of order.stop) (sym (length-map order.asks Script));
+      stops = made.stops;
+      starts = made.starts;
+    })
+
+-- the lists of a run are those that the joined ends tell
+lists_are : (side : Side) (order : Order) (a b c d : List (List ℕ)) (lists : Lists) (calls : List Served) → sent_by side lists ≡ a → got_by side lists ≡ b → sent_by (other side) lists ≡ c → got_by (other side) lists ≡ d
+    → Runs (format_of order.kind) (plan_of order) a b c d calls (map (λ c. c.reply) (replies_to order calls)) → Carries side order lists calls
+lists_are side order a b c d lists calls e f g h run =
+    let Of : List (List ℕ) → List (List ℕ) → List (List ℕ) → List (List ℕ) → Type 0 = λ x y z w. Runs (format_of order.kind) (plan_of order) x y z w calls (map (λ c. c.reply) (replies_to order calls)) in
+    subst (λ x. Of x (got_by side lists) (sent_by (other side) lists) (got_by (other side) lists)) (sym e) (subst (λ x. Of a x (sent_by (other side) lists) (got_by (other side) lists)) (sym f)
+    (subst (λ x. Of a b x (got_by (other side) lists)) (sym g) (subst (λ x. Of a b c x) (sym h) run)))
+
+-- the channel ran, and each request that was served was a call of the seat
+pub record RanBy (order : Order) (seat back : DeviceSeat) (lists : Lists) (asked served : WorkerDone) : Type 0 where
+  pub channel : IsChannelRun order lists (served_at back)
+  pub same : IsSameSeat seat back
+  pub serials : served.serials.items ≡ map (λ s. s.serial) (served_at back)
+  pub replies : asked.replies.items ≡ map (λ s. s.reply) (replies_to order (served_at back))
+  pub marks : MarkedFirst order.stop asked.ended served.ended
+
+ran : (order : Order) (seat : DeviceSeat) (a : Asking ChannelScript TableSeat Reply) (s : Serving ChannelScript DeviceSeat TableSeat Ask Reply) (asked served : WorkerDone) (lists : Lists) (side : Side) → side_that_asks order.kind ≡ side → MadeFor order seat a s
+    → (both : BothLeave a s asked served lists side) → RanBy order seat both.server_leaves.back lists asked served
+ran order seat a s asked served lists side at_side made ended =
+    let told = asked.replies.items in
+    let calls = served_at ended.server_leaves.back in
+    let none_before : calls_behind s.responder.before calls ≡ calls = ap (λ l. calls_behind l calls) made.before in
+    let whole = both_whole a s asked served lists side ended in
+    let at : Joins asked.end served.end lists (side_that_asks order.kind) = subst (Joins asked.end served.end lists) (sym at_side) ended.joins in
+    let both : BothEnd order asked.end.state.past served.end.state.past calls told = record {
+      can = made.can;
+      one = at.one;
+      asker_ends = asker_ends order a.protocol asked.end.state.past told made.protocol (asks_all _ asked.ended _ _ _ whole.0 ended.asker_leaves.asks);
+      server_ends = server_ends order seat a s served.end.state.past calls made (ends_all _ _ served.ended _ _ _ whole.1 (subst (λ l. EndsBy (format_of s.responder.protocol.kind) (besides_on s.responder.protocol.kind) served.ended s served.end l) none_before ended.server_leaves.serves));
+    } in
+    let carried : Carries (side_that_asks order.kind) order lists calls =
+    lists_are (side_that_asks order.kind) order _ _ _ _ lists calls at.asker_sent at.asker_got at.server_sent at.server_got (runs order asked.end.state.past served.end.state.past calls told both) in
+    record {
+      channel = record { carried = carried; serves = serves_first_lem (side_that_asks order.kind) order lists calls made.can carried };
+      same = same_place seat ended.server_leaves.back (ended.server_leaves.place ∙ ap device_place made.seat_is);
+      serials = ended.server_leaves.serials ∙ ap (map (λ c. c.serial)) none_before;
+      replies = told_is order asked.end.state.past served.end.state.past calls told both;
+      marks = marked_first order.stop asked.ended served.ended asked.end.state.past served.end.state.past at.one (asks_so _ asked.ended _ _ _ whole.0 ended.asker_leaves.asks) (serves_so _ _ served.ended s served.end _ whole.1 ended.server_leaves.serves)
+          (λ none. stops_nowhere (format_of order.kind) (plan_of order) served.end.state.past calls none both.server_ends);
+    }
+
+-- the done's ends, by the side that asks
+marks_at : (order : Order) (side : Side) (done : PairDone) (asked served : Ended) → side_that_asks order.kind ≡ side → ended_at side done ≡ asked → ended_at (other side) done ≡ served → MarkedFirst order.stop asked served
+    → MarkedFirst order.stop (ended_at (side_that_asks order.kind) done) (ended_at (other (side_that_asks order.kind)) done)
+marks_at order side done asked served at a s first =
+    subst (λ (x : Side). MarkedFirst order.stop (ended_at x done) (ended_at (other x) done)) (sym at) (subst (λ (p : Ended × Ended). MarkedFirst order.stop p.0 p.1) (λ i. (sym a i, sym s i)) first)
+
+-- the seat that comes back
+comes_back : (s : Serving ChannelScript DeviceSeat TableSeat Ask Reply) (served : WorkerDone) (seat : Option DeviceSeat) → seat ≡ served.seat → LeavesServed s served → ComesBack s.responder.seat seat
+comes_back s served seat is leaves = record {
+  same = leaves.back;
+  is_back = is ∙ leaves.seat;
+  place = same_place s.responder.seat leaves.back leaves.place;
+}
+
+-- what a channel comes to is put together from what both workers leave
+pub record Closes (g h : Worker) (guest host : WorkerDone) (done : PairDone) : Type 0 where
+  pub pair : ArePair g h
+  pub guest_leaves : Leaves g guest
+  pub host_leaves : Leaves h host
+  pub run : AreOfOneRun guest.end.state.past host.end.state.past
+  pub guest_sent : done.settled.guest_sent ≡ sent_of guest.end.state.past
+  pub guest_got : done.settled.guest_got ≡ got_of guest.end.state.past
+  pub host_sent : done.settled.host_sent ≡ sent_of host.end.state.past
+  pub host_got : done.settled.host_got ≡ got_of host.end.state.past
+  pub guest_seat : at_guest done.guest_seat ≡ guest.seat
+  pub host_seat : at_host done.host_seat ≡ host.seat
+  pub guest_ended : done.guest ≡ guest.ended
+  pub host_ended : done.host ≡ host.ended
+  pub serials : done.serials.items ≡ guest.serials.items ++ host.serials.items
+  pub replies : done.replies.items ≡ guest.replies.items ++ host.replies.items
+
+none_before : {A : Type 0} (all front back : List A) → all ≡ front ++ back → front ≡ [] → all ≡ back
+none_before {A} all front back is none = is ∙ ap (λ (l : List A). l ++ back) none
+
+none_after : {A : Type 0} (all front back : List A) → all ≡ front ++ back → back ≡ [] → all ≡ front
+none_after {A} all front back is none = is ∙ ap (λ (l : List A). front ++ l) none ∙ append-nil front
+
+guest_asks : (a : Asking ChannelScript TableSeat Reply) (s : Serving ChannelScript DeviceSeat TableSeat Ask Reply) (guest host : WorkerDone) (done : PairDone) → Closes (Asks a) (Serves s) guest host done → BothLeave a s guest host done.settled Guest
+guest_asks a s guest host done closes = record {
+  agree = closes.pair.roles;
+  asker_leaves = closes.guest_leaves;
+  server_leaves = closes.host_leaves;
+  joins = record { one = closes.run; asker_sent = closes.guest_sent; asker_got = closes.guest_got; server_sent = closes.host_sent; server_got = closes.host_got };
+}
+
+host_asks : (a : Asking ChannelScript TableSeat Reply) (s : Serving ChannelScript DeviceSeat TableSeat Ask Reply) (guest host : WorkerDone) (done : PairDone) → Closes (Serves s) (Asks a) guest host done → BothLeave a s host guest done.settled Host
+host_asks a s guest host done closes = record {
+  agree = closes.pair.roles;
+  asker_leaves = closes.host_leaves;
+  server_leaves = closes.guest_leaves;
+  joins = record { one = ends_exchanged _ _ closes.run; asker_sent = closes.host_sent; asker_got = closes.host_got; server_sent = closes.guest_sent; server_got = closes.guest_got };
+}
+
+pub runs_pair : (g h : Worker) (guest host : WorkerDone) (done : PairDone) → Closes g h guest host done → RunsPair (record { guest = g; host = h }) done
+unfolding guest_asks host_asks
+runs_pair (Asks a) (Asks b) guest host done closes = absurd closes.pair.roles
+runs_pair (Asks a) (Serves s) guest host done closes =
+    let both = guest_asks a s guest host done closes in
+    let whole = both_whole a s guest host done.settled Guest both in
+    record {
+      guest = ap is_whole closes.guest_ended ∙ whole.0;
+      host = ap is_whole closes.host_ended ∙ whole.1;
+      seats = (closes.guest_seat ∙ closes.guest_leaves.seat, comes_back s host (at_host done.host_seat) closes.host_seat closes.host_leaves);
+      runs = λ order seat opens.
+          let r = ran order seat a s guest host done.settled Guest opens.0 opens.1 both in
+          record {
+            back = closes.host_leaves.back;
+            serving = ap (λ o. first_of o (at_host done.host_seat)) (closes.guest_seat ∙ closes.guest_leaves.seat) ∙ closes.host_seat ∙ closes.host_leaves.seat;
+            channel = r.channel;
+            same = r.same;
+            serials = none_before done.serials.items guest.serials.items host.serials.items closes.serials closes.guest_leaves.serials ∙ r.serials;
+            replies = none_after done.replies.items guest.replies.items host.replies.items closes.replies closes.host_leaves.replies ∙ r.replies;
+            marks = marks_at order Guest done guest.ended host.ended opens.0 closes.guest_ended closes.host_ended r.marks;
+          };
+    }
+runs_pair (Serves s) (Asks a) guest host done closes =
+    let both = host_asks a s guest host done closes in
+    let whole = both_whole a s host guest done.settled Host both in
+    record {
+      guest = ap is_whole closes.guest_ended ∙ whole.1;
+      host = ap is_whole closes.host_ended ∙ whole.0;
+      seats = (comes_back s guest (at_guest done.guest_seat) closes.guest_seat closes.guest_leaves, closes.host_seat ∙ closes.host_leaves.seat);
+      runs = λ order seat opens.
+          let r = ran order seat a s host guest done.settled Host opens.0 opens.1 both in
+          record {
+            back = closes.guest_leaves.back;
+            serving = ap (λ o. first_of o (at_host done.host_seat)) (closes.guest_seat ∙ closes.guest_leaves.seat);
+            channel = r.channel;
+            same = r.same;
+            serials = none_after done.serials.items guest.serials.items host.serials.items closes.serials closes.host_leaves.serials ∙ r.serials;
+            replies = none_before done.replies.items guest.replies.items host.replies.items closes.replies closes.guest_leaves.replies ∙ r.replies;
+            marks = marks_at order Host done host.ended guest.ended opens.0 closes.host_ended closes.guest_ended r.marks;
+          };
+    }
+runs_pair (Serves s) (Serves t) guest host done closes = absurd closes.pair.roles

@@ -1,0 +1,21 @@
+use Rattle.std.proofs.Common.{◌≡◌, ◌*◌, ◌∙◌, ap, length, arith}
+use Rattle.worker_pair.specs.Plans.{Planned, stop_of}
+use Rattle.worker_pair.specs.Workers.{end_at}
+use Rattle.bus_threads.proofs.Making.{opens, on_channel, made_as}
+use Rattle.bus_threads.proofs.open.open_pair.Goals as goal
+
+pub returns-clause-opens : goal.returns-clause-opens
+returns-clause-opens c =
+    let plan : Planned = record { relid = c.args.relid; kind = c.args.kind; sub = c.args.sub; subs = c.args.subs; window = c.args.window; count = c.len.result; stop = stop_of c.args.stop; asks = c.args.asks.items } in
+    let made = c.in_ok-guest-2 in
+    let count : c.len.result ≡ length c.args.asks.items = omega (arith, c.len.ensures, c.args.asks.ok.0) in
+    opens plan c.args.seat c.paired.result count c.requires.fresh (made_as plan c.args.seat made.guest made.host c.paired.result c.paired.ensures made.ensures.made)
+
+pub returns-clause-channel : goal.returns-clause-channel
+returns-clause-channel c =
+    let plan : Planned = record { relid = c.args.relid; kind = c.args.kind; sub = c.args.sub; subs = c.args.subs; window = c.args.window; count = c.len.result; stop = stop_of c.args.stop; asks = c.args.asks.items } in
+    let ends = c.in_ok-guest in
+    let made = c.in_ok-guest-2 in
+    on_channel plan c.args.seat (512 * c.args.pages) ends.guest ends.host c.paired.result ends.ensures.guest ends.ensures.host
+    (ap (λ w. (end_at w).state) c.paired.ensures.0 ∙ made.ensures.ends.0, ap (λ w. (end_at w).state) c.paired.ensures.1 ∙ made.ensures.ends.1)
+    (made_as plan c.args.seat made.guest made.host c.paired.result c.paired.ensures made.ensures.made)

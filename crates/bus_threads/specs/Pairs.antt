@@ -1,0 +1,138 @@
+-- The two workers of a channel, and what they come to.
+use Rattle.std.specs.Prelude.{ℕ, ◌≡◌, ◌⊎◌, Bool, true, false, List, [], ◌∷◌, length, map, filter, Option, Some, None, is_some}
+use Rattle.ring_seat.specs.declared.table_seat.TableSeat.{TableSeat}
+use Rattle.std.specs.List.{AllByRecursion, filter_map}
+use Rattle.bus_model.specs.Orders.{Order, startup_of}
+use Rattle.bus_model.specs.Channel.{IsChannelRun, served_count, is_held, other, replies_to}
+use Rattle.script_lines.specs.declared.line.Ask.{Ask}
+use Rattle.bus_script.specs.declared.outcome.Reply.{Reply}
+use Rattle.device_formats.specs.Formats.{has_answer_on}
+use Rattle.device_formats.specs.ChannelScript.{ChannelScript}
+use Rattle.device_formats.specs.Wants.{IsAskable}
+use Rattle.worker_pair.specs.Seats.{served_at, IsSameSeat, at_guest, at_host}
+use Rattle.worker_pair.specs.Pairs.{ArePair}
+use Rattle.worker_pair.specs.Workers.{end_at, relid_at, HasWindow, IsOfSide}
+use Rattle.worker_pair.specs.declared.device_seat.DeviceSeat.{DeviceSeat}
+use Rattle.worker_pair.specs.declared.guest_seat.GuestSeat.{GuestSeat}
+use Rattle.worker_pair.specs.declared.host_seat.HostSeat.{HostSeat}
+use Rattle.worker_pair.specs.declared.worker.Worker.{Worker}
+use Rattle.worker_pair.specs.declared.worker.Worker.TheVariants.{Asks, Serves}
+use Rattle.io_edge.specs.declared.side.Side.{Side}
+use Rattle.io_edge.specs.declared.side.Side.TheVariants.{Guest, Host}
+use Rattle.channel_model.specs.Roles.{side_that_asks}
+use Rattle.worker_requester.specs.Asking.{Asking}
+use Rattle.worker_server.specs.Serving.{Serving}
+use Rattle.worker_port.specs.declared.ended.Ended.{Ended}
+use Rattle.worker_port.specs.declared.ended.Ended.TheVariants.{Marked, PeerMarked, Room, Broken}
+use Rattle.bus_threads.specs.declared.pair.PairDone.{PairDone}
+
+-- the guest's worker and the host's
+pub record Pairing : Type 0 where
+  pub guest : Worker
+  pub host : Worker
+
+-- they are of one channel, each of its side
+pub record IsPaired (p : Pairing) : Type 0 where
+  pub pair : ArePair p.guest p.host
+  pub guest : IsOfSide Guest p.guest
+  pub host : IsOfSide Host p.host
+
+-- The workers were made for this order of a channel, whose device has this seat: the one asks what is ordered, and the other serves as many
+-- requests, holds the answer to the last one where the order says so, and stops where the order does
+pub record MadeFor (order : Order) (seat : DeviceSeat) (asker : Asking ChannelScript TableSeat Reply) (server : Serving ChannelScript DeviceSeat TableSeat Ask Reply) : Type 0 where
+  pub can : AllByRecursion (IsAskable order.kind) order.asks
+  pub protocol : asker.protocol ≡ record { kind = order.kind; sub = order.sub; subs = order.subs; asks = order.asks }
+  pub answers : server.responder.protocol.kind ≡ order.kind
+  pub seat_is : server.responder.seat ≡ seat
+  pub before : server.responder.before ≡ []
+  pub serve : server.serve ≡ served_count order
+  pub held : server.responder.held ≡ is_held order
+  pub stops : server.stops ≡ is_some order.stop
+  pub starts : server.starts ≡ length (filter (has_answer_on order.kind) (startup_of order))
+
+-- and the one that asks is at the side that asks such a device
+abbrev pub OpensAt : Order → DeviceSeat → Worker → Worker → Type 0
+OpensAt order seat (Asks a) (Asks b) = ⊥
+OpensAt order seat (Asks a) (Serves s) = (side_that_asks order.kind ≡ Guest) × MadeFor order seat a s
+OpensAt order seat (Serves s) (Asks a) = (side_that_asks order.kind ≡ Host) × MadeFor order seat a s
+OpensAt order seat (Serves s) (Serves t) = ⊥
+
+abbrev pub Opens : Order → DeviceSeat → Pairing → Type 0
+Opens order seat p = OpensAt order seat p.guest p.host
+
+-- both workers have the channel of this relid, whose rings have so many cells, and so many requests can be open on it
+pub record AreOnChannel (relid cells window : ℕ) (p : Pairing) : Type 0 where
+  pub guest_relid : relid_at p.guest ≡ relid
+  pub host_relid : relid_at p.host ≡ relid
+  pub guest_cells : (end_at p.guest).state.machine.cells ≡ cells
+  pub host_cells : (end_at p.host).state.machine.cells ≡ cells
+  pub guest_window : HasWindow window p.guest
+  pub host_window : HasWindow window p.host
+
+-- the seat of the end that served, which is not of two
+abbrev pub first_of : Option DeviceSeat → Option DeviceSeat → Option DeviceSeat
+first_of None host = host
+first_of (Some s) host = Some s
+
+abbrev pub serving_of : GuestSeat → HostSeat → Option DeviceSeat
+serving_of guest host = first_of (at_guest guest) (at_host host)
+
+-- how the worker of this side ended
+abbrev pub ended_at : Side → PairDone → Ended
+ended_at Guest done = done.guest
+ended_at Host done = done.host
+
+-- Which of the two marked its end first. Where the order has no stop it is the one that asks, and the one that serves follows. Where it has one either can, but
+-- they never both follow the other
+abbrev pub MarkedFirst : Option (ℕ × Bool) → Ended → Ended → Type 0
+MarkedFirst None asked served = (asked ≡ Marked) × (served ≡ PeerMarked)
+MarkedFirst (Some stop) asked served = (asked ≡ Marked) ⊎ (served ≡ Marked)
+
+-- A pair with this order and this seat has run: its channel carried what is ordered, each request that was served was a call of the seat, these are the serials
+-- of the calls, and these the replies that came back: all of them but that of the last call where its answer is held. And it says which end marked itself first
+pub record RanPair (order : Order) (seat : DeviceSeat) (done : PairDone) : Type 0 where
+  pub back : DeviceSeat
+  pub serving : serving_of done.guest_seat done.host_seat ≡ Some back
+  pub channel : IsChannelRun order done.settled (served_at back)
+  pub same : IsSameSeat seat back
+  pub serials : done.serials.items ≡ map (λ s. s.serial) (served_at back)
+  pub replies : done.replies.items ≡ map (λ s. s.reply) (replies_to order (served_at back))
+  pub marks : MarkedFirst order.stop (ended_at (side_that_asks order.kind) done) (ended_at (other (side_that_asks order.kind)) done)
+
+-- it ended where its plan ends: not for want of room in its lists, and its end isn't broken
+abbrev pub is_whole : Ended → Bool
+is_whole Marked = true
+is_whole PeerMarked = true
+is_whole (Room packets words left) = false
+is_whole Broken = false
+
+-- the seat of the worker that served, later
+pub record ComesBack (seat : DeviceSeat) (back : Option DeviceSeat) : Type 0 where
+  pub same : DeviceSeat
+  pub is_back : back ≡ Some same
+  pub place : IsSameSeat seat same
+
+-- the seats are the workers': the one that asks has none
+abbrev pub KeepsSeats : Worker → Worker → Option DeviceSeat → Option DeviceSeat → Type 0
+KeepsSeats (Asks a) (Asks b) guest host = ⊥
+KeepsSeats (Asks a) (Serves s) guest host = (guest ≡ None) × ComesBack s.responder.seat host
+KeepsSeats (Serves s) (Asks a) guest host = ComesBack s.responder.seat guest × (host ≡ None)
+KeepsSeats (Serves s) (Serves t) guest host = ⊥
+
+-- both workers of a pair ended where their plans end, with their seats; and for each order that the pair was opened for, it has run
+pub record RunsPair (p : Pairing) (done : PairDone) : Type 0 where
+  pub guest : is_whole done.guest ≡ true
+  pub host : is_whole done.host ≡ true
+  pub seats : KeepsSeats p.guest p.host (at_guest done.guest_seat) (at_host done.host_seat)
+  pub runs : (order : Order) (seat : DeviceSeat) → Opens order seat p → RanPair order seat done
+
+-- each pair has run, in order
+abbrev pub EachRuns : List Pairing → List PairDone → Type 0
+EachRuns [] [] = Unit {0}
+EachRuns [] (d ∷ dones) = ⊥
+EachRuns (p ∷ pairs) [] = ⊥
+EachRuns (p ∷ pairs) (d ∷ dones) = RunsPair p d × EachRuns pairs dones
+
+-- the pairs at those places that have one
+abbrev pub present : List (Option Pairing) → List Pairing
+present = filter_map (λ p. p)

@@ -1,0 +1,63 @@
+//! A channel is opened with its two workers.
+ghost use Rattle.std.specs.Prelude.{◌≡◌, ◌≤◌, ◌*◌, [], length, IfOk};
+ghost use Rattle.worker_pair.specs.Pairs.{ArePair};
+ghost use Rattle.worker_pair.specs.Plans.{AllCarried, CanStop, stop_of};
+ghost use Rattle.worker_pair.specs.Seats.{served_at, kind_at, left_at};
+ghost use Rattle.bus_threads.specs.Pairs.{AreOnChannel, Opens};
+
+use crate::Pair;
+use bus_script::Ask;
+use chan_state::Stop;
+use worker_pair::{ChannelPlan, DeviceSeat, GuestWorker, HostWorker, make_both};
+use contact::Kind;
+use ring_seat::ChannelMem;
+use std::alloc::{AllocError, Global};
+
+// A pair of two workers of one channel.
+fn paired(guest: GuestWorker, host: HostWorker) -> Pair
+    requires { ArePair guest host }
+    ensures { (result.guest ≡ guest) × (result.host ≡ host) }
+{
+    Pair { guest, host }
+}
+
+/// Opens a channel whose rings have so many pages, with its two workers, and takes all memory that they need. `sub` is its number among the channels of its
+/// device, of which `subs` are beside the first one: that one asks for them at the end of its start-up, and a sub-channel has no start-up. The end that serves stops where this says,
+/// which the channel of a disk or of a network alone can.
+pub fn open_pair(
+    alloc: Global,
+    kind: Kind,
+    relid: u32,
+    sub: u16,
+    subs: u32,
+    pages: u32,
+    window: u32,
+    seat: DeviceSeat,
+    asks: Vec<Ask>,
+    stop: Option<Stop>,
+) -> Result<Pair, AllocError>
+    requires kind { kind_at seat ≡ kind }
+    requires stop { CanStop kind (stop_of stop) }
+    requires subs { subs ≤ 3 }
+    requires pages { (1 ≤ pages) × (pages ≤ 16) }
+    requires window { (1 ≤ window) × (window ≤ 64) }
+    requires few { length asks.items ≤ 4096 }
+    requires asks { AllCarried kind asks.items }
+    requires fresh { served_at seat ≡ [] }
+    requires left { length asks.items ≤ left_at seat }
+    ensures opens { IfOk result (Opens (record { kind = kind; sub = sub; subs = subs; asks = asks.items; stop = stop_of stop }) seat) }
+    ensures channel { IfOk result (AreOnChannel relid (512 * pages) window) }
+{
+    let plan = ChannelPlan {
+        relid,
+        kind,
+        sub,
+        subs,
+        window,
+        count: asks.len() as u32,
+        stop,
+    };
+    let (guest, host) = ChannelMem::make(alloc, pages, 0)?;
+    let (guest, host) = make_both(alloc, guest, host, seat, plan, asks)?;
+    Ok(paired(guest, host))
+}

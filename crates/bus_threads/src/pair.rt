@@ -1,0 +1,76 @@
+//! The two workers of a channel.
+ghost use Rattle.std.specs.Prelude.{◌≡◌};
+ghost use Rattle.bus_threads.specs.Pairs.{IsPaired, RunsPair, serving_of};
+
+use crate::close::close;
+use bus_script::Reply;
+use worker_port::Ended;
+use worker_pair::{DeviceSeat, GuestSeat, GuestWorker, HostSeat, HostWorker, Worker, run_both};
+use io_edge::Gate;
+use ring_seat::Settled;
+use std::marker::Model;
+use std::snapshot::Snapshot;
+use std::sync::Wait;
+
+/// The two workers of a channel, before they run. They have the ends of one channel, one asks and the other serves, and the one that serves made room for
+/// all that comes.
+#[derive(Drop)]
+pub struct Pair {
+    pub guest: GuestWorker,
+    pub host: HostWorker,
+}
+
+impl Model for Pair {
+    ghost use Rattle.worker_pair.specs.Pairs.{ArePair};
+    ghost use Rattle.bus_threads.specs.Pairs.{Pairing};
+
+    ghost Value = { Pairing };
+
+    ghost view = { λ p. record { guest = p.guest; host = p.host } };
+
+    ghost invariant = { λ p. ArePair p.guest p.host };
+}
+
+impl Pair {
+    /// Both, as workers of either side.
+    pub(crate) fn into_workers(self) -> (Worker, Worker)
+        ensures pair { IsPaired self }
+        ensures same { (result.0 ≡ self.guest) × (result.1 ≡ self.host) }
+    {
+        let Pair { guest, host } = self;
+        (guest.into_worker(), host.into_worker())
+    }
+}
+
+/// What the two workers of a channel leave: what both ends sent and got, their seats, how they ended, and the serials and replies of the script's
+/// requests.
+#[derive(Drop)]
+pub struct PairDone {
+    pub settled: Settled,
+    pub guest_seat: GuestSeat,
+    pub host_seat: HostSeat,
+    pub guest: Ended,
+    pub host: Ended,
+    pub serials: Vec<u32>,
+    pub replies: Vec<Reply>,
+}
+
+/// The seat of the end that served.
+pub fn serving_seat(guest: GuestSeat, host: HostSeat) -> Option<DeviceSeat>
+    ensures { result ≡ serving_of guest host }
+{
+    match guest.into_device() {
+        None => host.into_device(),
+        Some(seat) => Some(seat),
+    }
+}
+
+/// Runs both workers of a channel by turns on this thread.
+pub fn run_pair<R: Wait, G: Gate>(rt: &R, gate: &G, pair: Pair) -> PairDone
+    ensures { RunsPair pair result }
+{
+    let whole = Snapshot::of(&pair);
+    let (guest, host) = pair.into_workers();
+    let (guest, host) = run_both(rt, gate, guest, host);
+    close(&whole, guest, host)
+}

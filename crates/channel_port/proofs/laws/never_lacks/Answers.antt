@@ -1,5 +1,0 @@
-use Rattle.channel_port.proofs.RoomLaws as laws
-use Rattle.channel_port.proofs.laws.never_lacks.Goals as goal
-
-pub returns : goal.returns
-returns g c = laws.never_lacks

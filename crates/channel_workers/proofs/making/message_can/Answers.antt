@@ -1,5 +1,0 @@
-use Rattle.device_formats.proofs.NetLaws.{sent_can}
-use Rattle.channel_workers.proofs.making.message_can.Goals as goal
-
-pub returns : goal.returns
-returns c = sent_can c.args.message.now c.requires

@@ -1,0 +1,37 @@
+//! Two ends for drivers that run for days: a packet goes through both, and neither keeps it.
+ghost use Rattle.std.specs.Prelude.{◌≡◌, ◌++◌, ◌∷◌, [], IsTrue, None};
+ghost use Rattle.ring_stream.specs.Driven.{IsAwakeEnd, broken};
+
+use ring_core::{Seatlike, is_packet};
+use ring_stream::DriverEnd;
+
+/// Whether an end may make each call but a poll.
+pub fn is_free<S: Seatlike>(end: &DriverEnd<S>) -> bool
+    ensures awake { IsTrue result → IsAwakeEnd end.now.state }
+    ensures whole { IsTrue result → broken end.now.state ≡ None }
+{
+    !end.is_asleep() && !end.is_marked() && end.broken().is_none()
+}
+
+/// Sends a packet by the one end, takes a packet by the other one, and gives its room back. Whether the same words came out.
+pub fn pass_one<S: Seatlike, T: Seatlike>(
+    from: &mut DriverEnd<S>,
+    to: &mut DriverEnd<T>,
+    packet: &[u64],
+) -> bool
+    ensures sent { IsTrue result → from.new.state.sent ≡ from.old.state.sent ++ packet.now ∷ [] }
+    ensures got { IsTrue result → to.new.state.got ≡ to.old.state.got ++ packet.now ∷ [] }
+    ensures room { IsTrue result → to.new.state.machine.start ≡ to.new.state.machine.read }
+{
+    if !is_free(from) || !is_free(to) || !is_packet(packet) {
+        return false;
+    }
+    if packet.len() > 8192 || !from.fits(packet.len() as u32) {
+        return false;
+    }
+    if from.send(packet).is_err() || to.take().is_err() {
+        return false;
+    }
+    to.commit();
+    to.taken() == packet
+}

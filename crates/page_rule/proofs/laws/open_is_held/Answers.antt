@@ -1,5 +1,0 @@
-use Rattle.page_rule.proofs.Holding.{holds_open}
-use Rattle.page_rule.proofs.laws.open_is_held.Goals as goal
-
-pub returns : goal.returns
-returns g = holds_open

@@ -1,5 +1,0 @@
-use Rattle.std.proofs.Common.{arith}
-use Rattle.ring_bench.proofs.words.room_of.Goals as goal
-
-pub returns : goal.returns
-returns c = λ n h. (omega arith, omega arith)

@@ -1,5 +1,0 @@
-use Rattle.ring_seat.specs.Settling.{IsSameEnd}
-use Rattle.ring_tests.proofs.page_seat_tests.give_back_all.Given as goal
-
-abbrev pub invariant-loop : goal.invariant-loop
-invariant-loop g l = IsSameEnd l.fn.e l.e

@@ -1,0 +1,125 @@
+//! Both workers of one channel, on two threads.
+ghost use Rattle.std.specs.Prelude.{◌≡◌, ◌≤◌, false};
+ghost use Rattle.io_edge.specs.declared.side.Side.TheVariants.{Guest as GuestSide, Host as HostSide};
+ghost use Rattle.ring_seat.specs.Seats.{new_end};
+
+use crate::check::check;
+use crate::echo::{Echo, EchoSeat};
+use worker_port::Ended;
+use io_edge::{NoGate, Side};
+use worker_requester::Requester;
+use ring_seat::{ChannelMem, GuestEnd, HostEnd, TableSeat};
+use worker_server::Server;
+use std::alloc::AllocGlobal;
+use std::process::Abort;
+use std::sync::Wait;
+use std::thread::{Threads, join};
+
+// The asks from 0, so many. For the first one no message comes back.
+fn asks(rt: &(impl Abort + AllocGlobal), n: u32) -> Echo {
+    let mut asks = Vec::new(rt.alloc());
+    for i in 0..n {
+        asks.push(u64::from(i)).expect(rt, "memory");
+    }
+    check(rt, asks.len() <= 1000);
+    Echo { asks, starts: 0 }
+}
+
+// A guest's worker that asks so many, with at most `window` open.
+fn asker_of(
+    rt: &(impl Abort + AllocGlobal),
+    end: GuestEnd,
+    count: u32,
+    window: u32,
+) -> Requester<Echo, TableSeat>
+    requires window { (1 ≤ window) × (window ≤ 64) }
+    requires fresh { end.state ≡ new_end 512 GuestSide }
+    ensures { result.end.state.machine.marked ≡ false }
+{
+    let asks = asks(rt, count);
+    Requester::make(rt.alloc(), asks, end, Side::Guest, 1, window).expect(rt, "memory")
+}
+
+// A host's worker that serves so many of those that come. One that stops holds the last answer.
+fn server_of(
+    rt: &(impl Abort + AllocGlobal),
+    end: HostEnd,
+    come: u32,
+    serve: u32,
+    stops: bool,
+) -> Server<Echo, EchoSeat, TableSeat>
+    requires fresh { end.state ≡ new_end 512 HostSide }
+    ensures { result.end.state.machine.marked ≡ false }
+{
+    let alloc = rt.alloc();
+    let protocol = asks(rt, 0);
+    let seat = EchoSeat::make(alloc, serve).expect(rt, "memory");
+    Server::make(
+        alloc,
+        protocol,
+        end,
+        seat,
+        Side::Host,
+        1,
+        0,
+        serve,
+        stops,
+        stops,
+        come,
+    )
+    .expect(rt, "memory")
+}
+
+// How the guest's worker ends, and how many replies it has.
+fn ask(rt: &impl Wait, asker: Requester<Echo, TableSeat>) -> (Ended, usize)
+    requires { asker.end.state.machine.marked ≡ false }
+{
+    let done = asker.run(rt, &NoGate);
+    (done.ended, done.replies.len())
+}
+
+// How the host's worker ends, and how many requests it served.
+fn serve(rt: &impl Wait, server: Server<Echo, EchoSeat, TableSeat>) -> (Ended, usize)
+    requires { server.end.state.machine.marked ≡ false }
+{
+    let done = server.run(rt, &NoGate);
+    (done.ended, done.serials.len())
+}
+
+// How both workers end where the guest asks so many.
+fn run<R: Threads + Wait + Abort + AllocGlobal + Sync>(
+    rt: &R,
+    count: u32,
+    window: u32,
+    serves: u32,
+    stops: bool,
+) -> ((Ended, usize), (Ended, usize))
+    requires { (1 ≤ window) × (window ≤ 64) }
+{
+    let (guest, host) = ChannelMem::make(rt.alloc(), 1, 0).expect(rt, "memory");
+    let asker = asker_of(rt, guest, count, window);
+    let server = server_of(rt, host, count, serves, stops);
+    join(
+        rt,
+        move ||
+            requires { asker.end.state.machine.marked ≡ false }
+        { ask(rt, asker) },
+        move ||
+            requires { server.end.state.machine.marked ≡ false }
+        { serve(rt, server) },
+    )
+}
+
+#[test]
+fn all_is_asked_and_served(rt: HostRuntime) {
+    let (guest, host) = run(&rt, 300, 8, 300, false);
+    check(&rt, guest == (Ended::Marked, 300));
+    check(&rt, host == (Ended::PeerMarked, 300));
+}
+
+#[test]
+fn a_stop_holds_the_last_answer(rt: HostRuntime) {
+    let (guest, host) = run(&rt, 40, 4, 7, true);
+    check(&rt, guest == (Ended::PeerMarked, 6));
+    check(&rt, host == (Ended::Marked, 7));
+}

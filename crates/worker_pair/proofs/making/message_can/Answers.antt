@@ -1,0 +1,5 @@
+use Rattle.device_formats.proofs.NetLaws.{sent_can}
+use Rattle.worker_pair.proofs.making.message_can.Goals as goal
+
+pub returns : goal.returns
+returns c = sent_can c.args.message.now c.requires

@@ -1,0 +1,17 @@
+use Rattle.std.proofs.Common.{◌≡◌}
+use Rattle.ring_seat.specs.declared.table_seat.TableSeat.{TableSeat}
+use Rattle.worker_requester.specs.Asking.{AsksOn}
+use Rattle.worker_server.specs.Serving.{ServesOn}
+use Rattle.worker_pair.specs.Seats.{device_place}
+use Rattle.worker_pair.specs.Leaving.{StandsAsking, StandsServing}
+use Rattle.worker_pair.proofs.turns.by_turns.Given as goal
+
+abbrev pub invariant-loop : goal.invariant-loop
+invariant-loop g l = record {
+  can : (goal.iterator-loop g).can_next l.iterator';
+  ends : (goal.iterator-loop g).is_finite l.iterator';
+  asks : StandsAsking l.asked l.asker;
+  asker : AsksOn (λ (s : TableSeat). s.seat.table_id) l.fn.asker l.asker;
+  serves : StandsServing l.served l.server;
+  server : ServesOn (λ s t. device_place t ≡ device_place s) (λ (s : TableSeat). s.seat.table_id) l.fn.server l.server;
+}

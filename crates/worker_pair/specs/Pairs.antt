@@ -1,0 +1,47 @@
+-- The two workers of a channel.
+use Rattle.std.specs.Prelude.{ℕ, ◌≡◌, ◌≤◌, ◌+◌, false, length, None, Some}
+use Rattle.io_edge.specs.declared.side.Side.{Side}
+use Rattle.io_edge.specs.declared.side.Side.TheVariants.{Guest, Host}
+use Rattle.ring_core.specs.Seen.{Seen}
+use Rattle.ring_seat.specs.Seats.{new_end}
+use Rattle.ring_seat.specs.declared.table_seat.TableSeat.{TableSeat}
+use Rattle.script_lines.specs.declared.line.Ask.{Ask}
+use Rattle.bus_script.specs.declared.outcome.Reply.{Reply}
+use Rattle.device_formats.specs.ChannelScript.{ChannelScript, asks_of}
+use Rattle.ring_seat.specs.Settling.{AreOfOneChannel}
+use Rattle.worker_requester.specs.Asking.{Asking}
+use Rattle.worker_server.specs.Serving.{Serving}
+use Rattle.worker_pair.specs.Plans.{Planned, IsMade}
+use Rattle.worker_pair.specs.Workers.{end_at, IsLive}
+use Rattle.worker_pair.specs.declared.device_seat.DeviceSeat.{DeviceSeat}
+use Rattle.worker_pair.specs.declared.worker.Worker.{Worker}
+use Rattle.worker_pair.specs.declared.worker.Worker.TheVariants.{Asks, Serves}
+
+-- what the one asks is what the other one made room for, and has calls for, unless it stops before: they are of one kind of device
+pub record PlansAgree (a : Asking ChannelScript TableSeat Reply) (s : Serving ChannelScript DeviceSeat TableSeat Ask Reply) : Type 0 where
+  pub kind : a.protocol.kind ≡ s.responder.protocol.kind
+  pub room : length (asks_of a.protocol) ≤ s.starts + s.come
+  pub calls : s.stops ≡ false → length a.protocol.asks ≤ s.serve
+
+-- one asks and the other serves
+abbrev pub AreRoles : Worker → Worker → Type 0
+AreRoles (Asks a) (Asks b) = ⊥
+AreRoles (Asks a) (Serves s) = PlansAgree a s
+AreRoles (Serves s) (Asks a) = PlansAgree a s
+AreRoles (Serves s) (Serves t) = ⊥
+
+-- the guest's worker and the host's worker of one channel: they have its two ends, neither has ended, and their plans agree
+pub record ArePair (guest host : Worker) : Type 0 where
+  pub ends : AreOfOneChannel (end_at guest) (end_at host)
+  pub guest_live : IsLive guest
+  pub host_live : IsLive host
+  pub roles : AreRoles guest host
+
+-- both were made for one plan: the one at the side that asks, and the other one with this seat
+abbrev pub AreMadeAt : Side → Planned → DeviceSeat → Worker → Worker → Type 0
+AreMadeAt Guest p seat guest host = IsMade p None guest × IsMade p (Some seat) host
+AreMadeAt Host p seat guest host = IsMade p (Some seat) guest × IsMade p None host
+
+-- a new end of this side, of rings of 1 to 16 pages
+abbrev pub IsNewEnd : Side → Seen TableSeat → Type 0
+IsNewEnd side e = (cells : ℕ) × (512 ≤ cells) × (cells ≤ 16777216) × (e.state ≡ new_end cells side)

@@ -1,0 +1,65 @@
+-- The workers of a channel, as contracts see them.
+use Rattle.std.specs.Prelude.{ℕ, ◌≡◌, false, length, Option, Some, None}
+use Rattle.io_edge.specs.declared.side.Side.{Side}
+use Rattle.device_formats.specs.Formats.{besides_on, format_of}
+use Rattle.device_formats.specs.ChannelScript.{asks_of}
+use Rattle.ring_core.specs.Seen.{Seen}
+use Rattle.ring_seat.specs.declared.table_seat.TableSeat.{TableSeat}
+use Rattle.ring_seat.specs.Seats.{told_in}
+use Rattle.worker_requester.specs.Asking.{AskTurns, AskEnds, AsksOn}
+use Rattle.worker_requester.specs.Causes.{AskCause}
+use Rattle.worker_server.specs.Causes.{ServeCause}
+use Rattle.worker_server.specs.Serving.{Turns, ServeEnds, ServesOn}
+use Rattle.worker_port.specs.declared.ended.Turn.{Turn}
+use Rattle.worker_pair.specs.Seats.{device_place, left_at, IsAt}
+use Rattle.worker_pair.specs.declared.device_seat.DeviceSeat.{DeviceSeat}
+use Rattle.worker_pair.specs.declared.worker.Worker.{Worker}
+use Rattle.worker_pair.specs.declared.worker.Worker.TheVariants.{Asks, Serves}
+
+-- its end of the channel
+abbrev pub end_at : Worker → Seen TableSeat
+end_at (Asks w) = w.end
+end_at (Serves w) = w.end
+
+-- the relid of its channel
+abbrev pub relid_at : Worker → ℕ
+relid_at (Asks w) = w.relid
+relid_at (Serves w) = w.responder.relid
+
+-- its seat, if it serves
+abbrev pub seat_at : Worker → Option DeviceSeat
+seat_at (Asks w) = None
+seat_at (Serves w) = Some w.responder.seat
+
+-- how many requests it can have open, where it asks
+abbrev pub HasWindow : ℕ → Worker → Type 0
+HasWindow n (Asks w) = length w.table ≡ n
+HasWindow n (Serves w) = Unit {0}
+
+-- it has not ended
+abbrev pub IsLive : Worker → Type 0
+IsLive w = (end_at w).state.machine.marked ≡ false
+
+-- it has the end of this side, and serves no device of the other side
+pub record IsOfSide (side : Side) (w : Worker) : Type 0 where
+  pub end : (end_at w).state.machine.side ≡ side
+  pub seat : IsAt side (seat_at w)
+
+-- how a turn ends, by what the worker does
+abbrev pub Turned : Turn → Worker → Type 0
+Turned turn (Asks w) = AskTurns (format_of w.protocol.kind) (besides_on w.protocol.kind) (asks_of w.protocol) turn w × AskEnds (format_of w.protocol.kind) (besides_on w.protocol.kind) w.starts (asks_of w.protocol) turn w.end.state.past
+Turned turn (Serves w) = Turns left_at (format_of w.responder.protocol.kind) (besides_on w.responder.protocol.kind) turn w × ServeEnds (format_of w.responder.protocol.kind) (besides_on w.responder.protocol.kind) turn w
+
+-- why it went so: what the worker did in it
+abbrev pub Caused : Turn → Worker → Worker → Type 0
+Caused turn (Asks v) (Asks w) = AskCause (λ (s : TableSeat). Some (told_in s.seat.me.0)) (λ (s : TableSeat). None) turn v.end w.end
+Caused turn (Asks v) (Serves w) = ⊥
+Caused turn (Serves v) (Asks w) = ⊥
+Caused turn (Serves v) (Serves w) = ServeCause (λ (s : TableSeat). Some (told_in s.seat.me.0)) (λ (s : TableSeat). None) turn v.end w.end
+
+-- the same worker later
+abbrev pub GoesOn : Worker → Worker → Type 0
+GoesOn (Asks v) (Asks w) = AsksOn (λ (s : TableSeat). s.seat.table_id) v w
+GoesOn (Asks v) (Serves w) = ⊥
+GoesOn (Serves v) (Asks w) = ⊥
+GoesOn (Serves v) (Serves w) = ServesOn (λ s t. device_place t ≡ device_place s) (λ (s : TableSeat). s.seat.table_id) v w

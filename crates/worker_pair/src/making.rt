@@ -1,0 +1,287 @@
+//! The making of a worker.
+ghost use Rattle.std.specs.Prelude.{◌≡◌, ◌≤◌, ◌+◌, [], length, map, filter, is_some, IfOk, None};
+ghost use Rattle.std.specs.List.{AllByRecursion};
+ghost use Rattle.script_lines.specs.Parts.{kind_asked};
+ghost use Rattle.script_lines.specs.Requests.{CanBeCarried, IsSent};
+ghost use Rattle.contact.specs.declared.kind.Kind.TheVariants.{Net as NetKind};
+ghost use Rattle.script_lines.specs.WellFormed.{CanGo};
+ghost use Rattle.script_lines.specs.declared.line.Ask.{Ask as Asked};
+ghost use Rattle.script_lines.specs.declared.line.Ask.TheVariants.{Ic as AskedIc, Disk as AskedDisk, Net as AskedNet};
+ghost use Rattle.device_formats.specs.Disks.{IsDiskAsk};
+ghost use Rattle.device_formats.specs.Formats.{has_answer_on};
+ghost use Rattle.device_formats.specs.Wants.{startup, IsAskable};
+ghost use Rattle.ring_seat.specs.Seats.{new_end};
+ghost use Rattle.worker_pair.specs.Plans.{AllCarried, CanPlan, HasSeat, IsMade, guest_asks, planned, silent, stop_of};
+ghost use Rattle.channel_model.specs.Channel.{count_of, held_of};
+ghost use Rattle.worker_pair.specs.Seats.{served_at, kind_at, left_at, IsAt};
+ghost use Rattle.worker_pair.specs.Workers.{IsOfSide, end_at};
+
+use crate::worker::{ChannelRequester, ChannelServer, Worker};
+use crate::{ChannelPlan, DeviceSeat};
+use bus_script::Ask;
+use chan_state::Stop;
+use channel_protocol::Protocol;
+use contact::Kind;
+use device_protocols::DeviceProtocol;
+use io_edge::Side;
+use worker_requester::Requester;
+use ring_core::End;
+use ring_seat::TableSeat;
+use rndis_msg::Rndis;
+use scsi_disk::DiskRequest;
+use worker_server::Server;
+use std::alloc::{AllocError, Global};
+use util_ic::IcAsk;
+
+// A heartbeat or a shutdown can be asked on its channel. It does nothing.
+fn service_can(kind: Kind, ask: IcAsk)
+    requires { kind_asked (Asked.Ic ask) ≡ kind }
+    ensures { IsAskable kind (Asked.Ic ask) }
+{
+    let _beat = matches!(ask, IcAsk::Beat { .. });
+}
+
+// A command that a disk's channel carries can be asked on it. It does nothing.
+fn disk_can(cdb: &[u8], out: &[u8])
+    requires { CanBeCarried (record { cdb = cdb.now; out = out.now }) }
+    ensures { IsDiskAsk (record { cdb = cdb.now; out = out.now }) }
+{
+    let _len = cdb.len() + out.len();
+}
+
+// A message that a line of a script sends can be asked of an adapter. It does nothing.
+fn message_can(message: &Rndis)
+    requires { IsSent message.now }
+    ensures { IsAskable NetKind (Asked.Net message.now) }
+{
+    let _message = message;
+}
+
+// A request that stands in a script can be asked on its channel. It does nothing.
+fn ask_can(kind: Kind, ask: &Ask)
+    requires kind { kind_asked ask.now ≡ kind }
+    requires goes { CanGo ask.now }
+    ensures { IsAskable kind ask.now }
+{
+    match ask {
+        Ask::Ic(ask) => service_can(kind, *ask),
+        Ask::Disk(request) => disk_can(&request.cdb, request.out.bytes()),
+        Ask::Net(message) => message_can(message),
+    }
+}
+
+// And all of these can be. It does nothing.
+fn all_can(kind: Kind, asks: &[Ask])
+    requires { AllCarried kind asks.now }
+    ensures { AllByRecursion (IsAskable kind) asks.now }
+{
+    for ask in asks {
+        ask_can(kind, ask);
+    }
+}
+
+// What a disk is asked, as requests to any device.
+fn disk_asks(alloc: Global, disk: Vec<DiskRequest>) -> Result<Vec<Ask>, AllocError>
+    ensures { IfOk result (λ asks. asks.items ≡ map AskedDisk disk.items) }
+{
+    let mut asks = Vec::with_capacity(alloc, disk.len())?;
+    for request in disk {
+        asks.push_reserved(Ask::Disk(request));
+    }
+    Ok(asks)
+}
+
+// What an adapter is asked.
+fn net_asks(alloc: Global, net: Vec<Rndis>) -> Result<Vec<Ask>, AllocError>
+    ensures { IfOk result (λ asks. asks.items ≡ map AskedNet net.items) }
+{
+    let mut asks = Vec::with_capacity(alloc, net.len())?;
+    for message in net {
+        asks.push_reserved(Ask::Net(message));
+    }
+    Ok(asks)
+}
+
+/// What a guest asks a device of this kind.
+pub(crate) fn guest_asks(
+    alloc: Global,
+    kind: Kind,
+    disk: Vec<DiskRequest>,
+    net: Vec<Rndis>,
+) -> Result<Vec<Ask>, AllocError>
+    ensures { IfOk result (λ asks. asks.items ≡ guest_asks kind disk.items net.items) }
+{
+    match kind {
+        Kind::Beat => Ok(Vec::new(alloc)),
+        Kind::Down => Ok(Vec::new(alloc)),
+        Kind::Disk => disk_asks(alloc, disk),
+        Kind::Net => net_asks(alloc, net),
+    }
+}
+
+/// What a service is asked.
+pub(crate) fn ic_asks(alloc: Global, asks: Vec<IcAsk>) -> Result<Vec<Ask>, AllocError>
+    ensures { IfOk result (λ all. all.items ≡ map AskedIc asks.items) }
+{
+    let mut all = Vec::with_capacity(alloc, asks.len())?;
+    for ask in asks {
+        all.push_reserved(Ask::Ic(ask));
+    }
+    Ok(all)
+}
+
+/// A worker that asks.
+pub(crate) fn make_asker(
+    alloc: Global,
+    side: Side,
+    end: End<TableSeat>,
+    relid: u32,
+    kind: Kind,
+    sub: u32,
+    subs: u32,
+    window: u32,
+    asks: Vec<Ask>,
+) -> Result<ChannelRequester, AllocError>
+    requires subs { subs ≤ 3 }
+    requires window { (1 ≤ window) × (window ≤ 64) }
+    requires few { length asks.items ≤ 4096 }
+    requires asks { AllCarried kind asks.items }
+    requires fresh { end.state ≡ new_end end.state.machine.cells end.state.machine.side }
+    requires size { (512 ≤ end.state.machine.cells) × (end.state.machine.cells ≤ 16777216) }
+    requires side { side ≡ end.state.machine.side }
+    ensures can { IfOk result (λ w. AllByRecursion (IsAskable kind) asks.items) }
+    ensures protocol { IfOk result (λ w. w.protocol ≡ record { kind = kind; sub = sub; subs = subs; asks = asks.items }) }
+    ensures relid { IfOk result (λ w. w.relid ≡ relid) }
+    ensures starts { IfOk result (λ w. w.starts ≡ length (startup kind sub subs)) }
+    ensures window { IfOk result (λ w. length w.table ≡ window) }
+    ensures end { IfOk result (λ w. (w.end.state ≡ end.state) × (w.end.seat ≡ end.seat)) }
+{
+    all_can(kind, &asks);
+    let protocol = DeviceProtocol::make(kind, sub, subs, asks);
+    Requester::make(alloc, protocol, end, side, relid, window)
+}
+
+// How many of so many requests are served.
+fn serve_count(stop: Option<Stop>, count: u32) -> u32
+    ensures value { result ≡ count_of (stop_of stop) count }
+    ensures most { result ≤ count }
+{
+    match stop {
+        None => count,
+        Some(stop) => stop.after.min(count),
+    }
+}
+
+// Whether nothing goes back for the last of them.
+fn is_held(stop: Option<Stop>, count: u32) -> bool
+    ensures { result ≡ held_of (stop_of stop) count }
+{
+    match stop {
+        None => false,
+        Some(stop) => stop.held && stop.after <= count,
+    }
+}
+
+// How many requests of a channel's start-up have no answer: that of a network tells the host a version.
+fn count_silent(kind: Kind, sub: u32) -> u32
+    ensures value { result ≡ silent kind sub }
+    ensures most { result ≤ 1 }
+{
+    match kind {
+        Kind::Beat | Kind::Down | Kind::Disk => 0,
+        Kind::Net => if sub == 0 { 1 } else { 0 },
+    }
+}
+
+/// A worker that serves.
+pub(crate) fn make_server(
+    alloc: Global,
+    side: Side,
+    end: End<TableSeat>,
+    seat: DeviceSeat,
+    relid: u32,
+    kind: Kind,
+    sub: u32,
+    subs: u32,
+    count: u32,
+    stop: Option<Stop>,
+) -> Result<ChannelServer, AllocError>
+    requires subs { subs ≤ 3 }
+    requires kind { kind_at seat ≡ kind }
+    requires left { count ≤ left_at seat }
+    requires few { count ≤ 4096 }
+    requires fresh { end.state ≡ new_end end.state.machine.cells end.state.machine.side }
+    requires size { (512 ≤ end.state.machine.cells) × (end.state.machine.cells ≤ 16777216) }
+    requires side { side ≡ end.state.machine.side }
+    ensures relid { IfOk result (λ w. w.responder.relid ≡ relid) }
+    ensures protocol { IfOk result (λ w. (w.responder.protocol.kind ≡ kind) × (w.responder.seat ≡ seat) × (w.responder.before ≡ served_at seat)) }
+    ensures orders { IfOk result (λ w. (w.serve ≡ count_of (stop_of stop) count) × (w.responder.held ≡ held_of (stop_of stop) count) × (w.stops ≡ is_some (stop_of stop))) }
+    ensures come { IfOk result (λ w. w.starts + w.come ≡ length (startup kind sub subs) + count) }
+    ensures starts { IfOk result (λ w. w.starts ≡ length (filter (has_answer_on kind) (startup kind sub subs))) }
+    ensures end { IfOk result (λ w. (w.end.state ≡ end.state) × (w.end.seat ≡ end.seat)) }
+{
+    let protocol = DeviceProtocol::make(kind, sub, subs, Vec::new(alloc));
+    let silent = count_silent(kind, sub);
+    let all = protocol.starts();
+    let starts = all - silent;
+    let serve = serve_count(stop, count);
+    let held = is_held(stop, count);
+    let stops = stop.is_some();
+    Server::make(
+        alloc,
+        protocol,
+        end,
+        seat,
+        side,
+        relid,
+        starts,
+        serve,
+        held,
+        stops,
+        count + silent,
+    )
+}
+
+/// A worker at this side: it serves where it has a seat, and asks where it has none.
+pub(crate) fn make_worker(
+    alloc: Global,
+    side: Side,
+    end: End<TableSeat>,
+    seat: Option<DeviceSeat>,
+    plan: ChannelPlan,
+    asks: Vec<Ask>,
+) -> Result<Worker, AllocError>
+    requires plan { CanPlan side (planned plan asks.items) }
+    requires seat { HasSeat side (planned plan asks.items) seat }
+    requires side { IsAt side seat }
+    requires fresh { end.state ≡ new_end end.state.machine.cells side }
+    requires size { (512 ≤ end.state.machine.cells) × (end.state.machine.cells ≤ 16777216) }
+    ensures made { IfOk result (IsMade (planned plan asks.items) seat) }
+    ensures end { IfOk result (λ w. ((end_at w).state ≡ end.state) × ((end_at w).seat ≡ end.seat)) }
+    ensures side { IfOk result (IsOfSide side) }
+{
+    let sub = u32::from(plan.sub);
+    match seat {
+        None => {
+            let asker = make_asker(
+                alloc,
+                side,
+                end,
+                plan.relid,
+                plan.kind,
+                sub,
+                plan.subs,
+                plan.window,
+                asks,
+            )?;
+            Ok(Worker::Asks(asker))
+        }
+        Some(seat) => {
+            let server = make_server(
+                alloc, side, end, seat, plan.relid, plan.kind, sub, plan.subs, plan.count,
+                plan.stop,
+            )?;
+            Ok(Worker::Serves(server))
+        }
+    }
+}

@@ -1,0 +1,10 @@
+use Rattle.std.proofs.Common.{◌≡◌, ap, ◌-◌, length, arith, subst, Some}
+use Rattle.std.specs.Prelude.{slice_get}
+use Rattle.worker_port.proofs.PortLaws.{last_is}
+use Rattle.worker_port.proofs.port.Port.last.Goals as goal
+
+pub returns-clause-value : goal.returns-clause-value
+returns-clause-value g c =
+    λ before p e.
+    let i = c.got_len.result - 1 in
+    last_is before p c.got.result.now i (omega (arith, c.requires, c.got_len.ensures, ap length e)) (subst (λ l. slice_get l i ≡ Some c.got.result.now) e c.got.ensures.value)

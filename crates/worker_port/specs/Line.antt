@@ -1,0 +1,155 @@
+-- One end of a channel, as its worker sees it.
+use Rattle.std.specs.Prelude.{ℕ, ◌≡◌, ◌<◌, ◌≤◌, ◌⊎◌, Bool, true, false, List, [], ◌∷◌, ◌++◌, slice_get, Option, Some, None, is_some, Result, Ok, Err}
+use Rattle.channel_trace.specs.declared.event.Event.{Event}
+use Rattle.channel_trace.specs.declared.event.Event.TheVariants.{Sent, Got, Empty, Saw}
+use Rattle.channel_trace.specs.Runs.{got_of, has_marked}
+use Rattle.ring_machine.specs.declared.machine.Stage.TheVariants.{Idle, Stopped}
+use Rattle.ring_machine.specs.declared.last.Armed.{Armed}
+use Rattle.ring_machine.specs.declared.last.Armed.TheVariants.{Asleep, Work as ArmedWork}
+use Rattle.ring_machine.specs.declared.machine.Ending.{Ending}
+use Rattle.ring_machine.specs.declared.machine.Ending.TheVariants.{FellAsleep, FoundWork, NoSignal, Woke}
+use Rattle.ring_machine.specs.declared.state.EndState.{EndState}
+use Rattle.ring_machine.specs.Endings.{want_of}
+use Rattle.ring_core.specs.Seen.{Seen}
+use Rattle.ring_machine.specs.States.{IsPacket, resting}
+use Rattle.ring_machine.specs.Steps.{is_busy_at, machine_new, poll_begun}
+use Rattle.io_edge.specs.declared.side.Side.{Side}
+use Rattle.ring_core.specs.declared.told.Told.{Told}
+use Rattle.ring_core.specs.Told.{Memory, MakesSteps}
+use Rattle.ring_machine.specs.declared.last.Signalled.{Signalled}
+use Rattle.ring_machine.specs.declared.last.SendRefusal.{SendRefusal}
+use Rattle.ring_machine.specs.declared.last.SendRefusal.TheVariants.{Full as SendFull}
+use Rattle.ring_machine.specs.declared.last.TakeRefusal.{TakeRefusal}
+use Rattle.ring_machine.specs.declared.last.TakeRefusal.TheVariants.{Empty as TakeEmpty}
+use Rattle.worker_port.specs.declared.found.Tried.{Tried}
+use Rattle.worker_port.specs.declared.found.Tried.TheVariants.{Sent as TriedSent, Full as TriedFull, Broken as TriedBroken}
+use Rattle.worker_port.specs.declared.found.Found.{Found}
+use Rattle.worker_port.specs.declared.found.Found.TheVariants.{Packet as FoundPacket, Nothing as FoundNothing, Broken as FoundBroken}
+use Rattle.worker_port.specs.declared.port.ArmResult.{ArmResult}
+use Rattle.worker_port.specs.declared.port.ArmResult.TheVariants.{Nothing, Work, Mark}
+
+-- a new end of a channel whose rings have n cells
+abbrev pub new_end : ℕ → Side → EndState
+new_end n x = resting (machine_new x n) [] [] []
+
+-- between two calls of a worker: the list of what was got is that of the end's past, the cells of each packet in it were given back, and the channel has no
+-- data pages. No call is under way; where the end sleeps, or the seat tells the end's state, the end isn't stopped
+pub record IsLine {S : Type 0} (told : S → Option Told) (e : Seen S) : Type 0 where
+  pub rests : is_busy_at e.state.machine.stage ≡ false
+  pub dozes : e.state.machine.asleep ≡ true → e.state.machine.stage ≡ Idle
+  pub honest : is_some (told e.seat) ≡ true → e.state.machine.stage ≡ Idle
+  pub got : got_of e.state.past ≡ e.state.got
+  pub packets : (i : ℕ) (p : List ℕ) → slice_get e.state.got i ≡ Some p → IsPacket p
+  pub committed : e.state.machine.start ≡ e.state.machine.read
+  pub mark : e.state.machine.marked ≡ has_marked e.state.past
+  pub size : (512 ≤ e.state.machine.cells) × (e.state.machine.cells ≤ 16777216)
+  pub bare : e.state.pages.count ≡ 0
+
+-- it can begin a call
+pub record IsReady {S : Type 0} (e : Seen S) : Type 0 where
+  pub idle : e.state.machine.stage ≡ Idle
+  pub awake : e.state.machine.asleep ≡ false
+  pub unmarked : e.state.machine.marked ≡ false
+
+-- a call that it made loaded a value that breaks the rings' rules: it makes no step any more
+pub record IsBroken {S : Type 0} (e : Seen S) : Type 0 where
+  pub stopped : e.state.machine.stage ≡ Stopped
+  pub awake : e.state.machine.asleep ≡ false
+  pub unmarked : e.state.machine.marked ≡ false
+
+-- after a send, and after a take
+abbrev pub Tries : {S : Type 0} → Tried → Seen S → Type 0
+Tries TriedSent e = IsReady e
+Tries TriedFull e = IsReady e
+Tries TriedBroken e = IsBroken e
+
+abbrev pub Finds : {S : Type 0} → Found → Seen S → Type 0
+Finds FoundPacket e = IsReady e
+Finds FoundNothing e = IsReady e
+Finds FoundBroken e = IsBroken e
+
+-- what became of a packet, by the answer of the send
+abbrev pub tried_of : Result Signalled SendRefusal → Tried
+tried_of (Ok how) = TriedSent
+tried_of (Err (SendFull free need)) = TriedFull
+tried_of (Err why) = TriedBroken
+
+-- what a take found, by its refusal
+abbrev pub found_of : Option TakeRefusal → Found
+found_of None = FoundPacket
+found_of (Some (TakeEmpty at)) = FoundNothing
+found_of (Some why) = FoundBroken
+
+abbrev pub has_packet : Found → Bool
+has_packet FoundPacket = true
+has_packet FoundNothing = false
+has_packet FoundBroken = false
+
+-- what a send adds to the past
+abbrev pub past_tried : Tried → List ℕ → List (Event (List ℕ)) → List (Event (List ℕ))
+past_tried TriedSent p past = Sent p ∷ past
+past_tried TriedFull p past = past
+past_tried TriedBroken p past = past
+
+-- a later state of one and the same end
+pub record IsSameEnd {S C : Type 0} (channel : S → C) (old new : Seen S) : Type 0 where
+  pub seat : channel new.seat ≡ channel old.seat
+  pub side : new.state.machine.side ≡ old.state.machine.side
+
+-- one and the same end, with the same cells
+pub record Stays {S C : Type 0} (channel : S → C) (told : S → Option Told) (old new : Seen S) : Type 0 where
+  pub tells : is_some (told new.seat) ≡ is_some (told old.seat)
+  pub same : IsSameEnd channel old new
+  pub cells : new.state.machine.cells ≡ old.state.machine.cells
+
+-- a packet was taken, or none waited, or what stood there was refused
+abbrev pub TookOne : Found → EndState → EndState → Type 0
+TookOne FoundPacket old new = (p : List ℕ) × (new.past ≡ Got p ∷ old.past) × (new.got ≡ old.got ++ p ∷ []) × IsPacket p
+TookOne FoundNothing old new = (new.past ≡ Empty ∷ old.past) × (new.got ≡ old.got)
+TookOne FoundBroken old new = (new.past ≡ old.past) × (new.got ≡ old.got)
+
+-- what the looks of an arm add to the past
+abbrev pub looked : ArmResult → List (Event (List ℕ)) → List (Event (List ℕ))
+looked Nothing past = past
+looked Work past = past
+looked Mark past = Saw ∷ past
+
+-- what an arm found, by its answer and whether it saw the mark
+abbrev pub look_of : Armed → Bool → ArmResult
+look_of Asleep saw = Nothing
+look_of ArmedWork true = Mark
+look_of ArmedWork false = Work
+
+abbrev pub is_asleep : ArmResult → Bool
+is_asleep Nothing = true
+is_asleep Work = false
+is_asleep Mark = false
+
+-- how the arm ended that found so
+abbrev pub armed_by : ArmResult → Ending
+armed_by Nothing = FellAsleep
+armed_by Work = FoundWork
+armed_by Mark = FoundWork
+
+-- how the exchange of the signal ended, which was up or down
+abbrev pub polled_by : Bool → Ending
+polled_by true = Woke
+polled_by false = NoSignal
+
+-- its signal was exchanged once
+abbrev pub PolledOnce : {S : Type 0} → (S → Option Told) → (S → Option Memory) → Seen S → Seen S → Type 0
+PolledOnce told memory old new = MakesSteps told memory (poll_begun old.state.machine) [] old new
+
+-- it is asleep, and waits for this room
+pub record SleepsFor {S : Type 0} (want : Option ℕ) (e : Seen S) : Type 0 where
+  pub asleep : e.state.machine.asleep ≡ true
+  pub want_is : e.state.machine.want ≡ want_of want
+
+-- the next packet lacks the room of the list of what was got
+pub record LacksTake {S : Type 0} (packets words : ℕ) (e : Seen S) : Type 0 where
+  pub packets_is : packets ≡ e.spare_got.packets
+  pub words_is : words ≡ e.spare_got.words
+  pub lacks : (packets ≡ 0) ⊎ (words < e.state.machine.cells)
+
+abbrev pub HasTakeRoom : {S : Type 0} → Seen S → Type 0
+HasTakeRoom e = (0 < e.spare_got.packets) × (e.state.machine.cells ≤ e.spare_got.words)

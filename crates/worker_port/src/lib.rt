@@ -1,0 +1,16 @@
+//! One end of a channel as a worker uses it: the port over the end, the buffer in which a packet is written, the room that is reserved, and how a worker's
+//! turn goes and ends.
+#![tactic(auto)]
+
+mod ended;
+mod found;
+pub mod laws;
+mod port;
+mod room;
+mod packet_buffer;
+
+pub use ended::{Ended, Turn};
+pub use found::{Found, Tried};
+pub use port::{ArmResult, Port};
+pub use room::room_of;
+pub use packet_buffer::PacketBuffer;

@@ -1,0 +1,304 @@
+//! One end of a channel, as its worker uses it.
+ghost use Rattle.std.specs.Prelude.{◌≡◌, ◌≢◌, ◌<◌, ◌≤◌, ◌+◌, ◌*◌, ◌^◌, ◌++◌, [], ◌∷◌, ℕ, List, true, false, not, length, slice_get, is_some, Some, IfOk, OnOk, MatchOption, if◌then◌else◌};
+ghost use Rattle.channel_trace.specs.declared.event.Event.TheVariants.{Marked};
+ghost use Rattle.channel_trace.specs.Runs.{got_of, has_marked};
+ghost use Rattle.ring_machine.specs.Endings.{want_of};
+ghost use Rattle.ring_machine.specs.declared.machine.Stage.TheVariants.{Idle};
+ghost use Rattle.worker_port.specs.declared.found.Tried.TheVariants.{Sent as SentTry, Full as FullTry, Broken as BrokenTry};
+ghost use Rattle.worker_port.specs.declared.found.Found.TheVariants.{Packet as PacketFind, Broken as BrokenFind};
+ghost use Rattle.ring_machine.specs.States.{IsPacket};
+ghost use Rattle.worker_port.specs.Owed.{HasSendRoom, IsNeed, LacksSendOf};
+ghost use Rattle.worker_port.specs.Rooms.{GotInto, KeepsRoom, SentInto};
+ghost use Rattle.worker_port.specs.Line.{new_end, IsBroken, IsReady, Tries, Finds, past_tried, Stays, TookOne, looked, look_of, is_asleep, armed_by, polled_by, PolledOnce, HasTakeRoom, LacksTake};
+
+use crate::found::{Found, Tried, found_by, has_packet, tried_by};
+use ring_sleep::{Parks, sleep};
+use ring_core::{Armed, End, Room};
+use std::alloc::AllocError;
+use std::marker::Model;
+use std::sync::Wait;
+
+/// What the looks of an arm found.
+#[derive(Clone, Copy)]
+pub enum ArmResult {
+    /// Nothing: the end is asleep.
+    Nothing,
+    /// Packets, or the room that was wanted.
+    Work,
+    /// The peer's mark.
+    Mark,
+}
+
+/// An end of a channel whose peer is one of this program's. It gives the cells of a packet back as soon as it took it.
+#[derive(Drop)]
+pub struct Port<S: Parks> {
+    end: End<S>,
+}
+
+impl<S: Parks> Model for Port<S> {
+    ghost use Rattle.ring_core.specs.Seen.{Seen};
+    ghost use Rattle.worker_port.specs.Line.{IsLine};
+
+    ghost Value = { Seen S };
+
+    ghost view = { λ p. p.end };
+
+    ghost invariant = { λ p. IsLine S.told p.end };
+}
+
+impl<S: Parks + Drop> Port<S> {
+    // A port over a new end, whose rings have 512 to 16,777,216 cells.
+    fn over(end: End<S>) -> Port<S>
+        requires fresh { end.state ≡ new_end end.state.machine.cells end.state.machine.side }
+        requires size { (512 ≤ end.state.machine.cells) × (end.state.machine.cells ≤ 16777216) }
+        ensures { result ≡ end }
+    {
+        Port { end }
+    }
+
+    // Makes room in both lists of packets.
+    fn reserve(&mut self, sent: Room, got: Room) -> Result<(), AllocError>
+        ensures state { (self.new.state ≡ self.old.state) × (self.new.seat ≡ self.old.seat) }
+        ensures room { OnOk result ((sent.packets ≤ self.new.spare_sent.packets) × (sent.words ≤ self.new.spare_sent.words) × (got.packets ≤ self.new.spare_got.packets) × (got.words ≤ self.new.spare_got.words)) }
+    {
+        self.end.reserve(sent, got)
+    }
+
+    /// A port over a new end, whose rings have 512 to 16,777,216 cells. It makes room for so many packets each way, and of what comes for one more, and the words
+    /// of a whole ring besides 384 for each. Afterwards neither `send` nor `take` allocates.
+    pub fn with_room(end: End<S>, packets: u64) -> Result<Port<S>, AllocError>
+        requires fresh { end.state ≡ new_end end.state.machine.cells end.state.machine.side }
+        requires size { (512 ≤ end.state.machine.cells) × (end.state.machine.cells ≤ 16777216) }
+        requires few { packets ≤ 2 ^ 34 }
+        ensures end { IfOk result (λ p. (p.state ≡ end.state) × (p.seat ≡ end.seat)) }
+        ensures room { IfOk result (λ p. KeepsRoom packets p) }
+    {
+        let mut port = Port::over(end);
+        let cells = port.cells() as u64;
+        let sent = Room {
+            packets,
+            words: 384 * packets,
+        };
+        let got = Room {
+            packets: packets + 1,
+            words: 384 * packets + cells,
+        };
+        match port.reserve(sent, got) {
+            Ok(()) => Ok(port),
+            Err(refused) => {
+                drop(port);
+                Err(refused)
+            }
+        }
+    }
+
+    /// The packets and words for which the list of what was got has room.
+    pub fn spare_got(&self) -> Room
+        ensures value { result ≡ self.now.spare_got }
+        ensures got { got_of self.now.state.past ≡ self.now.state.got }
+    {
+        self.end.spare_got()
+    }
+
+    /// The room that is left of the list of what was got, where it is too little for the next packet.
+    pub fn lacks_take(&self) -> Option<Room>
+        ensures lacks { MatchOption result (HasTakeRoom self.now) (λ r. LacksTake r.packets r.words self.now) }
+        ensures got { got_of self.now.state.past ≡ self.now.state.got }
+    {
+        let room = self.end.spare_got();
+        if room.packets == 0 || room.words < self.end.cells() as u64 {
+            return Some(room);
+        }
+        None
+    }
+
+    /// The room that is left of the list of what was sent, where it is too little for this packet.
+    pub fn lacks_send(&self, packet: &[u64]) -> Option<Room>
+        requires { length packet.now ≤ 384 }
+        ensures lacks { MatchOption result (HasSendRoom packet.now self.now) (λ r. LacksSendOf r.packets r.words packet.now self.now) }
+        ensures got { got_of self.now.state.past ≡ self.now.state.got }
+    {
+        let room = self.end.spare_sent();
+        if room.packets == 0 || room.words < packet.len() as u64 {
+            return Some(room);
+        }
+        None
+    }
+
+    /// Whether it is broken, where it neither sleeps nor is marked.
+    pub fn is_broken(&self) -> bool
+        requires awake { (self.now.state.machine.asleep ≡ false) × (self.now.state.machine.marked ≡ false) }
+        ensures broken { result ≡ true → IsBroken self.now }
+        ensures ready { result ≡ false → IsReady self.now }
+        ensures honest { is_some (S.told self.now.seat) ≡ true → result ≡ false }
+    {
+        !self.end.is_ready()
+    }
+
+    // The cells of each ring.
+    fn cells(&self) -> u32
+        ensures value { result ≡ self.now.state.machine.cells }
+        ensures most { result ≤ 16777216 }
+    {
+        self.end.cells()
+    }
+
+    /// Whether it sleeps until its signal is up.
+    pub fn is_asleep(&self) -> bool
+        ensures { result ≡ self.now.state.machine.asleep }
+    {
+        self.end.is_asleep()
+    }
+
+    /// How many packets were got.
+    pub fn got_len(&self) -> usize
+        ensures { result ≡ length self.now.state.got }
+    {
+        self.end.got().len()
+    }
+
+    /// The i-th packet that was got.
+    pub fn got(&self, i: usize) -> &[u64]
+        requires { i < length self.now.state.got }
+        ensures value { slice_get self.now.state.got i ≡ Some result.now }
+        ensures packet { IsPacket result.now }
+    {
+        match self.end.got().get(i) {
+            Some(packet) => packet,
+            None => unreachable!(),
+        }
+    }
+
+    /// The packet that was got last, where one was.
+    pub fn last(&self) -> &[u64]
+        requires { 0 < length self.now.state.got }
+        ensures value { (before : List (List ℕ)) (p : List ℕ) → self.now.state.got ≡ before ++ p ∷ [] → result.now ≡ p }
+        ensures packet { IsPacket result.now }
+    {
+        self.got(self.got_len() - 1)
+    }
+
+    /// Sends a packet, if the ring has room for it. The signal is raised where the peer waits for it. Where the peer's read index is in no form the end is broken,
+    /// which can't be where the seat tells its end's state.
+    pub fn send(&mut self, packet: &[u64]) -> Tried
+        requires ready { IsReady self.old }
+        requires packet { IsPacket packet.now }
+        requires most { length packet.now ≤ 384 }
+        requires room { HasSendRoom packet.now self.old }
+        ensures past { self.new.state.past ≡ past_tried result packet.now self.old.state.past }
+        ensures tries { Tries result self.new }
+        ensures honest { is_some (S.told self.old.seat) ≡ true → result ≢ BrokenTry }
+        ensures stays { Stays S.channel S.told self.old self.new }
+        ensures got { (self.new.state.got ≡ self.old.state.got) × (self.new.spare_got ≡ self.old.spare_got) }
+        ensures unmarked { has_marked self.old.state.past ≡ false }
+        ensures unsent { result ≢ SentTry → self.new.spare_sent ≡ self.old.spare_sent }
+        ensures found { result ≡ FullTry → (self.new.state.machine.room ≤ length packet.now + 1) × (self.new.state.machine.words ≡ length packet.now) }
+        ensures into { SentInto (length packet.now) self.old self.new }
+    {
+        tried_by(self.end.send(packet))
+    }
+
+    /// Takes the first packet that waits, if one does, and gives its cells back. Where what it loads is no packet the end is broken, which can't be where the
+    /// seat tells its end's state.
+    pub fn take(&mut self) -> Found
+        requires ready { IsReady self.old }
+        requires room { (0 < self.old.spare_got.packets) × (self.old.state.machine.cells ≤ self.old.spare_got.words) }
+        ensures list { got_of self.old.state.past ≡ self.old.state.got }
+        ensures took { TookOne result self.old.state self.new.state }
+        ensures finds { Finds result self.new }
+        ensures honest { is_some (S.told self.old.seat) ≡ true → result ≢ BrokenFind }
+        ensures stays { Stays S.channel S.told self.old self.new }
+        ensures sent { self.new.spare_sent ≡ self.old.spare_sent }
+        ensures none { result ≢ PacketFind → (self.new.state.got ≡ self.old.state.got) × (self.new.spare_got ≡ self.old.spare_got) }
+        ensures into { GotInto self.old self.new }
+    {
+        let found = found_by(self.end.take_in());
+        if !has_packet(found) {
+            return found;
+        }
+        self.end.commit();
+        found
+    }
+
+    /// Arms the signal, and looks once more for packets, for the room in bytes that is wanted, and for the peer's mark. Where it finds none of these the end
+    /// is asleep.
+    #[tactic(auto, using(crate::proofs::PortLaws::arm_ended))]
+    pub fn arm(&mut self, want: Option<u32>) -> ArmResult
+        requires ready { IsReady self.old }
+        requires want { IsNeed want }
+        ensures past { self.new.state.past ≡ looked result self.old.state.past }
+        ensures asleep { self.new.state.machine.asleep ≡ is_asleep result }
+        ensures idle { self.new.state.machine.stage ≡ Idle }
+        ensures ended { self.new.state.machine.ended ≡ armed_by result }
+        ensures unmarked { self.new.state.machine.marked ≡ false }
+        ensures want { self.new.state.machine.asleep ≡ true → self.new.state.machine.want ≡ want_of want }
+        ensures stays { Stays S.channel S.told self.old self.new }
+        ensures lists { (self.new.state.got ≡ self.old.state.got) × (self.new.spare_got ≡ self.old.spare_got) × (self.new.spare_sent ≡ self.old.spare_sent) }
+    {
+        let found = self.end.arm(want);
+        looked_by(found, self.end.saw_mark())
+    }
+
+    /// Takes the signal of an end that is asleep, if it is up: then the end is awake.
+    #[tactic(auto, using(crate::proofs::PortLaws::poll_ended))]
+    pub fn poll(&mut self) -> bool
+        requires asleep { self.old.state.machine.asleep ≡ true }
+        requires unmarked { self.old.state.machine.marked ≡ false }
+        ensures asleep { self.new.state.machine.asleep ≡ not result }
+        ensures idle { self.new.state.machine.stage ≡ Idle }
+        ensures ended { self.new.state.machine.ended ≡ polled_by result }
+        ensures polled { PolledOnce S.told S.memory self.old self.new }
+        ensures want { self.new.state.machine.asleep ≡ true → self.new.state.machine.want ≡ self.old.state.machine.want }
+        ensures unmarked { self.new.state.machine.marked ≡ false }
+        ensures past { self.new.state.past ≡ self.old.state.past }
+        ensures stays { Stays S.channel S.told self.old self.new }
+        ensures lists { (self.new.state.got ≡ self.old.state.got) × (self.new.spare_got ≡ self.old.spare_got) × (self.new.spare_sent ≡ self.old.spare_sent) }
+    {
+        self.end.poll_signal()
+    }
+
+    /// Sleeps until the signal was up.
+    pub fn sleep<R: Wait>(&mut self, rt: &R)
+        requires asleep { self.old.state.machine.asleep ≡ true }
+        requires unmarked { self.old.state.machine.marked ≡ false }
+        ensures ready { IsReady self.new }
+        ensures past { self.new.state.past ≡ self.old.state.past }
+        ensures stays { Stays S.channel S.told self.old self.new }
+        ensures lists { (self.new.state.got ≡ self.old.state.got) × (self.new.spare_got ≡ self.old.spare_got) × (self.new.spare_sent ≡ self.old.spare_sent) }
+    {
+        sleep(&mut self.end, rt);
+    }
+
+    /// Says that this end sends nothing more.
+    pub fn mark(&mut self)
+        requires ready { IsReady self.old }
+        ensures past { self.new.state.past ≡ Marked ∷ self.old.state.past }
+        ensures marked { self.new.state.machine.marked ≡ true }
+        ensures awake { self.new.state.machine.asleep ≡ false }
+        ensures first { has_marked self.old.state.past ≡ false }
+        ensures found { (self.new.state.machine.room ≡ self.old.state.machine.room) × (self.new.state.machine.words ≡ self.old.state.machine.words) }
+        ensures got { got_of self.new.state.past ≡ self.new.state.got }
+        ensures stays { Stays S.channel S.told self.old self.new }
+        ensures lists { (self.new.state.got ≡ self.old.state.got) × (self.new.spare_got ≡ self.old.spare_got) × (self.new.spare_sent ≡ self.old.spare_sent) }
+    {
+        self.end.mark();
+    }
+
+    /// The end that it stands over.
+    pub fn into_end(self) -> End<S>
+        ensures { result ≡ self }
+    {
+        let Port { end } = self;
+        end
+    }
+}
+
+// What an arm found, by its answer.
+fn looked_by(found: Armed, saw: bool) -> ArmResult
+    ensures { result ≡ look_of found saw }
+{
+    match found {
+        Armed::Asleep => ArmResult::Nothing,
+        Armed::Work => if saw { ArmResult::Mark } else { ArmResult::Work },
+    }
+}

@@ -1,0 +1,485 @@
+-- The asking worker's steps keep what it keeps.
+use Rattle.std.proofs.Common.{◌≡◌, ℕ, ◌+◌, ◌-◌, ◌<◌, ◌≤◌, ◌^◌, List, [], ◌∷◌, ◌++◌, length, drop, replicate, refl, sym, ap, ◌∙◌, subst, arith, Option, Some, None, Bool, true, false, cond, count_by, is_some, inl, inr}
+use Rattle.std.specs.Prelude.{◌==◌, ◌||◌, if◌then◌else◌, slice_get, slice_set}
+use Rattle.std.proofs.lemmas.List.{drop_all, drop-append-le, length-append, length-drop}
+use Rattle.std.proofs.lemmas.Option.{slice_get_within}
+use Rattle.std.proofs.lemmas.Bool.Decides.{nat_tests}
+use Rattle.channel_trace.specs.declared.event.Event.{Event}
+use Rattle.channel_trace.specs.declared.event.Event.TheVariants.{Sent, Got, Empty, Marked, Saw}
+use Rattle.channel_trace.specs.Runs.{sent_of, got_of, has_marked, has_seen, is_drained}
+use Rattle.channel_trace.proofs.Pasts.{drained_seen, follows_unmarked}
+use Rattle.ring_core.specs.Seen.{Seen}
+use Rattle.ring_core.specs.declared.room.Room.{Room as SpareRoom}
+use Rattle.ring_core.specs.declared.told.Told.{Told}
+use Rattle.txn_table.specs.Open.{request_of}
+use Rattle.channel_model.specs.WireFormat.{WireFormat, Keeps}
+use Rattle.channel_model.specs.Asker.{Encoded, opened, said, since, under, without, open_of, requests_of}
+use Rattle.channel_model.specs.Channel.{AskerBreaks}
+use Rattle.channel_model.specs.Workers.{ask_of, Apart, AskerKept, AcksKept}
+use Rattle.channel_model.specs.Amounts.{room_of, besides_of, AsksAtMost}
+use Rattle.channel_model.proofs.Acking.{acks_new, acks_came, acks_gave, acks_asked, acks_quiet}
+use Rattle.channel_model.proofs.Amounts.{asks_at_most, kinds_asked, kinds_acked}
+use Rattle.channel_model.proofs.Opens.{by_test}
+use Rattle.channel_model.proofs.Asking.{since_more, asker_accepted, asker_sent, asker_told, asker_answered, asker_stray, asker_came, asker_acked, asker_breaks, asker_open, asker_empty, asker_marked, asker_saw, asker_settled, asker_stopped}
+use Rattle.worker_port.specs.Line.{SleepsFor}
+use Rattle.worker_requester.specs.Asking.{Asking, IsAsking, IsPaced, AsksAll, Holds, HasSettled, AskerLacks, LacksNext, id_in, answer_of, ask_at, asked_in, waits_in, waits_under, want_by, pending, AsksOn, AsksBy}
+use Rattle.worker_requester.specs.declared.requester.Blocked.{Blocked}
+use Rattle.worker_requester.specs.declared.requester.Blocked.TheVariants.{Done, Place, Answer, Ack, Room}
+use Rattle.worker_port.specs.declared.ended.Ended.{Ended}
+use Rattle.worker_port.specs.Owed.{IsNeed}
+use Rattle.worker_port.specs.Rooms.{AreShort, AskedWithin, CameOver, HasReservedSent, KeepsRoom}
+use Rattle.worker_port.proofs.RoomLaws.{asks_over, ask_left, ack_left, takes_over}
+use Rattle.worker_requester.specs.Acking.{IsNext}
+use Rattle.worker_requester.proofs.NextLaws.{acks_skipped, first_of}
+use Rattle.worker_requester.proofs.Tables.{set_request, none_open, none_in}
+
+not_both : {X : Type 0} (b : Bool) → b ≡ false → b ≡ true → X
+not_both b e f = absurd (cc)
+
+some_same : {X : Type 0} (x y : X) → Some x ≡ Some y → x ≡ y
+some_same x y e = cc
+
+some_none : {Y X : Type 0} (x : X) → Some x ≡ None → Y
+some_none x e = absurd (cc)
+
+kept_if : (b : Bool) (x : Option ℕ) (k : ℕ) → (if b then None else x) ≡ Some k → x ≡ Some k
+kept_if true x k e = some_none k (sym e)
+kept_if false x k e = e
+
+set_if : (b : Bool) (n : ℕ) (x : Option ℕ) (k : ℕ) → (if b then Some n else x) ≡ Some k → {Y : Type 0} → (n ≡ k → Y) → (x ≡ Some k → Y) → Y
+set_if true n x k e f g = f (some_same n k e)
+set_if false n x k e f g = g e
+
+module _ {A : Type 0} where
+  ask_if : (asks : List A) (b : Bool) (x : Option ℕ) → ask_at asks (if b then None else x) ≡ (if b then None else ask_at asks x)
+  ask_if asks true x = refl
+  ask_if asks false x = refl
+
+  ask_set : (asks : List A) (b : Bool) (k : ℕ) (a : A) (x : Option ℕ) → slice_get asks k ≡ Some a → ask_at asks (if b then Some k else x) ≡ (if b then Some a else ask_at asks x)
+  ask_set asks true k a x e = e
+  ask_set asks false k a x e = refl
+
+module _ {A Q R : Type 0} (s : WireFormat (List ℕ) A Q R) where
+  -- who waits under no such id
+  not_waiting : (todo : List A) (waiting : Option ℕ) (id : ℕ) → waits_under waiting id ≡ false → under s id (waits_in todo waiting) ≡ None
+  not_waiting todo None id e = refl
+  not_waiting [] (Some w) id e = refl
+  not_waiting (a ∷ todo) (Some w) id e = ap (λ b. cond b (Some (w, a)) None) e
+
+  -- what waits isn't open
+  -- one that stands last is found, or another one of that id
+  last_found : {Y : Type 0} (os : List (ℕ × A)) (id : ℕ) (a : A) → under s id (os ++ (id, a) ∷ []) ≡ None → Y
+  last_found [] id a e = let here : (id == id) ≡ true = grind (arith, nat_tests) in some_none (id, a) (sym (ap (λ b. cond b (Some (id, a)) None) here) ∙ e)
+  last_found {Y = Y} (o ∷ os) id a e =
+      by_test {P = Y} (o.0 == id)
+      (λ f. some_none o (sym (ap (λ b. cond b (Some o) (under s id (os ++ (id, a) ∷ []))) f) ∙ e))
+      (λ f. last_found os id a (sym (ap (λ b. cond b (Some o) (under s id (os ++ (id, a) ∷ []))) f) ∙ e))
+
+  apart_last : (os : List (ℕ × A)) (id : ℕ) (a : A) → Apart s (os ++ (id, a) ∷ []) → under s id os ≡ None
+  apart_last [] id a h = refl
+  apart_last (o ∷ os) id a h =
+      by_test (o.0 == id)
+      (λ e. let same : o.0 ≡ id = grind (arith, nat_tests, e) in last_found os id a (subst (λ k. under s k (os ++ (id, a) ∷ []) ≡ None) same h.0))
+      (λ e. ap (λ b. cond b (Some o) (under s id os)) e ∙ apart_last os id a h.1)
+
+  said_answer : (o : Option (ℕ × A)) (found : Option A) (before : Option (List ℕ)) (p : List ℕ) → found ≡ ask_of o → said s o before p ≡ answer_of s found before p
+  said_answer None found before p e = ap (λ f. answer_of s f before p) (sym e)
+  said_answer (Some o) found before p e = ap (λ f. answer_of s f before p) (sym e)
+
+  -- what came last, where it is no answer: the last packet of the list tells
+  pub last_of : (got : List (List ℕ)) (q : List ℕ) → since s None (got ++ q ∷ []) ≡ cond (s.is_answer q) None (Some q)
+  last_of got q = since_more s None got q
+
+cond_none : {A : Type 0} (b : Bool) → cond {A = List A} b [] [] ≡ []
+cond_none true = refl
+cond_none false = refl
+
+module _ {A Q R : Type 0} (s : WireFormat (List ℕ) A Q R) where
+  -- what comes opens nothing
+  none_opens : (p : List ℕ) (os : List (ℕ × A)) → os ≡ [] → cond (s.is_answer p) (without s (s.id_of p) os) os ≡ []
+  none_opens p os none = ap (λ l. cond (s.is_answer p) (without s (s.id_of p) l) l) none ∙ cond_none (s.is_answer p)
+
+  -- where no id has a request, none is open
+  none_left : (os ws : List (ℕ × A)) → ((id : ℕ) → ask_of (under s id (os ++ ws)) ≡ None) → os ≡ []
+  none_left [] ws h = refl
+  none_left (o ∷ os) ws h =
+      let same : (o.0 == o.0) ≡ true = grind (arith, nat_tests) in
+      some_none o.1 (sym (ap ask_of (ap (λ b. cond b (Some o) (under s o.0 (os ++ ws))) same)) ∙ h o.0)
+
+  pub encoded_few : (asks : List A) (ps : List (List ℕ)) → Encoded s asks ps → length ps ≤ length asks
+  encoded_few asks [] enc = omega arith
+  encoded_few [] (p ∷ ps) enc = absurd enc
+  encoded_few (a ∷ asks) (p ∷ ps) enc = omega (arith, encoded_few asks ps enc.1)
+
+module _ {A Q R : Type 0} (s : WireFormat (List ℕ) A Q R) where
+  -- the packet at the place of a message is that message
+  pub message_here : (got : List (List ℕ)) (k : ℕ) (m p : List ℕ) → slice_get got k ≡ Some m → s.is_message m ≡ true → slice_get got k ≡ Some p → s.is_message p ≡ true
+  message_here got k m p at is here = ap s.is_message (some_same p m (sym here ∙ at)) ∙ is
+
+module _ {T S A Q R : Type 0} (s : WireFormat (List ℕ) A Q R) (asks : List A) (w : Asking T S R) where
+  -- as many requests were sent as stand before the next one
+  sent_next : IsAsking s asks w → length (requests_of s w.end.state.past) ≡ w.next
+  sent_next h =
+      let few = encoded_few s asks (requests_of s w.end.state.past) h.kept.encoded in
+      omega (arith, few, h.within, length-drop (length (requests_of s w.end.state.past)) asks, length-drop w.next asks, ap length h.kept.rest)
+
+  -- none is open where the table is empty
+  none_stands : IsAsking s asks w → count_by is_some w.table ≡ 0 → open_of s asks w.end.state.past ≡ []
+  none_stands h none = none_left s (open_of s asks w.end.state.past) (waits_in (drop w.next asks) w.waiting) (λ id. sym (h.kept.opens id) ∙ ap (ask_at asks) (none_open w.table none id))
+
+module _ {T S A Q R : Type 0} (s : WireFormat (List ℕ) A Q R) (keeps : Keeps s) (asks : List A) (w : Asking T S R) where
+  -- the table as a map, and what waits
+  abbrev tabled : ℕ → Option A
+  tabled = asked_in asks w.table
+
+  abbrev todo : List A
+  todo = drop w.next asks
+
+  -- what is still to be looked at, once one more came
+  came_more : (got' : List (List ℕ)) (p : List ℕ) → got' ≡ w.end.state.got ++ p ∷ [] → IsAsking s asks w → AcksKept s (Got p ∷ w.end.state.past) (drop w.acked got')
+  came_more got' p more h =
+      subst (AcksKept s (Got p ∷ w.end.state.past)) (sym (ap (drop w.acked) more ∙ drop-append-le w.acked w.end.state.got (p ∷ []) h.looked)) (acks_came s w.end.state.past (drop w.acked w.end.state.got) p h.acks)
+
+  looked_more : (got' : List (List ℕ)) (p : List ℕ) → got' ≡ w.end.state.got ++ p ∷ [] → IsAsking s asks w → w.acked ≤ length got'
+  looked_more got' p more h = omega (arith, h.looked, ap length more, length-append w.end.state.got (p ∷ []))
+
+  pub empty_kept : (end' : Seen S) → end'.state.past ≡ Empty ∷ w.end.state.past → end'.state.got ≡ w.end.state.got → end'.state.machine.asleep ≡ false → IsAsking s asks w → IsAsking s asks (record w { end = end' })
+  empty_kept end' is got awake h = record {
+    kept = rw is (asker_empty s asks w.end.state.past todo (waits_in todo w.waiting) tabled w.told h.kept);
+    acks = rw (is, got) (acks_quiet s w.end.state.past Empty (drop w.acked w.end.state.got) refl refl h.acks);
+    kinds = rw is h.kinds;
+    looked = omega (arith, h.looked, ap length got);
+    within = h.within;
+    places = h.places;
+    asked = h.asked;
+    saw = ap has_seen is ∙ h.saw;
+    rests = λ e. not_both end'.state.machine.asleep awake e;
+    paced = subst (IsPaced s w.starts asks) (sym is) h.paced;
+    alone = λ id e few. ap (open_of s asks) is ∙ h.alone id e few;
+  }
+
+  pub saw_kept : (end' : Seen S) (hold' : Blocked) → end'.state.past ≡ Saw ∷ w.end.state.past → end'.state.got ≡ w.end.state.got → end'.state.machine.asleep ≡ false → IsAsking s asks w → IsAsking s asks (record w { end = end'; seen = true; hold = hold' })
+  saw_kept end' hold' is got awake h = record {
+    kept = rw is (asker_saw s asks w.end.state.past todo (waits_in todo w.waiting) tabled w.told h.kept);
+    acks = rw (is, got) (acks_quiet s w.end.state.past Saw (drop w.acked w.end.state.got) refl refl h.acks);
+    kinds = rw is h.kinds;
+    looked = omega (arith, h.looked, ap length got);
+    within = h.within;
+    places = h.places;
+    asked = h.asked;
+    saw = ap has_seen is;
+    rests = λ e. not_both end'.state.machine.asleep awake e;
+    paced = subst (IsPaced s w.starts asks) (sym is) h.paced;
+    alone = λ id e few. ap (open_of s asks) is ∙ h.alone id e few;
+  }
+
+  -- nothing was done that the peer sees
+  pub still_kept : (end' : Seen S) (hold' : Blocked) → end'.state.past ≡ w.end.state.past → end'.state.got ≡ w.end.state.got → (end'.state.machine.asleep ≡ true → Holds s asks hold' (record w { end = end'; hold = hold' }) × SleepsFor (want_by hold') end' × (w.seen ≡ false))
+      → IsAsking s asks w → IsAsking s asks (record w { end = end'; hold = hold' })
+  still_kept end' hold' is got rests h = record {
+    kept = rw is h.kept;
+    acks = rw (is, got) h.acks;
+    kinds = rw is h.kinds;
+    looked = omega (arith, h.looked, ap length got);
+    within = h.within;
+    places = h.places;
+    asked = h.asked;
+    saw = ap has_seen is ∙ h.saw;
+    rests = rests;
+    paced = subst (IsPaced s w.starts asks) (sym is) h.paced;
+    alone = λ id e few. ap (open_of s asks) is ∙ h.alone id e few;
+  }
+
+  -- an answer was taken: the packet that came just before it is read with it, where that was none
+  pub took_kept : (end' : Seen S) (table' : List (Option ℕ)) (told' : List R) (p : List ℕ) → s.is_answer p ≡ true → got_of w.end.state.past ≡ w.end.state.got → end'.state.past ≡ Got p ∷ w.end.state.past
+      → end'.state.got ≡ w.end.state.got ++ p ∷ [] → end'.state.machine.asleep ≡ false → waits_under w.waiting (s.id_of p) ≡ false
+      → ((j : ℕ) → request_of table' j ≡ (if j == s.id_of p then None else request_of w.table j)) → told' ≡ w.told ++ answer_of s (asked_in asks w.table (s.id_of p)) (since s None w.end.state.got) p → IsAsking s asks w
+      → IsAsking s asks (record w { end = end'; table = table'; told = told' })
+  took_kept end' table' told' p answers line is more awake free set new h =
+      let other = not_waiting s todo w.waiting (s.id_of p) free in
+      let open' = asker_open s asks w.end.state.past todo (waits_in todo w.waiting) tabled w.told (s.id_of p) other h.kept in
+      let before : Option (List ℕ) = since s None (got_of w.end.state.past) in
+      let says : told' ≡ w.told ++ said s (under s (s.id_of p) (open_of s asks w.end.state.past)) before p =
+      new ∙ (ap (λ g. w.told ++ answer_of s (tabled (s.id_of p)) (since s None g) p) (sym line)
+      ∙ ap (λ l. w.told ++ l) (sym (said_answer s (under s (s.id_of p) (open_of s asks w.end.state.past)) (tabled (s.id_of p)) before p open'))) in
+      let set' : (j : ℕ) → asked_in asks table' j ≡ (if j == s.id_of p then None else tabled j) = λ j. ap (ask_at asks) (set j) ∙ ask_if asks (j == s.id_of p) (request_of w.table j) in
+      record {
+        kept = rw (is, says) (asker_answered s asks w.end.state.past todo (waits_in todo w.waiting) tabled (asked_in asks table') w.told p answers other set' h.kept);
+        acks = rw is (came_more end'.state.got p more h);
+        kinds = rw is h.kinds;
+        looked = looked_more end'.state.got p more h;
+        within = h.within;
+        places = λ id k e. h.places id k (kept_if (id == s.id_of p) (request_of w.table id) k (sym (set id) ∙ e));
+        asked = h.asked;
+        saw = ap has_seen is ∙ h.saw;
+        rests = λ e. not_both end'.state.machine.asleep awake e;
+        paced = subst (IsPaced s w.starts asks) (sym is) h.paced;
+        alone = λ id e few. ap (open_of s asks) is ∙ none_opens s p (open_of s asks w.end.state.past) (h.alone id e few);
+      }
+
+  -- a packet was taken that is no answer
+  pub came_kept : (end' : Seen S) (p : List ℕ) → s.is_answer p ≡ false → end'.state.past ≡ Got p ∷ w.end.state.past → end'.state.got ≡ w.end.state.got ++ p ∷ [] → end'.state.machine.asleep ≡ false → IsAsking s asks w
+      → IsAsking s asks (record w { end = end' })
+  came_kept end' p none is more awake h = record {
+    kept = rw is (asker_came s asks w.end.state.past todo (waits_in todo w.waiting) tabled w.told p none h.kept);
+    acks = rw is (came_more end'.state.got p more h);
+    kinds = rw is h.kinds;
+    looked = looked_more end'.state.got p more h;
+    within = h.within;
+    places = h.places;
+    asked = h.asked;
+    saw = ap has_seen is ∙ h.saw;
+    rests = λ e. not_both end'.state.machine.asleep awake e;
+    paced = subst (IsPaced s w.starts asks) (sym is) h.paced;
+    alone = λ id e few. ap (open_of s asks) is ∙ none_opens s p (open_of s asks w.end.state.past) (h.alone id e few);
+  }
+
+  -- the packets before the next message were passed over
+  pub skipped_kept : (next : ℕ) → IsNext s w.end.state.got w.acked next → w.end.state.machine.asleep ≡ false → IsAsking s asks w → IsAsking s asks (record w { acked = next })
+  skipped_kept next is awake h = record {
+    kept = h.kept;
+    acks = acks_skipped s w.end.state.got w.end.state.past w.acked next is h.acks;
+    kinds = h.kinds;
+    looked = is.within;
+    within = h.within;
+    places = h.places;
+    asked = h.asked;
+    saw = h.saw;
+    rests = λ e. not_both w.end.state.machine.asleep awake e;
+    paced = h.paced;
+    alone = h.alone;
+  }
+
+  -- the next message was acknowledged
+  pub acked_kept : (end' : Seen S) (m p : List ℕ) → slice_get w.end.state.got w.acked ≡ Some m → s.is_message m ≡ true → p ≡ s.ack m → end'.state.past ≡ Sent p ∷ w.end.state.past → end'.state.got ≡ w.end.state.got
+      → end'.state.machine.asleep ≡ false → w.seen ≡ false → IsAsking s asks w → IsAsking s asks (record w { end = end'; acked = w.acked + 1 })
+  acked_kept end' m p at is_message made is got awake unseen h =
+      let silent : s.is_request (s.ack m) ≡ false = keeps.ack_asks (s.ack m) (keeps.acks m is_message).0 in
+      let first : drop w.acked w.end.state.got ≡ m ∷ drop (w.acked + 1) w.end.state.got = first_of w.end.state.got w.acked m at in
+      let opens : open_of s asks (Sent (s.ack m) ∷ w.end.state.past) ≡ open_of s asks w.end.state.past =
+      ap (λ b. cond b (open_of s asks w.end.state.past ++ opened s (s.ack m) (drop (length (requests_of s w.end.state.past)) asks)) (open_of s asks w.end.state.past)) silent in
+      record {
+        kept = rw (is, made) (asker_acked s keeps asks w.end.state.past todo (waits_in todo w.waiting) tabled w.told m is_message h.kept);
+        acks = rw (is, made, got) (acks_gave s keeps w.end.state.past m (drop (w.acked + 1) w.end.state.got) is_message (subst (AcksKept s w.end.state.past) first h.acks));
+        kinds = rw (is, made) (kinds_acked s w.end.state.past (s.ack m) (keeps.acks m is_message).0 h.kinds);
+        looked = omega (arith, slice_get_within w.end.state.got w.acked m at, ap length got);
+        within = h.within;
+        places = h.places;
+        asked = h.asked;
+        saw = ap has_seen is ∙ h.saw;
+        rests = λ e. not_both end'.state.machine.asleep awake e;
+        paced = subst (IsPaced s w.starts asks) (sym is) (λ asks_one few. not_both (s.is_request p) (ap s.is_request made ∙ silent) asks_one, h.saw ∙ unseen, h.paced);
+        alone = λ id e few. ap (open_of s asks) (is ∙ ap (λ q. Sent q ∷ w.end.state.past) made) ∙ (opens ∙ h.alone id e few);
+      }
+
+module _ {T S A Q R : Type 0} (s : WireFormat (List ℕ) A Q R) (keeps : Keeps s) (asks : List A) (w : Asking T S R) where
+  -- an answer to the request that isn't sent yet was dropped
+  pub stray_kept : (end' : Seen S) (p : List ℕ) (id : ℕ) → s.is_answer p ≡ true → w.waiting ≡ Some id → end'.state.past ≡ Got p ∷ w.end.state.past → end'.state.got ≡ w.end.state.got ++ p ∷ [] → end'.state.machine.asleep ≡ false → (id == s.id_of p) ≡ true → IsAsking s asks w
+      → IsAsking s asks (record w { end = end' })
+  stray_kept end' p id answers waits is more awake same h =
+      let a = h.asked id waits in
+      let first = first_of asks w.next a.0 a.1 in
+      let here : waits_in (drop w.next asks) w.waiting ≡ (id, a.0) ∷ [] = ap (waits_in (drop w.next asks)) waits ∙ ap (λ l. waits_in l (Some id)) first in
+      let is_id : id ≡ s.id_of p = grind (arith, nat_tests, same) in
+      let apart : Apart s (open_of s asks w.end.state.past ++ (s.id_of p, a.0) ∷ []) =
+      subst (λ k. Apart s (open_of s asks w.end.state.past ++ (k, a.0) ∷ [])) is_id (subst (λ l. Apart s (open_of s asks w.end.state.past ++ l)) here h.kept.apart) in
+      record {
+        kept = rw is (asker_stray s asks w.end.state.past (drop w.next asks) (waits_in (drop w.next asks) w.waiting) (asked_in asks w.table) w.told p answers (apart_last s (open_of s asks w.end.state.past) (s.id_of p) a.0 apart) h.kept);
+        acks = rw is (came_more s keeps asks w end'.state.got p more h);
+        kinds = rw is h.kinds;
+        looked = looked_more s keeps asks w end'.state.got p more h;
+        within = h.within;
+        places = h.places;
+        asked = h.asked;
+        saw = ap has_seen is ∙ h.saw;
+        rests = λ e. not_both end'.state.machine.asleep awake e;
+        paced = subst (IsPaced s w.starts asks) (sym is) h.paced;
+        alone = λ j e few. ap (open_of s asks) is ∙ none_opens s p (open_of s asks w.end.state.past) (h.alone j e few);
+      }
+
+  -- the next request got a free id
+  pub accepted_kept : (table' : List (Option ℕ)) (id : ℕ) (a : A) → slice_get asks w.next ≡ Some a → s.has_answer a ≡ true → w.waiting ≡ None → 1 ≤ id → id ≤ length w.table → length w.table ≤ 64 → request_of w.table id ≡ None
+      → (w.next ≤ w.starts → count_by is_some w.table ≡ 0) → table' ≡ slice_set w.table (id - 1) (Some w.next) → w.end.state.machine.asleep ≡ false → IsAsking s asks w → IsAsking s asks (record w { table = table'; waiting = Some id })
+  accepted_kept table' id a at answers none one le few free alone is awake h =
+      let first = first_of asks w.next a at in
+      let none' : waits_in (drop w.next asks) w.waiting ≡ [] = ap (waits_in (drop w.next asks)) none in
+      let here : waits_in (drop w.next asks) (Some id) ≡ (id, a) ∷ [] = ap (λ l. waits_in l (Some id)) first in
+      let set : (j : ℕ) → request_of table' j ≡ (if j == id then Some w.next else request_of w.table j) = λ j. ap (λ l. request_of l j) is ∙ set_request w.table id (Some w.next) j one le in
+      let set' : (j : ℕ) → asked_in asks table' j ≡ (if j == id then Some a else asked_in asks w.table j) = λ j. ap (ask_at asks) (set j) ∙ ask_set asks (j == id) w.next a (request_of w.table j) at in
+      let k = subst (λ l. AskerKept s asks w.end.state.past (drop w.next asks) l (asked_in asks w.table) w.told) none' h.kept in
+      record {
+        kept = subst (λ l. AskerKept s asks w.end.state.past (drop w.next asks) l (asked_in asks table') w.told) (sym here)
+            (asker_accepted s asks w.end.state.past (drop w.next asks) (asked_in asks w.table) (asked_in asks table') w.told id a (ap (ask_at asks) free) set' k);
+        acks = h.acks;
+        kinds = h.kinds;
+        looked = h.looked;
+        within = h.within;
+        places = λ j k e. set_if (j == id) w.next (request_of w.table j) k (sym (set j) ∙ e) (λ same. subst (λ n. n < length asks) same (slice_get_within asks w.next a at)) (λ f. h.places j k f);
+        asked = λ j e. (a, at, answers, subst (λ n. n < 2 ^ 64) (some_same id j e) (omega (arith, le, few)));
+        saw = h.saw;
+        rests = λ e. not_both w.end.state.machine.asleep awake e;
+        paced = h.paced;
+        alone = λ j e few. none_stands s asks w h (alone few);
+      }
+
+  -- it was sent
+  pub sent_kept : (end' : Seen S) (id : ℕ) (a : A) (p : List ℕ) → slice_get asks w.next ≡ Some a → w.waiting ≡ Some id → p ≡ s.encode id a → end'.state.past ≡ Sent p ∷ w.end.state.past → end'.state.got ≡ w.end.state.got → end'.state.machine.asleep ≡ false
+      → w.seen ≡ false → IsAsking s asks w → IsAsking s asks (record w { end = end'; next = w.next + 1; waiting = None })
+  sent_kept end' id a p at waits made is got awake unseen h =
+      let asked = h.asked id waits in
+      let same_ask : asked.0 ≡ a = some_same asked.0 a (sym asked.1 ∙ at) in
+      let answers : s.has_answer a ≡ true = ap s.has_answer (sym same_ask) ∙ asked.2 in
+      let first = first_of asks w.next a at in
+      let here : waits_in (drop w.next asks) w.waiting ≡ (id, a) ∷ [] = ap (waits_in (drop w.next asks)) waits ∙ ap (λ l. waits_in l (Some id)) first in
+      let k : AskerKept s asks w.end.state.past (a ∷ drop (w.next + 1) asks) ((id, a) ∷ []) (asked_in asks w.table) w.told =
+      subst (λ l. AskerKept s asks w.end.state.past l ((id, a) ∷ []) (asked_in asks w.table) w.told) first
+      (subst (λ l. AskerKept s asks w.end.state.past (drop w.next asks) l (asked_in asks w.table) w.told) here h.kept) in
+      let same : s.id_of (s.encode id a) ≡ id = keeps.id_kept id a asked.3 answers in
+      let waits' : s.waits (s.encode id a) ≡ true = keeps.waits_ask id a ∙ answers in
+      let opens : (id, a) ∷ [] ≡ opened s (s.encode id a) (a ∷ drop (w.next + 1) asks) =
+      ap (λ n. (n, a) ∷ []) (sym same) ∙ ap (λ b. cond b ((s.id_of (s.encode id a), a) ∷ []) []) (sym waits') in
+      let sent = asker_sent s asks w.end.state.past a (drop (w.next + 1) asks) ((id, a) ∷ []) (asked_in asks w.table) w.told (s.encode id a) (keeps.encodes id a) (ap (λ n. s.encode n a) (sym same)) opens k in
+      record {
+        kept = rw (is, made) sent;
+        acks = rw (is, made, got) (acks_asked s keeps w.end.state.past id a (drop w.acked w.end.state.got) h.acks);
+        kinds = rw (is, made) (kinds_asked s w.end.state.past (s.encode id a) (keeps.encodes id a) h.kinds);
+        looked = omega (arith, h.looked, ap length got);
+        within = omega (arith, slice_get_within asks w.next a at);
+        places = h.places;
+        asked = λ j e. some_none j (sym e);
+        saw = ap has_seen is ∙ h.saw;
+        rests = λ e. not_both end'.state.machine.asleep awake e;
+        paced = subst (IsPaced s w.starts asks) (sym is) (λ _ few. h.alone id waits (omega (arith, few, sent_next s asks w h)), h.saw ∙ unseen, h.paced);
+        alone = λ j e few. some_none j (sym e);
+      }
+
+  -- a request that has no answer was sent
+  pub told_kept : (end' : Seen S) (a : A) (p : List ℕ) → slice_get asks w.next ≡ Some a → w.waiting ≡ None → (w.next ≤ w.starts → count_by is_some w.table ≡ 0) → s.has_answer a ≡ false → p ≡ s.encode 0 a → end'.state.past ≡ Sent p ∷ w.end.state.past → end'.state.got ≡ w.end.state.got → end'.state.machine.asleep ≡ false
+      → w.seen ≡ false → IsAsking s asks w → IsAsking s asks (record w { end = end'; next = w.next + 1 })
+  told_kept end' a p at none alone silent made is got awake unseen h =
+      let first = first_of asks w.next a at in
+      let none' : waits_in (drop w.next asks) w.waiting ≡ [] = ap (waits_in (drop w.next asks)) none in
+      let none'' : waits_in (drop (w.next + 1) asks) w.waiting ≡ [] = ap (waits_in (drop (w.next + 1) asks)) none in
+      let k : AskerKept s asks w.end.state.past (a ∷ drop (w.next + 1) asks) [] (asked_in asks w.table) w.told =
+      subst (λ l. AskerKept s asks w.end.state.past l [] (asked_in asks w.table) w.told) first
+      (subst (λ l. AskerKept s asks w.end.state.past (drop w.next asks) l (asked_in asks w.table) w.told) none' h.kept) in
+      let sent = asker_told s keeps asks w.end.state.past a (drop (w.next + 1) asks) (asked_in asks w.table) w.told 0 silent k in
+      record {
+        kept = rw (is, made, none'') sent;
+        acks = rw (is, made, got) (acks_asked s keeps w.end.state.past 0 a (drop w.acked w.end.state.got) h.acks);
+        kinds = rw (is, made) (kinds_asked s w.end.state.past (s.encode 0 a) (keeps.encodes 0 a) h.kinds);
+        looked = omega (arith, h.looked, ap length got);
+        within = omega (arith, slice_get_within asks w.next a at);
+        places = h.places;
+        asked = λ j e. some_none j (sym e ∙ none);
+        saw = ap has_seen is ∙ h.saw;
+        rests = λ e. not_both end'.state.machine.asleep awake e;
+        paced = subst (IsPaced s w.starts asks) (sym is) (λ _ few. none_stands s asks w h (alone (omega (arith, few, sent_next s asks w h))), h.saw ∙ unseen, h.paced);
+        alone = λ j e few. some_none j (sym e ∙ none);
+      }
+
+  marked_kept : IsAsking s asks w → AskerKept s asks (Marked ∷ w.end.state.past) (drop w.next asks) (waits_in (drop w.next asks) w.waiting) (asked_in asks w.table) w.told
+  marked_kept h = asker_marked s asks w.end.state.past (drop w.next asks) (waits_in (drop w.next asks) w.waiting) (asked_in asks w.table) w.told h.kept
+
+  marked_acks : IsAsking s asks w → AcksKept s (Marked ∷ w.end.state.past) (drop w.acked w.end.state.got)
+  marked_acks h = acks_quiet s w.end.state.past Marked (drop w.acked w.end.state.got) refl refl h.acks
+
+  -- all was asked and settled
+  pub marks_settled : (past' : List (Event (List ℕ))) → past' ≡ Marked ∷ w.end.state.past → HasSettled asks w → IsAsking s asks w → AsksAll s asks past' w.told
+  marks_settled past' is settled h plan same =
+      let nothing : drop w.next asks ≡ [] = drop_all w.next asks (omega (arith, settled.all)) in
+      let k = subst (λ l. AskerKept s l (Marked ∷ w.end.state.past) [] (waits_in (drop w.next asks) w.waiting) (asked_in asks w.table) w.told) (sym same)
+      (subst (λ l. AskerKept s asks (Marked ∷ w.end.state.past) l (waits_in (drop w.next asks) w.waiting) (asked_in asks w.table) w.told) nothing (marked_kept h)) in
+      let rest : drop w.acked w.end.state.got ≡ [] = drop_all w.acked w.end.state.got (omega (arith, settled.acked)) in
+      rw is (asker_settled s plan (Marked ∷ w.end.state.past) (waits_in (drop w.next asks) w.waiting) (asked_in asks w.table) w.told k (subst (AcksKept s (Marked ∷ w.end.state.past)) rest (marked_acks h)) (λ id. ap (ask_at asks) (none_open w.table settled.none id)))
+
+  -- the other end stopped
+  pub marks_drained : (past' : List (Event (List ℕ))) → past' ≡ Marked ∷ w.end.state.past → is_drained w.end.state.past ≡ true → has_marked w.end.state.past ≡ false → IsAsking s asks w → AsksAll s asks past' w.told
+  marks_drained past' is drained unmarked h plan same =
+      let k = subst (λ l. AskerKept s l (Marked ∷ w.end.state.past) (drop w.next asks) (waits_in (drop w.next asks) w.waiting) (asked_in asks w.table) w.told) (sym same) (marked_kept h) in
+      rw is (asker_stopped s plan (Marked ∷ w.end.state.past) (drop w.next asks) (waits_in (drop w.next asks) w.waiting) (asked_in asks w.table) w.told (drop w.acked w.end.state.got) k (marked_acks h) drained (drained_seen w.end.state.past drained, follows_unmarked w.end.state.past unmarked))
+
+  pub drains : (end' : Seen S) → end'.state.past ≡ Empty ∷ w.end.state.past → IsAsking s asks w → w.seen ≡ true → is_drained end'.state.past ≡ true
+  drains end' is h seen = ap is_drained is ∙ ap (λ b. b || is_drained w.end.state.past) (h.saw ∙ seen)
+
+  pub breaks : IsAsking s asks w → AskerBreaks s asks w.end.state.past w.told
+  breaks h = asker_breaks s asks w.end.state.past (drop w.next asks) (waits_in (drop w.next asks) w.waiting) (asked_in asks w.table) w.told (drop w.acked w.end.state.got) h.kept h.acks
+
+  -- what was sent so far
+  few_sent : IsAsking s asks w → AsksAtMost s (length asks) w.end.state.past
+  few_sent h = asks_at_most s asks w.end.state.past (drop w.next asks) (waits_in (drop w.next asks) w.waiting) (asked_in asks w.table) w.told (drop w.acked w.end.state.got) h.kept h.acks h.kinds
+
+  pub asked_so_far : IsAsking s asks w → AreShort (sent_of w.end.state.past) → AskedWithin s (length asks) w.end.state.past
+  asked_so_far h short = record { kinds = few_sent h; short = short }
+
+  -- where what is to be sent next lacks room, more messages came than there are asks
+  pub next_over : (besides : Bool) (packets words : ℕ) → IsAsking s asks w → HasReservedSent (room_of besides (length asks)) w.end → LacksNext s asks packets words w
+      → CameOver s.is_message (besides_of besides (length asks)) (room_of besides (length asks)) w.end.state.past
+  next_over besides packets words h room lacks = by lacks
+    where
+      by : LacksNext s asks packets words w → CameOver s.is_message (besides_of besides (length asks)) (room_of besides (length asks)) w.end.state.past
+      by (inl (m, at, is, l)) =
+          asks_over s besides (length asks) packets words (s.ack m) w.end (few_sent h) room l
+          (ack_left s (length asks) m (drop (w.acked + 1) w.end.state.got) w.end (few_sent h) (subst (AcksKept s w.end.state.past) (first_of w.end.state.got w.acked m at) h.acks) is)
+      by (inr (a, at, id, l)) =
+          asks_over s besides (length asks) packets words (s.encode (id_in w.waiting) a) w.end (few_sent h) room l
+          (ask_left s asks w.next w.end (few_sent h) (omega (arith, sent_next s asks w h)) (slice_get_within asks w.next a at))
+
+  -- and so where the next packet that comes lacks it
+  pub lacks_by : (besides : Bool) (packets words : ℕ) → got_of w.end.state.past ≡ w.end.state.got → IsAsking s asks w → KeepsRoom (room_of besides (length asks)) w.end → AskerLacks s asks packets words w
+      → CameOver s.is_message (besides_of besides (length asks)) (room_of besides (length asks)) w.end.state.past
+  lacks_by besides packets words line h room (inl l) = takes_over s.is_message (besides_of besides (length asks)) (room_of besides (length asks)) packets words w.end room.got line l
+  lacks_by besides packets words line h room (inr l) = next_over besides packets words h room.sent l
+
+  pub stray_by : (o : Option ℕ) → w.waiting ≡ o → (end' : Seen S) (p : List ℕ) → s.is_answer p ≡ true → waits_under o (s.id_of p) ≡ true → end'.state.past ≡ Got p ∷ w.end.state.past → end'.state.got ≡ w.end.state.got ++ p ∷ []
+      → end'.state.machine.asleep ≡ false → IsAsking s asks w → IsAsking s asks (record w { end = end' })
+  stray_by None waits end' p answers e is more awake h = absurd (cc)
+  stray_by (Some id) waits end' p answers e is more awake h = stray_kept end' p id answers waits is more awake e h
+
+  pub reply_room : (n c cap : ℕ) → n + c + (length asks - w.next) ≤ cap + pending w.waiting → IsAsking s asks w → n + c ≤ cap
+  reply_room n c cap e h = by w.waiting refl
+    where
+      by : (o : Option ℕ) → w.waiting ≡ o → n + c ≤ cap
+      by None q = omega (arith, e, ap pending q)
+      by (Some id) q = omega (arith, e, ap pending q, slice_get_within asks w.next (h.asked id q).0 (h.asked id q).1)
+
+  -- a new worker
+  pub new_kept : (n : ℕ) → w.end.state.past ≡ [] → w.end.state.got ≡ [] → w.acked ≡ 0 → w.table ≡ replicate n None → w.next ≡ 0 → w.waiting ≡ None → w.told ≡ [] → w.seen ≡ false → w.end.state.machine.asleep ≡ false → IsAsking s asks w
+  new_kept n past got acked table next waiting told seen awake = record {
+    kept = rw (past, table, next, waiting, told) (record { encoded = tt; rest = refl; opens = λ id. ap (ask_at asks) (none_in n id); apart = tt; says = refl });
+    acks = rw (past, got, acked) (acks_new s);
+    kinds = rw past (omega arith);
+    looked = omega (arith, acked);
+    within = omega (arith, next);
+    places = λ id k e. some_none k (sym e ∙ (ap (λ t. request_of t id) table ∙ none_in n id));
+    asked = λ id e. some_none id (sym e ∙ waiting);
+    saw = ap has_seen past ∙ sym seen;
+    rests = λ e. not_both w.end.state.machine.asleep awake e;
+    paced = subst (IsPaced s w.starts asks) (sym past) tt;
+    alone = λ id e few. some_none id (sym e ∙ waiting);
+  }
+
+  -- why nothing is sent doesn't lie with the end
+  pub holds_on : (end' : Seen S) (hold hold' : Blocked) → end'.state.got ≡ w.end.state.got → end'.spare_sent ≡ w.end.spare_sent → Holds s asks hold w → Holds s asks hold (record w { end = end'; hold = hold' })
+  holds_on end' Done hold' got spare h = rw got h
+  holds_on end' Place hold' got spare h = rw got h
+  holds_on end' Answer hold' got spare h = rw got h
+  holds_on end' (Ack need) hold' got spare h =
+      (h.0, ap (λ l. slice_get l w.acked) got ∙ h.1, h.2, h.3, h.4, h.5, subst (λ (r : SpareRoom). (0 < r.packets) × (length (s.ack h.0) ≤ r.words)) (sym spare) h.6)
+  holds_on end' (Room need) hold' got spare h =
+      (h.0, h.1, h.2, h.3, h.4, h.5, h.6 ∙ ap length (sym got), subst (λ (r : SpareRoom). (0 < r.packets) × (length (s.encode (id_in w.waiting) h.0) ≤ r.words)) (sym spare) h.7)
+
+  pub need_in : (hold : Blocked) → Holds s asks hold w → IsNeed (want_by hold)
+  need_in Done h = tt
+  need_in Place h = tt
+  need_in Answer h = tt
+  need_in (Ack need) h = (h.4, h.5)
+  need_in (Room need) h = (h.4, h.5)
+
+pub ask_trans : {T S R C : Type 0} (channel : S → C) (told_by : S → Option Told) (u v w : Asking T S R) → AsksOn channel told_by u v → AsksOn channel told_by v w → AsksOn channel told_by u w
+ask_trans channel told_by u v w a b = record { tells = b.tells ∙ a.tells; protocol = b.protocol ∙ a.protocol; relid = b.relid ∙ a.relid; starts = b.starts ∙ a.starts; window = b.window ∙ a.window; end = record { seat = b.end.seat ∙ a.end.seat; side = b.end.side ∙ a.end.side } }
+
+-- what it gives at its end is what was asked of it at its beginning
+pub asks_on : {T S A Q R C : Type 0} (channel : S → C) (told_by : S → Option Told) (sp : T → WireFormat (List ℕ) A Q R) (asks : T → List A) (how : Ended) (u w : Asking T S R) (past : List (Event (List ℕ))) (told : List R) → AsksOn channel told_by u w
+    → AsksBy (sp w.protocol) how (asks w.protocol) past told → AsksBy (sp u.protocol) how (asks u.protocol) past told
+asks_on channel told_by sp asks how u w past told on h = subst (λ t. AsksBy (sp t) how (asks t) past told) on.protocol h

@@ -1,0 +1,70 @@
+use Rattle.std.proofs.Common.{ap, sym, ◌∙◌, subst}
+use Rattle.channel_trace.specs.Runs.{sent_of}
+use Rattle.ring_machine.specs.Endings.{want_of}
+use Rattle.worker_requester.specs.Asking.{Holds}
+use Rattle.worker_requester.proofs.AskSteps.{still_kept, holds_on}
+use Rattle.worker_port.proofs.RoomLaws.{room_quiet, got_same}
+use Rattle.worker_requester.proofs.requester.Requester.arm_or_sleep.Goals as goal
+
+pub invariant_of-self : goal.invariant_of-self
+invariant_of-self g c =
+    let v = c.self.view_is in
+    let l = c.self.invariant (ap (λ w. w.end.state.machine.marked) v ∙ c.requires.ready.unmarked) in
+    λ _. record {
+      live = still_kept (g.T.Protocol.format c.self.inside.protocol) (g.T.Protocol.keeps c.self.inside.protocol) (g.T.Protocol.asks c.self.inside.protocol) (record {
+        protocol = c.self.inside.protocol;
+        end = c.self.inside.port;
+        table = c.self.inside.table;
+        next = c.self.inside.next;
+        waiting = c.self.inside.waiting;
+        acked = c.self.inside.acked;
+        told = c.self.inside.replies.items;
+        starts = c.self.inside.starts;
+        seen = c.self.inside.seen;
+        hold = c.self.inside.hold;
+        relid = c.self.inside.relid;
+      }) _ c.args.hold c.in-Nothing.ensures.past c.arm.ensures.lists.0 (λ _. (
+        holds_on (g.T.Protocol.format c.self.inside.protocol) (g.T.Protocol.keeps c.self.inside.protocol) (g.T.Protocol.asks c.self.inside.protocol) (record {
+          protocol = c.self.inside.protocol;
+          end = c.self.inside.port;
+          table = c.self.inside.table;
+          next = c.self.inside.next;
+          waiting = c.self.inside.waiting;
+          acked = c.self.inside.acked;
+          told = c.self.inside.replies.items;
+          starts = c.self.inside.starts;
+          seen = c.self.inside.seen;
+          hold = c.self.inside.hold;
+          relid = c.self.inside.relid;
+        }) c.arm.new.self c.args.hold c.args.hold c.arm.ensures.lists.0 c.arm.ensures.lists.2 (subst (λ w. Holds (g.T.Protocol.format w.protocol) (g.T.Protocol.asks w.protocol) c.args.hold w) (sym v) c.requires.holds),
+        record { asleep = c.in-Nothing.ensures.asleep; want_is = c.arm.ensures.want c.in-Nothing.ensures.asleep ∙ ap want_of c.want_for.ensures },
+        ap (λ w. w.seen) v ∙ c.requires.unseen,
+      )) l.live;
+      replies = l.replies;
+      spare = l.spare;
+      size = l.size;
+      room = room_quiet _ _ _ (got_same _ _ c.arm.ensures.lists.0 c.arm.ensures.lists.1) c.arm.ensures.stays.cells c.arm.ensures.lists.2 (ap sent_of c.in-Nothing.ensures.past) l.room;
+      side = l.side ∙ sym c.arm.ensures.stays.same.side;
+    }
+
+pub returns-in-Nothing-clause-turns : goal.returns-in-Nothing-clause-turns
+returns-in-Nothing-clause-turns g c =
+    let v = c.self.view_is in (
+      c.arm.ensures.unmarked,
+      c.in-Nothing.ensures.asleep,
+      holds_on (g.T.Protocol.format c.self.inside.protocol) (g.T.Protocol.keeps c.self.inside.protocol) (g.T.Protocol.asks c.self.inside.protocol) (record {
+        protocol = c.self.inside.protocol;
+        end = c.self.inside.port;
+        table = c.self.inside.table;
+        next = c.self.inside.next;
+        waiting = c.self.inside.waiting;
+        acked = c.self.inside.acked;
+        told = c.self.inside.replies.items;
+        starts = c.self.inside.starts;
+        seen = c.self.inside.seen;
+        hold = c.self.inside.hold;
+        relid = c.self.inside.relid;
+      }) c.arm.new.self c.args.hold c.args.hold c.arm.ensures.lists.0 c.arm.ensures.lists.2 (subst (λ w. Holds (g.T.Protocol.format w.protocol) (g.T.Protocol.asks w.protocol) c.args.hold w) (sym v) c.requires.holds),
+      record { asleep = c.in-Nothing.ensures.asleep; want_is = c.arm.ensures.want c.in-Nothing.ensures.asleep ∙ ap want_of c.want_for.ensures },
+      ap (λ w. w.seen) v ∙ c.requires.unseen,
+    )

@@ -1,0 +1,23 @@
+use Rattle.std.proofs.Common.{◌≡◌, ℕ, ap, sym, ◌∙◌, length, subst, None, Option}
+use Rattle.std.proofs.lemmas.List.{length-replicate}
+use Rattle.worker_port.specs.Rooms.{KeepsRoom}
+use Rattle.channel_model.specs.Amounts.{room_of}
+use Rattle.worker_requester.proofs.requester.Requester.make.Goals as goal
+
+pub over-requires-clause-fresh : goal.over-requires-clause-fresh
+over-requires-clause-fresh g c = let e = c.in-Ok.ensures.end.0 ∙ c.requires.fresh in (ap (λ s. s.past) e, ap (λ s. s.got) e, ap (λ s. s.machine.asleep) e)
+
+pub over-requires-clause-side : goal.over-requires-clause-side
+over-requires-clause-side g c = c.requires.side ∙ sym (ap (λ s. s.machine.side) c.in-Ok.ensures.end.0)
+
+pub over-requires-clause-room : goal.over-requires-clause-room
+over-requires-clause-room g c =
+    let p : c.room_of-packets.result ≡ room_of (g.T.Protocol.besides c.args.protocol) (length (g.T.Protocol.asks c.args.protocol)) =
+    c.room_of-packets.ensures.value ∙ (ap (λ b. room_of b c.count-count.result) c.besides.ensures ∙ ap (room_of (g.T.Protocol.besides c.args.protocol)) c.count-count.ensures) in
+    subst (λ n. KeepsRoom n c.in-Ok.port) p c.in-Ok.ensures.room
+
+pub over-requires-clause-window : goal.over-requires-clause-window
+over-requires-clause-window g c = (c.args.window, c.requires.window.1, c.in-Ok-make.ensures.table)
+
+pub returns-in-Ok-make-clause-window : goal.returns-in-Ok-make-clause-window
+returns-in-Ok-make-clause-window g c = let none : Option ℕ = None in ap length (c.over.ensures.parts.1 ∙ c.in-Ok-make.ensures.table) ∙ length-replicate c.args.window none

@@ -1,0 +1,136 @@
+-- How one packet is served.
+use Rattle.std.proofs.Common.{◌≡◌, ℕ, suc, ◌+◌, ◌-◌, ◌≤◌, List, [], ◌∷◌, ◌++◌, length, length-append, take, drop, refl, sym, ap, ◌∙◌, subst, arith, Option, Some, None, is_some, Bool, true, false}
+use Rattle.std.specs.Prelude.{IsSome, ◌<◌, ◌^◌, ◌&&◌, ◌==◌, if◌then◌else◌}
+use Rattle.std.proofs.lemmas.List.{append-nil, drop-append-le, drop_all, take-append-drop, take-append-le, take_all}
+use Rattle.std.proofs.Math.Seq.{take-append_seam, drop-append_seam}
+use Rattle.hist_lock.specs.Seat.{Call}
+use Rattle.channel_model.specs.WireFormat.{WireFormat, Keeps, Back, IsBack, packets_of, packets_in}
+use Rattle.channel_model.specs.Workers.{Owes}
+use Rattle.channel_model.proofs.Acking.{owes_nothing, owes_message, owes_answer}
+use Rattle.channel_model.proofs.Opens.{by_test}
+use Rattle.channel_protocol.specs.Listed.{has_message_in}
+use Rattle.channel_model.specs.Server.{Serves, ServesOne, ServesAsk, IsCall, left_one}
+use Rattle.worker_server.specs.Serving.{ServesPacket, calls_behind, first_calls, last_calls, own_in}
+
+-- what there is
+pub value_of : {X : Type 0} (o : Option X) → IsSome o → (x : X) × (o ≡ Some x)
+value_of None some = cc
+value_of (Some x) some = (x, refl)
+
+-- of a seat's calls, those that were made at the responder, and those before
+pub calls_push : {Q R : Type 0} (calls : List (Call Q R)) (c : Call Q R) (n : ℕ) → n ≤ length calls → last_calls (calls ++ c ∷ []) (n + 1) ≡ last_calls calls n ++ c ∷ []
+calls_push calls c n le =
+    let size : length (calls ++ c ∷ []) - (n + 1) ≡ length calls - n = omega (arith, length-append calls (c ∷ [])) in
+    ap (λ k. drop k (calls ++ c ∷ [])) size ∙ drop-append-le (length calls - n) calls (c ∷ []) (omega arith)
+
+pub first_push : {Q R : Type 0} (calls : List (Call Q R)) (c : Call Q R) (n : ℕ) → n ≤ length calls → first_calls (calls ++ c ∷ []) (n + 1) ≡ first_calls calls n
+first_push calls c n le =
+    let size : length (calls ++ c ∷ []) - (n + 1) ≡ length calls - n = omega (arith, length-append calls (c ∷ [])) in
+    ap (λ k. take k (calls ++ c ∷ [])) size ∙ take-append-le (length calls - n) calls (c ∷ []) (omega arith)
+
+pub calls_grow : {Q R : Type 0} (old new : List (Call Q R)) (c : Call Q R) (olds news : List ℕ) (n : ℕ) → length olds ≤ length old → new ≡ old ++ c ∷ [] → news ≡ olds ++ n ∷ [] → last_calls new (length news) ≡ last_calls old (length olds) ++ c ∷ []
+calls_grow old new c olds news n le is grown = ap (λ l. last_calls l (length news)) is ∙ (ap (λ k. last_calls (old ++ c ∷ []) k) (ap length grown ∙ length-append olds (n ∷ [])) ∙ calls_push old c (length olds) le)
+
+pub first_grow : {Q R : Type 0} (old new : List (Call Q R)) (c : Call Q R) (olds news : List ℕ) (n : ℕ) → length olds ≤ length old → new ≡ old ++ c ∷ [] → news ≡ olds ++ n ∷ [] → first_calls new (length news) ≡ first_calls old (length olds)
+first_grow old new c olds news n le is grown = ap (λ l. first_calls l (length news)) is ∙ (ap (λ k. first_calls (old ++ c ∷ []) k) (ap length grown ∙ length-append olds (n ∷ [])) ∙ first_push old c (length olds) le)
+
+pub first_all : {Q R : Type 0} (calls : List (Call Q R)) (n : ℕ) → n ≡ 0 → first_calls calls n ≡ calls
+first_all calls n none = take_all (length calls - n) calls (omega (arith, none))
+
+pub last_none : {Q R : Type 0} (calls : List (Call Q R)) (n : ℕ) → n ≡ 0 → last_calls calls n ≡ []
+last_none calls n none = drop_all (length calls - n) calls (omega (arith, none))
+
+pub calls_whole : {Q R : Type 0} (calls : List (Call Q R)) (n : ℕ) → calls ≡ first_calls calls n ++ last_calls calls n
+calls_whole calls n = sym (take-append-drop (length calls - n) calls)
+
+-- the calls behind those before, and those before
+pub behind_is : {Q R : Type 0} (before before' calls all : List (Call Q R)) → all ≡ before' ++ calls → before' ≡ before → calls_behind before all ≡ calls
+behind_is before before' calls all is same = ap (drop (length before)) (is ∙ ap (λ l. l ++ calls) same) ∙ drop-append_seam before calls
+
+pub front_is : {Q R : Type 0} (before before' calls all : List (Call Q R)) → all ≡ before' ++ calls → before' ≡ before → take (length before) all ≡ before
+front_is before before' calls all is same = ap (take (length before)) (is ∙ ap (λ l. l ++ calls) same) ∙ take-append_seam before calls
+
+module _ {A Q R : Type 0} (s : WireFormat (List ℕ) A Q R) (held : Bool) (p : List ℕ) where
+  -- a packet that asks nothing of the device
+  pub serves_fixed : (left left' : Option ℕ) (m own : ℕ) (calls calls' : List (Call Q R)) (owed : List (List ℕ)) → left ≡ Some m → left' ≡ Some m → calls' ≡ calls → s.read p ≡ None → owed ≡ packets_in own (s.fixed p)
+      → ServesPacket s held p left calls calls' owed left'
+  serves_fixed left left' m own calls calls' owed is is' same reads e =
+      subst (λ l. ServesPacket s held p l calls calls' owed left') (sym is) (
+        [],
+        subst (λ o. ServesOne s held p o m [] owed (λ k later rest. Serves s held [] k later rest)) (sym reads) (own, [], e ∙ sym (append-nil (packets_in own (s.fixed p))), (refl, refl)),
+        same ∙ sym (append-nil calls),
+        is' ∙ sym (ap (λ o. left_one s held o m (λ k. Some k)) reads),
+      )
+
+  -- a request past the last one that is served
+  pub serves_past : (q : Q) (m : ℕ) (calls calls' : List (Call Q R)) (owed : List (List ℕ)) → m ≡ 0 → s.read p ≡ Some q → owed ≡ [] → calls' ≡ calls → ServesPacket s held p (Some m) calls calls' owed None
+  serves_past q m calls calls' owed zero reads none same =
+      subst (λ k. ServesPacket s held p (Some k) calls calls' owed None) (sym zero) (
+        [],
+        subst (λ o. ServesOne s held p o 0 [] owed (λ k later rest. Serves s held [] k later rest)) (sym reads) (refl, none),
+        same ∙ sym (append-nil calls),
+        sym (ap (λ o. left_one s held o 0 (λ k. Some k)) reads),
+      )
+
+  -- the last one, whose answer is held
+  pub serves_held : (q : Q) (c : Call Q R) (m k : ℕ) (calls calls' : List (Call Q R)) (owed : List (List ℕ)) → m ≡ suc k → (held && k == 0) ≡ true → s.read p ≡ Some q → IsCall s q c → owed ≡ [] → calls' ≡ calls ++ c ∷ []
+      → ServesPacket s held p (Some m) calls calls' owed None
+  serves_held q c m k calls calls' owed is last reads call none more =
+      subst (λ n. ServesPacket s held p (Some n) calls calls' owed None) (sym is) (
+        c ∷ [],
+        subst (λ o. ServesOne s held p o (suc k) (c ∷ []) owed (λ n later rest. Serves s held [] n later rest)) (sym reads)
+            (call, subst (λ b. ServesAsk s b p k c [] owed (λ n later rest. Serves s held [] n later rest)) (sym last) (refl, none)),
+        more,
+        sym (ap (λ o. left_one s held o (suc k) (λ n. Some n)) reads ∙ ap (λ b. if b then None else Some k) last),
+      )
+
+  -- any other one
+  pub serves_given : (q : Q) (c : Call Q R) (m k own : ℕ) (calls calls' : List (Call Q R)) (owed : List (List ℕ)) (left' : Option ℕ) → m ≡ suc k → left' ≡ Some k → (held && k == 0) ≡ false → s.read p ≡ Some q
+      → IsCall s q c → owed ≡ packets_of own (s.gives p c.reply) → calls' ≡ calls ++ c ∷ [] → ServesPacket s held p (Some m) calls calls' owed left'
+  serves_given q c m k own calls calls' owed left' is is' last reads call e more =
+      subst (λ n. ServesPacket s held p (Some n) calls calls' owed left') (sym is) (
+        c ∷ [],
+        subst (λ o. ServesOne s held p o (suc k) (c ∷ []) owed (λ n later rest. Serves s held [] n later rest)) (sym reads)
+            (call, subst (λ b. ServesAsk s b p k c [] owed (λ n later rest. Serves s held [] n later rest)) (sym last) (own, [], e ∙ sym (append-nil (packets_of own (s.gives p c.reply))), (refl, refl))),
+        more,
+        is' ∙ sym (ap (λ o. left_one s held o (suc k) (λ n. Some n)) reads ∙ ap (λ b. if b then None else Some k) last),
+      )
+
+module _ {A Q R : Type 0} (s : WireFormat (List ℕ) A Q R) (keeps : Keeps s) where
+  -- what goes back is in form
+  fixed_back : (p : List ℕ) (b : Back (List ℕ)) → s.read p ≡ None → s.fixed p ≡ Some b → IsBack s (s.id_of p) b
+  fixed_back p b reads is =
+      by_test (s.waits p)
+      (λ e. let back = keeps.fixes p e reads in let same : back.0 ≡ b = cc (back.1, is) in subst (IsBack s (s.id_of p)) same back.2)
+      (λ e. let bad : None ≡ Some b = sym (keeps.silent p e) ∙ is in absurd (cc))
+
+  pub given_back : (p : List ℕ) (q : Q) (r : R) → s.read p ≡ Some q → IsBack s (s.id_of p) (s.gives p r)
+  given_back p q r reads =
+      by_test (s.waits p)
+      (λ e. keeps.given p r e)
+      (λ e. let bad : None ≡ Some q = sym (keeps.unread p e) ∙ reads in absurd (cc))
+
+  message_of : (o : Option (ℕ → List ℕ)) → is_some o ≡ true → (m : ℕ → List ℕ) × (o ≡ Some m)
+  message_of None e = absurd (cc)
+  message_of (Some m) e = (m, refl)
+
+  no_message : (o : Option (ℕ → List ℕ)) → is_some o ≡ false → o ≡ None
+  no_message None e = refl
+  no_message (Some m) e = absurd (cc)
+
+  -- a message that goes back stands in the table
+  pub owes_by : (id own : ℕ) (b : Back (List ℕ)) (rs rs' : List (Option ℕ)) (besides : Bool) → own < 2 ^ 64 → IsBack s id b → is_some b.message ≡ besides → (besides ≡ true → own_in rs own ≡ false)
+      → (besides ≡ true → (j : ℕ) → own_in rs' j ≡ (if j == own then true else own_in rs j)) → (besides ≡ false → rs' ≡ rs) → Owes s (packets_of own b) (own_in rs) (own_in rs')
+  owes_by id own b rs rs' besides fits back is free set same =
+      by_test besides
+      (λ e. let m = message_of b.message (is ∙ e) in owes_message s id own b m.0 (own_in rs) (own_in rs') fits back m.1 (free e) (set e))
+      (λ e. owes_answer s id own b (own_in rs) (own_in rs') back (no_message b.message (is ∙ e)) (λ j. ap (λ t. own_in t j) (same e)))
+
+  -- and so does one that is fixed
+  pub owes_fixed : (p : List ℕ) (own : ℕ) (rs rs' : List (Option ℕ)) (besides : Bool) → own < 2 ^ 64 → s.read p ≡ None → besides ≡ has_message_in (s.fixed p) → (besides ≡ true → own_in rs own ≡ false)
+      → (besides ≡ true → (j : ℕ) → own_in rs' j ≡ (if j == own then true else own_in rs j)) → (besides ≡ false → rs' ≡ rs) → Owes s (packets_in own (s.fixed p)) (own_in rs) (own_in rs')
+  owes_fixed p own rs rs' besides fits reads is free set same = by (s.fixed p) refl
+    where
+      by : (o : Option (Back (List ℕ))) → s.fixed p ≡ o → Owes s (packets_in own o) (own_in rs) (own_in rs')
+      by None e = owes_nothing s (own_in rs) (own_in rs') (λ j. ap (λ t. own_in t j) (same (is ∙ ap has_message_in e)))
+      by (Some b) e = owes_by (s.id_of p) own b rs rs' besides fits (fixed_back p b reads e) (sym (is ∙ ap has_message_in e)) free set same

@@ -1,0 +1,54 @@
+use Rattle.std.proofs.Common.{◌≡◌, ap, sym, ◌∙◌, subst, true}
+use Rattle.channel_trace.specs.Runs.{sent_of}
+use Rattle.worker_port.specs.Owed.{is_nil}
+use Rattle.worker_server.specs.Serving.{HasToWait}
+use Rattle.worker_server.proofs.ServeSteps.{saw_kept, still_kept, rests_at}
+use Rattle.worker_port.proofs.RoomLaws.{room_quiet, got_same}
+use Rattle.worker_server.proofs.server.Server.arm_or_sleep.Goals as goal
+
+pub invariant_of-self : goal.invariant_of-self
+invariant_of-self g c =
+    let v = c.self.view_is in
+    record {
+      live = still_kept (g.T.Protocol.format c.self.inside.responder.protocol) (g.T.Protocol.keeps c.self.inside.responder.protocol) (g.T.Protocol.besides c.self.inside.responder.protocol) _ _ c.need-want.result c.in-Nothing.ensures.past c.arm.ensures.lists.0 (λ _. rests_at (g.T.Protocol.format c.self.inside.responder.protocol) (g.T.Protocol.keeps c.self.inside.responder.protocol) (g.T.Protocol.besides c.self.inside.responder.protocol) (record {
+        responder = c.self.inside.responder;
+        end = c.self.inside.port;
+        serve = c.self.inside.serve;
+        stops = c.self.inside.stops;
+        starts = c.self.inside.starts;
+        come = c.self.inside.come;
+        missing = c.self.inside.missing;
+        served = c.self.inside.served;
+        seen = c.self.inside.seen;
+        want = c.self.inside.want;
+      }) _ c.need-want.result c.need-want.ensures.value (record { asleep = c.in-Nothing.ensures.asleep; want_is = c.arm.ensures.want c.in-Nothing.ensures.asleep }) c.arm.ensures.lists.0 (subst (λ w. is_nil w.responder.owed ≡ true → HasToWait (g.T.Protocol.format w.responder.protocol) (g.T.Protocol.besides w.responder.protocol) w) (sym v) c.requires.waits) c.in-Nothing.ensures.past (ap (λ w. w.seen) v ∙ c.requires.unseen)) (ap (λ w. w.end.state.machine.marked) c.self.view_is ∙ c.requires.ready.unmarked) c.self.invariant.live;
+      room = room_quiet _ _ _ (got_same _ _ c.arm.ensures.lists.0 c.arm.ensures.lists.1) c.arm.ensures.stays.cells c.arm.ensures.lists.2 (ap sent_of c.in-Nothing.ensures.past) c.self.invariant.room;
+      side = c.self.invariant.side ∙ sym c.arm.ensures.stays.same.side;
+    }
+
+pub invariant_of-self-in-Mark : goal.invariant_of-self-in-Mark
+invariant_of-self-in-Mark g c =
+    record {
+      live = saw_kept (g.T.Protocol.format c.self.inside.responder.protocol) (g.T.Protocol.keeps c.self.inside.responder.protocol) (g.T.Protocol.besides c.self.inside.responder.protocol) _ _ c.need-want.result c.in-Mark.ensures.past c.arm.ensures.lists.0 c.in-Mark.ensures.asleep (ap (λ w. w.end.state.machine.marked) c.self.view_is ∙ c.requires.ready.unmarked) c.self.invariant.live;
+      room = room_quiet _ _ _ (got_same _ _ c.arm.ensures.lists.0 c.arm.ensures.lists.1) c.arm.ensures.stays.cells c.arm.ensures.lists.2 (ap sent_of c.in-Mark.ensures.past) c.self.invariant.room;
+      side = c.self.invariant.side ∙ sym c.arm.ensures.stays.same.side;
+    }
+
+pub returns-in-Nothing-clause-turns : goal.returns-in-Nothing-clause-turns
+returns-in-Nothing-clause-turns g c =
+    let v = c.self.view_is in (
+      c.arm.ensures.unmarked,
+      c.in-Nothing.ensures.asleep,
+      rests_at (g.T.Protocol.format c.self.inside.responder.protocol) (g.T.Protocol.keeps c.self.inside.responder.protocol) (g.T.Protocol.besides c.self.inside.responder.protocol) (record {
+        responder = c.self.inside.responder;
+        end = c.self.inside.port;
+        serve = c.self.inside.serve;
+        stops = c.self.inside.stops;
+        starts = c.self.inside.starts;
+        come = c.self.inside.come;
+        missing = c.self.inside.missing;
+        served = c.self.inside.served;
+        seen = c.self.inside.seen;
+        want = c.self.inside.want;
+      }) _ c.need-want.result c.need-want.ensures.value (record { asleep = c.in-Nothing.ensures.asleep; want_is = c.arm.ensures.want c.in-Nothing.ensures.asleep }) c.arm.ensures.lists.0 (subst (λ w. is_nil w.responder.owed ≡ true → HasToWait (g.T.Protocol.format w.responder.protocol) (g.T.Protocol.besides w.responder.protocol) w) (sym v) c.requires.waits) c.in-Nothing.ensures.past (ap (λ w. w.seen) v ∙ c.requires.unseen),
+    )

@@ -1,0 +1,48 @@
+use Rattle.std.proofs.Common.{◌∙◌, ap, map, sym, subst}
+use Rattle.worker_server.specs.Serving.{EndsBy}
+use Rattle.worker_server.proofs.ResponderLaws.{behind_is, front_is}
+use Rattle.worker_server.proofs.ServeSteps.{ends_on, on_refl, on_trans}
+use Rattle.worker_server.proofs.server.Server.run.Goals as goal
+
+pub loop-init : goal.loop-init
+loop-init g c = record { can = tt; ends = tt; unmarked = c.requires.unmarked; on = on_refl g.S.Device.same g.E.Parks.channel g.E.Seatlike.told g.S.Device.same_refl _ }
+
+pub loop-preserved-in-Moved : goal.loop-preserved-in-Moved
+loop-preserved-in-Moved g c = record {
+  can = tt;
+  ends = tt;
+  unmarked = c.in-Moved.ensures.turns;
+  on = on_trans g.S.Device.same g.E.Parks.channel g.E.Seatlike.told g.S.Device.same_trans _ _ _ c.loop.invariant.on c.turn.ensures.on;
+}
+
+pub loop-preserved : goal.loop-preserved
+loop-preserved g c = record {
+  can = tt;
+  ends = tt;
+  unmarked = c.sleep.ensures.unmarked;
+  on = on_trans g.S.Device.same g.E.Parks.channel g.E.Seatlike.told g.S.Device.same_trans _ _ _ c.loop.invariant.on (on_trans g.S.Device.same g.E.Parks.channel g.E.Seatlike.told g.S.Device.same_trans _ _ _ c.turn.ensures.on c.sleep.ensures.on);
+}
+
+pub returns-in-Ended-clause-seat : goal.returns-in-Ended-clause-seat
+returns-in-Ended-clause-seat g c =
+    subst (λ x. g.S.Device.same c.args.self.responder.seat x) (sym c.done.ensures.same.1) (g.S.Device.same_trans _ _ _ c.loop.invariant.on.seat c.turn.ensures.on.seat)
+
+pub returns-in-Ended-clause-ends : goal.returns-in-Ended-clause-ends
+returns-in-Ended-clause-ends g c =
+    let u = c.args.self in
+    let w = c.turn.new.self in
+    let on = on_trans g.S.Device.same g.E.Parks.channel g.E.Seatlike.told g.S.Device.same_trans _ _ _ c.loop.invariant.on c.turn.ensures.on in
+    subst (λ l. EndsBy (g.T.Protocol.format u.responder.protocol) (g.T.Protocol.besides u.responder.protocol) c.done.result.ended u c.done.result.end l) (sym (behind_is u.responder.before w.responder.before w.responder.calls _ c.done.ensures.calls on.before))
+    (ends_on g.S.Device.same g.E.Parks.channel g.E.Seatlike.told g.T.Protocol.format g.T.Protocol.besides c.done.result.ended u w c.done.result.end w.responder.calls on c.done.ensures.ends.1)
+
+pub returns-in-Ended-clause-before : goal.returns-in-Ended-clause-before
+returns-in-Ended-clause-before g c =
+    let w = c.turn.new.self in
+    let on = on_trans g.S.Device.same g.E.Parks.channel g.E.Seatlike.told g.S.Device.same_trans _ _ _ c.loop.invariant.on c.turn.ensures.on in
+    front_is c.args.self.responder.before w.responder.before w.responder.calls _ c.done.ensures.calls on.before
+
+pub returns-in-Ended-clause-serials : goal.returns-in-Ended-clause-serials
+returns-in-Ended-clause-serials g c =
+    let w = c.turn.new.self in
+    let on = on_trans g.S.Device.same g.E.Parks.channel g.E.Seatlike.told g.S.Device.same_trans _ _ _ c.loop.invariant.on c.turn.ensures.on in
+    c.done.ensures.serials ∙ ap (map (λ c. c.serial)) (sym (behind_is c.args.self.responder.before w.responder.before w.responder.calls _ c.done.ensures.calls on.before))
