@@ -4,9 +4,9 @@ ghost use Rattle.ring_machine.specs.Endings.{IsWant};
 ghost use Rattle.ring_machine.specs.States.{IsPacket};
 
 use crate::packet::{a_packet, room_for, send, take};
-use ring_sleep::sleep;
 use ring_core::{Armed, End};
 use ring_seat::{ChannelMem, GuestEnd, HostEnd, TableSeat};
+use ring_sleep::sleep;
 use std::alloc::{AllocError, Global};
 use std::io;
 use std::rt::Runtime;

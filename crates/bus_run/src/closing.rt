@@ -17,12 +17,12 @@ use crate::due::Due;
 use crate::seats::Seats;
 use bus_model::ChannelRun;
 use bus_plan::{ChannelOutcomes, Outcomes};
-use worker_pair::DeviceSeat;
 use bus_threads::{PairDone, serving_seat};
 use ring_seat::Settled;
 use std::alloc::{AllocError, Global};
 use std::mem;
 use std::vec::IntoIter;
+use worker_pair::DeviceSeat;
 
 /// What a channel carried, its seat, and the outcomes of its requests, of which there are so many: nothing is copied.
 fn end_channel(asked: usize, done: PairDone) -> (Settled, DeviceSeat, ChannelOutcomes)

@@ -11,11 +11,11 @@ use crate::device_slot::DeviceSlot;
 use crate::seats::Seats;
 use crate::settings::Settings;
 use bus_plan::ChannelOrder;
-use worker_pair::DeviceSeat;
-use contact::Kind;
 use bus_threads::{Pair, open_pair};
+use contact::Kind;
 use std::alloc::{AllocError, Global};
 use std::mem;
+use worker_pair::DeviceSeat;
 
 /// Puts the number of a channel's requests behind others, if it is a channel of this device.
 fn add_quota(quotas: &mut Vec<u32>, device: u32, channel: &ChannelOrder) -> Result<(), AllocError>

@@ -14,7 +14,7 @@ use crate::channels::run_channels;
 use crate::device_slot::{DeviceSlot, all_subs};
 use crate::settings::Settings;
 use bus_model::ChannelRun;
-use bus_plan::{Ending, mark_ended, plan_part, line_results};
+use bus_plan::{Ending, line_results, mark_ended, plan_part};
 use bus_script::{Line, LineResult};
 use io_edge::Gate;
 use std::alloc::{AllocError, Global};

@@ -8,12 +8,12 @@ ghost use Rattle.bus_run.specs.Seats.{AreSeatsFor, ComesBack, kind_in, seats_in}
 ghost use Rattle.bus_run.specs.declared.device_slot.DeviceSlot.{DeviceSlot as OneSlot};
 
 use crate::device_slot::DeviceSlot;
-use worker_pair::DeviceSeat;
 use hist_lock::{HistLock, HistSeat};
 use net_dev::Station;
 use scsi_disk::Disk;
 use std::alloc::{AllocError, Global};
 use util_ic::{BeatMachine, DownMachine};
+use worker_pair::DeviceSeat;
 
 /// The seats of a device that stand here: all of them before its channels are opened, none while these run, and all again once they are closed. There is
 /// one for each channel, in order of relid.

@@ -10,13 +10,13 @@ ghost use Rattle.bus_threads.specs.Beginning.{Begins};
 use crate::close::close;
 use crate::start::{Start, StartPromise, Started, start_worker};
 use crate::{Pair, PairDone};
-use worker_pair::{Worker, WorkerDone, run_both};
 use io_edge::Gate;
 use std::marker::Model;
 use std::snapshot::Snapshot;
 use std::sync::Wait;
 use std::sync::atomic::AtomicBool;
 use std::thread::{PromisedHandle, Scope, Threads};
+use worker_pair::{Worker, WorkerDone, run_both};
 
 /// A word for each start of a channel, which is set once that start was refused.
 #[derive(Drop)]

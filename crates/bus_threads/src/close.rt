@@ -4,9 +4,9 @@ ghost use Rattle.worker_pair.specs.Leaving.{Leaves};
 ghost use Rattle.bus_threads.specs.Pairs.{IsPaired, RunsPair};
 
 use crate::{Pair, PairDone};
-use worker_pair::{GuestSeat, HostSeat, WorkerDone};
 use ring_seat::finish;
 use std::snapshot::Snapshot;
+use worker_pair::{GuestSeat, HostSeat, WorkerDone};
 
 // The list of the two that isn't empty.
 fn either<T: Drop>(first: Vec<T>, second: Vec<T>) -> Vec<T>

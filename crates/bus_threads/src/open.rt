@@ -8,10 +8,10 @@ ghost use Rattle.bus_threads.specs.Pairs.{AreOnChannel, Opens};
 use crate::Pair;
 use bus_script::Ask;
 use chan_state::Stop;
-use worker_pair::{ChannelPlan, DeviceSeat, GuestWorker, HostWorker, make_both};
 use contact::Kind;
 use ring_seat::ChannelMem;
 use std::alloc::{AllocError, Global};
+use worker_pair::{ChannelPlan, DeviceSeat, GuestWorker, HostWorker, make_both};
 
 // A pair of two workers of one channel.
 fn paired(guest: GuestWorker, host: HostWorker) -> Pair

@@ -2,12 +2,12 @@
 ghost use Rattle.worker_pair.specs.Workers.{IsLive};
 ghost use Rattle.bus_threads.specs.Starting.{Comes, IsStarted};
 
-use worker_pair::{Worker, WorkerDone};
 use io_edge::Gate;
 use std::snapshot::Snapshot;
 use std::sync::Wait;
 use std::sync::atomic::{AtomicBool, Ordering};
 use std::thread::{Promise, PromisedHandle, Scope, Threads};
+use worker_pair::{Worker, WorkerDone};
 
 /// What the start of a worker gives: the worker has run, or comes back.
 #[derive(Drop)]

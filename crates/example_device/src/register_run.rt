@@ -10,12 +10,12 @@ use crate::register_protocol::RegisterProtocol;
 use crate::register_seat::RegisterSeat;
 use hist_lock::HistLock;
 use io_edge::{NoGate, Side};
-use worker_requester::{Requester, RequesterDone};
 use ring_seat::{ChannelMem, GuestEnd, HostEnd, TableSeat};
-use worker_server::{Server, ServerDone};
 use std::alloc::{AllocError, Global};
 use std::sync::Wait;
 use std::thread::{Threads, join};
+use worker_requester::{Requester, RequesterDone};
+use worker_server::{Server, ServerDone};
 
 /// What the guest's worker left, and the host's.
 pub type Stored = (

@@ -2,12 +2,12 @@
 ghost use Rattle.std.specs.Prelude.{◌≡◌, ◌<◌, ◌^◌, length, true};
 
 use crate::{RegisterProtocol, RegisterSeat, store_all};
-use worker_port::Ended;
-use worker_requester::RequesterDone;
 use ring_seat::TableSeat;
-use worker_server::ServerDone;
 use std::alloc::AllocGlobal;
 use std::process::Abort;
+use worker_port::Ended;
+use worker_requester::RequesterDone;
+use worker_server::ServerDone;
 
 /// Stops the test unless this holds.
 fn check(rt: &impl Abort, holds: bool)

@@ -1,11 +1,11 @@
 //! Passes packets through two ends that keep none, over words that both share, and writes how many came out as they went in. Its argument says how many.
 #![tactic(auto)]
 
+use example_calls::{AtomicWords, SharedSeat, pass_one};
 use ring_core::Side;
 use ring_stream::DriverEnd;
 use std::alloc::Global;
 use std::{env, io};
-use example_calls::{AtomicWords, SharedSeat, pass_one};
 
 // How many of so many packets come out as they went in.
 fn passed(alloc: Global, count: u64) -> io::Result<u64> {

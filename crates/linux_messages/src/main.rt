@@ -2,8 +2,8 @@
 #![tactic(auto)]
 
 use io_edge::{StdSource, read_all};
-use vmbus_msg_text::decode_text;
 use std::io::{self, Write, writer};
+use vmbus_msg_text::decode_text;
 
 // How many bytes the input has at most.
 const MOST: usize = 1_048_576;

@@ -24,7 +24,7 @@ pub use guards::{is_packet, may_begin, may_lend, may_send, may_take};
 pub use laws::refuses_by_value;
 pub use packets::Packets;
 pub use ring_machine::{
-    Armed, Bad, EndCore, EndState, Ending, Indices, Last, EndMachine, Mode, Op, Place, Ring,
+    Armed, Bad, EndCore, EndMachine, EndState, Ending, Indices, Last, Mode, Op, Place, Ring,
     SendRefusal, Side, Signalled, Stage, TakeRefusal, Why, counts_bytes, incoming, last_stays,
     mark_index, outgoing, peer, place_index, raise_on_commit, raise_on_write, refuses_by_cause,
     signal_index, stays_inside, stores_by_call,

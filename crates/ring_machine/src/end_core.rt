@@ -11,7 +11,7 @@ ghost use Rattle.ring_machine.specs.PageCalls.{PagesFit, IsQuiet, is_paging, is_
 
 use crate::fed::feed_machine;
 use crate::last::{Armed, Bad, Indices, Last, Mode, SendRefusal, Signalled, TakeRefusal, Why};
-use crate::machine::{Ending, EndMachine, Stage};
+use crate::machine::{EndMachine, Ending, Stage};
 use crate::next::next_machine;
 use crate::page_core::PageCore;
 use crate::place::{Op, Side};

@@ -6,7 +6,7 @@ ghost use Rattle.ring_machine.specs.declared.machine.Stage.TheVariants.{CommitRe
 ghost use Rattle.ring_machine.specs.declared.machine.Stage.TheVariants.{ArmMask, ArmWrite, ArmRead, ArmMark, ArmUndoMask, ArmUndoPending};
 ghost use Rattle.ring_machine.specs.declared.machine.Stage.TheVariants.{PollSignal, PollMask, PollPending, MarkRaise, PeerMark};
 
-use crate::machine::{Ending, EndMachine, Stage};
+use crate::machine::{EndMachine, Ending, Stage};
 use crate::ring::{
     free_in, low_half, named_cell, names_cell, packet_len, payload_offset, raise_with, step_ahead,
     used_in,

@@ -15,7 +15,7 @@ mod state;
 pub use end_core::EndCore;
 pub use last::{Armed, Bad, Indices, Last, Mode, SendRefusal, Signalled, TakeRefusal, Why};
 pub use laws::{counts_bytes, last_stays, refuses_by_cause, stays_inside, stores_by_call};
-pub use machine::{Ending, EndMachine, Stage};
+pub use machine::{EndMachine, Ending, Stage};
 pub use page_core::PageCore;
 pub use page_kept::{Due, PageCall};
 pub use place::{Op, Place, Ring, Side};

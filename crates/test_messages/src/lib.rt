@@ -12,6 +12,6 @@ mod gpadl_tests;
 #[cfg(test)]
 mod mail_box_tests;
 #[cfg(test)]
-mod vmbus_msg_text_tests;
-#[cfg(test)]
 mod vmbus_msg_tests;
+#[cfg(test)]
+mod vmbus_msg_text_tests;

@@ -1,10 +1,10 @@
 //! The lines of messages made by another program, byte for byte, and the refusals of lines.
 
 use crate::check::check;
-use vmbus_msg_text::decode_text;
 use script_text::{ParseFault, ScriptFault, Why6};
 use std::alloc::Global;
 use std::process::Abort;
+use vmbus_msg_text::decode_text;
 
 // Messages as Linux's structs lay them out, one of each kind, and then bytes that are none.
 const LINES: &[u8] =

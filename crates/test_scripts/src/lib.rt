@@ -8,8 +8,8 @@ mod check;
 #[cfg(test)]
 mod disk_script_tests;
 #[cfg(test)]
-mod script_load_tests;
-#[cfg(test)]
 mod net_script_tests;
 #[cfg(test)]
 mod rescind_script_tests;
+#[cfg(test)]
+mod script_load_tests;

@@ -9,17 +9,17 @@ ghost use Rattle.worker_pair.specs.Plans.{AllCarried, CanStop, stop_of};
 use crate::check::check;
 use crate::only_seat::only_seat;
 use bus_script::{Ask, Reply};
+use bus_threads::{Pair, PairDone, open_pair, run_pair, run_phase};
 use chan_state::Stop;
-use worker_pair::DeviceSeat;
 use contact::Kind;
 use io_edge::NoGate;
-use bus_threads::{Pair, PairDone, open_pair, run_pair, run_phase};
 use ring_core::Packets;
 use scsi_disk::{Chunk, Command, Disk, DiskReply, DiskRequest};
 use std::alloc::AllocGlobal;
 use std::process::Abort;
 use std::sync::Wait;
 use util_ic::{BeatMachine, DownMachine, IcAsk};
+use worker_pair::DeviceSeat;
 
 // Three requests to a device of this kind, in a list.
 fn three(rt: &(impl Abort + AllocGlobal), kind: Kind, asks: [Ask; 3]) -> Vec<Ask>

@@ -5,15 +5,15 @@ ghost use Rattle.ring_seat.specs.Seats.{new_end};
 
 use crate::check::check;
 use crate::echo::{Echo, EchoSeat};
-use worker_port::Ended;
 use io_edge::{NoGate, Side};
-use worker_requester::Requester;
 use ring_seat::{ChannelMem, GuestEnd, HostEnd, TableSeat};
-use worker_server::Server;
 use std::alloc::AllocGlobal;
 use std::process::Abort;
 use std::sync::Wait;
 use std::thread::{Threads, join};
+use worker_port::Ended;
+use worker_requester::Requester;
+use worker_server::Server;
 
 // The asks from 0, so many. For the first one no message comes back.
 fn asks(rt: &(impl Abort + AllocGlobal), n: u32) -> Echo {

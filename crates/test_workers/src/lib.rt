@@ -2,11 +2,11 @@
 #![tactic(auto)]
 
 #[cfg(test)]
+mod bus_threads_tests;
+#[cfg(test)]
 mod channel_model_tests;
 #[cfg(test)]
 mod channel_tests;
-#[cfg(test)]
-mod worker_pair_tests;
 #[cfg(test)]
 mod check;
 #[cfg(test)]
@@ -14,4 +14,4 @@ mod echo;
 #[cfg(test)]
 mod only_seat;
 #[cfg(test)]
-mod bus_threads_tests;
+mod worker_pair_tests;

@@ -7,8 +7,6 @@ ghost use Rattle.ring_seat.specs.Seats.{new_end};
 use crate::check::check;
 use crate::only_seat::only_seat;
 use bus_script::Reply;
-use worker_port::{Ended, Turn};
-use worker_pair::{GuestPlan, GuestSeat, GuestWorker, HostPlan, HostSeat, HostWorker};
 use contact::Kind;
 use io_edge::NoGate;
 use ring_seat::{ChannelMem, GuestEnd, HostEnd};
@@ -17,6 +15,8 @@ use std::process::Abort;
 use std::sync::Wait;
 use std::thread::join;
 use util_ic::{BeatMachine, IcAsk};
+use worker_pair::{GuestPlan, GuestSeat, GuestWorker, HostPlan, HostSeat, HostWorker};
+use worker_port::{Ended, Turn};
 
 // A guest that serves two heartbeats.
 fn guest_of(rt: &(impl Abort + AllocGlobal), end: GuestEnd) -> GuestWorker

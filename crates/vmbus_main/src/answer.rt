@@ -11,10 +11,10 @@ use bus_model::{ChannelRun, DeviceHistory};
 use bus_script::{ParseFault, parse, report};
 use io_edge::Gate;
 use script_load::{load_line, load_script};
-use vmbus_msg_text::decode_text;
 use std::alloc::{AllocError, Global};
 use std::sync::Wait;
 use std::thread::Threads;
+use vmbus_msg_text::decode_text;
 
 /// The output, and what ran.
 #[derive(Drop)]

@@ -1,9 +1,9 @@
 //! What the workers of a channel leave.
 use crate::{DeviceSeat, GuestSeat, HostSeat};
 use bus_script::Reply;
-use worker_port::Ended;
 use ring_core::End;
 use ring_seat::TableSeat;
+use worker_port::Ended;
 
 /// What a worker leaves, with its seat as its side has it.
 #[derive(Drop)]

@@ -10,12 +10,12 @@ ghost use Rattle.worker_pair.specs.Workers.{Caused, GoesOn, IsLive, IsOfSide, Tu
 
 use crate::making::{guest_asks, make_worker};
 use crate::{ChannelPlan, GuestDone, GuestPlan, GuestSeat, Worker, WorkerDone};
-use worker_port::Turn;
 use io_edge::{Gate, Side};
 use ring_seat::GuestEnd;
 use std::alloc::{AllocError, Global};
 use std::marker::Model;
 use std::sync::Wait;
+use worker_port::Turn;
 
 /// The worker of the guest's end of a channel. It asks a disk or a network's adapter, and serves heartbeats and shutdowns.
 #[derive(Drop)]

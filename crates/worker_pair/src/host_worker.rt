@@ -10,12 +10,12 @@ ghost use Rattle.worker_pair.specs.Workers.{Caused, GoesOn, IsLive, IsOfSide, Tu
 
 use crate::making::{ic_asks, make_worker};
 use crate::{ChannelPlan, HostDone, HostPlan, HostSeat, Worker, WorkerDone};
-use worker_port::Turn;
 use io_edge::{Gate, Side};
 use ring_seat::HostEnd;
 use std::alloc::{AllocError, Global};
 use std::marker::Model;
 use std::sync::Wait;
+use worker_port::Turn;
 
 /// The worker of the host's end of a channel. It serves a disk or a network's adapter, and asks for heartbeats and shutdowns.
 #[derive(Drop)]

@@ -24,14 +24,14 @@ use channel_protocol::Protocol;
 use contact::Kind;
 use device_protocols::DeviceProtocol;
 use io_edge::Side;
-use worker_requester::Requester;
 use ring_core::End;
 use ring_seat::TableSeat;
 use rndis_msg::Rndis;
 use scsi_disk::DiskRequest;
-use worker_server::Server;
 use std::alloc::{AllocError, Global};
 use util_ic::IcAsk;
+use worker_requester::Requester;
+use worker_server::Server;
 
 // A heartbeat or a shutdown can be asked on its channel. It does nothing.
 fn service_can(kind: Kind, ask: IcAsk)

@@ -11,9 +11,9 @@ use crate::guest_worker::guest_done;
 use crate::host_worker::host_done;
 use crate::worker::{ChannelRequester, ChannelServer, asked, served};
 use crate::{GuestDone, GuestWorker, HostDone, HostWorker, Worker, WorkerDone};
-use worker_port::{Ended, Turn};
 use io_edge::Gate;
 use std::sync::Wait;
+use worker_port::{Ended, Turn};
 
 // A turn of the end that asks, unless it has ended.
 fn ask<R: Wait, G: Gate>(

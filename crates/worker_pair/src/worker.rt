@@ -5,13 +5,13 @@ ghost use Rattle.worker_pair.specs.Leaving.{Leaves};
 ghost use Rattle.worker_pair.specs.Workers.{Caused, GoesOn, IsLive, Turned};
 
 use crate::{DeviceSeat, WorkerDone};
-use worker_port::Turn;
 use device_protocols::DeviceProtocol;
 use io_edge::Gate;
-use worker_requester::{Requester, RequesterDone};
 use ring_seat::TableSeat;
-use worker_server::{Server, ServerDone};
 use std::sync::Wait;
+use worker_port::Turn;
+use worker_requester::{Requester, RequesterDone};
+use worker_server::{Server, ServerDone};
 
 /// The worker of the end that asks.
 pub(crate) type ChannelRequester = Requester<DeviceProtocol, TableSeat>;

@@ -5,12 +5,12 @@
 mod ended;
 mod found;
 pub mod laws;
+mod packet_buffer;
 mod port;
 mod room;
-mod packet_buffer;
 
 pub use ended::{Ended, Turn};
 pub use found::{Found, Tried};
+pub use packet_buffer::PacketBuffer;
 pub use port::{ArmResult, Port};
 pub use room::room_of;
-pub use packet_buffer::PacketBuffer;

@@ -12,8 +12,8 @@ ghost use Rattle.worker_port.specs.Rooms.{GotInto, KeepsRoom, SentInto};
 ghost use Rattle.worker_port.specs.Line.{new_end, IsBroken, IsReady, Tries, Finds, past_tried, Stays, TookOne, looked, look_of, is_asleep, armed_by, polled_by, PolledOnce, HasTakeRoom, LacksTake};
 
 use crate::found::{Found, Tried, found_by, has_packet, tried_by};
-use ring_sleep::{Parks, sleep};
 use ring_core::{Armed, End, Room};
+use ring_sleep::{Parks, sleep};
 use std::alloc::AllocError;
 use std::marker::Model;
 use std::sync::Wait;
@@ -299,6 +299,10 @@ fn looked_by(found: Armed, saw: bool) -> ArmResult
 {
     match found {
         Armed::Asleep => ArmResult::Nothing,
-        Armed::Work => if saw { ArmResult::Mark } else { ArmResult::Work },
+        Armed::Work => if saw {
+            ArmResult::Mark
+        } else {
+            ArmResult::Work
+        },
     }
 }

@@ -4,9 +4,9 @@ ghost use Rattle.channel_protocol.specs.Listed.{packet_in};
 ghost use Rattle.ring_machine.specs.States.{IsPacket};
 ghost use Rattle.channel_model.specs.Asker.{since};
 
-use worker_port::Port;
 use channel_protocol::Protocol;
 use ring_sleep::Parks;
+use worker_port::Port;
 
 // The packet that came just before the last one, where it is no answer; else no words.
 #[tactic(auto, using(crate::proofs::CameLaws::none_before, crate::proofs::CameLaws::answered_before, crate::proofs::CameLaws::other_before))]

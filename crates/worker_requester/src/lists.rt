@@ -1,9 +1,9 @@
 //! The lists of a worker that asks.
 ghost use Rattle.std.specs.Prelude.{◌≡◌, ◌≤◌, [], replicate, vec_len, vec_capacity, IfOk, None};
 
-use worker_port::PacketBuffer;
 use std::alloc::{AllocError, Global};
 use txn_table::TxnTable;
+use worker_port::PacketBuffer;
 
 /// The open requests, the replies, those that are rescinded at the end, and the buffer in which a packet is written: each with all its memory.
 #[derive(Drop)]

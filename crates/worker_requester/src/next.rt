@@ -2,9 +2,9 @@
 ghost use Rattle.std.specs.Prelude.{◌≤◌, length};
 ghost use Rattle.worker_requester.specs.Acking.{IsNext};
 
-use worker_port::Port;
 use channel_protocol::Protocol;
 use ring_sleep::Parks;
+use worker_port::Port;
 
 // The place of the next message among the packets that came, from a place on; or the end of the list.
 pub(crate) fn next_message<T: Protocol, S: Parks + Drop>(

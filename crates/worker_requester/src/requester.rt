@@ -17,15 +17,15 @@ use crate::came::came_before;
 use crate::lists::Lists;
 use crate::next::next_message;
 use crate::settle::settle;
-use worker_port::{Ended, Found, ArmResult, Port, PacketBuffer, Tried, Turn, room_of};
 use channel_protocol::Protocol;
-use ring_sleep::Parks;
 use io_edge::{Gate, Side};
 use ring_core::End;
+use ring_sleep::Parks;
 use std::alloc::{AllocError, Global};
 use std::marker::Model;
 use std::sync::Wait;
 use txn_table::TxnTable;
+use worker_port::{ArmResult, Ended, Found, PacketBuffer, Port, Tried, Turn, room_of};
 
 /// Why nothing more is sent.
 #[derive(Clone, Copy, Debug, PartialEq, Eq)]

@@ -6,10 +6,10 @@ ghost use Rattle.worker_port.specs.Owed.{is_nil, FitsReply};
 ghost use Rattle.channel_model.specs.Acks.{is_in};
 ghost use Rattle.channel_model.specs.WireFormat.{packets_in, packets_of};
 
-use worker_port::PacketBuffer;
 use channel_protocol::Protocol;
 use std::alloc::{AllocError, Global};
 use std::marker::Model;
+use worker_port::PacketBuffer;
 
 /// A message and an answer, each of which may be none. The message is sent first.
 #[derive(Drop)]

@@ -15,14 +15,14 @@ ghost use Rattle.worker_port.specs.declared.ended.Ended.TheVariants.{PeerMarked 
 
 use crate::put::Given;
 use crate::responder::Responder;
-use worker_port::{Ended, Found, ArmResult, Port, Tried, Turn, room_of};
 use channel_protocol::{Device, Protocol};
-use ring_sleep::Parks;
 use io_edge::{Gate, Side};
 use ring_core::End;
+use ring_sleep::Parks;
 use std::alloc::{AllocError, Global};
 use std::marker::{Model, PhantomData};
 use std::sync::Wait;
+use worker_port::{ArmResult, Ended, Found, Port, Tried, Turn, room_of};
 
 /// The worker of the end that serves: it answers what comes, in order, as its plan says.
 #[derive(Drop)]

@@ -40,14 +40,17 @@ returns-in-Loads g c =
             let same : DueLoads q n 0 ≡ DueLoads r m j = sym due ∙ (ap (λ (x : Seen _). x.state.pages.due) v ∙ h) in
             let page : q ≡ r = cc in
             let count : n ≡ m = cc in
-            let first : 0 ≡ j = cc in
-            (sym first, omega (arith, inside.2, count), record {
-              ran = subst (λ (x : ℕ × ℕ). RanPages c.args.self.now.state end (LoadWords x.0 x.1 0) (told c.args.self.now.seat) (told new.seat) (memory c.args.self.now.seat) (memory new.seat)) (λ i. (page i, count i))
-                  (subst (λ (x : Seen _). RanPages x.state end (LoadWords q n 0) (told x.seat) (told new.seat) (memory x.seat) (memory new.seat)) v e.ran);
-              clear = e.clear.0;
-              long = ap length last ∙ (values_long n (word_of new.table.copy q) ∙ count);
-              room = (omega (arith, e.room.0, ap (λ (x : Seen _). x.spare_got.packets) v), omega (arith, e.room.1, ap (λ (x : Seen _). x.spare_got.words) v, count));
-            });
+            let first : 0 ≡ j = cc in (
+              sym first,
+              omega (arith, inside.2, count),
+              record {
+                ran = subst (λ (x : ℕ × ℕ). RanPages c.args.self.now.state end (LoadWords x.0 x.1 0) (told c.args.self.now.seat) (told new.seat) (memory c.args.self.now.seat) (memory new.seat)) (λ i. (page i, count i))
+                    (subst (λ (x : Seen _). RanPages x.state end (LoadWords q n 0) (told x.seat) (told new.seat) (memory x.seat) (memory new.seat)) v e.ran);
+                clear = e.clear.0;
+                long = ap length last ∙ (values_long n (word_of new.table.copy q) ∙ count);
+                room = (omega (arith, e.room.0, ap (λ (x : Seen _). x.spare_got.packets) v), omega (arith, e.room.1, ap (λ (x : Seen _). x.spare_got.words) v, count));
+              },
+            );
         items = λ _.
             items
             ∙ (ap (λ (w : List ℕ). items_of it.got.list it.got.lent ++ item_of (newest it.got.list) w ∷ []) (sym last)
