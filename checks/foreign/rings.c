@@ -376,6 +376,69 @@ static void threads(uint32_t pages, unsigned seconds)
            taken[1], sleeps[0], sleeps[1]);
 }
 
+/* ---- Ends of any numbers: each plan lies inside the ring, and where there is no call nothing changes. ---- */
+static uint32_t any_number(uint32_t cells)
+{
+    switch (some(16)) {
+    case 0: return (uint32_t)mixed(random_state);
+    case 1: return some(12);
+    case 2: return cells - some(4);
+    default: return some(cells ? cells : 1);
+    }
+}
+
+static void inside_ring(uint32_t cells, uint32_t at, uint32_t first, uint32_t second, uint32_t words)
+{
+    if (at % 8 || (uint64_t)at / 8 + first > cells || second > at / 8 || first + second != words)
+        fail("a plan outside its ring", at);
+}
+
+static void any_ends(uint64_t count)
+{
+    uint64_t accepted = 0;
+    for (uint64_t i = 0; i < count; i++) {
+        uint32_t n = some(2) ? 512 * (1 + some(8)) : any_number(16777216);
+        /* mostly a call that fits the state */
+        static const uint32_t states[10] = {0, 2, 0, 3, 0, 4, 0, 5, 6, 0};
+        uint32_t call = some(10);
+        struct vmbus_plan_end e = {
+            n, any_number(n), any_number(n), any_number(n), any_number(n), any_number(n), any_number(8 * n), some(4) ? states[call] : some(9),
+        }, old = e;
+        if (some(2))
+            e.start = old.start = e.read;
+        struct vmbus_send_plan s = {1, 2, 3, 4, 5, 6}, s0 = s;
+        struct vmbus_take_plan t = {1, 2, 3, 4, 5}, t0 = t;
+        uint32_t x = 7, word = some(2) ? 8 * any_number(n) : any_number(n), a;
+        uint64_t head = (mixed(random_state) & ~(uint64_t)0xffffffff0000) | (uint64_t)some(9) << 16 | (uint64_t)some(some(2) ? 40 : 65536) << 32;
+        switch (call) {
+        case 0: a = vmbus_send_plan(&e, head, word, &s); break;
+        case 1: a = vmbus_send_done(&e, some(2), word); break;
+        case 2: a = vmbus_take_plan(&e, word, &x); break;
+        case 3: a = vmbus_take_head(&e, head, &t); break;
+        case 4: a = vmbus_commit_plan(&e, &x); break;
+        case 5: a = vmbus_commit_done(&e, some(4), word, 8 * any_number(n)); break;
+        case 6: a = vmbus_arm_plan(&e, word); break;
+        case 7: a = vmbus_arm_done(&e, word, 8 * any_number(n), some(3)); break;
+        case 8: a = vmbus_poll_done(&e, some(2)); break;
+        default: a = vmbus_mark_done(&e); break;
+        }
+        if (a == VMBUS_NO_CALL && (memcmp(&e, &old, sizeof e) || memcmp(&s, &s0, sizeof s) || memcmp(&t, &t0, sizeof t) || x != 7))
+            fail("something changed where there was no call", i);
+        if (a == VMBUS_NO_CALL)
+            continue;
+        accepted++;
+        if (e.cells != n || n > 16777216 || e.write >= n || e.read >= n || e.start >= n || e.seen >= n)
+            fail("an end in no form was taken, or left", i);
+        if (memcmp(&s, &s0, sizeof s))
+            inside_ring(n, s.at, s.first, s.second, (uint32_t)(head >> 32) & 0xffff);
+        if (memcmp(&t, &t0, sizeof t))
+            inside_ring(n, t.at, t.first, t.second, t.len - 1);
+        if (x != 7 && (x % 8 || x / 8 >= n))
+            fail("an offset outside its ring", x);
+    }
+    printf("any numbers: %" PRIu64 " calls, %" PRIu64 " of them taken, each plan inside its ring\n", count, accepted);
+}
+
 /* ---- On the clock: each packet is sent, taken into a private copy, and its room given back, in one thread over rings of 16 pages. ---- */
 #define ROUNDS 25
 #define IN_ROUND 20000
@@ -465,9 +528,15 @@ int main(int count, char **words)
     }
     unsigned seconds = count == 3 ? (unsigned)atoi(words[2]) : 4;
     static const uint32_t pages[] = {1, 2, 16, 128};
-    if (strcmp(words[1], "threads") != 0)
+    if (count == 2 && strcmp(words[1], "any") == 0) {
+        any_ends(40000000);
+        return 0;
+    }
+    if (strcmp(words[1], "threads") != 0) {
+        any_ends(40000000);
         for (int i = 0; i < 4; i++)
             turns(pages[i], 200000);
+    }
     for (int i = 0; i < 4; i++)
         threads(pages[i], seconds);
     return 0;
