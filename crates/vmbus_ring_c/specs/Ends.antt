@@ -1,6 +1,5 @@
 -- What C sees of an end and of its steps.
 use Rattle.std.specs.Prelude.{◌≡◌, ◌⊎◌, ℕ, ◌*◌, ◌<◌, ◌≤◌, true, false}
-use Rattle.io_edge.specs.declared.side.Side.{Side}
 use Rattle.ring_machine.specs.declared.machine.EndMachine.{EndMachine}
 use Rattle.ring_machine.specs.declared.machine.Stage.TheVariants.{Idle}
 use Rattle.ring_machine.specs.Steps.{IsSound}
