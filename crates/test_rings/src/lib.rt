@@ -10,15 +10,7 @@ mod check;
 #[cfg(test)]
 mod ends;
 #[cfg(test)]
-mod lends;
-#[cfg(test)]
 mod packet;
-#[cfg(test)]
-mod page_seat_tests;
-#[cfg(test)]
-mod page_tests;
-#[cfg(test)]
-mod page_told_tests;
 #[cfg(test)]
 mod ring_core_tests;
 #[cfg(test)]

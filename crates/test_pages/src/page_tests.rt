@@ -161,3 +161,28 @@ fn a_page_that_cannot_be_held_lends_nothing(rt: HostRuntime) {
     let nothing = lends_nothing(&mut g, &mut h);
     check(&rt, nothing && g.owns(0) && !g.owns(5));
 }
+
+// Takes a packet by the call that lends its words, and loads what came with it: whether these are the packet and its page words.
+fn takes_both(e: &mut End<SoloMem>, packet: &[u64], words: &[u64]) -> bool {
+    if !e.is_ready() || !may_take(e) {
+        return false;
+    }
+    let came = match e.take() {
+        Ok(taken) => taken.words() == packet,
+        Err(_) => false,
+    };
+    if !came || !e.is_due() || !e.is_ready() || e.spare_got().words < 512 {
+        return false;
+    }
+    e.lent_load() == words && !e.is_due()
+}
+
+// A take lends the packet's words, and the words of the page that it names are due behind it, once.
+#[test]
+fn a_take_lends_a_packet_whose_page_words_are_due(rt: HostRuntime) {
+    let mut g = end(&rt, Side::Guest);
+    let mut h = end(&rt, Side::Host);
+    let p = request(0, 2);
+    check(&rt, stores(&mut g, 0, 1, 5) && sends(&mut g, &p) && hands(&mut g, &mut h));
+    check(&rt, takes_both(&mut h, &p, &[0, 5]) && h.owns(0));
+}

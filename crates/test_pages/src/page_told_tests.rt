@@ -1,9 +1,10 @@
 //! What a taken packet lends, over memory that a peer wrote as it likes.
 ghost use Rattle.std.specs.Prelude.{◌≡◌, ◌%◌, ◌<◌};
+ghost use Rattle.ring_machine.specs.Places.{IsPlaceOf};
 
 use crate::check::check;
 use crate::lends::{request, sends, takes};
-use ring_core::{End, Place, Ring, Room, Seatlike, Side, ToldMem};
+use ring_core::{Change, End, Place, Ring, Room, Seatlike, Side, ToldMem};
 use std::alloc::AllocGlobal;
 use std::process::Abort;
 
@@ -115,4 +116,40 @@ fn only_its_completion_brings_a_page_back(rt: HostRuntime) {
     check(&rt, sends(&mut g, &request(0, 3)) && !g.owns(0));
     check(&rt, takes(&mut g) && came_with(&g, 0) && !g.owns(0));
     check(&rt, takes(&mut g) && came_with(&g, 3) && g.owns(0));
+}
+
+// The host, to which a request for the first three words of a page came, 1, 2 and 3. A word changes just before a step.
+fn host_beside(
+    rt: &(impl Abort + AllocGlobal),
+    step: u64,
+    place: Place,
+    value: u64,
+) -> End<ToldMem>
+    requires { IsPlaceOf 512 2 place }
+{
+    let mut changes = Vec::new(rt.alloc());
+    changes
+        .push(Change { step, place, value })
+        .expect(rt, "memory");
+    let mut told = ToldMem::make(rt.alloc(), 4096, changes, 2).expect(rt, "memory");
+    told.put(Place::Write(Ring::ToHost), 48);
+    puts(&mut told, Ring::ToHost, 0, request(0, 3));
+    told.put(Place::Page(0, 0), 1);
+    told.put(Place::Page(0, 1), 2);
+    told.put(Place::Page(0, 2), 3);
+    end(rt, Side::Host, told)
+}
+
+// Whether a host takes the request, and these are its page words.
+fn loads(mut h: End<ToldMem>, words: &[u64]) -> bool {
+    takes(&mut h) && h.got().lent(0) == Some(words)
+}
+
+// Each page word is loaded once, in order: behind the 6 steps of the take, by steps 7 to 9. What changes before its step is loaded changed, and what changes
+// behind it isn't seen.
+#[test]
+fn a_page_word_is_loaded_once(rt: HostRuntime) {
+    check(&rt, loads(host_beside(&rt, 9, Place::Page(0, 2), 70), &[1, 2, 70]));
+    check(&rt, loads(host_beside(&rt, 8, Place::Page(0, 0), 70), &[1, 2, 3]));
+    check(&rt, loads(host_beside(&rt, 7, Place::Page(0, 0), 70), &[70, 2, 3]));
 }
