@@ -1,4 +1,5 @@
 -- The asking worker's steps keep what it keeps.
+use Rattle.page_kept.specs.declared.item.Item.{Item}
 use Rattle.std.proofs.Common.{◌≡◌, ℕ, ◌+◌, ◌-◌, ◌<◌, ◌≤◌, ◌^◌, List, [], ◌∷◌, ◌++◌, length, drop, replicate, refl, sym, ap, ◌∙◌, subst, arith, Option, Some, None, Bool, true, false, cond, count_by, is_some, inl, inr}
 use Rattle.std.specs.Prelude.{◌==◌, ◌||◌, if◌then◌else◌, slice_get, slice_set}
 use Rattle.std.proofs.lemmas.List.{drop_all, drop-append-le, length-append, length-drop}
@@ -8,7 +9,6 @@ use Rattle.channel_trace.specs.declared.event.Event.{Event}
 use Rattle.channel_trace.specs.declared.event.Event.TheVariants.{Sent, Got, Empty, Marked, Saw}
 use Rattle.channel_trace.specs.Runs.{sent_of, got_of, has_marked, has_seen, is_drained}
 use Rattle.channel_trace.proofs.Pasts.{drained_seen, follows_unmarked}
-use Rattle.ring_core.specs.Seen.{Seen}
 use Rattle.ring_core.specs.declared.room.Room.{Room as SpareRoom}
 use Rattle.ring_core.specs.declared.told.Told.{Told}
 use Rattle.txn_table.specs.Open.{request_of}
@@ -21,7 +21,7 @@ use Rattle.channel_model.proofs.Acking.{acks_new, acks_came, acks_gave, acks_ask
 use Rattle.channel_model.proofs.Amounts.{asks_at_most, kinds_asked, kinds_acked}
 use Rattle.channel_model.proofs.Opens.{by_test}
 use Rattle.channel_model.proofs.Asking.{since_more, asker_accepted, asker_sent, asker_told, asker_answered, asker_stray, asker_came, asker_acked, asker_breaks, asker_open, asker_empty, asker_marked, asker_saw, asker_settled, asker_stopped}
-use Rattle.worker_port.specs.Line.{SleepsFor}
+use Rattle.worker_port.specs.Line.{Line, SleepsFor}
 use Rattle.worker_requester.specs.Asking.{Asking, IsAsking, IsPaced, AsksAll, Holds, HasSettled, AskerLacks, LacksNext, id_in, answer_of, ask_at, asked_in, waits_in, waits_under, want_by, pending, AsksOn, AsksBy}
 use Rattle.worker_requester.specs.declared.requester.Blocked.{Blocked}
 use Rattle.worker_requester.specs.declared.requester.Blocked.TheVariants.{Done, Place, Answer, Ack, Room}
@@ -59,7 +59,7 @@ module _ {A : Type 0} where
   ask_set asks true k a x e = e
   ask_set asks false k a x e = refl
 
-module _ {A Q R : Type 0} (s : WireFormat (List ℕ) A Q R) where
+module _ {A Q R : Type 0} (s : WireFormat Item A Q R) where
   -- who waits under no such id
   not_waiting : (todo : List A) (waiting : Option ℕ) (id : ℕ) → waits_under waiting id ≡ false → under s id (waits_in todo waiting) ≡ None
   not_waiting todo None id e = refl
@@ -82,21 +82,21 @@ module _ {A Q R : Type 0} (s : WireFormat (List ℕ) A Q R) where
       (λ e. let same : o.0 ≡ id = grind (arith, nat_tests, e) in last_found os id a (subst (λ k. under s k (os ++ (id, a) ∷ []) ≡ None) same h.0))
       (λ e. ap (λ b. cond b (Some o) (under s id os)) e ∙ apart_last os id a h.1)
 
-  said_answer : (o : Option (ℕ × A)) (found : Option A) (before : Option (List ℕ)) (p : List ℕ) → found ≡ ask_of o → said s o before p ≡ answer_of s found before p
+  said_answer : (o : Option (ℕ × A)) (found : Option A) (before : Option Item) (p : Item) → found ≡ ask_of o → said s o before p ≡ answer_of s found before p
   said_answer None found before p e = ap (λ f. answer_of s f before p) (sym e)
   said_answer (Some o) found before p e = ap (λ f. answer_of s f before p) (sym e)
 
   -- what came last, where it is no answer: the last packet of the list tells
-  pub last_of : (got : List (List ℕ)) (q : List ℕ) → since s None (got ++ q ∷ []) ≡ cond (s.is_answer q) None (Some q)
+  pub last_of : (got : List Item) (q : Item) → since s None (got ++ q ∷ []) ≡ cond (s.is_answer q) None (Some q)
   last_of got q = since_more s None got q
 
 cond_none : {A : Type 0} (b : Bool) → cond {A = List A} b [] [] ≡ []
 cond_none true = refl
 cond_none false = refl
 
-module _ {A Q R : Type 0} (s : WireFormat (List ℕ) A Q R) where
+module _ {A Q R : Type 0} (s : WireFormat Item A Q R) where
   -- what comes opens nothing
-  none_opens : (p : List ℕ) (os : List (ℕ × A)) → os ≡ [] → cond (s.is_answer p) (without s (s.id_of p) os) os ≡ []
+  none_opens : (p : Item) (os : List (ℕ × A)) → os ≡ [] → cond (s.is_answer p) (without s (s.id_of p) os) os ≡ []
   none_opens p os none = ap (λ l. cond (s.is_answer p) (without s (s.id_of p) l) l) none ∙ cond_none (s.is_answer p)
 
   -- where no id has a request, none is open
@@ -106,17 +106,17 @@ module _ {A Q R : Type 0} (s : WireFormat (List ℕ) A Q R) where
       let same : (o.0 == o.0) ≡ true = grind (arith, nat_tests) in
       some_none o.1 (sym (ap ask_of (ap (λ b. cond b (Some o) (under s o.0 (os ++ ws))) same)) ∙ h o.0)
 
-  pub encoded_few : (asks : List A) (ps : List (List ℕ)) → Encoded s asks ps → length ps ≤ length asks
+  pub encoded_few : (asks : List A) (ps : List Item) → Encoded s asks ps → length ps ≤ length asks
   encoded_few asks [] enc = omega arith
   encoded_few [] (p ∷ ps) enc = absurd enc
   encoded_few (a ∷ asks) (p ∷ ps) enc = omega (arith, encoded_few asks ps enc.1)
 
-module _ {A Q R : Type 0} (s : WireFormat (List ℕ) A Q R) where
+module _ {A Q R : Type 0} (s : WireFormat Item A Q R) where
   -- the packet at the place of a message is that message
-  pub message_here : (got : List (List ℕ)) (k : ℕ) (m p : List ℕ) → slice_get got k ≡ Some m → s.is_message m ≡ true → slice_get got k ≡ Some p → s.is_message p ≡ true
+  pub message_here : (got : List Item) (k : ℕ) (m p : Item) → slice_get got k ≡ Some m → s.is_message m ≡ true → slice_get got k ≡ Some p → s.is_message p ≡ true
   message_here got k m p at is here = ap s.is_message (some_same p m (sym here ∙ at)) ∙ is
 
-module _ {T S A Q R : Type 0} (s : WireFormat (List ℕ) A Q R) (asks : List A) (w : Asking T S R) where
+module _ {T S A Q R : Type 0} (s : WireFormat Item A Q R) (asks : List A) (w : Asking T S R) where
   -- as many requests were sent as stand before the next one
   sent_next : IsAsking s asks w → length (requests_of s w.end.state.past) ≡ w.next
   sent_next h =
@@ -127,7 +127,7 @@ module _ {T S A Q R : Type 0} (s : WireFormat (List ℕ) A Q R) (asks : List A) 
   none_stands : IsAsking s asks w → count_by is_some w.table ≡ 0 → open_of s asks w.end.state.past ≡ []
   none_stands h none = none_left s (open_of s asks w.end.state.past) (waits_in (drop w.next asks) w.waiting) (λ id. sym (h.kept.opens id) ∙ ap (ask_at asks) (none_open w.table none id))
 
-module _ {T S A Q R : Type 0} (s : WireFormat (List ℕ) A Q R) (keeps : Keeps s) (asks : List A) (w : Asking T S R) where
+module _ {T S A Q R : Type 0} (s : WireFormat Item A Q R) (keeps : Keeps s) (asks : List A) (w : Asking T S R) where
   -- the table as a map, and what waits
   abbrev tabled : ℕ → Option A
   tabled = asked_in asks w.table
@@ -136,14 +136,14 @@ module _ {T S A Q R : Type 0} (s : WireFormat (List ℕ) A Q R) (keeps : Keeps s
   todo = drop w.next asks
 
   -- what is still to be looked at, once one more came
-  came_more : (got' : List (List ℕ)) (p : List ℕ) → got' ≡ w.end.state.got ++ p ∷ [] → IsAsking s asks w → AcksKept s (Got p ∷ w.end.state.past) (drop w.acked got')
+  came_more : (got' : List Item) (p : Item) → got' ≡ w.end.state.got ++ p ∷ [] → IsAsking s asks w → AcksKept s (Got p ∷ w.end.state.past) (drop w.acked got')
   came_more got' p more h =
       subst (AcksKept s (Got p ∷ w.end.state.past)) (sym (ap (drop w.acked) more ∙ drop-append-le w.acked w.end.state.got (p ∷ []) h.looked)) (acks_came s w.end.state.past (drop w.acked w.end.state.got) p h.acks)
 
-  looked_more : (got' : List (List ℕ)) (p : List ℕ) → got' ≡ w.end.state.got ++ p ∷ [] → IsAsking s asks w → w.acked ≤ length got'
+  looked_more : (got' : List Item) (p : Item) → got' ≡ w.end.state.got ++ p ∷ [] → IsAsking s asks w → w.acked ≤ length got'
   looked_more got' p more h = omega (arith, h.looked, ap length more, length-append w.end.state.got (p ∷ []))
 
-  pub empty_kept : (end' : Seen S) → end'.state.past ≡ Empty ∷ w.end.state.past → end'.state.got ≡ w.end.state.got → end'.state.machine.asleep ≡ false → IsAsking s asks w → IsAsking s asks (record w { end = end' })
+  pub empty_kept : (end' : Line S) → end'.state.past ≡ Empty ∷ w.end.state.past → end'.state.got ≡ w.end.state.got → end'.state.machine.asleep ≡ false → IsAsking s asks w → IsAsking s asks (record w { end = end' })
   empty_kept end' is got awake h = record {
     kept = rw is (asker_empty s asks w.end.state.past todo (waits_in todo w.waiting) tabled w.told h.kept);
     acks = rw (is, got) (acks_quiet s w.end.state.past Empty (drop w.acked w.end.state.got) refl refl h.acks);
@@ -158,7 +158,7 @@ module _ {T S A Q R : Type 0} (s : WireFormat (List ℕ) A Q R) (keeps : Keeps s
     alone = λ id e few. ap (open_of s asks) is ∙ h.alone id e few;
   }
 
-  pub saw_kept : (end' : Seen S) (hold' : Blocked) → end'.state.past ≡ Saw ∷ w.end.state.past → end'.state.got ≡ w.end.state.got → end'.state.machine.asleep ≡ false → IsAsking s asks w → IsAsking s asks (record w { end = end'; seen = true; hold = hold' })
+  pub saw_kept : (end' : Line S) (hold' : Blocked) → end'.state.past ≡ Saw ∷ w.end.state.past → end'.state.got ≡ w.end.state.got → end'.state.machine.asleep ≡ false → IsAsking s asks w → IsAsking s asks (record w { end = end'; seen = true; hold = hold' })
   saw_kept end' hold' is got awake h = record {
     kept = rw is (asker_saw s asks w.end.state.past todo (waits_in todo w.waiting) tabled w.told h.kept);
     acks = rw (is, got) (acks_quiet s w.end.state.past Saw (drop w.acked w.end.state.got) refl refl h.acks);
@@ -174,7 +174,7 @@ module _ {T S A Q R : Type 0} (s : WireFormat (List ℕ) A Q R) (keeps : Keeps s
   }
 
   -- nothing was done that the peer sees
-  pub still_kept : (end' : Seen S) (hold' : Blocked) → end'.state.past ≡ w.end.state.past → end'.state.got ≡ w.end.state.got → (end'.state.machine.asleep ≡ true → Holds s asks hold' (record w { end = end'; hold = hold' }) × SleepsFor (want_by hold') end' × (w.seen ≡ false))
+  pub still_kept : (end' : Line S) (hold' : Blocked) → end'.state.past ≡ w.end.state.past → end'.state.got ≡ w.end.state.got → (end'.state.machine.asleep ≡ true → Holds s asks hold' (record w { end = end'; hold = hold' }) × SleepsFor (want_by hold') end' × (w.seen ≡ false))
       → IsAsking s asks w → IsAsking s asks (record w { end = end'; hold = hold' })
   still_kept end' hold' is got rests h = record {
     kept = rw is h.kept;
@@ -191,14 +191,14 @@ module _ {T S A Q R : Type 0} (s : WireFormat (List ℕ) A Q R) (keeps : Keeps s
   }
 
   -- an answer was taken: the packet that came just before it is read with it, where that was none
-  pub took_kept : (end' : Seen S) (table' : List (Option ℕ)) (told' : List R) (p : List ℕ) → s.is_answer p ≡ true → got_of w.end.state.past ≡ w.end.state.got → end'.state.past ≡ Got p ∷ w.end.state.past
+  pub took_kept : (end' : Line S) (table' : List (Option ℕ)) (told' : List R) (p : Item) → s.is_answer p ≡ true → got_of w.end.state.past ≡ w.end.state.got → end'.state.past ≡ Got p ∷ w.end.state.past
       → end'.state.got ≡ w.end.state.got ++ p ∷ [] → end'.state.machine.asleep ≡ false → waits_under w.waiting (s.id_of p) ≡ false
       → ((j : ℕ) → request_of table' j ≡ (if j == s.id_of p then None else request_of w.table j)) → told' ≡ w.told ++ answer_of s (asked_in asks w.table (s.id_of p)) (since s None w.end.state.got) p → IsAsking s asks w
       → IsAsking s asks (record w { end = end'; table = table'; told = told' })
   took_kept end' table' told' p answers line is more awake free set new h =
       let other = not_waiting s todo w.waiting (s.id_of p) free in
       let open' = asker_open s asks w.end.state.past todo (waits_in todo w.waiting) tabled w.told (s.id_of p) other h.kept in
-      let before : Option (List ℕ) = since s None (got_of w.end.state.past) in
+      let before : Option Item = since s None (got_of w.end.state.past) in
       let says : told' ≡ w.told ++ said s (under s (s.id_of p) (open_of s asks w.end.state.past)) before p =
       new ∙ (ap (λ g. w.told ++ answer_of s (tabled (s.id_of p)) (since s None g) p) (sym line)
       ∙ ap (λ l. w.told ++ l) (sym (said_answer s (under s (s.id_of p) (open_of s asks w.end.state.past)) (tabled (s.id_of p)) before p open'))) in
@@ -218,7 +218,7 @@ module _ {T S A Q R : Type 0} (s : WireFormat (List ℕ) A Q R) (keeps : Keeps s
       }
 
   -- a packet was taken that is no answer
-  pub came_kept : (end' : Seen S) (p : List ℕ) → s.is_answer p ≡ false → end'.state.past ≡ Got p ∷ w.end.state.past → end'.state.got ≡ w.end.state.got ++ p ∷ [] → end'.state.machine.asleep ≡ false → IsAsking s asks w
+  pub came_kept : (end' : Line S) (p : Item) → s.is_answer p ≡ false → end'.state.past ≡ Got p ∷ w.end.state.past → end'.state.got ≡ w.end.state.got ++ p ∷ [] → end'.state.machine.asleep ≡ false → IsAsking s asks w
       → IsAsking s asks (record w { end = end' })
   came_kept end' p none is more awake h = record {
     kept = rw is (asker_came s asks w.end.state.past todo (waits_in todo w.waiting) tabled w.told p none h.kept);
@@ -251,7 +251,7 @@ module _ {T S A Q R : Type 0} (s : WireFormat (List ℕ) A Q R) (keeps : Keeps s
   }
 
   -- the next message was acknowledged
-  pub acked_kept : (end' : Seen S) (m p : List ℕ) → slice_get w.end.state.got w.acked ≡ Some m → s.is_message m ≡ true → p ≡ s.ack m → end'.state.past ≡ Sent p ∷ w.end.state.past → end'.state.got ≡ w.end.state.got
+  pub acked_kept : (end' : Line S) (m p : Item) → slice_get w.end.state.got w.acked ≡ Some m → s.is_message m ≡ true → p ≡ s.ack m → end'.state.past ≡ Sent p ∷ w.end.state.past → end'.state.got ≡ w.end.state.got
       → end'.state.machine.asleep ≡ false → w.seen ≡ false → IsAsking s asks w → IsAsking s asks (record w { end = end'; acked = w.acked + 1 })
   acked_kept end' m p at is_message made is got awake unseen h =
       let silent : s.is_request (s.ack m) ≡ false = keeps.ack_asks (s.ack m) (keeps.acks m is_message).0 in
@@ -272,9 +272,9 @@ module _ {T S A Q R : Type 0} (s : WireFormat (List ℕ) A Q R) (keeps : Keeps s
         alone = λ id e few. ap (open_of s asks) (is ∙ ap (λ q. Sent q ∷ w.end.state.past) made) ∙ (opens ∙ h.alone id e few);
       }
 
-module _ {T S A Q R : Type 0} (s : WireFormat (List ℕ) A Q R) (keeps : Keeps s) (asks : List A) (w : Asking T S R) where
+module _ {T S A Q R : Type 0} (s : WireFormat Item A Q R) (keeps : Keeps s) (asks : List A) (w : Asking T S R) where
   -- an answer to the request that isn't sent yet was dropped
-  pub stray_kept : (end' : Seen S) (p : List ℕ) (id : ℕ) → s.is_answer p ≡ true → w.waiting ≡ Some id → end'.state.past ≡ Got p ∷ w.end.state.past → end'.state.got ≡ w.end.state.got ++ p ∷ [] → end'.state.machine.asleep ≡ false → (id == s.id_of p) ≡ true → IsAsking s asks w
+  pub stray_kept : (end' : Line S) (p : Item) (id : ℕ) → s.is_answer p ≡ true → w.waiting ≡ Some id → end'.state.past ≡ Got p ∷ w.end.state.past → end'.state.got ≡ w.end.state.got ++ p ∷ [] → end'.state.machine.asleep ≡ false → (id == s.id_of p) ≡ true → IsAsking s asks w
       → IsAsking s asks (record w { end = end' })
   stray_kept end' p id answers waits is more awake same h =
       let a = h.asked id waits in
@@ -323,7 +323,7 @@ module _ {T S A Q R : Type 0} (s : WireFormat (List ℕ) A Q R) (keeps : Keeps s
       }
 
   -- it was sent
-  pub sent_kept : (end' : Seen S) (id : ℕ) (a : A) (p : List ℕ) → slice_get asks w.next ≡ Some a → w.waiting ≡ Some id → p ≡ s.encode id a → end'.state.past ≡ Sent p ∷ w.end.state.past → end'.state.got ≡ w.end.state.got → end'.state.machine.asleep ≡ false
+  pub sent_kept : (end' : Line S) (id : ℕ) (a : A) (p : Item) → slice_get asks w.next ≡ Some a → w.waiting ≡ Some id → p ≡ s.encode id a → end'.state.past ≡ Sent p ∷ w.end.state.past → end'.state.got ≡ w.end.state.got → end'.state.machine.asleep ≡ false
       → w.seen ≡ false → IsAsking s asks w → IsAsking s asks (record w { end = end'; next = w.next + 1; waiting = None })
   sent_kept end' id a p at waits made is got awake unseen h =
       let asked = h.asked id waits in
@@ -354,7 +354,7 @@ module _ {T S A Q R : Type 0} (s : WireFormat (List ℕ) A Q R) (keeps : Keeps s
       }
 
   -- a request that has no answer was sent
-  pub told_kept : (end' : Seen S) (a : A) (p : List ℕ) → slice_get asks w.next ≡ Some a → w.waiting ≡ None → (w.next ≤ w.starts → count_by is_some w.table ≡ 0) → s.has_answer a ≡ false → p ≡ s.encode 0 a → end'.state.past ≡ Sent p ∷ w.end.state.past → end'.state.got ≡ w.end.state.got → end'.state.machine.asleep ≡ false
+  pub told_kept : (end' : Line S) (a : A) (p : Item) → slice_get asks w.next ≡ Some a → w.waiting ≡ None → (w.next ≤ w.starts → count_by is_some w.table ≡ 0) → s.has_answer a ≡ false → p ≡ s.encode 0 a → end'.state.past ≡ Sent p ∷ w.end.state.past → end'.state.got ≡ w.end.state.got → end'.state.machine.asleep ≡ false
       → w.seen ≡ false → IsAsking s asks w → IsAsking s asks (record w { end = end'; next = w.next + 1 })
   told_kept end' a p at none alone silent made is got awake unseen h =
       let first = first_of asks w.next a at in
@@ -385,7 +385,7 @@ module _ {T S A Q R : Type 0} (s : WireFormat (List ℕ) A Q R) (keeps : Keeps s
   marked_acks h = acks_quiet s w.end.state.past Marked (drop w.acked w.end.state.got) refl refl h.acks
 
   -- all was asked and settled
-  pub marks_settled : (past' : List (Event (List ℕ))) → past' ≡ Marked ∷ w.end.state.past → HasSettled asks w → IsAsking s asks w → AsksAll s asks past' w.told
+  pub marks_settled : (past' : List (Event Item)) → past' ≡ Marked ∷ w.end.state.past → HasSettled asks w → IsAsking s asks w → AsksAll s asks past' w.told
   marks_settled past' is settled h plan same =
       let nothing : drop w.next asks ≡ [] = drop_all w.next asks (omega (arith, settled.all)) in
       let k = subst (λ l. AskerKept s l (Marked ∷ w.end.state.past) [] (waits_in (drop w.next asks) w.waiting) (asked_in asks w.table) w.told) (sym same)
@@ -394,12 +394,12 @@ module _ {T S A Q R : Type 0} (s : WireFormat (List ℕ) A Q R) (keeps : Keeps s
       rw is (asker_settled s plan (Marked ∷ w.end.state.past) (waits_in (drop w.next asks) w.waiting) (asked_in asks w.table) w.told k (subst (AcksKept s (Marked ∷ w.end.state.past)) rest (marked_acks h)) (λ id. ap (ask_at asks) (none_open w.table settled.none id)))
 
   -- the other end stopped
-  pub marks_drained : (past' : List (Event (List ℕ))) → past' ≡ Marked ∷ w.end.state.past → is_drained w.end.state.past ≡ true → has_marked w.end.state.past ≡ false → IsAsking s asks w → AsksAll s asks past' w.told
+  pub marks_drained : (past' : List (Event Item)) → past' ≡ Marked ∷ w.end.state.past → is_drained w.end.state.past ≡ true → has_marked w.end.state.past ≡ false → IsAsking s asks w → AsksAll s asks past' w.told
   marks_drained past' is drained unmarked h plan same =
       let k = subst (λ l. AskerKept s l (Marked ∷ w.end.state.past) (drop w.next asks) (waits_in (drop w.next asks) w.waiting) (asked_in asks w.table) w.told) (sym same) (marked_kept h) in
       rw is (asker_stopped s plan (Marked ∷ w.end.state.past) (drop w.next asks) (waits_in (drop w.next asks) w.waiting) (asked_in asks w.table) w.told (drop w.acked w.end.state.got) k (marked_acks h) drained (drained_seen w.end.state.past drained, follows_unmarked w.end.state.past unmarked))
 
-  pub drains : (end' : Seen S) → end'.state.past ≡ Empty ∷ w.end.state.past → IsAsking s asks w → w.seen ≡ true → is_drained end'.state.past ≡ true
+  pub drains : (end' : Line S) → end'.state.past ≡ Empty ∷ w.end.state.past → IsAsking s asks w → w.seen ≡ true → is_drained end'.state.past ≡ true
   drains end' is h seen = ap is_drained is ∙ ap (λ b. b || is_drained w.end.state.past) (h.saw ∙ seen)
 
   pub breaks : IsAsking s asks w → AskerBreaks s asks w.end.state.past w.told
@@ -419,10 +419,10 @@ module _ {T S A Q R : Type 0} (s : WireFormat (List ℕ) A Q R) (keeps : Keeps s
     where
       by : LacksNext s asks packets words w → CameOver s.is_message (besides_of besides (length asks)) (room_of besides (length asks)) w.end.state.past
       by (inl (m, at, is, l)) =
-          asks_over s besides (length asks) packets words (s.ack m) w.end (few_sent h) room l
+          asks_over s besides (length asks) packets words (s.ack m).packet w.end (few_sent h) room l
           (ack_left s (length asks) m (drop (w.acked + 1) w.end.state.got) w.end (few_sent h) (subst (AcksKept s w.end.state.past) (first_of w.end.state.got w.acked m at) h.acks) is)
       by (inr (a, at, id, l)) =
-          asks_over s besides (length asks) packets words (s.encode (id_in w.waiting) a) w.end (few_sent h) room l
+          asks_over s besides (length asks) packets words (s.encode (id_in w.waiting) a).packet w.end (few_sent h) room l
           (ask_left s asks w.next w.end (few_sent h) (omega (arith, sent_next s asks w h)) (slice_get_within asks w.next a at))
 
   -- and so where the next packet that comes lacks it
@@ -431,7 +431,7 @@ module _ {T S A Q R : Type 0} (s : WireFormat (List ℕ) A Q R) (keeps : Keeps s
   lacks_by besides packets words line h room (inl l) = takes_over s.is_message (besides_of besides (length asks)) (room_of besides (length asks)) packets words w.end room.got line l
   lacks_by besides packets words line h room (inr l) = next_over besides packets words h room.sent l
 
-  pub stray_by : (o : Option ℕ) → w.waiting ≡ o → (end' : Seen S) (p : List ℕ) → s.is_answer p ≡ true → waits_under o (s.id_of p) ≡ true → end'.state.past ≡ Got p ∷ w.end.state.past → end'.state.got ≡ w.end.state.got ++ p ∷ []
+  pub stray_by : (o : Option ℕ) → w.waiting ≡ o → (end' : Line S) (p : Item) → s.is_answer p ≡ true → waits_under o (s.id_of p) ≡ true → end'.state.past ≡ Got p ∷ w.end.state.past → end'.state.got ≡ w.end.state.got ++ p ∷ []
       → end'.state.machine.asleep ≡ false → IsAsking s asks w → IsAsking s asks (record w { end = end' })
   stray_by None waits end' p answers e is more awake h = absurd (cc)
   stray_by (Some id) waits end' p answers e is more awake h = stray_kept end' p id answers waits is more awake e h
@@ -460,14 +460,14 @@ module _ {T S A Q R : Type 0} (s : WireFormat (List ℕ) A Q R) (keeps : Keeps s
   }
 
   -- why nothing is sent doesn't lie with the end
-  pub holds_on : (end' : Seen S) (hold hold' : Blocked) → end'.state.got ≡ w.end.state.got → end'.spare_sent ≡ w.end.spare_sent → Holds s asks hold w → Holds s asks hold (record w { end = end'; hold = hold' })
+  pub holds_on : (end' : Line S) (hold hold' : Blocked) → end'.state.got ≡ w.end.state.got → end'.spare_sent ≡ w.end.spare_sent → Holds s asks hold w → Holds s asks hold (record w { end = end'; hold = hold' })
   holds_on end' Done hold' got spare h = rw got h
   holds_on end' Place hold' got spare h = rw got h
   holds_on end' Answer hold' got spare h = rw got h
   holds_on end' (Ack need) hold' got spare h =
-      (h.0, ap (λ l. slice_get l w.acked) got ∙ h.1, h.2, h.3, h.4, h.5, subst (λ (r : SpareRoom). (0 < r.packets) × (length (s.ack h.0) ≤ r.words)) (sym spare) h.6)
+      (h.0, ap (λ l. slice_get l w.acked) got ∙ h.1, h.2, h.3, h.4, h.5, subst (λ (r : SpareRoom). (0 < r.packets) × (length (s.ack h.0).packet ≤ r.words)) (sym spare) h.6)
   holds_on end' (Room need) hold' got spare h =
-      (h.0, h.1, h.2, h.3, h.4, h.5, h.6 ∙ ap length (sym got), subst (λ (r : SpareRoom). (0 < r.packets) × (length (s.encode (id_in w.waiting) h.0) ≤ r.words)) (sym spare) h.7)
+      (h.0, h.1, h.2, h.3, h.4, h.5, h.6 ∙ ap length (sym got), subst (λ (r : SpareRoom). (0 < r.packets) × (length (s.encode (id_in w.waiting) h.0).packet ≤ r.words)) (sym spare) h.7)
 
   pub need_in : (hold : Blocked) → Holds s asks hold w → IsNeed (want_by hold)
   need_in Done h = tt
@@ -480,6 +480,6 @@ pub ask_trans : {T S R C : Type 0} (channel : S → C) (told_by : S → Option T
 ask_trans channel told_by u v w a b = record { tells = b.tells ∙ a.tells; protocol = b.protocol ∙ a.protocol; relid = b.relid ∙ a.relid; starts = b.starts ∙ a.starts; window = b.window ∙ a.window; end = record { seat = b.end.seat ∙ a.end.seat; side = b.end.side ∙ a.end.side } }
 
 -- what it gives at its end is what was asked of it at its beginning
-pub asks_on : {T S A Q R C : Type 0} (channel : S → C) (told_by : S → Option Told) (sp : T → WireFormat (List ℕ) A Q R) (asks : T → List A) (how : Ended) (u w : Asking T S R) (past : List (Event (List ℕ))) (told : List R) → AsksOn channel told_by u w
+pub asks_on : {T S A Q R C : Type 0} (channel : S → C) (told_by : S → Option Told) (sp : T → WireFormat Item A Q R) (asks : T → List A) (how : Ended) (u w : Asking T S R) (past : List (Event Item)) (told : List R) → AsksOn channel told_by u w
     → AsksBy (sp w.protocol) how (asks w.protocol) past told → AsksBy (sp u.protocol) how (asks u.protocol) past told
 asks_on channel told_by sp asks how u w past told on h = subst (λ t. AsksBy (sp t) how (asks t) past told) on.protocol h

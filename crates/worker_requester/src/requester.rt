@@ -7,7 +7,7 @@ ghost use Rattle.worker_port.specs.Causes.{Arms, Polls};
 ghost use Rattle.worker_port.specs.declared.found.Found.TheVariants.{Nothing as NothingFound, Broken as BrokenFound};
 ghost use Rattle.worker_requester.specs.declared.requester.Asked.TheVariants.{Broken as BrokenAsked};
 ghost use Rattle.worker_requester.specs.Causes.{AskCause, AskerActs, AsksOne, AsksOrArms};
-ghost use Rattle.worker_port.specs.Line.{new_end, Finds, IsBroken, IsReady, IsSameEnd, HasTakeRoom, TookOne};
+ghost use Rattle.worker_port.specs.Line.{new_end, past_as, IsLine, Finds, IsBroken, IsReady, IsSameEnd, HasTakeRoom, TookOne};
 ghost use Rattle.worker_requester.specs.Asking.{AsksBy, AskTurns, IsPaced, AskLacks, AskerLacks, AsksOn, AskEnds, Holds, HasAcked, HasMessage, HasOpen, HasSettled, StandsAsked, waits_under, want_by, AskedBy};
 ghost use Rattle.worker_port.specs.Rooms.{AskedWithin, AskLacksFor, KeepsRoom, broke, is_broken};
 ghost use Rattle.txn_table.specs.Open.{HasNone};
@@ -57,7 +57,7 @@ enum Asked {
 #[derive(Drop)]
 pub struct Requester<T: Protocol, S: Parks> {
     protocol: T,
-    port: Port<S>,
+    port: Port<T, S>,
     table: TxnTable<u32>,
     next: u32,
     waiting: Option<u64>,
@@ -85,7 +85,7 @@ impl<T: Protocol, S: Parks> Model for Requester<T, S> {
 
     ghost view = { λ w. record { protocol = w.protocol; end = w.port; table = w.table; next = w.next; waiting = w.waiting; acked = w.acked; told = w.replies.items; starts = w.starts; seen = w.seen; hold = w.hold; relid = w.relid } };
 
-    ghost invariant = { λ w. w.port.state.machine.marked ≡ false → record { live : IsAsking (T.format w.protocol) (T.asks w.protocol) (record { protocol = w.protocol; end = w.port; table = w.table; next = w.next; waiting = w.waiting; acked = w.acked; told = w.replies.items; starts = w.starts; seen = w.seen; hold = w.hold; relid = w.relid }); replies : vec_len w.replies + count_by is_some w.table + (length (T.asks w.protocol) - w.next) ≤ vec_capacity w.replies + pending w.waiting; spare : vec_len w.rescinded + length w.table ≤ vec_capacity w.rescinded; size : length w.table ≤ 64; room : KeepsRoom (room_of (T.besides w.protocol) (length (T.asks w.protocol))) w.port; side : w.side ≡ w.port.state.machine.side } };
+    ghost invariant = { λ w. w.port.state.machine.marked ≡ false → record { bare : T.lends w.protocol ≡ false; live : IsAsking (T.format w.protocol) (T.asks w.protocol) (record { protocol = w.protocol; end = w.port; table = w.table; next = w.next; waiting = w.waiting; acked = w.acked; told = w.replies.items; starts = w.starts; seen = w.seen; hold = w.hold; relid = w.relid }); replies : vec_len w.replies + count_by is_some w.table + (length (T.asks w.protocol) - w.next) ≤ vec_capacity w.replies + pending w.waiting; spare : vec_len w.rescinded + length w.table ≤ vec_capacity w.rescinded; size : length w.table ≤ 64; room : KeepsRoom (room_of (T.besides w.protocol) (length (T.asks w.protocol))) w.port; side : w.side ≡ w.port.state.machine.side } };
 }
 
 /// What an asking worker gives once it has ended.
@@ -169,7 +169,7 @@ impl<T: Protocol, S: Parks + Drop> Requester<T, S> {
                 words: room.words,
             };
         }
-        match self.port.send(packet) {
+        match self.port.send(packet, &[]) {
             Tried::Sent => {
                 self.acked += 1;
                 Asked::Sent
@@ -226,7 +226,7 @@ impl<T: Protocol, S: Parks + Drop> Requester<T, S> {
                 words: room.words,
             };
         }
-        match self.port.send(packet) {
+        match self.port.send(packet, &[]) {
             Tried::Sent => {
                 self.next += 1;
                 self.waiting = None;
@@ -266,7 +266,7 @@ impl<T: Protocol, S: Parks + Drop> Requester<T, S> {
                 words: room.words,
             };
         }
-        match self.port.send(packet) {
+        match self.port.send(packet, &[]) {
             Tried::Sent => {
                 self.next += 1;
                 self.passed = false;
@@ -538,11 +538,13 @@ impl<T: Protocol, S: Parks + Drop> Requester<T, S> {
         requires fresh { end.state ≡ new_end end.state.machine.cells end.state.machine.side }
         requires size { (512 ≤ end.state.machine.cells) × (end.state.machine.cells ≤ 16777216) }
         requires side { side ≡ end.state.machine.side }
+        requires bare { T.lends protocol ≡ false }
         ensures protocol { IfOk result (λ w. w.protocol ≡ protocol) }
         ensures relid { IfOk result (λ w. w.relid ≡ relid) }
         ensures starts { IfOk result (λ w. w.starts ≡ T.starts protocol) }
         ensures window { IfOk result (λ w. length w.table ≡ window) }
-        ensures end { IfOk result (λ w. (w.end.state ≡ end.state) × (w.end.seat ≡ end.seat)) }
+        ensures end { IfOk result (λ w. (w.end.end.state ≡ end.state) × (w.end.end.seat ≡ end.seat) × (w.end.seat ≡ end.seat)) }
+        ensures machine { IfOk result (λ w. w.end.state.machine ≡ end.state.machine) }
     {
         let count = protocol.count();
         let packets = room_of(protocol.besides(), count as u64);
@@ -566,13 +568,14 @@ impl<T: Protocol, S: Parks + Drop> Requester<T, S> {
     // A worker that has asked nothing, over a port with room and empty lists.
     fn over(
         protocol: T,
-        port: Port<S>,
+        port: Port<T, S>,
         lists: Lists<T::Reply>,
         side: Side,
         relid: u32,
     ) -> Requester<T, S>
         requires fresh { (port.state.past ≡ []) × (port.state.got ≡ []) × (port.state.machine.asleep ≡ false) }
         requires side { side ≡ port.state.machine.side }
+        requires bare { T.lends protocol ≡ false }
         requires room { KeepsRoom (room_of (T.besides protocol) (length (T.asks protocol))) port }
         requires window { (window : ℕ) × (window ≤ 64) × (lists.table ≡ replicate window None) }
         requires none { lists.replies.items ≡ [] }
@@ -638,8 +641,10 @@ impl<T: Protocol, S: Parks + Drop> Requester<T, S> {
     /// Gives what it did, once it has ended.
     pub fn done(self, ended: Ended) -> RequesterDone<T, S>
         requires { AsksBy (T.format self.protocol) ended (T.asks self.protocol) self.end.state.past self.told }
-        ensures ends { AsksBy (T.format self.protocol) result.ended (T.asks self.protocol) result.end.state.past result.replies.items }
-        ensures same { (result.ended ≡ ended) × (result.end ≡ self.end) }
+        ensures ends { AsksBy (T.format self.protocol) result.ended (T.asks self.protocol) (past_as T.said result.end.state) result.replies.items }
+        ensures same { (result.ended ≡ ended) × (result.end ≡ self.end.end) }
+        ensures past { self.end.state.past ≡ past_as T.said result.end.state }
+        ensures stands { IsLine S.told result.end }
     {
         let Requester {
             protocol,
@@ -672,12 +677,13 @@ impl<T: Protocol, S: Parks + Drop> Requester<T, S> {
     /// Takes turns, and sleeps after a turn that found nothing to do, until the worker has ended.
     pub fn run<R: Wait, G: Gate>(mut self, rt: &R, gate: &G) -> RequesterDone<T, S>
         requires unmarked { self.end.state.machine.marked ≡ false }
-        ensures ends { AsksBy (T.format self.protocol) result.ended (T.asks self.protocol) result.end.state.past result.replies.items }
-        ensures end { IsSameEnd S.channel self.end result.end }
+        ensures ends { AsksBy (T.format self.protocol) result.ended (T.asks self.protocol) (past_as T.said result.end.state) result.replies.items }
+        ensures end { IsSameEnd S.channel self.end.end result.end }
+        ensures stands { IsLine S.told result.end }
         ensures honest { is_some (S.told self.end.seat) ≡ true → is_broken result.ended ≡ false }
-        ensures sent { AskedWithin (T.format self.protocol) (length (T.asks self.protocol)) result.end.state.past }
-        ensures room { AskLacksFor (T.format self.protocol) (T.besides self.protocol) (length (T.asks self.protocol)) result.ended result.end.state.past }
-        ensures paced { IsPaced (T.format self.protocol) self.starts (T.asks self.protocol) result.end.state.past }
+        ensures sent { AskedWithin (T.format self.protocol) (length (T.asks self.protocol)) (past_as T.said result.end.state) }
+        ensures room { AskLacksFor (T.format self.protocol) (T.besides self.protocol) (length (T.asks self.protocol)) result.ended (past_as T.said result.end.state) }
+        ensures paced { IsPaced (T.format self.protocol) self.starts (T.asks self.protocol) (past_as T.said result.end.state) }
     {
         for _ in rt.forever() {
             match self.turn(rt, gate) {
