@@ -35,7 +35,9 @@ static void run(struct vmbus_end *end, uint64_t *words, const uint64_t *packet, 
 
 static void pass(const uint64_t *packet, size_t len) {
     static uint64_t words[2 * (CELLS + 5) + 4], taken[CELLS];
-    struct vmbus_end guest = vmbus_end_make(0, 8 * CELLS), host = vmbus_end_make(1, 8 * CELLS);
+    struct vmbus_end guest, host;
+    if (!vmbus_end_make(&guest, 0, 8 * CELLS) || !vmbus_end_make(&host, 1, 8 * CELLS))
+        return;
     words[2] = words[4] = words[CELLS + 7] = words[CELLS + 9] = 1;
     if (vmbus_end_begin_send(&guest, len))
         run(&guest, words, packet, len, taken);

@@ -1,6 +1,10 @@
 #!/bin/sh
-# Proves the static libraries, and builds and runs the example with cc.
+# Proves the static libraries, and builds and runs the examples with cc.
 cd "$(dirname "$0")/../../crates" || exit 2
-(cd vmbus_c && rt lib) && (cd vmbus_ring_c && rt lib) || exit 1
+for name in vmbus_c vmbus_ring_c ring_plan_c; do
+    (cd $name && rt lib) || exit 1
+done
 cd ../examples/c || exit 2
-cc -O2 -Wall -Wextra -o example example.c ../../crates/vmbus_c/out/libvmbus_c.a ../../crates/vmbus_ring_c/out/libvmbus_ring_c.a && ./example
+libraries="../../crates/vmbus_c/out/libvmbus_c.a ../../crates/vmbus_ring_c/out/libvmbus_ring_c.a ../../crates/ring_plan_c/out/libring_plan_c.a"
+cc -O2 -Wall -Wextra -o example example.c $libraries && ./example || exit 1
+cc -O2 -Wall -Wextra -o two_processes two_processes.c $libraries && ./two_processes

@@ -1,10 +1,12 @@
-/* Calls of the static libraries crates/vmbus_c and, for the ends of a channel, crates/vmbus_ring_c. Nothing takes memory, and nothing is kept between calls. A null pointer with length 0 is an empty slice.
-   What each call gives is proved there; here is what C has to know of it. */
+/* Calls of the static libraries crates/vmbus_c and, for the ends of a channel, crates/vmbus_ring_c and crates/ring_plan_c. Nothing takes memory, and nothing is kept between calls. A null pointer
+   with length 0 is an empty slice. What each call gives is proved there; here is what C has to know of it. Each call is total: whatever the numbers that it is given, it answers as
+   is said here, and touches no memory but that. Every pointer is to private memory, never into pages that a peer shares: a call may read a byte twice, and rests on reading the same. */
 #ifndef VMBUS_H
 #define VMBUS_H
 #include <stdbool.h>
 #include <stddef.h>
 #include <stdint.h>
+#include <string.h>
 
 /* What a refusal tells, by its number; what it doesn't tell is 0. */
 struct vmbus_fault {
@@ -137,7 +139,8 @@ struct vmbus_rndis {
    2 unknown: value is the type;
    3 long: have bytes;
    4 a field: field 1 is the buffer's offset, 2 its length, of this value;
-   5 body has less than 1,514 bytes: nothing is looked at. */
+   5 body has less than 1,514 bytes: nothing is looked at, and not even the fault is written.
+   On 0 the fault stays as it was, and so does body behind the buffer. */
 uint32_t vmbus_rndis_read(const uint8_t *bytes, size_t len, struct vmbus_rndis *message, uint8_t *body, size_t room, struct vmbus_fault *fault);
 
 /* The guest's answer to any request of a heartbeat or a shutdown channel, and how many bytes it has: 28 where the request has fewer, and as many as the
@@ -148,11 +151,39 @@ size_t vmbus_shutdown_answer(const uint8_t *request, size_t len, uint8_t *reply,
 /* Whether a sender signals, where it sent from this write index and found this mask and read index of its peer. */
 bool vmbus_raise_on_write(uint32_t old_write, uint32_t mask, uint32_t read);
 
-/* Whether a consumer signals as it moves the read index from start to read: 1 or 0, or 2 where d isn't a ring's size (a multiple of 4,096 up to 65,536) or an
+/* Whether a consumer signals as it moves the read index from start to read: 1 or 0, or 2 where d isn't a ring's size (a multiple of 4,096 up to 134,217,728) or an
    index isn't a multiple of 8 below it. All numbers are bytes. */
 uint32_t vmbus_raise_on_commit(uint32_t d, uint32_t write, uint32_t start, uint32_t read, uint32_t pending);
 
-/* One end of a channel (crates/vmbus_ring_c). It is read, kept and copied, and changed by the calls below alone. */
+/* How the calls of an end end: what vmbus_end_..'s `ended` says, and what the calls of plans answer. One list for both. */
+enum vmbus_answer {
+    VMBUS_NO_CALL = 0,           /* `ended`: no call yet. A plan: the call doesn't fit the end's state or its numbers, and nothing changed */
+    VMBUS_SENT_QUIET = 1,        /* sent, and no signal is owed */
+    VMBUS_SENT_RAISED = 2,       /* sent, and the peer's signal is raised: after a plan by the caller, now */
+    VMBUS_FULL = 3,              /* too little room for the packet */
+    VMBUS_BAD_PEER = 4,          /* the peer's read index is in no form: the end is stopped */
+    VMBUS_TOOK = 5,
+    VMBUS_EMPTY = 6,             /* no packet */
+    VMBUS_BAD_INDEX = 7,         /* the peer's write index is in no form: stopped */
+    VMBUS_BAD_LENGTH = 8,        /* the packet's length is in no form: stopped */
+    VMBUS_BAD_OFFSET = 9,        /* the payload's offset is in no form: stopped */
+    VMBUS_COMMITTED_QUIET = 10,  /* the room is given back, and no signal is owed */
+    VMBUS_COMMITTED_RAISED = 11, /* and the peer's signal is raised: after a plan by the caller, now */
+    VMBUS_FELL_ASLEEP = 12,
+    VMBUS_FOUND_WORK = 13,       /* an arm found something, and the end is awake: after a plan the caller stores mask 1 */
+    VMBUS_NO_SIGNAL = 14,        /* the end is asleep, and its signal is down */
+    VMBUS_WOKE = 15,             /* its signal was up, and it is awake: after a plan the caller stores mask 1 */
+    VMBUS_MARKED = 16,
+    VMBUS_PEER_MARK_DOWN = 17,
+    VMBUS_PEER_MARK_UP = 18,
+    VMBUS_PLANNED = 19,          /* of plans alone: go on as planned */
+    VMBUS_FOUND_WORK_ROOM = 20,  /* as VMBUS_FOUND_WORK, and the caller stores pending 0 too */
+    VMBUS_WOKE_ROOM = 21,        /* as VMBUS_WOKE, and the caller stores pending 0 too */
+};
+
+/* ---- An end whose every step is named (crates/vmbus_ring_c): the slow form, for callers who want to see each access. ---- */
+
+/* One end of a channel. It is read, kept and copied, and changed by the calls below alone. Each call tests the numbers first. */
 struct vmbus_end {
     uint32_t cells; /* of a ring; indices and lengths count cells of 8 bytes */
     uint32_t write; /* private write index of the outgoing ring */
@@ -168,36 +199,13 @@ struct vmbus_end {
     uint32_t words; /* words of the packet of the last call that took one, or had too little room */
     uint32_t side; /* 0 the guest's end, 1 the host's */
     uint32_t stage; /* 0 no call is under way, 1 the end is stopped */
-    uint32_t ended; /* how the last call ended */
-    bool masked;
-    bool asleep;
-    bool marked;
-    bool peer_marked;
-    bool drained;
-    bool saw;
-};
-
-/* How the last call ended. */
-enum vmbus_ended {
-    VMBUS_FRESH = 0,
-    VMBUS_SENT_QUIET = 1,
-    VMBUS_SENT_RAISED = 2,
-    VMBUS_FULL = 3,
-    VMBUS_BAD_PEER = 4,
-    VMBUS_TOOK = 5,
-    VMBUS_EMPTY = 6,
-    VMBUS_BAD_INDEX = 7,
-    VMBUS_BAD_LENGTH = 8,
-    VMBUS_BAD_OFFSET = 9,
-    VMBUS_COMMITTED_QUIET = 10,
-    VMBUS_COMMITTED_RAISED = 11,
-    VMBUS_FELL_ASLEEP = 12,
-    VMBUS_FOUND_WORK = 13,
-    VMBUS_NO_SIGNAL = 14,
-    VMBUS_WOKE = 15,
-    VMBUS_MARKED = 16,
-    VMBUS_PEER_MARK_DOWN = 17,
-    VMBUS_PEER_MARK_UP = 18,
+    uint32_t ended; /* how the last call ended: enum vmbus_answer */
+    uint32_t masked; /* this and the next five are flags: set where not 0 */
+    uint32_t asleep;
+    uint32_t marked;
+    uint32_t peer_marked;
+    uint32_t drained;
+    uint32_t saw;
 };
 
 /* A step that the caller makes: a load, a store or an exchange of one 64-bit word. */
@@ -209,12 +217,13 @@ struct vmbus_step {
     uint64_t value; /* what is stored */
 };
 
-/* A new end of a channel whose rings have d bytes of data: a multiple of 4,096 from 4,096 to 65,536. host is 1 for the host's end, and 0 for the guest's. */
-struct vmbus_end vmbus_end_make(uint32_t host, uint32_t d);
+/* Makes a new end of a channel whose rings have d bytes of data: a multiple of 4,096 from 4,096 to 134,217,728. host is 1 for the host's end, and 0 for the guest's. False, and then nothing
+   is written, exactly where d or host is another number. */
+bool vmbus_end_make(struct vmbus_end *end, uint32_t host, uint32_t d);
 
-/* Begin a call. False, and then nothing changes, where the end is stopped, asleep (but for a poll), marked or inside a call, and where len is below 2 or doesn't
-   fit (len + 1 must be below the cells), or want isn't 0 and below 24 or not below the bytes of the ring, or an arm comes before all that was taken is
-   committed. */
+/* Begin a call. False, and then nothing changes, exactly where the numbers aren't those of an end, where it is stopped, asleep (but for a poll, which asks for it), marked or inside a call, where
+   len is below 2 or doesn't fit (len + 1 must be below the cells), where want is 1 to 23 or not below the bytes of the ring, or where an arm comes before all that was
+   taken is committed. */
 bool vmbus_end_begin_send(struct vmbus_end *end, uint32_t len);
 bool vmbus_end_begin_take(struct vmbus_end *end);
 bool vmbus_end_begin_commit(struct vmbus_end *end);
@@ -223,10 +232,191 @@ bool vmbus_end_begin_poll(struct vmbus_end *end);
 bool vmbus_end_begin_mark(struct vmbus_end *end);
 bool vmbus_end_begin_peer_mark(struct vmbus_end *end);
 
-/* The next step of the call under way, with the packet that is being sent, or none. False where no call is under way. */
+/* The next step of the call under way, with the packet that is being sent, or none. False, and then nothing is written, where no call is under way. */
 bool vmbus_end_next(const struct vmbus_end *end, const uint64_t *packet, size_t len, struct vmbus_step *step);
 
-/* What the step gave: the value that it loaded or exchanged, or anything for a store. False where no call is under way. */
+/* What the step gave: the value that it loaded or exchanged, or anything for a store. False, and then nothing changes, where no call is under way. */
 bool vmbus_end_feed(struct vmbus_end *end, uint64_t value);
+
+/* ---- An end by plans (crates/ring_plan_c): C loads the few words that decide, and a call says what C copies and stores. docs/C.md has the rules. ---- */
+
+/* One end. C reads it, keeps it in private memory and copies it, and changes it by the calls below alone: a call refuses (VMBUS_NO_CALL) an end whose numbers are in no form. */
+struct vmbus_plan_end {
+    uint32_t cells; /* of a ring; indices and lengths count cells of 8 bytes */
+    uint32_t write; /* private write index of the outgoing ring */
+    uint32_t read;  /* private read index of the incoming ring */
+    uint32_t start; /* read index that was last committed */
+    uint32_t seen;
+    uint32_t len;
+    uint32_t want;  /* bytes that the last arm waits for, or 0 */
+    uint32_t state; /* enum vmbus_plan_state */
+};
+
+enum vmbus_plan_state {
+    VMBUS_AT_REST = 0,
+    VMBUS_AT_STOP = 1,   /* for good: the peer broke a rule */
+    VMBUS_AT_SEND = 2,   /* a send is planned, and not done */
+    VMBUS_AT_TAKE = 3,   /* a take waits for the first cell */
+    VMBUS_AT_COMMIT = 4,
+    VMBUS_AT_ARM = 5,
+    VMBUS_AT_SLEEP = 6,
+    VMBUS_AT_MARK = 7,   /* it said that it sends nothing more */
+};
+
+/* The stores of a send: `first` words of the packet from byte `at` of the ring on, then `second` words from its beginning on; the trailer; the write index. */
+struct vmbus_send_plan {
+    uint32_t at, first, second, trailer_at;
+    uint64_t trailer;
+    uint32_t write;
+};
+
+/* The loads of a take after the packet's first word: `first` words from byte `at` of the ring on, then `second` words from its beginning on. The packet has `len` words, and its payload
+   begins at word `offset`. */
+struct vmbus_take_plan {
+    uint32_t at, first, second, len, offset;
+};
+
+/* A new end of rings of so many bytes: false, and then nothing changes, exactly where that is no multiple of 4,096 from 4,096 to 134,217,728. */
+bool vmbus_plan_make(struct vmbus_plan_end *end, uint32_t bytes);
+uint32_t vmbus_send_plan(struct vmbus_plan_end *end, uint64_t head, uint32_t read, struct vmbus_send_plan *plan);
+uint32_t vmbus_send_done(struct vmbus_plan_end *end, uint32_t mask, uint32_t read);
+uint32_t vmbus_take_plan(struct vmbus_plan_end *end, uint32_t write, uint32_t *at);
+uint32_t vmbus_take_head(struct vmbus_plan_end *end, uint64_t head, struct vmbus_take_plan *plan);
+uint32_t vmbus_commit_plan(struct vmbus_plan_end *end, uint32_t *read);
+uint32_t vmbus_commit_done(struct vmbus_plan_end *end, uint32_t feature, uint32_t pending, uint32_t write);
+uint32_t vmbus_arm_plan(struct vmbus_plan_end *end, uint32_t want);
+uint32_t vmbus_arm_done(struct vmbus_plan_end *end, uint32_t write, uint32_t read, uint64_t mark);
+uint32_t vmbus_poll_done(struct vmbus_plan_end *end, uint64_t signal);
+uint32_t vmbus_mark_done(struct vmbus_plan_end *end);
+
+/* ---- Whole calls over shared pages, by C's own words (the builtins of gcc and clang): the accesses of a plan, each with its order. ---- */
+
+/* The header of a ring, a page of which these are the first words, at the places of Linux's struct hv_ring_buffer; and its cells, the pages behind it. */
+struct vmbus_ring_words {
+    uint32_t write, read, mask, pending, reserved[12], feature;
+};
+struct vmbus_ring {
+    struct vmbus_ring_words *head;
+    char *cells;
+};
+_Static_assert(offsetof(struct vmbus_ring_words, feature) == 64, "the layout of a ring's header");
+
+static inline uint32_t vmbus_load(const uint32_t *p)
+{
+    return __atomic_load_n(p, __ATOMIC_ACQUIRE);
+}
+
+/* Between a store by which the peer decides to wake this end, and a load by which this end decides. VMBUS_WITHOUT_FENCES is for the check that sees a wake-up lost without it. */
+static inline void vmbus_full_fence(void)
+{
+#ifndef VMBUS_WITHOUT_FENCES
+    __atomic_thread_fence(__ATOMIC_SEQ_CST);
+#endif
+}
+
+/* Copies words to or from a ring. What the caller reads of a private copy later, the compiler may not load from the ring again. */
+static inline void vmbus_copy(void *to, const void *from, uint32_t words)
+{
+    uint64_t *t = to;
+    const uint64_t *f = from;
+    if (words > 16)
+        memcpy(to, from, 8 * (size_t)words);
+    else
+        for (uint32_t i = 0; i < words; i++)
+            __atomic_store_n(t + i, __atomic_load_n(f + i, __ATOMIC_RELAXED), __ATOMIC_RELAXED);
+    __atomic_signal_fence(__ATOMIC_SEQ_CST);
+}
+
+/* Sends a packet, whose first word gives its length: VMBUS_SENT_QUIET, or VMBUS_SENT_RAISED, and then the caller raises the peer; or why it isn't sent. */
+static inline uint32_t vmbus_ring_send(struct vmbus_plan_end *e, struct vmbus_ring out, const uint64_t *packet)
+{
+    struct vmbus_send_plan p;
+    uint32_t a = vmbus_send_plan(e, packet[0], vmbus_load(&out.head->read), &p);
+    if (a != VMBUS_PLANNED)
+        return a;
+    vmbus_copy(out.cells + p.at, packet, p.first);
+    if (p.second)
+        vmbus_copy(out.cells, packet + p.first, p.second);
+    __atomic_store_n((uint64_t *)(out.cells + p.trailer_at), p.trailer, __ATOMIC_RELAXED);
+    __atomic_store_n(&out.head->write, p.write, __ATOMIC_RELEASE);
+    vmbus_full_fence();
+    uint32_t mask = vmbus_load(&out.head->mask);
+    return vmbus_send_done(e, mask, mask ? 0 : vmbus_load(&out.head->read));
+}
+
+/* Takes a packet into private memory with room for the ring's cells: VMBUS_TOOK, and then it has `len` words, and its payload begins at word `offset`; or why none is taken. */
+static inline uint32_t vmbus_ring_take(struct vmbus_plan_end *e, struct vmbus_ring in, uint64_t *packet, uint32_t *len, uint32_t *offset)
+{
+    struct vmbus_take_plan p;
+    uint32_t at, a = vmbus_take_plan(e, vmbus_load(&in.head->write), &at);
+    if (a != VMBUS_PLANNED)
+        return a;
+    packet[0] = __atomic_load_n((uint64_t *)(in.cells + at), __ATOMIC_RELAXED);
+    a = vmbus_take_head(e, packet[0], &p);
+    if (a != VMBUS_PLANNED)
+        return a;
+    vmbus_copy(packet + 1, in.cells + p.at, p.first);
+    if (p.second)
+        vmbus_copy(packet + 1 + p.first, in.cells, p.second);
+    *len = p.len;
+    *offset = p.offset;
+    return VMBUS_TOOK;
+}
+
+/* Gives back the room of all packets that were taken: VMBUS_COMMITTED_QUIET, or VMBUS_COMMITTED_RAISED, and then the caller raises the peer. */
+static inline uint32_t vmbus_ring_commit(struct vmbus_plan_end *e, struct vmbus_ring in)
+{
+    uint32_t read, a = vmbus_commit_plan(e, &read);
+    if (a != VMBUS_PLANNED)
+        return a;
+    __atomic_store_n(&in.head->read, read, __ATOMIC_RELEASE);
+    vmbus_full_fence();
+    uint32_t feature = vmbus_load(&in.head->feature), pending = feature & 1 ? vmbus_load(&in.head->pending) : 0;
+    return vmbus_commit_done(e, feature, pending, pending ? vmbus_load(&in.head->write) : 0);
+}
+
+/* What an end that is awake again stores. */
+static inline void vmbus_ring_awake(struct vmbus_ring out, struct vmbus_ring in, uint32_t a)
+{
+    if (a == VMBUS_FOUND_WORK || a == VMBUS_FOUND_WORK_ROOM || a == VMBUS_WOKE || a == VMBUS_WOKE_ROOM)
+        __atomic_store_n(&in.head->mask, 1, __ATOMIC_RELAXED);
+    if (a == VMBUS_FOUND_WORK_ROOM || a == VMBUS_WOKE_ROOM)
+        __atomic_store_n(&out.head->pending, 0, __ATOMIC_RELAXED);
+}
+
+/* Arms the signal, for packets, and for more room than `want` bytes where that isn't 0. `mark` is the peer's mark, or null for a peer that has none, as Linux's. Whoever hears VMBUS_FELL_ASLEEP waits
+   for its signal. It may load more words than count. */
+static inline uint32_t vmbus_ring_arm(struct vmbus_plan_end *e, struct vmbus_ring out, struct vmbus_ring in, uint32_t want, const uint64_t *mark)
+{
+    uint32_t a = vmbus_arm_plan(e, want);
+    if (a != VMBUS_PLANNED)
+        return a;
+    if (want)
+        __atomic_store_n(&out.head->pending, want, __ATOMIC_RELAXED);
+    __atomic_store_n(&in.head->mask, 0, __ATOMIC_RELEASE);
+    vmbus_full_fence();
+    uint32_t write = vmbus_load(&in.head->write), read = want ? vmbus_load(&out.head->read) : 0;
+    a = vmbus_arm_done(e, write, read, mark ? __atomic_load_n(mark, __ATOMIC_ACQUIRE) : 0);
+    vmbus_ring_awake(out, in, a);
+    return a;
+}
+
+/* Takes the signal of an end that is asleep: VMBUS_WOKE or VMBUS_WOKE_ROOM where it was raised, and VMBUS_NO_SIGNAL where not. */
+static inline uint32_t vmbus_ring_poll(struct vmbus_plan_end *e, struct vmbus_ring out, struct vmbus_ring in, uint64_t *signal)
+{
+    uint32_t a = vmbus_poll_done(e, __atomic_exchange_n(signal, 0, __ATOMIC_SEQ_CST));
+    vmbus_ring_awake(out, in, a);
+    return a;
+}
+
+/* Says that the end sends nothing more: VMBUS_MARKED, and then the caller raises the peer. Its own mark is no word of a ring, and a peer that has no marks, as Linux's, doesn't look at it. */
+static inline uint32_t vmbus_ring_mark(struct vmbus_plan_end *e, uint64_t *mark)
+{
+    uint32_t a = vmbus_mark_done(e);
+    if (a != VMBUS_PLANNED)
+        return a;
+    __atomic_store_n(mark, 1, __ATOMIC_RELEASE);
+    return VMBUS_MARKED;
+}
 
 #endif

@@ -12,7 +12,7 @@ use Rattle.worker_requester.specs.Asking.{AsksBy}
 use Rattle.worker_requester.proofs.AskSteps.{encoded_few}
 use Rattle.worker_port.specs.Rooms.{is_asked}
 use Rattle.worker_port.specs.declared.ended.Ended.{Ended}
-use Rattle.worker_port.specs.declared.ended.Ended.TheVariants.{Marked, PeerMarked, Room}
+use Rattle.worker_port.specs.declared.ended.Ended.TheVariants.{Marked, PeerMarked, Room, Broken}
 
 filter_le : (f : Item → Bool) (ps : List Item) → length (filter f ps) ≤ length ps
 filter_le f [] = omega arith
@@ -46,6 +46,7 @@ module _ {A Q R : Type 0} (s : WireFormat Item A Q R) (keeps : Keeps s) where
   encoded_by Marked start script past told by = (by.0 (record { start = start; script = script; stop = None }) refl).encoded
   encoded_by PeerMarked start script past told by = (by.0 (record { start = start; script = script; stop = None }) refl).encoded
   encoded_by (Room packets words left) start script past told by = by.encoded
+  encoded_by Broken start script past told by = by.encoded
 
   -- an end that ended asked no more of the device than its script does
   pub few_asked : (how : Ended) (start script : List A) (past : List (Event Item)) (told : List R) → AllFixed s start → AsksBy s how (start ++ script) past told → length (filter (is_asked s) (sent_of past)) ≤ length script

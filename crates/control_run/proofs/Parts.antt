@@ -105,13 +105,13 @@ are_new plan g h guest host planned = let is : g.plan ≡ plan = ap (λ (x : Gue
     record { planned = planned; guest = guest ∙ sym (ap new_guest is); host = host ∙ sym (ap new_host is) }
 
 -- they rest over two new queues with the names of what both say
-pub new_rests : (g : GuestSeen) (h : HostSeen) (guest_post : Post) (host_fetch : Fetch) (host_post : Post) (guest_fetch : Fetch) (guest_box host_box : Mail) (n m : ℕ) (to_host to_guest : List Msg) (last back : Msg) → AreNew g h
+pub new_rests : (g : GuestSeen) (h : HostSeen) (guest_post : Post) (host_fetch : Fetch) (host_post : Post) (guest_fetch : Fetch) (guest_box host_box : Mail) (n m : ℕ) (to_host to_guest : List Msg) (last back : Msg) → AreNew g h → n ≡ 64 → m ≡ 64
     → to_host ≡ said_by_guest g.plan → last ≡ farewell_taken → to_guest ≡ said_by_host g.plan → back ≡ farewell
     → guest_post ≡ record { queue = guest_post.queue; size = n; named = to_host; last = last; put = [] } → host_fetch ≡ record { queue = guest_post.queue; size = n; named = to_host; last = last; taken = [] }
     → host_post ≡ record { queue = host_post.queue; size = m; named = to_guest; last = back; put = [] } → guest_fetch ≡ record { queue = host_post.queue; size = m; named = to_guest; last = back; taken = [] }
     → guest_box ≡ record { size = 64; queue = [] } → host_box ≡ record { size = 64; queue = [] }
     → Rests (record { guest = g; host = h; guest_post = guest_post; guest_fetch = guest_fetch; host_post = host_post; host_fetch = host_fetch; guest_box = guest_box; host_box = host_box })
-new_rests g h gp hf hp gf gb hb n m to_host to_guest last back new n1 l1 n2 l2 post1 fetch1 post2 fetch2 box1 box2 =
+new_rests g h gp hf hp gf gb hb n m to_host to_guest last back new many many' n1 l1 n2 l2 post1 fetch1 post2 fetch2 box1 box2 =
     let plan : h.plan ≡ g.plan = ap (λ (x : HostSeen). x.plan) new.host in
     record {
       guest = record { planned = new.planned; at = subst (GuestAt g.plan) (sym new.guest) (new_ones_stand g.plan).0 };
@@ -147,6 +147,8 @@ new_rests g h gp hf hp gf gb hb n m to_host to_guest last back new n1 l1 n2 l2 p
       };
       to_host = sym (ap (λ (f : Fetch). f.queue) fetch1);
       to_guest = sym (ap (λ (f : Fetch). f.queue) fetch2);
+      to_host_size = (ap (λ (p : Post). p.size) post1 ∙ many, ap (λ (f : Fetch). f.size) fetch1 ∙ many);
+      to_guest_size = (ap (λ (p : Post). p.size) post2 ∙ many', ap (λ (f : Fetch). f.size) fetch2 ∙ many');
       guest_box = box1;
       host_box = box2;
     }
@@ -170,9 +172,12 @@ has_run old part guest host rests guest_follows host_follows g h guest_box host_
         host_rests = subst (Serves (host_side host.done.control) host.done.fetch host.done.post []) no_host h.serves;
         to_host = g.post_queue ∙ (rests.to_host ∙ sym h.fetch_queue);
         to_guest = h.post_queue ∙ (rests.to_guest ∙ sym g.fetch_queue);
+        to_host_size = (g.post_size ∙ rests.to_host_size.0, h.fetch_size ∙ rests.to_host_size.1);
+        to_guest_size = (h.post_size ∙ rests.to_guest_size.0, g.fetch_size ∙ rests.to_guest_size.1);
         guest_box = guest_box;
         host_box = host_box;
       };
+      same = record { to_host = g.post_queue; to_guest = h.post_queue };
       plan = g.continues.script.plan;
       guest_part = guest_ends.1;
       host_part = host_ends.1;

@@ -22,7 +22,7 @@ pub record AreNew (g : GuestSeen) (h : HostSeen) : Type 0 where
   pub host : h ≡ new_host g.plan
 
 -- Between two parts: both controls stand by one plan as what they were fed brings them, and may begin the part that comes next. All that each posted was put, and
--- all that it fetched it was fed; each fetches what the other puts; and both boxes are empty
+-- all that it fetched it was fed; each fetches what the other puts; each queue has room for 64 messages; and both boxes are empty
 pub record Rests (p : ControlPath) : Type 0 where
   pub guest : GuestFollows p.guest
   pub host : HostFollows p.host
@@ -34,12 +34,20 @@ pub record Rests (p : ControlPath) : Type 0 where
   pub host_rests : AtRest (host_side p.host) p.host_fetch p.host_post
   pub to_host : p.guest_post.queue ≡ p.host_fetch.queue
   pub to_guest : p.host_post.queue ≡ p.guest_fetch.queue
+  pub to_host_size : (p.guest_post.size ≡ 64) × (p.host_fetch.size ≡ 64)
+  pub to_guest_size : (p.host_post.size ≡ 64) × (p.guest_fetch.size ≡ 64)
   pub guest_box : p.guest_box ≡ record { size = 64; queue = [] }
   pub host_box : p.host_box ≡ record { size = 64; queue = [] }
 
--- a part was run: both are done with it, and rest
+-- two paths are one path, at two moments: their queues are the same
+pub record IsSamePath (p q : ControlPath) : Type 0 where
+  pub to_host : q.guest_post.queue ≡ p.guest_post.queue
+  pub to_guest : q.host_post.queue ≡ p.host_post.queue
+
+-- a part was run: both are done with it, and rest, over the same queues
 pub record RanPart (old new : ControlPath) (part : Part) : Type 0 where
   pub rests : Rests new
+  pub same : IsSamePath old new
   pub plan : new.guest.plan ≡ old.guest.plan
   pub guest_part : new.guest.part ≡ Some part
   pub host_part : new.host.part ≡ Some part

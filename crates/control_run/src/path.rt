@@ -57,6 +57,13 @@ impl ControlPath {
         join::<Brand, Brand>(alloc, guest, host)
     }
 
+    /// The part that comes next, if one does.
+    pub fn next_part(&self) -> Option<Part>
+        ensures { result ≡ part_after self.now.guest.plan self.now.guest.part }
+    {
+        self.guest.next_part()
+    }
+
     /// Runs the next part: the host's control serves it on a thread, and the guest's on this one.
     /// Both are done with the part then, and what each was fed is a front of what the other posted.
     ///

@@ -3,13 +3,14 @@ use Rattle.std.proofs.Common.{◌≡◌, ℕ, List, [], ◌∷◌, ◌++◌, Opt
 use Rattle.std.proofs.lemmas.List.{append-nil}
 use Rattle.std.specs.Option.{option_to_list}
 use mathlib.Core.List.{IsPrefix}
+use Rattle.vmbus_msg.specs.Grammar.{type_of}
 use Rattle.vmbus_msg.specs.declared.msg.Msg.{Msg}
 use Rattle.mail_box.specs.Mail.{Post, Fetch}
 use Rattle.mail_box.specs.Letters.{MaySay}
 use Rattle.mail_box.proofs.Moves.{front_of_front}
 use Rattle.control_model.specs.declared.fault.ControlFault.{ControlFault}
 use Rattle.control_model.specs.declared.fault.ControlFault.TheVariants.{State, Gpadl, Relid, Offer, Unasked, Memory}
-use Rattle.control_side.specs.Sides.{Side, Continues, Goes, parting_of, Serves}
+use Rattle.control_side.specs.Sides.{Side, Continues, Goes, Refuses, parting_of, Refused, Serves}
 
 -- all that a side posted, and then the message that ends it early after want of memory, may be said
 says_posted : (s : Side) → IsPrefix s.posted s.says → MaySay s.says s.parting (s.posted ++ [])
@@ -117,32 +118,26 @@ wants_to_begin s fetch post h = record {
   refused = inl refl;
 }
 
--- a message was refused for want of memory
-pub wants : (s : Side) (fetch : Fetch) (post : Post) (m : Msg) → Serves s fetch post [] None → Serves s (record fetch { taken = fetch.taken ++ m ∷ [] }) post (s.parting ∷ []) (Some Memory)
-wants s fetch post m h = record {
-  says = h.says;
-  parting = h.parting;
-  hears = h.hears;
-  cut = h.cut;
-  put = ap (λ l. l ++ s.parting ∷ []) (sym (append-nil post.put) ∙ (h.put ∙ append-nil s.posted));
-  front = h.front;
-  more = m ∷ [];
-  taken = ap (λ l. l ++ m ∷ []) (all_fed s fetch post [] h);
-  refused = inr (m, refl);
-}
+-- the message was refused: it is the one that was taken and not fed
+refused_as : (s : Side) (m : Msg) (fault : ControlFault) → Refuses s m fault → Refused s (Some fault) (m ∷ [])
+refused_as s m Memory r = inr (m, refl, r)
+refused_as s m (Unasked kind) r = (ap (λ k. k ∷ []) r.0, r.1 ∙ ap type_of r.0)
+refused_as s m (State why) r = absurd r
+refused_as s m (Gpadl why) r = absurd r
+refused_as s m (Relid value) r = absurd r
+refused_as s m (Offer why) r = absurd r
 
--- the other side's parting message was refused
-pub was_cut : (s : Side) (fetch : Fetch) (post : Post) (m : Msg) (kind : ℕ) → Serves s fetch post [] None → m ≡ s.cut → Serves s (record fetch { taken = fetch.taken ++ m ∷ [] }) post [] (Some (Unasked kind))
-was_cut s fetch post m kind h is = record {
+pub was_refused : (s : Side) (fetch : Fetch) (post : Post) (m : Msg) (fault : ControlFault) → Serves s fetch post [] None → Refuses s m fault → Serves s (record fetch { taken = fetch.taken ++ m ∷ [] }) post (parting_of s (Some fault)) (Some fault)
+was_refused s fetch post m fault h r = record {
   says = h.says;
   parting = h.parting;
   hears = h.hears;
   cut = h.cut;
-  put = h.put;
+  put = ap (λ l. l ++ parting_of s (Some fault)) (sym (append-nil post.put) ∙ (h.put ∙ append-nil s.posted));
   front = h.front;
   more = m ∷ [];
   taken = ap (λ l. l ++ m ∷ []) (all_fed s fetch post [] h);
-  refused = ap (λ k. k ∷ []) is;
+  refused = refused_as s m fault r;
 }
 
 pub may_put_held : (s : Side) (fetch : Fetch) (post : Post) (held : Option Msg) (local : List Msg) (m : Msg) (fault : Option ControlFault) → held ≡ Some m → Serves s fetch post (option_to_list held ++ local) fault → MaySay post.named post.last (post.put ++ m ∷ [])

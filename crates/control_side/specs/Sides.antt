@@ -1,7 +1,8 @@
 -- One side of the control path: what it says and hears, and how far it has come with its two ends.
-use Rattle.std.specs.Prelude.{◌≡◌, ◌⊎◌, Bool, true, List, [], ◌∷◌, ◌++◌, Option, Some, None}
+use Rattle.std.specs.Prelude.{◌≡◌, ◌≢◌, ◌⊎◌, Bool, true, List, [], ◌∷◌, ◌++◌, Option, Some, None}
 use mathlib.Core.List.{IsPrefix}
 use Rattle.contact.specs.declared.part.Part.{Part}
+use Rattle.vmbus_msg.specs.Grammar.{type_of}
 use Rattle.vmbus_msg.specs.declared.msg.Msg.{Msg}
 use Rattle.mail_box.specs.Mail.{Post, Fetch}
 use Rattle.control_model.specs.declared.fault.ControlFault.{ControlFault}
@@ -42,10 +43,10 @@ pub record Goes (old : Side) (sent heard : List Msg) (new : Side) : Type 0 where
   pub fed : new.fed ≡ old.fed ++ heard
   pub front : IsPrefix new.posted new.says
 
--- a refusal of a message: want of memory, or it is the one that ends the other side's early
+-- a refusal of a message: the one that ends the other side's early is refused for its type, and any other one for want of memory alone
 abbrev pub Refuses : Side → Msg → ControlFault → Type 0
-Refuses s m (Unasked kind) = m ≡ s.cut
-Refuses s m Memory = Unit {0}
+Refuses s m (Unasked kind) = (m ≡ s.cut) × (kind ≡ type_of m)
+Refuses s m Memory = m ≢ s.cut
 Refuses s m other = ⊥
 
 -- what is put behind all that was posted: after want of memory the message that ends it early
@@ -53,11 +54,12 @@ abbrev pub parting_of : Side → Option ControlFault → List Msg
 parting_of s (Some Memory) = s.parting ∷ []
 parting_of s _ = []
 
--- what was taken and not fed: the message that was refused, if one was. No other fault comes between two ends
+-- What was taken and not fed: the message that was refused, if one was. The one that ends the other side's early is never told as want of memory, nor another one as
+-- unasked. No other fault comes between two ends
 abbrev pub Refused : Side → Option ControlFault → List Msg → Type 0
 Refused s None more = more ≡ []
-Refused s (Some Memory) more = (more ≡ []) ⊎ ((m : Msg) × (more ≡ m ∷ []))
-Refused s (Some (Unasked kind)) more = more ≡ s.cut ∷ []
+Refused s (Some Memory) more = (more ≡ []) ⊎ ((m : Msg) × (more ≡ m ∷ []) × (m ≢ s.cut))
+Refused s (Some (Unasked kind)) more = (more ≡ s.cut ∷ []) × (kind ≡ type_of s.cut)
 Refused s (Some other) more = ⊥
 
 -- The ends of both queues go with a control: each has the names of its side; what was put, and then what waits here, is what was posted, and then the message
@@ -83,4 +85,6 @@ pub record Served (part : Part) (old : Side) (fetch_old : Fetch) (post_old : Pos
   pub continues : Continues old new
   pub fetch_queue : fetch.queue ≡ fetch_old.queue
   pub post_queue : post.queue ≡ post_old.queue
+  pub fetch_size : fetch.size ≡ fetch_old.size
+  pub post_size : post.size ≡ post_old.size
   pub done : fault ≡ None → (new.done ≡ true) × (new.part ≡ Some part)

@@ -1,5 +1,5 @@
 -- A control in a part, between its moves.
-use Rattle.std.specs.Prelude.{◌≡◌, true, List, [], ◌∷◌, ◌++◌, Some, None}
+use Rattle.std.specs.Prelude.{◌≡◌, ◌≢◌, true, List, [], ◌∷◌, ◌++◌, Some, None}
 use Rattle.std.specs.Option.{option_to_list}
 use Rattle.vmbus_msg.specs.declared.msg.Msg.{Msg}
 use Rattle.mail_box.specs.Mail.{Post, Fetch}
@@ -38,13 +38,20 @@ module _ {C : Type 0} where
     pub nothing : waiting s ≡ []
     pub done : s.fault ≡ None → (seen s.control).done ≡ true
 
-  abbrev pub Moves : (C → Side) → Turn → Serving C → Type 0
-  Moves seen Ended s = IsAtEnd seen s
-  Moves seen Moved s = Unit {0}
-  Moves seen Idle s = Unit {0}
+  -- what a move did: nothing is changed where it says so
+  abbrev pub Moves : (C → Side) → Turn → Serving C → Serving C → Type 0
+  Moves seen Ended old new = (new ≡ old) × IsAtEnd seen new
+  Moves seen Moved old new = Unit {0}
+  Moves seen Idle old new = new ≡ old
 
--- the script and both queues are the same, and what was posted and fed only grew
+  -- all that waits is put before the next message is taken
+  abbrev pub PutsFirst : Serving C → Serving C → Type 0
+  PutsFirst old new = waiting old ≢ [] → new.fetch ≡ old.fetch
+
+-- the script and both queues, with their sizes, are the same, and what was posted and fed only grew
 pub record IsSame (old : Side) (fetch_old : Fetch) (post_old : Post) (new : Side) (fetch : Fetch) (post : Post) : Type 0 where
   pub continues : Continues old new
   pub fetch_queue : fetch.queue ≡ fetch_old.queue
   pub post_queue : post.queue ≡ post_old.queue
+  pub fetch_size : fetch.size ≡ fetch_old.size
+  pub post_size : post.size ≡ post_old.size

@@ -1,7 +1,8 @@
 //! A control in a part, move by move.
 ghost use Rattle.std.specs.Prelude.{◌≡◌, false, [], Some};
-ghost use Rattle.control_side.specs.Sides.{AtRest, Served};
-ghost use Rattle.control_side.specs.Standing.{Stands, HasTaken, IsAtEnd, IsSame, Moves};
+ghost use Rattle.std.specs.Option.{option_to_list};
+ghost use Rattle.control_side.specs.Sides.{AtRest, Served, parting_of};
+ghost use Rattle.control_side.specs.Standing.{Stands, HasTaken, IsAtEnd, IsSame, Moves, PutsFirst};
 
 use crate::{Control, PartDone, PartLeft};
 use contact::Part;
@@ -16,7 +17,7 @@ use vmbus_msg::Msg;
 pub enum Turn {
     /// Something.
     Moved,
-    /// Nothing: a queue was full, or empty, at one moment.
+    /// Nothing: a queue gave no message, or had no room for the one that is to be put.
     Idle,
     /// Nothing, and nothing more is to be done in this part.
     Ended,
@@ -78,7 +79,8 @@ impl<C: Control> Serving<C> {
         ensures stands { Stands C.seen C.follows self.new }
         ensures part { self.new.part ≡ self.old.part }
         ensures same { IsSame (C.seen self.old.control) self.old.fetch self.old.post (C.seen self.new.control) self.new.fetch self.new.post }
-        ensures moves { Moves C.seen result self.new }
+        ensures moves { Moves C.seen result self.old self.new }
+        ensures first { PutsFirst self.old self.new }
     {
         if let Some(m) = self.held {
             return self.put(rt, m);
@@ -106,7 +108,8 @@ impl<C: Control> Serving<C> {
         ensures stands { Stands C.seen C.follows self.new }
         ensures part { self.new.part ≡ self.old.part }
         ensures same { IsSame (C.seen self.old.control) self.old.fetch self.old.post (C.seen self.new.control) self.new.fetch self.new.post }
-        ensures moves { Moves C.seen result self.new }
+        ensures moves { Moves C.seen result self.old self.new }
+        ensures fetch { self.new.fetch ≡ self.old.fetch }
     {
         match self.post.put::<Nothing, R>(rt, m) {
             Ok(()) => {
@@ -126,10 +129,19 @@ impl<C: Control> Serving<C> {
         ensures same { IsSame (C.seen self.old.control) self.old.fetch self.old.post (C.seen self.new.control) self.new.fetch self.new.post }
     {
         if let Err(fault) = self.control.feed(m, &mut self.local) {
-            if fault == ControlFault::Memory {
-                self.held = Some(self.control.parting());
-            }
+            self.held = self.last_for(fault);
             self.fault = Some(fault);
+        }
+    }
+
+    // The message that is to be put behind a refusal: after want of memory the one that ends this
+    // side's early, and otherwise none.
+    fn last_for(&self, fault: ControlFault) -> Option<Msg>
+        ensures { option_to_list result ≡ parting_of (C.seen self.now.control) (Some fault) }
+    {
+        match fault {
+            ControlFault::Memory => Some(self.control.parting()),
+            _ => None,
         }
     }
 

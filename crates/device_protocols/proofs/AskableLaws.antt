@@ -1,5 +1,5 @@
 -- What can be asked of a disk.
-use Rattle.std.proofs.Common.{◌≡◌, ℕ, ◌≤◌, List, [], ◌∷◌, length, Option, Some, refl, subst, arith}
+use Rattle.std.proofs.Common.{◌≡◌, ℕ, ◌≤◌, Bool, false, List, [], ◌∷◌, length, Option, Some, refl, sym, ap, subst, arith}
 use Rattle.std.specs.Prelude.{IsSome}
 use Rattle.std.proofs.lemmas.List.{take_all}
 use Rattle.wire_table.proofs.RowLaws.{IsBytes, all_bytes}
@@ -7,7 +7,10 @@ use Rattle.scsi_disk.specs.Commands.{command_of}
 use Rattle.scsi_disk.specs.declared.command.Command.{Command}
 use Rattle.scsi_disk.specs.declared.command.Command.TheVariants.{TestUnitReady, Inquiry, ReadCapacity, Read, Write, SynchronizeCache}
 use Rattle.stor_proto.specs.Srbs.{bytes_moved, data_for}
+use Rattle.rndis_msg.specs.declared.rndis.Rndis.{Rndis}
+use Rattle.rndis_msg.specs.declared.rndis.Rndis.TheVariants.{Packet, Query, Set, Reset, Keepalive}
 use Rattle.device_formats.specs.Disks.{IsDiskAsk}
+use Rattle.device_formats.specs.Nets.{can_ask}
 
 -- what the command of a request says of its data
 abbrev Takes : Option Command → List ℕ → Type 0
@@ -33,3 +36,39 @@ write_can cdb out lba count len cdb_bytes out_bytes is few =
 pub other_can : (cdb out : List ℕ) (c : Command) → length cdb ≡ 16 → IsBytes cdb → IsBytes out → Some c ≡ command_of cdb → length out ≡ 0 → bytes_moved (Some c) 0 ≤ 2048 → IsDiskAsk (record { cdb = cdb; out = out })
 other_can cdb [] c len cdb_bytes out_bytes is none few = can_from cdb [] len cdb_bytes out_bytes (subst (λ k. Takes k []) is (takes_none c few))
 other_can cdb (b ∷ out) c len cdb_bytes out_bytes is none few = absurd (omega arith)
+
+-- what can be asked of a disk: a write has few bytes of data, and another command none
+takes_of : (cdb out : List ℕ) → IsDiskAsk (record { cdb = cdb; out = out }) → Takes (command_of cdb) out
+takes_of cdb out can = (can.built, can.few, can.own)
+
+takes_as : (cdb out : List ℕ) (c : Command) → Some c ≡ command_of cdb → IsDiskAsk (record { cdb = cdb; out = out }) → Takes (Some c) out
+takes_as cdb out c is can = subst (λ k. Takes k out) (sym is) (takes_of cdb out can)
+
+pub write_few : (cdb out : List ℕ) (lba count : ℕ) → Some (Write lba count) ≡ command_of cdb → IsDiskAsk (record { cdb = cdb; out = out }) → length out ≤ 2048
+write_few cdb out lba count is can = (takes_as cdb out (Write lba count) is can).1
+
+abbrev IsOther : Command → Type 0
+IsOther (Write lba count) = ⊥
+IsOther c = Unit {0}
+
+none_taken : (c : Command) (out : List ℕ) → IsOther c → Takes (Some c) out → (length out ≡ 0) × (bytes_moved (Some c) 0 ≤ 2048)
+none_taken TestUnitReady out other takes = (sym (ap length takes.2), omega arith)
+none_taken (Inquiry s a) out other takes = (sym (ap length takes.2), takes.1)
+none_taken ReadCapacity out other takes = (sym (ap length takes.2), omega arith)
+none_taken (Read l k) out other takes = (sym (ap length takes.2), takes.1)
+none_taken (Write l k) out other takes = absurd other
+none_taken SynchronizeCache out other takes = (sym (ap length takes.2), omega arith)
+
+pub other_few : (cdb out : List ℕ) (c : Command) → IsOther c → Some c ≡ command_of cdb → IsDiskAsk (record { cdb = cdb; out = out }) → (length out ≡ 0) × (bytes_moved (Some c) 0 ≤ 2048)
+other_few cdb out c other is can = none_taken c out other (takes_as cdb out c is can)
+
+-- a message of another type is no request of an adapter
+pub never_asks : (m : Rndis) → ((body : List ℕ) → m ≡ Packet body → ⊥) → ((id oid : ℕ) (body : List ℕ) → m ≡ Query id oid body → ⊥) → ((id oid : ℕ) (body : List ℕ) → m ≡ Set id oid body → ⊥) → (m ≡ Reset → ⊥) → ((id : ℕ) → m ≡ Keepalive id → ⊥)
+    → can_ask m ≡ false
+unfolding can_ask
+never_asks (Packet body) p q s r k = absurd (p body refl)
+never_asks (Query id oid body) p q s r k = absurd (q id oid body refl)
+never_asks (Set id oid body) p q s r k = absurd (s id oid body refl)
+never_asks Reset p q s r k = absurd (r refl)
+never_asks (Keepalive id) p q s r k = absurd (k id refl)
+never_asks _ p q s r k = refl

@@ -12,10 +12,11 @@ use rndis_msg::Rndis;
 use scsi_disk::Command;
 use util_ic::IcAsk;
 
-/// Whether this can be asked on a channel of this kind: a heartbeat, a shutdown, or of a disk a built command that moves at most 2,048 bytes, with data
+/// Whether this can be asked on a channel of this kind, and exactly that: a heartbeat, a shutdown, or of a disk a built command that moves at most 2,048 bytes, with data
 /// exactly where it is a write, and of an adapter a frame, a query, a set, a reset or a keepalive.
 pub fn is_askable(kind: Kind, ask: &Ask) -> bool
-    ensures { result ≡ true → IsAskable kind ask.now }
+    ensures can { result ≡ true → IsAskable kind ask.now }
+    ensures only { IsAskable kind ask.now → result ≡ true }
 {
     match (kind, ask) {
         (Kind::Beat, Ask::Ic(ask)) => is_beat_ask(*ask),
@@ -28,21 +29,24 @@ pub fn is_askable(kind: Kind, ask: &Ask) -> bool
 
 /// Whether a heartbeat is asked.
 fn is_beat_ask(ask: IcAsk) -> bool
-    ensures { result ≡ true → IsBeatAsk ask }
+    ensures can { result ≡ true → IsBeatAsk ask }
+    ensures only { IsBeatAsk ask → result ≡ true }
 {
     matches!(ask, IcAsk::Beat { .. })
 }
 
 /// Whether a shutdown is asked.
 fn is_down_ask(ask: IcAsk) -> bool
-    ensures { result ≡ true → IsDownAsk ask }
+    ensures can { result ≡ true → IsDownAsk ask }
+    ensures only { IsDownAsk ask → result ≡ true }
 {
     matches!(ask, IcAsk::Down { .. })
 }
 
 /// Whether this command with this data can be asked of a disk.
 fn is_disk_ask(cdb: &[u8; 16], out: &[u8]) -> bool
-    ensures { result ≡ true → IsDiskAsk (record { cdb = cdb.now; out = out.now }) }
+    ensures can { result ≡ true → IsDiskAsk (record { cdb = cdb.now; out = out.now }) }
+    ensures only { IsDiskAsk (record { cdb = cdb.now; out = out.now }) → result ≡ true }
 {
     are_bytes(cdb);
     match Command::of(cdb) {
@@ -54,7 +58,8 @@ fn is_disk_ask(cdb: &[u8; 16], out: &[u8]) -> bool
 
 /// Whether this message can be asked of an adapter.
 fn is_net_ask(message: &Rndis) -> bool
-    ensures { result ≡ true → can_ask message.now ≡ true }
+    ensures can { result ≡ true → can_ask message.now ≡ true }
+    ensures only { can_ask message.now ≡ true → result ≡ true }
 {
     match message {
         Rndis::Packet { body } => {
@@ -104,7 +109,8 @@ fn are_bytes(bytes: &[u8])
 
 /// Whether at most 2,048 bytes come back for a command that takes none.
 fn gives_few(command: Command) -> bool
-    ensures { result ≡ true → bytes_moved (Some command) 0 ≤ 2048 }
+    ensures can { result ≡ true → bytes_moved (Some command) 0 ≤ 2048 }
+    ensures only { bytes_moved (Some command) 0 ≤ 2048 → result ≡ true }
 {
     match command {
         Command::Read { count, .. } => count <= 4,

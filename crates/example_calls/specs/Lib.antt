@@ -1,1 +1,3 @@
 pub mod Shared
+pub mod Calls
+pub mod Pieces

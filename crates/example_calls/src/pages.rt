@@ -1,9 +1,10 @@
 //! A page list is cut into control messages by the one side, and assembled from them by the other.
-ghost use Rattle.std.specs.Prelude.{◌≡◌, ◌≤◌, IfOk, IfSome, None, Some, length};
+ghost use Rattle.std.specs.Prelude.{◌≡◌, ◌≤◌, IfOk, IfSome, IfNone, None, Some, length};
 ghost use Rattle.vmbus_msg.specs.declared.msg.Msg.{Msg as OneMsg};
 ghost use Rattle.vmbus_msg.specs.Grammar.{IsMessage};
 ghost use Rattle.gpadl.specs.Cut.{AreMessagesOf};
 ghost use Rattle.gpadl.specs.Assembly.{IsPiece, Partial, built, fault_of};
+ghost use Rattle.example_calls.specs.Pieces.{GoesOn};
 
 use gpadl::{Assembler, PageList, Progress, to_messages};
 use std::alloc::{AllocError, Global};
@@ -18,9 +19,10 @@ pub fn share(alloc: Global, pages: &[u64]) -> Result<Vec<Msg>, AllocError>
 }
 
 /// Takes bytes from the guest, and gives the list that they make whole. Bytes that are no piece of a list, or that the assembler refuses, change
-/// nothing.
+/// nothing. A piece in order makes no list whole only where frames are missing, or where a header wants memory.
 pub fn take_piece(lists: &mut Assembler, bytes: &[u8]) -> Option<PageList>
     ensures whole { IfSome result (λ list. (m : OneMsg) × (p : Partial) × (IsMessage m bytes.now × (built lists.old.building m ≡ Some p) × (length p.pages ≡ p.want) × (list.pages.items ≡ p.pages) × (list.handle ≡ p.handle) × (list.relid ≡ p.relid))) }
+    ensures part { IfNone result ((m : OneMsg) → IsMessage m bytes.now → IsPiece m → fault_of lists.old m ≡ None → GoesOn m lists.old lists.new) }
     ensures other { ((m : OneMsg) → IsMessage m bytes.now → IsPiece m → fault_of lists.old m ≡ None → ⊥) → lists.new ≡ lists.old }
 {
     let message = match decode(bytes) {

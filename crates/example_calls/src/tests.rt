@@ -2,11 +2,11 @@
 ghost use Rattle.std.specs.Prelude.{◌≡◌, true};
 
 use crate::{
-    AtomicWords, SharedSeat, answer_keepalive, pass_one, release, send_one, serve_srb, settle,
-    share, take_one, take_piece,
+    AtomicWords, SharedSeat, answer_keepalive, is_free, lend_word, pass_one, release, send_one,
+    serve_srb, settle, share, take_one, take_piece,
 };
 use gpadl::Assembler;
-use ring_core::{End, Room, Side, Signalled};
+use ring_core::{End, Room, Side, Signalled, SoloMem};
 use ring_stream::DriverEnd;
 use scsi_disk::Disk;
 use std::process::Abort;
@@ -116,10 +116,52 @@ fn a_packet_goes_through_ends_that_keep_none(rt: HostRuntime) {
     let mut host = DriverEnd::make(alloc, Side::Host, 4096, SharedSeat::over(other, 4096)).expect(
         &rt, "memory",
     );
+    check(&rt, is_free(&guest) && is_free(&host));
+    check(&rt, !pass_one(&mut guest, &mut host, &[9]));
     for i in 0..2000u64 {
         check(
             &rt,
             pass_one(&mut guest, &mut host, &[0x0000_0003_0002_0006, i, 9]),
         );
     }
+}
+
+// A packet of type 9 that lends page 1 with its first 16 bytes.
+const LENDS: [u64; 6] = [0x0001_0006_0005_0009, 1, 0x1_0000_0000, 16, 1, 9];
+
+#[test]
+fn a_word_is_lent_with_its_page(rt: HostRuntime) {
+    let alloc = rt.alloc();
+    let memory = SoloMem::make(alloc, 4096, 2).expect(&rt, "memory");
+    let mut guest = End::make(alloc, Side::Guest, 4096, memory, 2).expect(&rt, "memory");
+    let room = Room {
+        packets: 4,
+        words: 2048,
+    };
+    guest.reserve(room, room).expect(&rt, "memory");
+    check(
+        &rt,
+        lend_word(&mut guest, 1, 1, 77, &LENDS) == Some(Ok(Signalled::Quiet)),
+    );
+    let (_, sent, _) = guest.into_parts();
+    let came = match sent.lent(0) {
+        Some(words) => words == [0u64, 77].as_slice(),
+        None => false,
+    };
+    check(&rt, came);
+}
+
+#[test]
+fn a_page_that_is_lent_is_refused(rt: HostRuntime) {
+    let alloc = rt.alloc();
+    let memory = SoloMem::make(alloc, 4096, 2).expect(&rt, "memory");
+    let mut guest = End::make(alloc, Side::Guest, 4096, memory, 2).expect(&rt, "memory");
+    let room = Room {
+        packets: 4,
+        words: 2048,
+    };
+    guest.reserve(room, room).expect(&rt, "memory");
+    check(&rt, lend_word(&mut guest, 1, 1, 77, &LENDS).is_some());
+    check(&rt, lend_word(&mut guest, 1, 1, 78, &LENDS).is_none());
+    check(&rt, lend_word(&mut guest, 2, 0, 78, &LENDS).is_none());
 }

@@ -57,10 +57,11 @@ fault_of s (GpadlHeader h) = header_fault s h
 fault_of s (GpadlBody b) = body_fault s.building b
 fault_of s _ = None
 
--- the fault of the message that a refusal tells of: none where memory is wanting
-abbrev pub of_message : GpadlFault → Option GpadlFault
-of_message Memory = None
-of_message fault = Some fault
+-- The fault of a message that a refusal tells of: none where a header wants memory. A body finds its room made, so that it is never refused for want of memory: that
+-- is no fault of its own
+abbrev pub of_message : Msg → GpadlFault → Option GpadlFault
+of_message (GpadlHeader h) Memory = None
+of_message m fault = Some fault
 
 -- the list of a header
 abbrev pub begun : Header → Partial

@@ -1,5 +1,5 @@
 //! Page lists that come in pieces, and the handles of those that came.
-ghost use Rattle.std.specs.Prelude.{◌≡◌, ◌<◌, ◌==◌, ◌||◌, [], filter, not, vec_len, vec_capacity, IfOk, IfErr, None};
+ghost use Rattle.std.specs.Prelude.{◌≡◌, ◌<◌, ◌==◌, ◌||◌, [], filter, not, vec_len, vec_capacity, IfOk, IfErr, None, Some};
 ghost use Rattle.gpadl.specs.Whole.{next};
 ghost use Rattle.gpadl.specs.Assembly.{is_built, is_live, range_fault, header_fault, body_fault, fault_of, of_message, begun, Comes, Took, IsPiece, IsReady};
 
@@ -47,13 +47,13 @@ impl Assembler {
     /// A header is refused, in this order, as `Repeat` where its handle is being built or is live,
     /// as `Handle` where another list is being built, and as `Range` where its range isn't one of
     /// whole pages. A body is refused as `Handle` where its list isn't the one that is being built,
-    /// and as `Count` where it brings more frames than are missing. `Memory` comes after these. A
-    /// refusal changes nothing.
+    /// and as `Count` where it brings more frames than are missing. `Memory` comes after these, for a
+    /// header alone: a body that comes in order is taken. A refusal changes nothing.
     pub fn feed(&mut self, m: &Msg) -> Result<Progress, GpadlFault>
         requires { IsPiece m.now }
         ensures took { IfOk result (λ progress. (fault_of self.old m.now ≡ None) × Took self.old m.now progress self.new) }
         ensures next { IfOk result (λ _. self.new ≡ next self.old m.now) }
-        ensures refused { IfErr result (λ fault. (fault_of self.old m.now ≡ of_message fault) × (self.new ≡ self.old)) }
+        ensures refused { IfErr result (λ fault. (fault_of self.old m.now ≡ of_message m.now fault) × (self.new ≡ self.old)) }
     {
         match m {
             Msg::GpadlHeader(h) => self.begin(h),
@@ -97,7 +97,7 @@ impl Assembler {
     // Begins the list of a header. All room is reserved here, so that no body wants memory.
     fn begin(&mut self, h: &GpadlHeader) -> Result<Progress, GpadlFault>
         ensures took { IfOk result (λ progress. (header_fault self.old h.now ≡ None) × Comes (begun h.now) self.old.live progress self.new) }
-        ensures refused { IfErr result (λ fault. (header_fault self.old h.now ≡ of_message fault) × (self.new ≡ self.old)) }
+        ensures refused { IfErr result (λ fault. (header_fault self.old h.now ≡ of_message (Msg.GpadlHeader h.now) fault) × (self.new ≡ self.old)) }
     {
         if let Some(fault) = self.header_fault(h) {
             return Err(fault);
@@ -114,7 +114,7 @@ impl Assembler {
     // Goes on with the list that is being built.
     fn go_on(&mut self, b: &GpadlBody) -> Result<Progress, GpadlFault>
         ensures took { IfOk result (λ progress. (body_fault self.old.building b.now ≡ None) × Took self.old (Msg.GpadlBody b.now) progress self.new) }
-        ensures refused { IfErr result (λ fault. (body_fault self.old.building b.now ≡ of_message fault) × (self.new ≡ self.old)) }
+        ensures refused { IfErr result (λ fault. (body_fault self.old.building b.now ≡ Some fault) × (self.new ≡ self.old)) }
     {
         let Some(mut building) = self.building.take() else {
             return Err(GpadlFault::Handle { id: b.gpadl });

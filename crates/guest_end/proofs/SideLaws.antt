@@ -70,10 +70,11 @@ took_goes g g' m sent f begun unfinished may takes = (
 pub refuses : (g : GuestSeen) (m : Msg) (fault : ControlFault) → GuestFollows g → is_some g.part ≡ true → guest_done g ≡ false → MaySay (said_by_host g.plan) farewell (g.fed ++ m ∷ []) → Refuses (guest_hears g m) fault → RefusesOf (guest_side g) m fault
 refuses g m fault f begun unfinished (inl p) r =
     let taken = (fits g m f begun unfinished p).0 in
-    let is : fault ≡ Memory = subst (λ (x : Result GuestTurn ControlFault). Refuses x fault) taken.1 r in subst (RefusesOf (guest_side g) m) (sym is) tt
+    let is : fault ≡ Memory = subst (λ (x : Result GuestTurn ControlFault). Refuses x fault) taken.1 r in
+    subst (RefusesOf (guest_side g) m) (sym is) (λ last. not_both (guest_hears g m) taken.0 (Unasked (type_of farewell)) taken.1 (is_refused g m last))
 refuses g m fault f begun unfinished (inr e) r =
     let last : m ≡ farewell = last_same g.fed e.front m farewell e.is in
-    let is : fault ≡ Unasked (type_of farewell) = subst (λ (x : Result GuestTurn ControlFault). Refuses x fault) (is_refused g m last) r in subst (RefusesOf (guest_side g) m) (sym is) last
+    let is : fault ≡ Unasked (type_of farewell) = subst (λ (x : Result GuestTurn ControlFault). Refuses x fault) (is_refused g m last) r in subst (RefusesOf (guest_side g) m) (sym is) (last, sym (ap type_of last))
 
 -- what its `begin` and its `feed` come to
 pub begin_follows : {E : Type 0} (g g' : GuestSeen) (part : Part) (old new : Mail) (r : Result Unit E) → GuestFollows g → GuestMayBegin g part → OnOk r (GuestBegins g part new.queue g' × (new.size ≡ 64)) → OnErr r ((g' ≡ g) × (new ≡ old)) → GuestFollows g'

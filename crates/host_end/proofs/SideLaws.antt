@@ -89,14 +89,18 @@ came_of : (h h' : HostSeen) (m : Msg) (before after : Mail) (heard : Result Host
 came_of h h' m before after (Ok turn) (Ok u) f begun unfinished may is comes =
     (comes.sent, (taken h h' m comes.sent f begun unfinished may (record { turn = turn; hears = is; sends = comes.sends; now = comes.now }), comes.mail))
 came_of h h' m before after (Ok turn) (Err fault) f begun unfinished may is comes =
-    record { why = subst (Refuses (host_side h) m) (sym comes.0) tt; same = comes.1.control; mail = comes.1.mail }
+    record {
+      why = subst (Refuses (host_side h) m) (sym comes.0) (λ last. not_both (host_hears h m) turn (Unasked (type_of farewell_taken)) is (is_refused h m last));
+      same = comes.1.control;
+      mail = comes.1.mail;
+    }
 came_of h h' m before after (Err own) (Ok u) f begun unfinished may is comes = absurd comes
 came_of h h' m before after (Err own) (Err fault) f begun unfinished (inl p) is comes = absurd (not_both (host_hears h m) (fits h m f begun unfinished p).0.0 own (fits h m f begun unfinished p).0.1 is)
 came_of h h' m before after (Err own) (Err fault) f begun unfinished (inr e) is comes =
     let last : m ≡ farewell_taken = last_same h.fed e.front m farewell_taken e.is in
     let both : Err own ≡ Err (Unasked (type_of farewell_taken)) = sym is ∙ is_refused h m last in
     let its : own ≡ Unasked (type_of farewell_taken) = cc both in
-    record { why = subst (Refuses (host_side h) m) (sym (comes.0 ∙ its)) last; same = comes.1.control; mail = comes.1.mail }
+    record { why = subst (Refuses (host_side h) m) (sym (comes.0 ∙ its)) (last, sym (ap type_of last)); same = comes.1.control; mail = comes.1.mail }
 
 pub came : (h h' : HostSeen) (m : Msg) (before after : Mail) (r : Result Unit ControlFault) → HostFollows h → is_some h.part ≡ true → host_done h ≡ false → MaySay (said_by_guest h.plan) farewell_taken (h.fed ++ m ∷ [])
     → Comes (host_hears h m) h h' m before after r → Came h h' m before after r

@@ -96,6 +96,13 @@ impl HostControl {
         self.part
     }
 
+    /// The part that comes next, if one does.
+    pub fn next_part(&self) -> Option<Part>
+        ensures { result ≡ part_after self.now.plan self.now.part }
+    {
+        self.plan.part_after(self.part)
+    }
+
     /// All messages that it posted, in order.
     pub fn posted(&self) -> &[Msg]
         ensures { result.now ≡ self.now.posted }

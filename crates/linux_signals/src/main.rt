@@ -31,7 +31,7 @@ fn numbers(line: &str) -> Option<([u32; 5], usize)> {
 fn is_ring_size(d: u32) -> bool
     ensures { result ≡ true → IsRingSize d }
 {
-    d % 4096 == 0 && 4096 <= d && d <= 65536
+    d % 4096 == 0 && 4096 <= d && d <= 134217728
 }
 
 // Whether this is an index of a ring of so many bytes.

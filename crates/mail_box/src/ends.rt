@@ -37,8 +37,10 @@ impl Model for PostEnd {
 impl PostEnd {
     /// Puts a message behind the others: the next one of the named list, or the last message.
     ///
-    /// It comes back only where the queue was full at one moment of the call, and nothing is changed
-    /// then. The call may wait for the other thread.
+    /// Where it comes back nothing is changed. The call looks at the queue and gives the message back
+    /// where it holds `size` of them. What is promised of that is less: there is a state that the rule
+    /// allows, in which the queue holds `size` messages and this end has put what it put, so at least
+    /// `size` messages were put in all. The call may wait for the other thread.
     pub fn put<M: Lesson<Msg, Log>, R: Wait>(&mut self, rt: &R, m: Msg) -> Result<(), MailFull>
         requires may { MaySay self.old.named self.old.last (self.old.put ++ m ∷ []) }
         requires teaches { Teaches M.fact }
@@ -90,8 +92,9 @@ impl FetchEnd {
     /// Takes the next message. What was taken is a front of the named list, or such a front and the
     /// last message.
     ///
-    /// None comes only where the queue was empty at one moment of the call. The call may wait for the
-    /// other thread.
+    /// The call looks at the queue and gives none where it is empty; nothing is changed then. What is
+    /// promised of that is less: there is a state that the rule allows, in which the queue is empty and
+    /// this end has taken what it took. The call may wait for the other thread.
     pub fn take<M: Lesson<Msg, Log>, R: Wait>(&mut self, rt: &R) -> Option<Msg>
         requires teaches { Teaches M.fact }
         ensures { MatchOption result ((self.new ≡ self.old) × Held 0 (M.fact (fetching self.old))) (λ m. (self.new ≡ record self.old { taken = self.old.taken ++ m ∷ [] }) × MaySay self.old.named self.old.last (self.old.taken ++ m ∷ [])) }

@@ -26,7 +26,7 @@ never_cut s other fetch put rest hears front pipe taken = hears.never s.fed (res
 cut_by : (s other : Side) (fetch fetch' : Fetch) (post post' : Post) (kind : ℕ) (fault' : Option ControlFault) (rest : List Msg) → parting_of other fault' ≡ []
     → Serves s fetch post [] (Some (Unasked kind)) → Serves other fetch' post' [] fault' → Hears s other → post'.put ≡ fetch.taken ++ rest → ⊥
 cut_by s other fetch fetch' post post' kind fault' rest none h h' hears pipe =
-    never_cut s other fetch post'.put rest hears (front_put other fetch' post' fault' none h') pipe (h.taken ∙ ap (λ l. s.fed ++ l) h.refused)
+    never_cut s other fetch post'.put rest hears (front_put other fetch' post' fault' none h') pipe (h.taken ∙ ap (λ l. s.fed ++ l) h.refused.0)
 
 pub explained : (s other : Side) (fetch fetch' : Fetch) (post post' : Post) (fault fault' : Option ControlFault) (rest : List Msg)
     → Serves s fetch post [] fault → Serves other fetch' post' [] fault' → Hears s other → post'.put ≡ fetch.taken ++ rest → IsExplained fault fault'

@@ -1,5 +1,5 @@
 //! One end of a channel that keeps no packet.
-ghost use Rattle.std.specs.Prelude.{◌≡◌, ◌≢◌, ◌+◌, ◌/◌, ◌<◌, ◌≤◌, cond, true, false, not, [], length, Some, None, IfOk, IsTrue, ◌↔◌};
+ghost use Rattle.std.specs.Prelude.{◌≡◌, ◌≢◌, ◌+◌, ◌/◌, ◌<◌, ◌≤◌, cond, true, false, not, [], length, Some, None, IfOk, OnErr, IsTrue, ◌↔◌};
 ghost use Rattle.channel_trace.specs.Runs.{sent_of, got_of};
 ghost use Rattle.ring_machine.specs.Endings.{refused, send_answer, take_refusal, commit_answer, is_asleep, want_of, IsWant};
 ghost use Rattle.ring_machine.specs.Places.{IsRingSize};
@@ -16,7 +16,7 @@ use std::alloc::{AllocError, Global};
 use std::marker::Model;
 
 /// One end of a channel. It has the memory of one packet, whatever it sends and gets. Contracts see its state, in which `sent` and `got` are the packets so
-/// far and `broken` why it makes no step any more; its seat; and the words of the packet that it took last.
+/// far and `broken` why it makes no step any more; its seat; and the words of the packet that its last take gave.
 #[derive(Drop)]
 pub struct DriverEnd<S: Seatlike> {
     parts: Parts<S>,
@@ -92,7 +92,7 @@ impl<S: Seatlike> DriverEnd<S> {
         self.parts.core.machine.marked
     }
 
-    /// The words of the packet that was taken last, as they were copied.
+    /// The words of the packet that the last take gave, as they were copied. There are none where it was refused.
     pub fn taken(&self) -> &[u64]
         ensures { result.now ≡ self.now.taken }
     {
@@ -130,15 +130,18 @@ impl<S: Seatlike> DriverEnd<S> {
     }
 
     /// Takes the first packet that waits, whose words `taken` gives; or none waits; or the end breaks at an index or a packet in no form, or was broken.
-    /// At most n + 1 steps for n words. Source: Linux `drivers/hv/ring_buffer.c`, `hv_pkt_iter_first`.
+    /// Behind a refusal `taken` gives no words, neither of the packet that was refused nor of an earlier one. At most n + 1 steps for n words. Source: Linux
+    /// `drivers/hv/ring_buffer.c`, `hv_pkt_iter_first`.
     pub fn take(&mut self) -> Result<(), TakeRefusal>
         requires awake { IsAwakeEnd self.old.state }
         ensures got { (self.new.state.got ≡ got_by_answer (refused result) self.new.taken self.old.state.got) × (refused result ≡ None → IsPacket self.new.taken) }
+        ensures taken { OnErr result (self.new.taken ≡ []) }
         ensures sent { self.new.state.sent ≡ self.old.state.sent }
         ensures broken { (broken self.old.state ≡ found_by_take (refused result)) × (broken self.new.state ≡ left_by_take (refused result)) }
-        ensures ran { (broken self.old.state ≡ None → (refused result ≡ cond (is_took self.new.state.machine.ended) None (Some (take_refusal self.new.state.machine.ended self.new.state.machine))) × MakesSteps S.told S.memory (take_begun self.old.state.machine) [] self.old self.new) × ((why : WhyOne) → broken self.old.state ≡ Some why → self.new ≡ self.old) }
+        ensures ran { (broken self.old.state ≡ None → (refused result ≡ cond (is_took self.new.state.machine.ended) None (Some (take_refusal self.new.state.machine.ended self.new.state.machine))) × MakesSteps S.told S.memory (take_begun self.old.state.machine) [] self.old self.new) × ((why : WhyOne) → broken self.old.state ≡ Some why → self.new ≡ record self.old { taken = [] }) }
         ensures same { S.same self.old.seat self.new.seat × IsAwakeEnd self.new.state × (self.new.state.machine.cells ≡ self.old.state.machine.cells) }
     {
+        self.taken = 0;
         if self.parts.core.is_stopped() {
             return Err(TakeRefusal::Stopped {
                 why: self.parts.core.why(),

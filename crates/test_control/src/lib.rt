@@ -1,7 +1,11 @@
-//! Tests of the guest's control: a whole stay on the bus, and each refusal.
+//! Tests of both controls: a whole stay on the bus of each by itself, with refusals, and of both over the queues between them.
 #![tactic(auto)]
 
 #[cfg(test)]
 mod check;
 #[cfg(test)]
 mod guest_end_tests;
+#[cfg(test)]
+mod host_end_tests;
+#[cfg(test)]
+mod path_tests;

@@ -5,7 +5,7 @@ use std::process::Abort;
 use vmbus_msg::{FieldName, Msg, MsgFault, decode, decode_and_encode, encode, encode_and_decode};
 
 // A message of each type, and the shortest and the longest of a page list.
-const MESSAGES: [&[u8]; 19] = [
+pub(crate) const MESSAGES: [&[u8]; 19] = [
     &[
         1, 0, 0, 0, 169, 0, 205, 75, 0, 243, 15, 0, 0, 92, 0, 212, 0, 234, 114, 0, 104, 115, 170,
         211, 150, 173, 0, 229, 0, 0, 159, 0, 135, 0, 0, 8, 125, 123, 202, 213, 15, 196, 0, 38, 211,

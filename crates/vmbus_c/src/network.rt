@@ -1,5 +1,5 @@
 //! NVSP and Remote NDIS messages.
-ghost use Rattle.std.specs.Prelude.{◌≡◌, ◌≢◌, ◌≤◌, ◌<◌, Some, length, take};
+ghost use Rattle.std.specs.Prelude.{◌≡◌, ◌≢◌, ◌≤◌, ◌<◌, Some, length, take, drop};
 ghost use Rattle.net_dev.specs.Nvsp.{IsNvsp, nvsp_fault};
 ghost use Rattle.net_dev.specs.declared.nvsp.Nvsp.{Nvsp as NvspMessage};
 ghost use Rattle.net_dev.specs.declared.fault.NvspFault.{NvspFault as ANvspFault};
@@ -289,7 +289,8 @@ fn rndis_fields(m: &Rndis) -> VmbusRndis
 // Writes bytes at the front of a buffer.
 fn put(body: &Small, out: &mut [u8])
     requires { 1514 ≤ length out.old }
-    ensures { take (length body.now) out.new ≡ body.now }
+    ensures front { take (length body.now) out.new ≡ body.now }
+    ensures rest { drop (length body.now) out.new ≡ drop (length body.now) out.old }
 {
     let bytes = body.bytes();
     out[..bytes.len()].copy_from_slice(bytes);
@@ -298,7 +299,8 @@ fn put(body: &Small, out: &mut [u8])
 // Writes the buffer of a message, where it has one.
 fn put_body(m: &Rndis, out: &mut [u8])
     requires { 1514 ≤ length out.old }
-    ensures { take (length (body_of m.now)) out.new ≡ body_of m.now }
+    ensures front { take (length (body_of m.now)) out.new ≡ body_of m.now }
+    ensures rest { drop (length (body_of m.now)) out.new ≡ drop (length (body_of m.now)) out.old }
 {
     match m {
         Rndis::Packet { body } => put(body, out),
@@ -436,7 +438,10 @@ pub extern "C" fn vmbus_rndis_read(
     ensures only { 1514 ≤ length body.old → (m : RndisMessage) → BeginsWith m bytes.now → (result ≡ 0) × (message.new ≡ rndis_fields m) }
     ensures fault { result ≢ 0 → result ≢ 5 → (e : ARndisFault) × ((first_fault bytes.now ≡ Some e) × (result ≡ rndis_number e) × (fault.new ≡ rndis_told e)) }
     ensures kept { result ≢ 0 → (message.new ≡ message.old) × (body.new ≡ body.old) }
-    ensures room { length body.old < 1514 → result ≡ 5 }
+    ensures rest { result ≡ 0 → drop message.new.body_len body.new ≡ drop message.new.body_len body.old }
+    ensures faultless { result ≡ 0 → fault.new ≡ fault.old }
+    ensures room { length body.old < 1514 → (result ≡ 5) × (fault.new ≡ fault.old) }
+    ensures five { result ≡ 5 → length body.old < 1514 }
 {
     if body.len() < 1514 {
         return 5;

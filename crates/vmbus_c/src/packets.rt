@@ -57,6 +57,7 @@ pub extern "C" fn vmbus_packet_read(words: &[u64], packet: &mut VmbusPacket) -> 
     ensures read { result ≡ 0 → IsPacket words.now × RangesFit words.now × (packet.new ≡ fields_of (desc_of words.now)) }
     ensures every { 2 ≤ length words.now → IsPacket words.now → RangesFit words.now → result ≡ 0 }
     ensures short { length words.now < 2 → result ≡ 1 }
+    ensures one { result ≡ 1 → length words.now < 2 }
     ensures fault { 1 < result → (e : Fault) × ((fault_of words.now ≡ Some e) × (result ≡ number_of e)) }
     ensures kept { result ≢ 0 → packet.new ≡ packet.old }
 {

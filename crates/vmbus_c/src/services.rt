@@ -1,5 +1,5 @@
 //! The guest's answers of the utility services.
-ghost use Rattle.std.specs.Prelude.{◌≡◌, ◌≤◌, length, take, drop};
+ghost use Rattle.std.specs.Prelude.{◌≡◌, ◌≤◌, ◌<◌, length, take, drop};
 ghost use Rattle.contact.specs.declared.kind.Kind.TheVariants.{Beat, Down};
 ghost use Rattle.util_ic.specs.Answers.{utility_answer};
 
@@ -11,6 +11,8 @@ use util_ic::serve;
 #[unsafe(no_mangle)]
 pub extern "C" fn vmbus_heartbeat_answer(request: &[u8], reply: &mut [u8]) -> usize
     ensures answer { 28 ≤ length reply.old → length request.now ≤ length reply.old → (result ≡ length (utility_answer Beat request.now)) × (take result reply.new ≡ utility_answer Beat request.now) }
+    ensures small { length reply.old < 28 → (result ≡ 0) × (reply.new ≡ reply.old) }
+    ensures smaller { length reply.old < length request.now → (result ≡ 0) × (reply.new ≡ reply.old) }
     ensures rest { drop result reply.new ≡ drop result reply.old }
 {
     if reply.len() < 28 || reply.len() < request.len() {
@@ -23,6 +25,8 @@ pub extern "C" fn vmbus_heartbeat_answer(request: &[u8], reply: &mut [u8]) -> us
 #[unsafe(no_mangle)]
 pub extern "C" fn vmbus_shutdown_answer(request: &[u8], reply: &mut [u8]) -> usize
     ensures answer { 28 ≤ length reply.old → length request.now ≤ length reply.old → (result ≡ length (utility_answer Down request.now)) × (take result reply.new ≡ utility_answer Down request.now) }
+    ensures small { length reply.old < 28 → (result ≡ 0) × (reply.new ≡ reply.old) }
+    ensures smaller { length reply.old < length request.now → (result ≡ 0) × (reply.new ≡ reply.old) }
     ensures rest { drop result reply.new ≡ drop result reply.old }
 {
     if reply.len() < 28 || reply.len() < request.len() {

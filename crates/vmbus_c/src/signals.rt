@@ -11,11 +11,14 @@ pub extern "C" fn vmbus_raise_on_write(old_write: u32, mask: u32, read: u32) -> 
     ring_machine::raise_on_write(old_write, mask, read)
 }
 
+// The most bytes of data of a ring: 128 MB.
+const MOST_BYTES: u32 = 134217728;
+
 // Whether these are the bytes of data of a ring.
 fn is_ring_size(d: u32) -> bool
     ensures { IsTrue result ↔ IsRingSize d }
 {
-    d % 4096 == 0 && 4096 <= d && d <= 65536
+    d % 4096 == 0 && 4096 <= d && d <= MOST_BYTES
 }
 
 // Whether this is an index of such a ring.
@@ -26,7 +29,7 @@ fn is_index(d: u32, i: u32) -> bool
 }
 
 /// Whether a consumer signals as it moves the read index from `start` to `read`: 1 where now there is more room than the producer waits for, and before there
-/// was not, and otherwise 0. All numbers are bytes. 2 comes exactly where `d` isn't a multiple of 4,096 from 4,096 to 65,536, or one of the indices isn't
+/// was not, and otherwise 0. All numbers are bytes. 2 comes exactly where `d` isn't a multiple of 4,096 from 4,096 to 134,217,728, or one of the indices isn't
 /// a multiple of 8 below it. Source: Linux `drivers/hv/ring_buffer.c`, `hv_pkt_iter_close`.
 #[unsafe(no_mangle)]
 pub extern "C" fn vmbus_raise_on_commit(

@@ -1,5 +1,5 @@
 -- A machine's numbers give the machine back.
-use Rattle.std.proofs.Common.{◌≡◌, refl}
+use Rattle.std.proofs.Common.{◌≡◌, Bool, true, false, refl}
 use Rattle.std.specs.Prelude.{slice_index_or}
 use Rattle.io_edge.specs.declared.side.Side.{Side}
 use Rattle.io_edge.specs.declared.side.Side.TheVariants.{Guest, Host}
@@ -8,7 +8,7 @@ use Rattle.ring_machine.specs.declared.machine.Stage.{Stage}
 use Rattle.ring_machine.specs.declared.machine.Stage.TheVariants.{Idle, Stopped, SendRead, SendCell, SendWrite, SendMask, SendLook, SendRaise, TakeWrite, TakeFirst, TakeCell, CommitRead, CommitFeature, CommitPending, CommitWrite, CommitRaise, ArmPending, ArmMask, ArmWrite, ArmRead, ArmMark, ArmUndoMask, ArmUndoPending, PollSignal, PollMask, PollPending, MarkStore, MarkRaise, PeerMark}
 use Rattle.ring_machine.specs.declared.machine.Ending.{Ending}
 use Rattle.ring_machine.specs.declared.machine.Ending.TheVariants.{Fresh, SentQuiet, SentRaised, Full, BadPeer, Took, Empty, BadIndex, BadLength, BadOffset, CommittedQuiet, CommittedRaised, FellAsleep, FoundWork, NoSignal, Woke, Marked, PeerMarkDown, PeerMarkUp}
-use Rattle.vmbus_ring_c.specs.Numbers.{sides, stages, endings, number_of_side, number_of_stage, number_of_ending, machine_by}
+use Rattle.vmbus_ring_c.specs.Numbers.{sides, stages, endings, number_of_side, number_of_stage, number_of_ending, number_of_flag, is_set, machine_by}
 
 pub side_back : (x : Side) → slice_index_or sides (number_of_side x) Guest ≡ x
 side_back Guest = refl
@@ -66,5 +66,9 @@ ending_back Marked = refl
 ending_back PeerMarkDown = refl
 ending_back PeerMarkUp = refl
 
-pub machine_back : (m : EndMachine) → machine_by m.cells m.write m.read m.start m.old m.seen m.len m.done m.value m.want m.room m.words (number_of_side m.side) (number_of_stage m.stage) (number_of_ending m.ended) m.masked m.asleep m.marked m.peer_marked m.drained m.saw ≡ m
-machine_back m = λ i. record { cells = m.cells; write = m.write; read = m.read; start = m.start; old = m.old; seen = m.seen; len = m.len; done = m.done; value = m.value; want = m.want; room = m.room; words = m.words; side = side_back m.side i; stage = stage_back m.stage i; ended = ending_back m.ended i; masked = m.masked; asleep = m.asleep; marked = m.marked; peer_marked = m.peer_marked; drained = m.drained; saw = m.saw }
+pub flag_back : (b : Bool) → is_set (number_of_flag b) ≡ b
+flag_back true = refl
+flag_back false = refl
+
+pub machine_back : (m : EndMachine) → machine_by m.cells m.write m.read m.start m.old m.seen m.len m.done m.value m.want m.room m.words (number_of_side m.side) (number_of_stage m.stage) (number_of_ending m.ended) (is_set (number_of_flag m.masked)) (is_set (number_of_flag m.asleep)) (is_set (number_of_flag m.marked)) (is_set (number_of_flag m.peer_marked)) (is_set (number_of_flag m.drained)) (is_set (number_of_flag m.saw)) ≡ m
+machine_back m = λ i. record { cells = m.cells; write = m.write; read = m.read; start = m.start; old = m.old; seen = m.seen; len = m.len; done = m.done; value = m.value; want = m.want; room = m.room; words = m.words; side = side_back m.side i; stage = stage_back m.stage i; ended = ending_back m.ended i; masked = flag_back m.masked i; asleep = flag_back m.asleep i; marked = flag_back m.marked i; peer_marked = flag_back m.peer_marked i; drained = flag_back m.drained i; saw = flag_back m.saw i }

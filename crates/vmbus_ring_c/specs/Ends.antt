@@ -1,7 +1,8 @@
 -- What C sees of an end and of its steps.
-use Rattle.std.specs.Prelude.{ℕ}
-use Rattle.io_edge.specs.declared.side.Side.{Side}
+use Rattle.std.specs.Prelude.{◌≡◌, ◌⊎◌, ℕ, ◌*◌, ◌<◌, ◌≤◌, true, false}
 use Rattle.ring_machine.specs.declared.machine.EndMachine.{EndMachine}
+use Rattle.ring_machine.specs.declared.machine.Stage.TheVariants.{Idle}
+use Rattle.ring_machine.specs.Steps.{IsSound}
 use Rattle.ring_machine.specs.declared.place.Ring.{Ring}
 use Rattle.ring_machine.specs.declared.place.Ring.TheVariants.{ToHost, ToGuest}
 use Rattle.ring_machine.specs.declared.place.Place.{Place}
@@ -10,10 +11,35 @@ use Rattle.ring_machine.specs.declared.place.Op.{Op}
 use Rattle.ring_machine.specs.declared.place.Op.TheVariants.{Load, Store, Raise, TakeSignal, StoreMark}
 use Rattle.vmbus_ring_c.specs.declared.end.VmbusEnd.{VmbusEnd}
 use Rattle.vmbus_ring_c.specs.declared.step.VmbusStep.{VmbusStep}
-use Rattle.vmbus_ring_c.specs.Numbers.{machine_by, number_of_side}
+use Rattle.vmbus_ring_c.specs.Numbers.{machine_by, number_of_side, is_set}
 
 abbrev pub machine_of : VmbusEnd → EndMachine
-machine_of e = machine_by e.cells e.write e.read e.start e.before e.seen e.len e.done e.value e.want e.room e.words e.side e.stage e.ended e.masked e.asleep e.marked e.peer_marked e.drained e.saw
+machine_of e = machine_by e.cells e.write e.read e.start e.before e.seen e.len e.done e.value e.want e.room e.words e.side e.stage e.ended (is_set e.masked) (is_set e.asleep) (is_set e.marked) (is_set e.peer_marked) (is_set e.drained) (is_set e.saw)
+
+-- the numbers are those of an end: there is such a step, and the steps of an end can make such a machine
+abbrev pub IsEnd : VmbusEnd → Type 0
+IsEnd e = (e.stage < 29) × IsSound (machine_of e)
+
+-- An end that can begin a call other than a poll: it isn't stopped, asleep, marked or inside a call
+pub record CanBegin (e : VmbusEnd) : Type 0 where
+  pub is_end : IsEnd e
+  pub idle : (machine_of e).stage ≡ Idle
+  pub awake : (machine_of e).asleep ≡ false
+  pub unmarked : (machine_of e).marked ≡ false
+
+-- an end that can begin a poll
+pub record CanPoll (e : VmbusEnd) : Type 0 where
+  pub is_end : IsEnd e
+  pub idle : (machine_of e).stage ≡ Idle
+  pub asleep : (machine_of e).asleep ≡ true
+
+-- the room that an arm may wait for: none, or 24 bytes or more, and less than a ring has
+abbrev pub MayWant : VmbusEnd → ℕ → Type 0
+MayWant e want = (want ≡ 0) ⊎ ((24 ≤ want) × (want < 8 * e.cells))
+
+-- the numbers are those of an end with this machine
+abbrev pub IsEndOf : EndMachine → VmbusEnd → Type 0
+IsEndOf m e = IsEnd e × (machine_of e ≡ m)
 
 abbrev pub number_of_ring : Ring → ℕ
 number_of_ring ToHost = 0

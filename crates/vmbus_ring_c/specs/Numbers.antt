@@ -1,5 +1,6 @@
 -- The machine of an end by the numbers that C keeps of it.
-use Rattle.std.specs.Prelude.{ℕ, Bool, List, [], ◌∷◌, slice_index_or}
+use Rattle.std.specs.Prelude.{ℕ, Bool, ◌==◌, not, cond, List, [], ◌∷◌, slice_index_or}
+pub use Rattle.ring_plan.specs.Answers.{number_of_ending}
 use Rattle.io_edge.specs.declared.side.Side.{Side}
 use Rattle.io_edge.specs.declared.side.Side.TheVariants.{Guest, Host}
 use Rattle.ring_machine.specs.declared.machine.EndMachine.{EndMachine}
@@ -53,26 +54,12 @@ number_of_stage MarkStore = 26
 number_of_stage MarkRaise = 27
 number_of_stage PeerMark = 28
 
-abbrev pub number_of_ending : Ending → ℕ
-number_of_ending Fresh = 0
-number_of_ending SentQuiet = 1
-number_of_ending SentRaised = 2
-number_of_ending Full = 3
-number_of_ending BadPeer = 4
-number_of_ending Took = 5
-number_of_ending Empty = 6
-number_of_ending BadIndex = 7
-number_of_ending BadLength = 8
-number_of_ending BadOffset = 9
-number_of_ending CommittedQuiet = 10
-number_of_ending CommittedRaised = 11
-number_of_ending FellAsleep = 12
-number_of_ending FoundWork = 13
-number_of_ending NoSignal = 14
-number_of_ending Woke = 15
-number_of_ending Marked = 16
-number_of_ending PeerMarkDown = 17
-number_of_ending PeerMarkUp = 18
+-- a flag counts as set where its number isn't 0
+abbrev pub is_set : ℕ → Bool
+is_set n = not (n == 0)
+
+abbrev pub number_of_flag : Bool → ℕ
+number_of_flag b = cond b 1 0
 
 -- the machine with these numbers
 abbrev pub machine_by : ℕ → ℕ → ℕ → ℕ → ℕ → ℕ → ℕ → ℕ → ℕ → ℕ → ℕ → ℕ → ℕ → ℕ → ℕ → Bool → Bool → Bool → Bool → Bool → Bool → EndMachine

@@ -1,9 +1,6 @@
 //! An end as plain numbers.
-ghost use Rattle.std.specs.Prelude.{◌<◌};
-ghost use Rattle.ring_machine.specs.Steps.{IsSound};
-ghost use Rattle.vmbus_ring_c.specs.Numbers.{machine_by};
 
-/// One end of a channel. C reads it, keeps it and copies it, and changes it by the calls of this library alone.
+/// One end of a channel. C reads it, keeps it and copies it, and changes it by the calls of this library alone: each of them tests the numbers.
 #[repr(C)]
 #[derive(Clone, Copy)]
 pub struct VmbusEnd {
@@ -35,17 +32,14 @@ pub struct VmbusEnd {
     pub stage: u32,
     /// How the last call ended.
     pub ended: u32,
-    pub masked: bool,
+    /// Each of the six flags counts as set where it isn't 0.
+    pub masked: u32,
     /// It fell asleep, and hasn't taken its signal since.
-    pub asleep: bool,
+    pub asleep: u32,
     /// It said that it sends nothing more.
-    pub marked: bool,
-    pub peer_marked: bool,
-    pub drained: bool,
+    pub marked: u32,
+    pub peer_marked: u32,
+    pub drained: u32,
     /// The last arm saw the peer's mark.
-    pub saw: bool,
-    /// There is such a step.
-    pub ghost known: { stage < 29 },
-    /// These are the numbers of an end that this library made.
-    pub ghost sound: { IsSound (machine_by cells write read start before seen len done value want room words side stage ended masked asleep marked peer_marked drained saw) },
+    pub saw: u32,
 }

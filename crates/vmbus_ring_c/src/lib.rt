@@ -5,4 +5,5 @@ mod calls;
 mod end;
 mod machine;
 mod numbers;
+mod sound;
 mod step;

@@ -3,7 +3,7 @@ ghost use Rattle.std.specs.Prelude.{◌≡◌, ◌<◌, slice_index_or};
 ghost use Rattle.io_edge.specs.declared.side.Side.TheVariants.{Guest};
 ghost use Rattle.ring_machine.specs.declared.machine.Stage.TheVariants.{Idle};
 ghost use Rattle.ring_machine.specs.declared.machine.Ending.TheVariants.{Fresh};
-ghost use Rattle.vmbus_ring_c.specs.Numbers.{sides, stages, endings, number_of_side, number_of_stage, number_of_ending};
+ghost use Rattle.vmbus_ring_c.specs.Numbers.{sides, stages, endings, number_of_side, number_of_stage, number_of_ending, is_set, number_of_flag};
 
 use ring_machine::{Ending, Side, Stage};
 
@@ -162,4 +162,17 @@ pub(crate) fn ending_number(ending: Ending) -> u32
         Ending::PeerMarkDown => 17,
         Ending::PeerMarkUp => 18,
     }
+}
+
+// The flag with a number.
+pub(crate) fn flag(number: u32) -> bool
+    ensures { result ≡ is_set number }
+{
+    number != 0
+}
+
+pub(crate) fn flag_number(flag: bool) -> u32
+    ensures { result ≡ number_of_flag flag }
+{
+    u32::from(flag)
 }

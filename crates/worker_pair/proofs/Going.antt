@@ -1,5 +1,6 @@
 -- A worker that served, over several turns.
-use Rattle.std.proofs.Common.{◌≡◌, ◌∙◌, length, map, take, subst}
+use Rattle.std.proofs.Common.{◌≡◌, ◌∙◌, length, map, take, subst, Some}
+use Rattle.ring_seat.specs.Seats.{told_in}
 use Rattle.ring_seat.specs.declared.table_seat.TableSeat.{TableSeat}
 use Rattle.script_lines.specs.declared.line.Ask.{Ask}
 use Rattle.bus_script.specs.declared.outcome.Reply.{Reply}
@@ -15,12 +16,12 @@ use Rattle.worker_pair.specs.Seats.{served_at, device_place}
 use Rattle.worker_pair.specs.declared.device_seat.DeviceSeat.{DeviceSeat}
 
 -- what it leaves is what was asked of it at its beginning
-pub served_on : (u v : Serving ChannelScript DeviceSeat TableSeat Ask Reply) (d : WorkerDone) → ServesOn (λ s t. device_place t ≡ device_place s) (λ (s : TableSeat). s.seat.table_id) u v → LeavesServed v d → LeavesServed u d
+pub served_on : (u v : Serving ChannelScript DeviceSeat TableSeat Ask Reply) (d : WorkerDone) → ServesOn (λ s t. device_place t ≡ device_place s) (λ (s : TableSeat). s.seat.table_id) (λ (s : TableSeat). Some (told_in s.seat.me.0)) u v → LeavesServed v d → LeavesServed u d
 served_on u v d on leaves =
     record {
       back = leaves.back;
       seat = leaves.seat;
-      serves = ends_on (λ s t. device_place t ≡ device_place s) (λ (s : TableSeat). s.seat.table_id) (λ (t : ChannelScript). item_format t.kind) (λ (t : ChannelScript). besides_on t.kind) d.ended u v (line_of (λ i. i) d.end) (calls_behind u.responder.before (served_at leaves.back)) on (subst (λ l. EndsBy (item_format v.responder.protocol.kind) (besides_on v.responder.protocol.kind) d.ended v (line_of (λ i. i) d.end) (calls_behind l (served_at leaves.back))) on.before leaves.serves);
+      serves = ends_on (λ s t. device_place t ≡ device_place s) (λ (s : TableSeat). s.seat.table_id) (λ (s : TableSeat). Some (told_in s.seat.me.0)) (λ (t : ChannelScript). item_format t.kind) (λ (t : ChannelScript). besides_on t.kind) d.ended u v (line_of (λ i. i) d.end) (calls_behind u.responder.before (served_at leaves.back)) on (subst (λ l. EndsBy (item_format v.responder.protocol.kind) (besides_on v.responder.protocol.kind) d.ended v (line_of (λ i. i) d.end) (calls_behind l (served_at leaves.back))) on.before leaves.serves);
       before = subst (λ l. take (length l) (served_at leaves.back) ≡ l) on.before leaves.before;
       serials = subst (λ l. d.serials.items ≡ map (λ c. c.serial) (calls_behind l (served_at leaves.back))) on.before leaves.serials;
       end = record { seat = leaves.end.seat ∙ on.end.seat; side = leaves.end.side ∙ on.end.side };
@@ -28,6 +29,6 @@ served_on u v d on leaves =
       stands = leaves.stands;
       honest = leaves.honest;
       sent = subst (λ (t : ChannelScript). ServedWithin (item_format t.kind) (besides_on t.kind) (items_in d.end)) on.protocol leaves.sent;
-      room = lacks_on (λ s t. device_place t ≡ device_place s) (λ (s : TableSeat). s.seat.table_id) (λ (t : ChannelScript). item_format t.kind) (λ (t : ChannelScript). besides_on t.kind) d.ended u v (items_in d.end) on leaves.room;
+      room = lacks_on (λ s t. device_place t ≡ device_place s) (λ (s : TableSeat). s.seat.table_id) (λ (s : TableSeat). Some (told_in s.seat.me.0)) (λ (t : ChannelScript). item_format t.kind) (λ (t : ChannelScript). besides_on t.kind) d.ended u v (items_in d.end) on leaves.room;
       replies = leaves.replies;
     }

@@ -66,7 +66,7 @@ Caused turn (Serves v) (Serves w) = ServeCause (λ (s : TableSeat). Some (told_i
 
 -- the same worker later
 abbrev pub GoesOn : Worker → Worker → Type 0
-GoesOn (Asks v) (Asks w) = AsksOn (λ (s : TableSeat). s.seat.table_id) v w
+GoesOn (Asks v) (Asks w) = AsksOn (λ (s : TableSeat). s.seat.table_id) (λ (s : TableSeat). Some (told_in s.seat.me.0)) v w
 GoesOn (Asks v) (Serves w) = ⊥
 GoesOn (Serves v) (Asks w) = ⊥
-GoesOn (Serves v) (Serves w) = ServesOn (λ s t. device_place t ≡ device_place s) (λ (s : TableSeat). s.seat.table_id) v w
+GoesOn (Serves v) (Serves w) = ServesOn (λ s t. device_place t ≡ device_place s) (λ (s : TableSeat). s.seat.table_id) (λ (s : TableSeat). Some (told_in s.seat.me.0)) v w

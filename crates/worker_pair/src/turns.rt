@@ -1,6 +1,7 @@
 //! Both workers of a channel on one thread.
 ghost use Rattle.std.specs.Prelude.{◌≡◌, false, Some};
 ghost use Rattle.worker_requester.specs.Asking.{AsksOn};
+ghost use Rattle.ring_seat.specs.Seats.{told_in};
 ghost use Rattle.ring_seat.specs.declared.table_seat.TableSeat.{TableSeat};
 ghost use Rattle.worker_server.specs.Serving.{ServesOn};
 ghost use Rattle.worker_pair.specs.Leaving.{Leaves, LeavesAsked, LeavesServed, StandsAsking, StandsServing, of_guest, of_host};
@@ -24,7 +25,7 @@ fn ask<R: Wait, G: Gate>(
 ) -> Option<Ended>
     requires { StandsAsking ended asker.old }
     ensures stands { StandsAsking result asker.new }
-    ensures on { AsksOn (λ (s : TableSeat). s.seat.table_id) asker.old asker.new }
+    ensures on { AsksOn (λ (s : TableSeat). s.seat.table_id) (λ (s : TableSeat). Some (told_in s.seat.me.0)) asker.old asker.new }
 {
     if ended.is_some() {
         return ended;
@@ -45,7 +46,7 @@ fn serve<R: Wait, G: Gate>(
 ) -> Option<Ended>
     requires { StandsServing ended server.old }
     ensures stands { StandsServing result server.new }
-    ensures on { ServesOn (λ s t. device_place t ≡ device_place s) (λ (s : TableSeat). s.seat.table_id) server.old server.new }
+    ensures on { ServesOn (λ s t. device_place t ≡ device_place s) (λ (s : TableSeat). s.seat.table_id) (λ (s : TableSeat). Some (told_in s.seat.me.0)) server.old server.new }
 {
     if ended.is_some() {
         return ended;

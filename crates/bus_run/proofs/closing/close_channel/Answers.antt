@@ -1,5 +1,7 @@
 use Rattle.std.proofs.Common.{◌≡◌, ◌∙◌, ap, sym, subst, get_or, Some}
 use Rattle.bus_threads.specs.Pairs.{RanPair}
+use Rattle.ring_pair_laws.specs.Lists.{Lists}
+use Rattle.bus_run.specs.Closing.{ChannelEnded}
 use Rattle.bus_run.proofs.Closed.{same_kind}
 use Rattle.bus_run.proofs.closing.close_channel.Goals as goal
 
@@ -20,9 +22,9 @@ pub returns-clause-closed : goal.returns-clause-closed
 returns-clause-closed c order first done rest many are ran =
     let same : done ≡ c.in-Some.done = ap (λ l. get_or l 0 done) (sym are ∙ c.in-Some.ensures.items) in
     record {
-      lists = c.end_channel-lists.result.0;
+      lists = c.trim.new.self;
       back = c.end_channel-lists.result.1;
-      ended = c.end_channel-lists.ensures order first many (subst (RanPair order first) same ran);
+      ended = subst (λ (l : Lists). ChannelEnded order first l c.end_channel-lists.result.1 c.end_channel-lists.result.2) (sym c.trim.ensures) (c.end_channel-lists.ensures order first many (subst (RanPair order first) same ran));
       seats = c.in_ok-give_back.ensures.seats;
       kind = c.in_ok-give_back.ensures.kind;
       settled_are = c.in_ok-push.ensures.items;

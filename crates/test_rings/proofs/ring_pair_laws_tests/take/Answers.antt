@@ -22,10 +22,10 @@ says words old new (Err e) takes lends = (Err e, refl, record { takes = bare tak
 
 pub returns-in-Ok : goal.returns-in-Ok
 returns-in-Ok c =
-    let s = says _ c.args.e.now c.take.follows.lender-at-none c.take.result c.take.follows.holds-at-none.0 c.take.follows.holds-at-none.1 in
+    let s = says _ c.args.e.now c.take.follows.lender-at-none c.take.result c.take.follows.holds-at-none.0 c.take.follows.holds-at-none.2 in
     (s.0, s.1 ∙ ap refused c.in-Ok.is, s.2)
 
 pub returns-in-Err : goal.returns-in-Err
 returns-in-Err c =
-    let s = says _ c.args.e.now c.take.follows.lender-at-none c.take.result c.take.follows.holds-at-none.0 c.take.follows.holds-at-none.1 in
+    let s = says _ c.args.e.now c.take.follows.lender-at-none c.take.result c.take.follows.holds-at-none.0 c.take.follows.holds-at-none.2 in
     (s.0, s.1 ∙ ap refused c.in-Err.is, s.2)

@@ -1,4 +1,5 @@
-use Rattle.std.proofs.Common.{◌≡◌, ◌∙◌}
+use Rattle.std.proofs.Common.{◌≡◌, ◌∙◌, Some}
+use Rattle.ring_seat.specs.Seats.{told_in}
 use Rattle.ring_seat.specs.declared.table_seat.TableSeat.{TableSeat}
 use Rattle.worker_server.proofs.ServeSteps.{on_trans}
 use Rattle.worker_pair.specs.Seats.{device_place}
@@ -8,4 +9,4 @@ use Rattle.worker_pair.proofs.turns.by_turns.Goals as goal
 pub returns-in-Some-Some-clause-served : goal.returns-in-Some-Some-clause-served
 returns-in-Some-Some-clause-served g c =
     served_on c.args.server c.serve-served.new.server c.server_done.result
-    (on_trans (λ s t. device_place t ≡ device_place s) (λ (s : TableSeat). s.seat.table_id) (λ a b d p q. q ∙ p) _ _ _ c.loop.invariant.server c.serve-served.ensures.on) c.server_done.ensures
+    (on_trans (λ s t. device_place t ≡ device_place s) (λ (s : TableSeat). s.seat.table_id) (λ (s : TableSeat). Some (told_in s.seat.me.0)) (λ a b d p q. q ∙ p) _ _ _ c.loop.invariant.server c.serve-served.ensures.on) c.server_done.ensures

@@ -1,0 +1,543 @@
+/* An end by plans of this library beside the ring code of Linux: in turns, on two threads that sleep, and on the clock. Every packet is compared. */
+#define _GNU_SOURCE
+#include <inttypes.h>
+#include <pthread.h>
+#include <linux/futex.h>
+#include <stdio.h>
+#include <sys/mman.h>
+#include <sys/syscall.h>
+#include <time.h>
+#include <unistd.h>
+#include "shim.h"
+
+/* In turns the other end may act before any single access of ours: each access is one of these. Not so on the clock. */
+static void gap(void);
+#ifndef ON_THE_CLOCK
+#define __atomic_load_n(p, o) (gap(), __atomic_load_n(p, o))
+#define __atomic_store_n(p, v, o) (gap(), __atomic_store_n(p, v, o))
+#define memcpy(a, b, n) (gap(), memcpy(a, b, n))
+#endif
+#include "vmbus.h"
+#undef __atomic_load_n
+#undef __atomic_store_n
+#undef memcpy
+
+#define MOST_WORDS 512 /* of a packet */
+
+static uint32_t ring_bytes;
+
+static void fail(const char *what, uint64_t number)
+{
+    printf("%s (%" PRIu64 "), rings of %" PRIu32 " bytes\n", what, number, ring_bytes);
+    exit(1);
+}
+
+/* ---- Packets, each by its number among those of its way. ---- */
+static uint64_t mixed(uint64_t x)
+{
+    x += 0x9e3779b97f4a7c15;
+    x = (x ^ x >> 30) * 0xbf58476d1ce4e5b9;
+    x = (x ^ x >> 27) * 0x94d049bb133111eb;
+    return x ^ x >> 31;
+}
+
+static uint32_t words_of(uint64_t way, uint64_t k)
+{
+    uint64_t r = mixed(way << 60 | k), most = ring_bytes / 8 - 2 < MOST_WORDS ? ring_bytes / 8 - 2 : MOST_WORDS;
+    return 2 + (uint32_t)(r >> 8) % (r & 7 ? 30 : most - 1);
+}
+
+static uint32_t make_packet(uint64_t way, uint64_t k, uint64_t *p)
+{
+    uint32_t len = words_of(way, k);
+    p[0] = 6 | 2 << 16 | (uint64_t)len << 32;
+    p[1] = k;
+    for (uint32_t i = 2; i < len; i++)
+        p[i] = mixed(way << 60 ^ k << 20 ^ i);
+    return len;
+}
+
+static void compare(uint64_t way, uint64_t k, const uint64_t *p, uint32_t len)
+{
+    uint64_t wanted[MOST_WORDS];
+    if (len != make_packet(way, k, wanted) || memcmp(p, wanted, 8 * len) != 0)
+        fail("a packet isn't the one that was sent", k);
+}
+
+/* ---- The channel: way 0 is ours to Linux, way 1 Linux's to us. Linux maps the data of a ring twice. ---- */
+struct shared {
+    struct vmbus_ring ring;
+    char *begin;
+};
+static struct shared shared[2];
+static uint64_t signals[2]; /* 0 ours, 1 Linux's */
+
+static void map_ring(struct shared *s)
+{
+    int fd = memfd_create("ring", 0);
+    size_t all = PAGE_SIZE + ring_bytes;
+    if (fd < 0 || ftruncate(fd, all) != 0)
+        fail("no memory", 0);
+    char *at = mmap(NULL, all + ring_bytes, PROT_NONE, MAP_PRIVATE | MAP_ANONYMOUS, -1, 0);
+    if (at == MAP_FAILED || mmap(at, all, PROT_READ | PROT_WRITE, MAP_SHARED | MAP_FIXED, fd, 0) == MAP_FAILED
+        || mmap(at + all, ring_bytes, PROT_READ | PROT_WRITE, MAP_SHARED | MAP_FIXED, fd, PAGE_SIZE) == MAP_FAILED)
+        fail("no memory", 0);
+    close(fd);
+    s->begin = at;
+    s->ring.head = (struct vmbus_ring_words *)at;
+    s->ring.cells = at + PAGE_SIZE;
+    s->ring.head->mask = s->ring.head->feature = 1;
+}
+
+static struct vmbus_plan_end ours;
+static struct vmbus_channel theirs;
+
+static void open_channel(uint32_t bytes)
+{
+    ring_bytes = bytes;
+    for (int i = 0; i < 2; i++) {
+        if (shared[i].begin)
+            munmap(shared[i].begin, PAGE_SIZE + 2 * (size_t)shared[i].ring.head->reserved[11]);
+        map_ring(&shared[i]);
+        shared[i].ring.head->reserved[11] = bytes;
+        signals[i] = 0;
+    }
+    if (!vmbus_plan_make(&ours, bytes))
+        fail("no size of a ring", bytes);
+    free(theirs.inbound.pkt_buffer);
+    memset(&theirs, 0, sizeof theirs);
+    struct hv_ring_buffer_info *rings[2] = {&theirs.inbound, &theirs.outbound};
+    for (int i = 0; i < 2; i++) {
+        rings[i]->ring_buffer = (struct hv_ring_buffer *)shared[i].begin;
+        rings[i]->ring_size = PAGE_SIZE + bytes;
+        rings[i]->ring_datasize = bytes;
+    }
+    theirs.inbound.pkt_buffer = calloc(1, bytes);
+    theirs.inbound.pkt_buffer_size = bytes;
+    theirs.raised = &signals[0];
+}
+
+static void raise_signal(uint64_t *signal)
+{
+    __atomic_store_n(signal, 1, __ATOMIC_SEQ_CST);
+    syscall(SYS_futex, signal, FUTEX_WAKE_PRIVATE, 1, NULL, NULL, 0);
+}
+
+void vmbus_setevent(struct vmbus_channel *channel)
+{
+    raise_signal(channel->raised);
+}
+
+static void raise_them(void)
+{
+    raise_signal(&signals[1]);
+}
+
+/* ---- Whole calls of both ends, with the numbers of the packets that come next. ---- */
+static uint64_t sent[2], taken[2];
+
+static bool our_send(void)
+{
+    uint64_t p[MOST_WORDS];
+    make_packet(0, sent[0], p);
+    uint32_t a = vmbus_ring_send(&ours, shared[0].ring, p);
+    if (a == VMBUS_FULL)
+        return false;
+    if (a != VMBUS_SENT_QUIET && a != VMBUS_SENT_RAISED)
+        fail("our send", a);
+    sent[0]++;
+    if (a == VMBUS_SENT_RAISED)
+        raise_them();
+    return true;
+}
+
+/* Takes up to so many packets, and gives their room back. */
+static uint32_t our_take(uint32_t most)
+{
+    static uint64_t p[1 << 17];
+    uint32_t len = 0, offset = 0, a, n = 0;
+    while (n < most && (a = vmbus_ring_take(&ours, shared[1].ring, p, &len, &offset)) != VMBUS_EMPTY) {
+        if (a != VMBUS_TOOK || offset != 2)
+            fail("our take", a);
+        compare(1, taken[1]++, p, len);
+        n++;
+    }
+    if (n == 0)
+        return 0;
+    a = vmbus_ring_commit(&ours, shared[1].ring);
+    if (a == VMBUS_COMMITTED_RAISED)
+        raise_them();
+    else if (a != VMBUS_COMMITTED_QUIET)
+        fail("our commit", a);
+    return n;
+}
+
+static bool their_send(void)
+{
+    uint64_t p[MOST_WORDS];
+    uint32_t len = make_packet(1, sent[1], p);
+    struct kvec part = {p, 8 * len};
+    int a = hv_ringbuffer_write(&theirs, &part, 1, p[1], NULL);
+    if (a == -EAGAIN)
+        return false;
+    if (a != 0)
+        fail("Linux's send", (uint64_t)-a);
+    sent[1]++;
+    return true;
+}
+
+static uint32_t their_take(uint32_t most)
+{
+    uint32_t n = 0;
+    struct vmpacket_descriptor *d = hv_pkt_iter_first(&theirs);
+    while (d) {
+        compare(0, taken[0]++, theirs.inbound.pkt_buffer, d->len8); /* where it copied the packet */
+        n++;
+        d = __hv_pkt_iter_next(&theirs, d);
+        if (n >= most)
+            break;
+    }
+    if (n)
+        hv_pkt_iter_close(&theirs);
+    return n;
+}
+
+/* ---- In turns. ---- */
+static bool in_turns, inside;
+static uint64_t random_state = 1;
+
+static uint32_t some(uint32_t n)
+{
+    random_state = mixed(random_state);
+    return (uint32_t)(random_state >> 16) % n;
+}
+
+static void gap(void)
+{
+    if (!in_turns || inside || some(3))
+        return;
+    inside = true;
+    if (some(2))
+        their_send();
+    else
+        their_take(1 + some(4));
+    inside = false;
+}
+
+static void turns(uint32_t pages, uint64_t packets)
+{
+    open_channel(pages * PAGE_SIZE);
+    memset(sent, 0, sizeof sent);
+    memset(taken, 0, sizeof taken);
+    in_turns = true;
+    while (taken[0] < packets || taken[1] < packets) {
+        if (some(2))
+            our_send();
+        else
+            our_take(1 + some(4));
+        if (some(8) == 0)
+            gap();
+    }
+    in_turns = false;
+    printf("in turns, %3" PRIu32 " pages: %" PRIu64 " packets to Linux and %" PRIu64 " from it, none of them wrong\n", pages, taken[0], taken[1]);
+}
+
+/* ---- Two threads that sleep. An end that sleeps where there is work for it, though its signal is down and its peer has ended calls since, or sleeps too, lost a wake-up. ---- */
+static uint64_t calls[2], asleep[2], sleeps[2];
+static bool over;
+
+static uint64_t load(const uint64_t *p)
+{
+    return __atomic_load_n(p, __ATOMIC_SEQ_CST);
+}
+
+static void ended(int who)
+{
+    __atomic_store_n(&calls[who], calls[who] + 1, __ATOMIC_SEQ_CST);
+}
+
+static bool is_over(void)
+{
+    return __atomic_load_n(&over, __ATOMIC_SEQ_CST);
+}
+
+/* Whether there is a packet for this end, or more room than it wants. */
+static bool has_work(int who, uint32_t want)
+{
+    struct vmbus_ring_words *in = shared[who == 0].ring.head, *out = shared[who].ring.head;
+    uint32_t r = __atomic_load_n(&out->read, __ATOMIC_SEQ_CST), w = __atomic_load_n(&out->write, __ATOMIC_SEQ_CST);
+    uint32_t room = w >= r ? ring_bytes - (w - r) : r - w;
+    return __atomic_load_n(&in->write, __ATOMIC_SEQ_CST) != __atomic_load_n(&in->read, __ATOMIC_SEQ_CST) || (want && room > want);
+}
+
+static void sleep_until_raised(int who, uint32_t want)
+{
+    sleeps[who]++;
+    __atomic_store_n(&asleep[who], 1, __ATOMIC_SEQ_CST);
+    for (int i = 0; i < 200000 && !load(&signals[who]); i++) {
+    }
+    uint64_t since = 0;
+    bool seen = false;
+    while (!load(&signals[who]) && !is_over()) {
+        struct timespec pause = {0, 20000000};
+        syscall(SYS_futex, &signals[who], FUTEX_WAIT_PRIVATE, 0, &pause, NULL, 0); /* its low half */
+        if (!has_work(who, want))
+            seen = false;
+        else if (!seen) {
+            seen = true;
+            since = load(&calls[!who]);
+        } else if (load(&calls[!who]) > since + 2 || load(&asleep[!who])) {
+            /* the peer ended the call that made the work, and the signal came or it didn't */
+            if (!load(&signals[who]) && has_work(who, want) && !is_over())
+                fail(who == 0 ? "a lost wake-up: our end sleeps beside work" : "a lost wake-up: Linux's end sleeps beside work", sleeps[who]);
+        }
+    }
+    __atomic_store_n(&asleep[who], 0, __ATOMIC_SEQ_CST);
+}
+
+static void our_rest(uint32_t want)
+{
+    uint32_t a = vmbus_ring_arm(&ours, shared[0].ring, shared[1].ring, want, NULL);
+    ended(0);
+    while (a == VMBUS_FELL_ASLEEP || a == VMBUS_NO_SIGNAL) {
+        sleep_until_raised(0, want);
+        if (is_over())
+            return;
+        a = vmbus_ring_poll(&ours, shared[0].ring, shared[1].ring, &signals[0]);
+    }
+    if (a == VMBUS_NO_CALL)
+        fail("our arm", a);
+}
+
+static void *our_thread(void *unused)
+{
+    while (!is_over()) {
+        uint32_t got = our_take(8);
+        ended(0);
+        bool more = our_send();
+        ended(0);
+        if (got == 0 && !more)
+            our_rest(8 * words_of(0, sent[0]) + 8);
+        else if (got == 0 && (mixed(sent[0]) & 3) == 0)
+            our_rest(0);
+    }
+    return unused;
+}
+
+/* As Linux's channels: the mask is 0 while an end waits, and is 1 while it reads; a sender that waits for room sets pending. */
+static void their_rest(uint32_t want)
+{
+    if (want) {
+        theirs.outbound.ring_buffer->pending_send_sz = want;
+        virt_mb();
+    }
+    bool stay = hv_end_read(&theirs.inbound) == 0 && (!want || hv_get_bytes_to_write(&theirs.outbound) <= want);
+    ended(1);
+    if (stay)
+        sleep_until_raised(1, want);
+    __atomic_exchange_n(&signals[1], 0, __ATOMIC_SEQ_CST);
+    hv_begin_read(&theirs.inbound);
+    if (want)
+        theirs.outbound.ring_buffer->pending_send_sz = 0;
+}
+
+static void *their_thread(void *unused)
+{
+    while (!is_over()) {
+        uint32_t got = their_take(8);
+        ended(1);
+        bool more = their_send();
+        ended(1);
+        if (got == 0 && !more)
+            their_rest(8 * words_of(1, sent[1]) + 8);
+        else if (got == 0 && (mixed(sent[1]) & 3) == 0)
+            their_rest(0);
+    }
+    return unused;
+}
+
+static void threads(uint32_t pages, unsigned seconds)
+{
+    pthread_t a, b;
+    open_channel(pages * PAGE_SIZE);
+    memset(sent, 0, sizeof sent);
+    memset(taken, 0, sizeof taken);
+    memset(calls, 0, sizeof calls);
+    memset(asleep, 0, sizeof asleep);
+    memset(sleeps, 0, sizeof sleeps);
+    over = false;
+    pthread_create(&a, NULL, our_thread, NULL);
+    pthread_create(&b, NULL, their_thread, NULL);
+    sleep(seconds);
+    __atomic_store_n(&over, true, __ATOMIC_SEQ_CST);
+    pthread_join(a, NULL);
+    pthread_join(b, NULL);
+    printf("on two threads, %3" PRIu32 " pages, %u s: %" PRIu64 " packets to Linux and %" PRIu64 " from it, none of them wrong; we slept %" PRIu64 " times and Linux %" PRIu64 ", never beside work\n", pages, seconds, taken[0],
+           taken[1], sleeps[0], sleeps[1]);
+}
+
+/* ---- Ends of any numbers: each plan lies inside the ring, and where there is no call nothing changes. ---- */
+static uint32_t any_number(uint32_t cells)
+{
+    switch (some(16)) {
+    case 0: return (uint32_t)mixed(random_state);
+    case 1: return some(12);
+    case 2: return cells - some(4);
+    default: return some(cells ? cells : 1);
+    }
+}
+
+static void inside_ring(uint32_t cells, uint32_t at, uint32_t first, uint32_t second, uint32_t words)
+{
+    if (at % 8 || (uint64_t)at / 8 + first > cells || second > at / 8 || first + second != words)
+        fail("a plan outside its ring", at);
+}
+
+static void any_ends(uint64_t count)
+{
+    uint64_t accepted = 0;
+    for (uint64_t i = 0; i < count; i++) {
+        uint32_t n = some(2) ? 512 * (1 + some(8)) : any_number(16777216);
+        /* mostly a call that fits the state */
+        static const uint32_t states[10] = {0, 2, 0, 3, 0, 4, 0, 5, 6, 0};
+        uint32_t call = some(10);
+        struct vmbus_plan_end e = {
+            n, any_number(n), any_number(n), any_number(n), any_number(n), any_number(n), any_number(8 * n), some(4) ? states[call] : some(9),
+        }, old = e;
+        if (some(2))
+            e.start = old.start = e.read;
+        struct vmbus_send_plan s = {1, 2, 3, 4, 5, 6}, s0 = s;
+        struct vmbus_take_plan t = {1, 2, 3, 4, 5}, t0 = t;
+        uint32_t x = 7, word = some(2) ? 8 * any_number(n) : any_number(n), a;
+        uint64_t head = (mixed(random_state) & ~(uint64_t)0xffffffff0000) | (uint64_t)some(9) << 16 | (uint64_t)some(some(2) ? 40 : 65536) << 32;
+        switch (call) {
+        case 0: a = vmbus_send_plan(&e, head, word, &s); break;
+        case 1: a = vmbus_send_done(&e, some(2), word); break;
+        case 2: a = vmbus_take_plan(&e, word, &x); break;
+        case 3: a = vmbus_take_head(&e, head, &t); break;
+        case 4: a = vmbus_commit_plan(&e, &x); break;
+        case 5: a = vmbus_commit_done(&e, some(4), word, 8 * any_number(n)); break;
+        case 6: a = vmbus_arm_plan(&e, word); break;
+        case 7: a = vmbus_arm_done(&e, word, 8 * any_number(n), some(3)); break;
+        case 8: a = vmbus_poll_done(&e, some(2)); break;
+        default: a = vmbus_mark_done(&e); break;
+        }
+        if (a == VMBUS_NO_CALL && (memcmp(&e, &old, sizeof e) || memcmp(&s, &s0, sizeof s) || memcmp(&t, &t0, sizeof t) || x != 7))
+            fail("something changed where there was no call", i);
+        if (a == VMBUS_NO_CALL)
+            continue;
+        accepted++;
+        if (e.cells != n || n > 16777216 || e.write >= n || e.read >= n || e.start >= n || e.seen >= n)
+            fail("an end in no form was taken, or left", i);
+        if (memcmp(&s, &s0, sizeof s))
+            inside_ring(n, s.at, s.first, s.second, (uint32_t)(head >> 32) & 0xffff);
+        if (memcmp(&t, &t0, sizeof t))
+            inside_ring(n, t.at, t.first, t.second, t.len - 1);
+        if (x != 7 && (x % 8 || x / 8 >= n))
+            fail("an offset outside its ring", x);
+    }
+    printf("any numbers: %" PRIu64 " calls, %" PRIu64 " of them taken, each plan inside its ring\n", count, accepted);
+}
+
+/* ---- On the clock: each packet is sent, taken into a private copy, and its room given back, in one thread over rings of 16 pages. ---- */
+#define ROUNDS 25
+#define IN_ROUND 20000
+
+static double now(void)
+{
+    struct timespec t;
+    clock_gettime(CLOCK_THREAD_CPUTIME_ID, &t); /* on a busy machine too */
+    return 1e9 * (double)t.tv_sec + (double)t.tv_nsec;
+}
+
+static int by_size(const void *a, const void *b)
+{
+    double x = *(const double *)a, y = *(const double *)b;
+    return (x > y) - (x < y);
+}
+
+static uint64_t clock_packet[MOST_WORDS];
+
+/* Both ends ours: a second end on the same rings. */
+static double time_ours(uint32_t words)
+{
+    static uint64_t copy[1 << 13];
+    struct vmbus_plan_end second;
+    uint32_t len = 0, offset = 0;
+    open_channel(16 * PAGE_SIZE);
+    vmbus_plan_make(&second, ring_bytes);
+    double begin = now();
+    for (int i = 0; i < IN_ROUND; i++) {
+        uint32_t a = vmbus_ring_send(&ours, shared[0].ring, clock_packet);
+        uint32_t b = vmbus_ring_take(&second, shared[0].ring, copy, &len, &offset);
+        uint32_t c = vmbus_ring_commit(&second, shared[0].ring);
+        if (a == VMBUS_FULL || b != VMBUS_TOOK || c == VMBUS_NO_CALL || len != words)
+            fail("a timed call", a);
+    }
+    return (now() - begin) / IN_ROUND;
+}
+
+static double time_theirs(uint32_t words)
+{
+    open_channel(16 * PAGE_SIZE);
+    /* a second end of Linux on the same ring: what the first one sends */
+    struct vmbus_channel second;
+    memset(&second, 0, sizeof second);
+    second.inbound = theirs.outbound;
+    second.inbound.pkt_buffer = theirs.inbound.pkt_buffer;
+    second.inbound.pkt_buffer_size = theirs.inbound.pkt_buffer_size;
+    second.raised = &signals[0];
+    struct kvec part = {clock_packet, 8 * words};
+    double begin = now();
+    for (int i = 0; i < IN_ROUND; i++) {
+        if (hv_ringbuffer_write(&theirs, &part, 1, 1, NULL) != 0)
+            fail("a timed call", 0);
+        struct vmpacket_descriptor *d = hv_pkt_iter_first(&second);
+        if (!d || d->len8 != words)
+            fail("a timed call", 1);
+        __hv_pkt_iter_next(&second, d);
+        hv_pkt_iter_close(&second);
+    }
+    return (now() - begin) / IN_ROUND;
+}
+
+static void on_the_clock(void)
+{
+    static const uint32_t sizes[] = {24, 80, 512, 3072};
+    printf("nanoseconds of a processor a packet, medians of %d rounds side by side, rings of 16 pages\nbytes  plans through C  Linux's ring  ratio\n", ROUNDS);
+    for (int k = 0; k < 4; k++) {
+        uint32_t words = sizes[k] / 8;
+        double x[ROUNDS], y[ROUNDS];
+        clock_packet[0] = 6 | 2 << 16 | (uint64_t)words << 32;
+        for (int i = 0; i < ROUNDS; i++) {
+            x[i] = time_ours(words);
+            y[i] = time_theirs(words);
+        }
+        qsort(x, ROUNDS, sizeof x[0], by_size);
+        qsort(y, ROUNDS, sizeof y[0], by_size);
+        printf("%5" PRIu32 "  %15.1f  %12.1f  %5.2f\n", sizes[k], x[ROUNDS / 2], y[ROUNDS / 2], x[ROUNDS / 2] / y[ROUNDS / 2]);
+    }
+}
+
+int main(int count, char **words)
+{
+    setvbuf(stdout, NULL, _IOLBF, 0);
+    if (count == 2 && strcmp(words[1], "clock") == 0) {
+        on_the_clock();
+        return 0;
+    }
+    unsigned seconds = count == 3 ? (unsigned)atoi(words[2]) : 4;
+    static const uint32_t pages[] = {1, 2, 16, 128};
+    if (count == 2 && strcmp(words[1], "any") == 0) {
+        any_ends(40000000);
+        return 0;
+    }
+    if (strcmp(words[1], "threads") != 0) {
+        any_ends(40000000);
+        for (int i = 0; i < 4; i++)
+            turns(pages[i], 200000);
+    }
+    for (int i = 0; i < 4; i++)
+        threads(pages[i], seconds);
+    return 0;
+}

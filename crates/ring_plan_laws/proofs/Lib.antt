@@ -1,0 +1,10 @@
+pub mod Walks
+pub mod Sending
+pub mod Taking
+pub mod Committing
+pub mod Sleeping
+pub mod Polling
+pub mod Carried
+pub mod Wholes
+pub mod Stopping
+pub mod Channels

@@ -1,0 +1,3 @@
+pub mod Accesses
+pub mod Whole
+pub mod Plays

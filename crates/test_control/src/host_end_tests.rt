@@ -1,0 +1,297 @@
+//! A host's control by itself, against a guest made by hand.
+ghost use Rattle.std.specs.Prelude.{◌≡◌, []};
+
+use crate::check::check;
+use bus_script::parse;
+use chan_state::{Event, State, StateFault};
+use contact::{Part, Version};
+use control_model::ControlFault;
+use gpadl::{GpadlFault, to_messages};
+use host_end::HostControl;
+use mail_box::MailBox;
+use std::process::Abort;
+use vmbus_msg::Msg;
+
+// Two disks, of which the second one is rescinded in the first phase.
+const SCRIPT: &[u8] =
+    b"contact 5.1 4.0\noffer disk a 64 0\noffer disk b 64 0\nready a\nrescind b after 0\n";
+
+const GPADL: u32 = 0xe1e10;
+
+// What the tests tell messages by: the type, and then what it answers with, or relid or handle.
+type Told = (u32, u32);
+
+fn told(m: &Msg) -> Told {
+    match m {
+        Msg::OfferChannel { relid, .. } => (1, *relid),
+        Msg::RescindChannelOffer { relid, .. } => (2, *relid),
+        Msg::AllOffersDelivered { .. } => (4, 0),
+        Msg::OpenChannelResult { relid, .. } => (6, *relid),
+        Msg::GpadlCreated { gpadl, .. } => (10, *gpadl),
+        Msg::GpadlTorndown { gpadl, .. } => (12, *gpadl),
+        Msg::VersionResponse { supported, .. } => (15, *supported as u32),
+        Msg::UnloadResponse { .. } => (17, 0),
+        _ => (0, 0),
+    }
+}
+
+// A message of the guest, by the fields that the tests give it.
+#[derive(Clone, Copy)]
+enum Said {
+    Contact { version: u32 },
+    Request,
+    Open { relid: u32, gpadl: u32 },
+    Close { relid: u32 },
+    Teardown { relid: u32, gpadl: u32 },
+    Release { relid: u32 },
+    Unload,
+    Unloaded,
+}
+
+fn message(said: Said) -> Msg {
+    let padding = 0;
+    match said {
+        Said::Contact { version } => Msg::InitiateContact {
+            padding,
+            version,
+            target_vcpu: 0,
+            page: 0,
+            monitor1: 0,
+            monitor2: 0,
+        },
+        Said::Request => Msg::RequestOffers { padding },
+        Said::Open { relid, gpadl } => Msg::OpenChannel {
+            padding,
+            relid,
+            openid: relid,
+            gpadl,
+            target_vp: 0,
+            downstream: 2,
+            user: [0; 120],
+        },
+        Said::Close { relid } => Msg::CloseChannel { padding, relid },
+        Said::Teardown { relid, gpadl } => Msg::GpadlTeardown {
+            padding,
+            relid,
+            gpadl,
+        },
+        Said::Release { relid } => Msg::RelidReleased { padding, relid },
+        Said::Unload => Msg::Unload { padding },
+        Said::Unloaded => Msg::UnloadResponse { padding },
+    }
+}
+
+// What the host is given, or what is so then.
+#[derive(Clone, Copy)]
+enum Step {
+    // It begins the next part, which is this one.
+    Begin(Part),
+    // It takes a message.
+    Feed(Said),
+    // It takes the messages of a list of so many pages, under this handle of this channel.
+    List {
+        relid: u32,
+        gpadl: u32,
+        pages: usize,
+    },
+    // A message is refused so, and nothing comes of it.
+    Refuse(Said, ControlFault),
+    // The channel with this relid is so.
+    IsAt(u32, Option<State>),
+    // The part is done, or not.
+    IsDone(bool),
+    // All parts are done. So many messages were sent, and so many taken.
+    Ended(usize, usize),
+}
+
+// An empty box.
+fn empty_box(rt: &(impl Abort + AllocGlobal)) -> MailBox
+    ensures { result ≡ record { size = 64; queue = [] } }
+{
+    let Ok(post) = MailBox::make(rt.alloc(), 64) else {
+        panic!(rt; "no box");
+    };
+    post
+}
+
+// These messages are in the box, and no other.
+fn check_sent(rt: &impl Abort, post: &mut MailBox, sends: &[Told]) {
+    for want in sends {
+        check(rt, post.take().as_ref().map(told) == Some(*want));
+    }
+    check(rt, post.take().is_none());
+}
+
+fn begin(rt: &(impl Abort + AllocGlobal), host: &mut HostControl, part: Part, sends: &[Told]) {
+    let mut post = empty_box(rt);
+    let Some(next) = host.next_part() else {
+        panic!(rt; "no part is left");
+    };
+    check(rt, next == part);
+    check(rt, host.part().is_none() || host.done());
+    check(rt, host.begin(next, &mut post).is_ok());
+    check(rt, host.part() == Some(part));
+    check_sent(rt, &mut post, sends);
+}
+
+fn feed(rt: &(impl Abort + AllocGlobal), host: &mut HostControl, m: &Msg, sends: &[Told]) {
+    let mut post = empty_box(rt);
+    check(rt, host.feed(m, &mut post) == Ok(()));
+    check_sent(rt, &mut post, sends);
+}
+
+fn feed_list(
+    rt: &(impl Abort + AllocGlobal),
+    host: &mut HostControl,
+    relid: u32,
+    gpadl: u32,
+    pages: usize,
+    sends: &[Told],
+) {
+    let list = [7; 34];
+    check(rt, 1 <= pages && pages <= 34);
+    let Ok(messages) = to_messages(rt.alloc(), relid, gpadl, &list[..pages]) else {
+        panic!(rt; "no messages");
+    };
+    let mut post = empty_box(rt);
+    for m in messages.iter() {
+        post = empty_box(rt);
+        check(rt, host.feed(m, &mut post) == Ok(()));
+    }
+    check_sent(rt, &mut post, sends);
+}
+
+fn refuse(rt: &(impl Abort + AllocGlobal), host: &mut HostControl, m: &Msg, fault: ControlFault) {
+    let mut post = empty_box(rt);
+    let fed = host.fed().len();
+    check(rt, host.feed(m, &mut post) == Err(fault));
+    check(rt, host.fed().len() == fed);
+    check_sent(rt, &mut post, &[]);
+}
+
+fn take(rt: &(impl Abort + AllocGlobal), host: &mut HostControl, step: Step, sends: &[Told]) {
+    match step {
+        Step::Begin(part) => begin(rt, host, part, sends),
+        Step::Feed(said) => feed(rt, host, &message(said), sends),
+        Step::List {
+            relid,
+            gpadl,
+            pages,
+        } => feed_list(rt, host, relid, gpadl, pages, sends),
+        Step::Refuse(said, fault) => refuse(rt, host, &message(said), fault),
+        Step::IsAt(relid, state) => check(rt, host.state(relid) == state),
+        Step::IsDone(done) => check(rt, host.done() == done),
+        Step::Ended(posted, fed) => {
+            check(rt, host.done() && host.next_part().is_none());
+            check(rt, (host.posted().len(), host.fed().len()) == (posted, fed));
+        }
+    }
+}
+
+const STAY: [(Step, &[Told]); 28] = [
+    (Step::Begin(Part::Contact), &[]),
+    (
+        Step::Refuse(Said::Unloaded, ControlFault::Unasked { kind: 17 }),
+        &[],
+    ),
+    (
+        Step::Refuse(
+            Said::Open {
+                relid: 1,
+                gpadl: GPADL,
+            },
+            ControlFault::Relid { value: 1 },
+        ),
+        &[],
+    ),
+    (Step::Feed(Said::Request), &[]),
+    (Step::Feed(Said::Contact { version: 0x5_0001 }), &[(15, 0)]),
+    (Step::Feed(Said::Contact { version: 0x4_0000 }), &[(15, 1)]),
+    (Step::IsDone(false), &[]),
+    (Step::Feed(Said::Request), &[(1, 1), (1, 2), (4, 0)]),
+    (Step::IsDone(true), &[]),
+    (Step::IsAt(2, Some(State::Offered)), &[]),
+    (Step::IsAt(3, None), &[]),
+    (Step::Begin(Part::PhaseStart(0)), &[]),
+    (
+        Step::List {
+            relid: 1,
+            gpadl: GPADL,
+            pages: 4,
+        },
+        &[(10, GPADL)],
+    ),
+    (
+        Step::Refuse(
+            Said::Teardown { relid: 1, gpadl: 9 },
+            ControlFault::Gpadl(GpadlFault::Handle { id: 9 }),
+        ),
+        &[],
+    ),
+    (
+        Step::Feed(Said::Open {
+            relid: 1,
+            gpadl: GPADL,
+        }),
+        &[(6, 1)],
+    ),
+    (
+        Step::List {
+            relid: 2,
+            gpadl: GPADL + 1,
+            pages: 34,
+        },
+        &[(10, GPADL + 1)],
+    ),
+    (
+        Step::Feed(Said::Open {
+            relid: 2,
+            gpadl: GPADL + 1,
+        }),
+        &[(6, 2)],
+    ),
+    (Step::IsDone(true), &[]),
+    (Step::IsAt(2, Some(State::Opened)), &[]),
+    (Step::Begin(Part::PhaseEnd(0)), &[]),
+    (Step::Feed(Said::Close { relid: 1 }), &[]),
+    (
+        Step::Refuse(
+            Said::Release { relid: 2 },
+            ControlFault::State(StateFault {
+                state: State::Opened,
+                event: Event::ReleaseSeen,
+            }),
+        ),
+        &[],
+    ),
+    (
+        Step::Feed(Said::Teardown {
+            relid: 1,
+            gpadl: GPADL,
+        }),
+        &[(12, GPADL), (2, 2)],
+    ),
+    (Step::Feed(Said::Release { relid: 2 }), &[]),
+    (Step::IsAt(2, Some(State::Released)), &[]),
+    (Step::Begin(Part::Unload), &[]),
+    (Step::Feed(Said::Unload), &[(17, 0)]),
+    (Step::Ended(12, 13), &[]),
+];
+
+#[test]
+fn host_stay(rt: HostRuntime) {
+    let Ok(script) = parse(rt.alloc(), SCRIPT) else {
+        panic!(&rt; "no script");
+    };
+    let Ok(mut host) = HostControl::make(rt.alloc(), &script) else {
+        panic!(&rt; "no host");
+    };
+    check(
+        &rt,
+        host.part().is_none() && host.version().is_none() && !host.done(),
+    );
+    for (step, sends) in &STAY {
+        take(&rt, &mut host, *step, sends);
+    }
+    check(&rt, host.version() == Some(Version(0x4_0000)));
+}
