@@ -1,5 +1,5 @@
 -- Packets that items carry without page words, and the laws of their wire format.
-use Rattle.std.proofs.Common.{◌≡◌, ℕ, zero, suc, ◌<◌, List, [], ◌∷◌, length, refl, sym, ap, ◌∙◌, subst, arith, Option, Some, None, is_some, Bool, true, false}
+use Rattle.std.proofs.Common.{◌≡◌, ℕ, ◌<◌, List, [], ◌∷◌, length, refl, sym, ap, ◌∙◌, subst, arith, Option, Some, None, is_some, Bool, true, false}
 use Rattle.page_kept.specs.declared.item.Item.{Item}
 use Rattle.page_kept.specs.Items.{item_of}
 use Rattle.channel_model.specs.WireFormat.{WireFormat, Back, Keeps, listed, under_own}
@@ -14,7 +14,7 @@ none_fixed : (o : Option (Back (List ℕ))) → ((b : Back (List ℕ)) → o ≡
 none_fixed None h b' e = absurd (cc)
 none_fixed (Some b) h b' e =
     let same : back_by bare_item bare_item b ≡ b' = cc in
-    ap (λ (x : Back Item). x.message) (sym same) ∙ ap (mapped (λ (m : ℕ → List ℕ) (own : ℕ). bare_item (m own))) (h b refl)
+    ap (λ (x : Back Item). x.message) (sym same) ∙ ap (mapped {Y = ℕ → Item} (λ (m : ℕ → List ℕ) (own : ℕ). bare_item (m own))) (h b refl)
 
 module _ {A Q R : Type 0} (s : WireFormat (List ℕ) A Q R) where
   pub keeps_in_packets : Keeps s → Keeps (in_packets s)
@@ -22,7 +22,7 @@ module _ {A Q R : Type 0} (s : WireFormat (List ℕ) A Q R) where
 
   none_in_packets : HasNoMessages s → HasNoMessages (in_packets s)
   none_in_packets none = record {
-    gives = λ i r. ap (mapped (λ (m : ℕ → List ℕ) (own : ℕ). bare_item (m own))) (none.gives i.packet r);
+    gives = λ i r. ap (mapped {Y = ℕ → Item} (λ (m : ℕ → List ℕ) (own : ℕ). bare_item (m own))) (none.gives i.packet r);
     fixed = λ i b' e. none_fixed (s.fixed i.packet) (none.fixed i.packet) b' e;
   }
 
@@ -66,7 +66,7 @@ pub message_carried : (own : ℕ) (o : Option (Back (List ℕ))) → message_in 
 message_carried own None = refl
 message_carried own (Some b) = own_carried own b.message
 
-some_carried : (o : Option (ℕ → List ℕ)) → is_some (mapped (λ (m : ℕ → List ℕ) (own : ℕ). bare_item (m own)) o) ≡ is_some o
+some_carried : (o : Option (ℕ → List ℕ)) → is_some {T = ℕ → Item} (mapped (λ (m : ℕ → List ℕ) (own : ℕ). bare_item (m own)) o) ≡ is_some o
 some_carried None = refl
 some_carried (Some m) = refl
 

@@ -1,5 +1,5 @@
 -- A run of items is a run of their packets, where items carry the packets of a wire format as they are.
-use Rattle.std.proofs.Common.{◌≡◌, ◌≤◌, ℕ, zero, suc, Bool, true, false, cond, List, [], ◌∷◌, ◌++◌, length, map, filter, refl, sym, ap, ◌∙◌, subst, arith, Option, Some, None}
+use Rattle.std.proofs.Common.{◌≡◌, ℕ, zero, suc, Bool, true, false, cond, List, [], ◌∷◌, ◌++◌, length, map, filter, refl, sym, ap, ◌∙◌, subst, arith, Option, Some, None}
 use Rattle.std.specs.Prelude.{◌==◌, ◌&&◌, filter_map, if◌then◌else◌}
 use Rattle.std.specs.List.{cons_option}
 use Rattle.page_kept.specs.declared.item.Item.{Item}
@@ -11,7 +11,7 @@ use Rattle.channel_model.specs.Lift.{mapped}
 use Rattle.channel_model.specs.Carried.{back_by}
 use Rattle.channel_model.specs.Acks.{acks_for}
 use Rattle.channel_model.specs.Asker.{Encoded}
-use Rattle.channel_model.specs.Server.{IsCall, Serves, ServesAsk, ServesOne, answered}
+use Rattle.channel_model.specs.Server.{Serves, ServesAsk, ServesOne, answered}
 use Rattle.channel_model.specs.Channel.{RequestPlan, IsProtocolRun, asks_of, count_of, held_of}
 use Rattle.channel_protocol.specs.Paged.{bare_item, in_packets}
 

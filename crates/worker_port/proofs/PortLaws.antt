@@ -138,7 +138,7 @@ honest_tried (Err (SendFull free need)) honest broken = absurd (cc)
 honest_tried (Err why) honest broken = absurd (cc)
 
 -- what stands last
-pub last_is : (xs : List (List ℕ)) (p q : List ℕ) (i : ℕ) → i + 1 ≡ length (xs ++ p ∷ []) → slice_get (xs ++ p ∷ []) i ≡ Some q → q ≡ p
+pub last_is : {P : Type 0} (xs : List P) (p q : P) (i : ℕ) → i + 1 ≡ length (xs ++ p ∷ []) → slice_get (xs ++ p ∷ []) i ≡ Some q → q ≡ p
 last_is [] p q zero e h = cc
 last_is [] p q (suc i) e h = absurd (omega (arith, e))
 last_is (x ∷ xs) p q zero e h = absurd (omega (arith, e, length-append xs (p ∷ [])))
