@@ -2,7 +2,7 @@
 use Rattle.std.proofs.Common.{◌≡◌, ℕ, List, [], ◌∷◌, ◌++◌, length, map, refl, sym, ap, ◌∙◌, subst, Option}
 use Rattle.page_kept.specs.declared.item.Item.{Item}
 use Rattle.page_kept.specs.Items.{item_of}
-use Rattle.channel_trace.specs.Filled.{IsFilledBy}
+use Rattle.channel_trace.specs.Filled.{IsFilledBy, filled}
 use Rattle.channel_trace.specs.Laws.{AreOfOneRun}
 use Rattle.channel_trace.specs.Runs.{IsFront, sent_of, got_of, guest_of}
 use Rattle.channel_trace.proofs.Filling.{all_sent, all_got, runs_filled}
@@ -38,7 +38,7 @@ module _ {S : Type 0} {told : S → Option Told} (f : Item → Item) where
       let run =
       runs_filled (λ p. f (item_of p [])) guest.state.past host.state.past (map f (whole guest.state.sent [])) (map f (whole guest.state.got [])) (map f (whole host.state.sent [])) (map f (whole host.state.got [])) one (filled_by guest g) (filled_by host h)
       (fronts guest host g h to_guest) (fronts host guest h g to_host) in
-      subst (λ u. AreOfOneRun u (past_as f host.state)) (sym (past_bare f guest.state g.none)) (subst (λ u. AreOfOneRun _ u) (sym (past_bare f host.state h.none)) run)
+      subst (λ u. AreOfOneRun u (past_as f host.state)) (sym (past_bare f guest.state g.none)) (subst (λ u. AreOfOneRun (filled (λ p. f (item_of p [])) (map f (whole guest.state.sent [])) (map f (whole guest.state.got [])) guest.state.past) u) (sym (past_bare f host.state h.none)) run)
 
   pub items_sent : (e : Seen S) → IsLine told e → sent_of (past_as f e.state) ≡ map (λ (p : List ℕ). f (item_of p [])) e.state.sent
   items_sent e h = ap sent_of (past_bare f e.state h.none) ∙ (all_sent (λ p. f (item_of p [])) e.state.past (map f (whole e.state.sent [])) (map f (whole e.state.got [])) (filled_by e h) ∙ bare_map f e.state.sent)

@@ -26,7 +26,7 @@ use Rattle.ring_machine.specs.Steps.{is_broken, is_busy_at, is_sent, arm_begun, 
 use Rattle.ring_machine.proofs.Sound.{at_cond}
 use Rattle.ring_core.specs.declared.told.Told.{Told}
 use Rattle.ring_core.specs.Told.{Memory, Ran}
-use Rattle.ring_sleep.proofs.Telling.{tells_on, told_of}
+use Rattle.ring_sleep.proofs.Telling.{told_of}
 use Rattle.ring_sleep.specs.Sleeping.{Sleeps}
 use Rattle.worker_port.specs.Line.{IsLine, Line, Tries, new_end, tried_of, armed_by, look_of, polled_by}
 

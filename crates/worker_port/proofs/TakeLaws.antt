@@ -2,7 +2,7 @@
 use Rattle.std.proofs.Common.{◌≡◌, ◌≤◌, ℕ, zero, suc, List, [], ◌∷◌, ◌++◌, Option, Some, None, Bool, true, false, cond, eqb, refl, sym, ap, ◌∙◌, subst}
 use Rattle.std.specs.Prelude.{slice_get, is_some}
 use Rattle.channel_trace.specs.declared.event.Event.{Event}
-use Rattle.channel_trace.specs.declared.event.Event.TheVariants.{Empty, Got}
+use Rattle.channel_trace.specs.declared.event.Event.TheVariants.{Got}
 use Rattle.channel_trace.specs.Runs.{sent_of, got_of, has_marked}
 use Rattle.ring_machine.specs.declared.last.TakeRefusal.{TakeRefusal}
 use Rattle.ring_machine.specs.declared.machine.Ending.{Ending}
@@ -27,7 +27,7 @@ use Rattle.ring_core.specs.Seen.{Kept, Seen}
 use Rattle.ring_core.specs.Taking.{Takes, TakesIdle, is_honest_take}
 use Rattle.ring_core.specs.Told.{Memory}
 use Rattle.ring_sleep.proofs.Telling.{tells_on, told_of}
-use Rattle.worker_port.specs.Line.{Finds, IsLine, Line, LineState, TookOne, found_of, got_as, has_packet, line_of, past_as}
+use Rattle.worker_port.specs.Line.{Finds, IsLine, Line, LineState, TookOne, found_of, has_packet, line_of}
 use Rattle.worker_port.proofs.ItemLaws.{found_past, got_same_as, past_finds}
 
 untook : (took : Bool) (r other : TakeRefusal) → Some r ≡ cond took None (Some other) → took ≡ false

@@ -1,6 +1,6 @@
 -- Why a worker's turn moved, or left its end asleep: what the turn itself did.
 use Rattle.page_kept.specs.declared.item.Item.{Item}
-use Rattle.std.specs.Prelude.{ℕ, ◌≡◌, ◌⊎◌, true, false, List, ◌∷◌, Option}
+use Rattle.std.specs.Prelude.{◌≡◌, ◌⊎◌, true, false, List, ◌∷◌, Option}
 use Rattle.channel_trace.specs.declared.event.Event.{Event}
 use Rattle.channel_trace.specs.declared.event.Event.TheVariants.{Sent, Got, Saw}
 use Rattle.ring_machine.specs.declared.machine.Ending.{Ending}

@@ -10,12 +10,12 @@ invariant_of-self g c = slept_line g.S.Parks.channel g.S.Seatlike.told _ _ c.sle
 pub returns-clause-past : goal.returns-clause-past
 returns-clause-past g c =
     let s = c.sleep.ensures.slept in
-    past_same g.T.Protocol.said c.self.inside.end.state c.sleep.new.self.state s.past s.kept.sent s.kept.got s.kept.pages ∙ ap (λ (x : Line _). x.state.past) c.self.view_is
+    past_same g.T.Protocol.said c.self.inside.end.state c.sleep.new.e.state s.past s.kept.sent s.kept.got s.kept.pages ∙ ap (λ (x : Line _). x.state.past) c.self.view_is
 
 pub returns-clause-lists : goal.returns-clause-lists
 returns-clause-lists g c =
     let k = c.sleep.ensures.slept.kept in (
-      got_same_as g.T.Protocol.said c.self.inside.end.state c.sleep.new.self.state k.got k.pages ∙ ap (λ (x : Line _). x.state.got) c.self.view_is,
+      got_same_as g.T.Protocol.said c.self.inside.end.state c.sleep.new.e.state k.got k.pages ∙ ap (λ (x : Line _). x.state.got) c.self.view_is,
       k.spare_got ∙ ap (λ (x : Line _). x.spare_got) c.self.view_is,
       k.spare_sent ∙ ap (λ (x : Line _). x.spare_sent) c.self.view_is,
     )

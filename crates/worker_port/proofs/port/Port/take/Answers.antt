@@ -5,13 +5,13 @@ use Rattle.ring_machine.specs.Endings.{refused}
 use Rattle.ring_machine.specs.PageCalls.{newest}
 use Rattle.ring_machine.specs.States.{IsPacket}
 use Rattle.ring_machine.specs.Steps.{is_took}
-use Rattle.ring_sleep.proofs.Telling.{tells_on, told_of}
+use Rattle.ring_sleep.proofs.Telling.{tells_on}
 use Rattle.worker_port.specs.declared.found.Found.TheVariants.{Packet as FoundPacket}
-use Rattle.worker_port.specs.Line.{Finds, Line, TookOne, line_of}
+use Rattle.worker_port.specs.Line.{Line, TookOne, line_of}
 use Rattle.worker_port.specs.Rooms.{GotInto}
 use Rattle.worker_port.proofs.ItemLaws.{got_more, got_same_as, line_got, past_got}
 use Rattle.worker_port.proofs.RoomLaws.{got_one, got_same}
-use Rattle.worker_port.proofs.TakeLaws.{a_packet, commit_past, honest_found, no_packet, no_pages_took, no_refusal, one_taken, refused_finds, refused_line, refused_room, refused_took}
+use Rattle.worker_port.proofs.TakeLaws.{a_packet, commit_past, no_packet, no_pages_took, no_refusal, one_taken, refused_line, refused_room, refused_took}
 use Rattle.worker_port.proofs.port.Port.take.Goals as goal
 
 pub invariant_of-self : goal.invariant_of-self
