@@ -1,9 +1,8 @@
 use Rattle.std.proofs.Common.{ap, ◌∙◌, length, subst}
-use Rattle.channel_model.specs.Amounts.{room_of}
 use Rattle.channel_model.specs.Channel.{AskerBreaks}
-use Rattle.worker_requester.proofs.AskSteps.{asked_so_far, breaks, lacks_by}
-use Rattle.worker_port.specs.Rooms.{AskedWithin, KeepsRoom}
-use Rattle.worker_requester.specs.Asking.{IsAsking, IsPaced}
+use Rattle.worker_requester.proofs.AskSteps.{asked_so_far, breaks}
+use Rattle.worker_port.specs.Rooms.{AskedWithin}
+use Rattle.worker_requester.specs.Asking.{IsPaced}
 use Rattle.worker_requester.proofs.requester.Requester.broke_off.Goals as goal
 
 pub returns-clause-breaks : goal.returns-clause-breaks
