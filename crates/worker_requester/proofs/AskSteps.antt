@@ -1,8 +1,10 @@
 -- The asking worker's steps keep what it keeps.
 use Rattle.page_kept.specs.declared.item.Item.{Item}
-use Rattle.std.proofs.Common.{◌≡◌, ℕ, ◌+◌, ◌-◌, ◌<◌, ◌≤◌, ◌^◌, List, [], ◌∷◌, ◌++◌, length, drop, replicate, refl, sym, ap, ◌∙◌, subst, arith, Option, Some, None, Bool, true, false, cond, count_by, is_some, inl, inr}
-use Rattle.std.specs.Prelude.{◌==◌, ◌||◌, if◌then◌else◌, slice_get, slice_set}
-use Rattle.std.proofs.lemmas.List.{drop_all, drop-append-le, length-append, length-drop}
+use Rattle.std.proofs.Common.{◌≡◌, ℕ, ◌+◌, ◌-◌, ◌<◌, ◌≤◌, ◌^◌, List, [], ◌∷◌, ◌++◌, length, drop, filter, map, replicate, refl, sym, ap, ◌∙◌, subst, arith, Option, Some, None, Bool, true, false, cond, count_by, is_some, inl, inr}
+use Rattle.std.specs.Prelude.{◌==◌, ◌||◌, ◌⊎◌, if◌then◌else◌, nat_lt, slice_get, slice_set}
+use Rattle.std.proofs.lemmas.List.{append-nil, map-append, drop_all, drop-append-le, length-append, length-drop, length-set}
+use Rattle.std.proofs.lemmas.List.Elements.{filter-append}
+use Rattle.std.proofs.lemmas.List.Sums.{count_by-le-length}
 use Rattle.std.proofs.lemmas.Option.{slice_get_within}
 use Rattle.std.proofs.lemmas.Bool.Decides.{nat_tests}
 use Rattle.channel_trace.specs.declared.event.Event.{Event}
@@ -13,25 +15,27 @@ use Rattle.ring_core.specs.declared.room.Room.{Room as SpareRoom}
 use Rattle.ring_core.specs.declared.told.Told.{Told}
 use Rattle.txn_table.specs.Open.{request_of}
 use Rattle.channel_model.specs.WireFormat.{WireFormat, Keeps}
+use Rattle.channel_model.specs.Acks.{acks_for}
 use Rattle.channel_model.specs.Asker.{Encoded, opened, said, since, under, without, open_of, requests_of}
 use Rattle.channel_model.specs.Channel.{AskerBreaks}
 use Rattle.channel_model.specs.Workers.{ask_of, Apart, AskerKept, AcksKept}
 use Rattle.channel_model.specs.Amounts.{room_of, besides_of, AsksAtMost}
-use Rattle.channel_model.proofs.Acking.{acks_new, acks_came, acks_gave, acks_asked, acks_quiet}
+use Rattle.channel_model.proofs.Acking.{acks_whole, acks_new, acks_came, acks_gave, acks_asked, acks_quiet}
 use Rattle.channel_model.proofs.Amounts.{asks_at_most, kinds_asked, kinds_acked}
 use Rattle.channel_model.proofs.Opens.{by_test}
-use Rattle.channel_model.proofs.Asking.{since_more, asker_accepted, asker_sent, asker_told, asker_answered, asker_stray, asker_came, asker_acked, asker_breaks, asker_open, asker_empty, asker_marked, asker_saw, asker_settled, asker_stopped}
+use Rattle.channel_model.proofs.Asking.{since_more, under_more, asker_accepted, asker_sent, asker_told, asker_answered, asker_stray, asker_came, asker_acked, asker_breaks, asker_open, asker_empty, asker_marked, asker_saw, asker_settled, asker_stopped}
 use Rattle.worker_port.specs.Line.{Line, SleepsFor}
-use Rattle.worker_requester.specs.Asking.{Asking, IsAsking, IsPaced, AsksAll, Holds, HasSettled, AskerLacks, LacksNext, id_in, answer_of, ask_at, asked_in, waits_in, waits_under, want_by, pending, AsksOn, AsksBy}
+use Rattle.worker_requester.specs.Asking.{Asking, AskLacks, AskedFrom, EndsAcked, GoesFree, IsAsking, IsPaced, LeavesAcks, AsksAll, Holds, HasSettled, AskerLacks, LacksNext, id_in, answer_of, ask_at, asked_in, waits_in, waits_under, want_by, pending, AsksOn, AsksBy}
 use Rattle.worker_requester.specs.declared.requester.Blocked.{Blocked}
 use Rattle.worker_requester.specs.declared.requester.Blocked.TheVariants.{Done, Place, Answer, Ack, Room}
 use Rattle.worker_port.specs.declared.ended.Ended.{Ended}
-use Rattle.worker_port.specs.Owed.{IsNeed}
+use Rattle.worker_port.specs.declared.ended.Ended.TheVariants.{Marked as EndMarked, PeerMarked as EndPeerMarked, Room as EndRoom, Broken as EndBroken}
+use Rattle.worker_port.specs.Owed.{IsNeed, MetFull}
 use Rattle.worker_port.specs.Rooms.{AreShort, AskedWithin, CameOver, HasReservedSent, KeepsRoom}
 use Rattle.worker_port.proofs.RoomLaws.{asks_over, ask_left, ack_left, takes_over}
 use Rattle.worker_requester.specs.Acking.{IsNext}
 use Rattle.worker_requester.proofs.NextLaws.{acks_skipped, first_of}
-use Rattle.worker_requester.proofs.Tables.{set_request, none_open, none_in}
+use Rattle.worker_requester.proofs.Tables.{set_request, some_within, count_less, none_open, none_in}
 
 not_both : {X : Type 0} (b : Bool) → b ≡ false → b ≡ true → X
 not_both b e f = absurd (cc)
@@ -127,6 +131,60 @@ module _ {T S A Q R : Type 0} (s : WireFormat Item A Q R) (asks : List A) (w : A
   none_stands : IsAsking s asks w → count_by is_some w.table ≡ 0 → open_of s asks w.end.state.past ≡ []
   none_stands h none = none_left s (open_of s asks w.end.state.past) (waits_in (drop w.next asks) w.waiting) (λ id. sym (h.kept.opens id) ∙ ap (ask_at asks) (none_open w.table none id))
 
+some_there : (o : Option ℕ) → is_some o ≡ true → (k : ℕ) × (o ≡ Some k)
+some_there None e = absurd (cc)
+some_there (Some k) e = (k, refl)
+
+module _ {A Q R : Type 0} (s : WireFormat Item A Q R) where
+  -- with one id closed, what stands under the others
+  other_there : (os : List (ℕ × A)) (o : ℕ × A) (rs rs' : List (Option ℕ)) → under s o.0 os ≡ None → ((j : ℕ) → request_of rs' j ≡ (if j == o.0 then None else request_of rs j))
+      → ((j : ℕ) → is_some (under s j (o ∷ os)) ≡ true → is_some (request_of rs j) ≡ true) → (j : ℕ) → is_some (under s j os) ≡ true → is_some (request_of rs' j) ≡ true
+  other_there os o rs rs' none close all j there =
+      by_test (o.0 == j)
+      (λ e. let same : o.0 ≡ j = grind (arith, nat_tests, e) in not_both (is_some (under s j os)) (ap (λ k. is_some (under s k os)) (sym same) ∙ ap is_some none) there)
+      (λ e. let other : (j == o.0) ≡ false = grind (arith, nat_tests, e) in
+      ap is_some (close j ∙ ap (λ b. if b then None else request_of rs j) other) ∙ all j (ap (λ b. is_some (cond b (Some o) (under s j os))) e ∙ there))
+
+  -- no more are open, each under an id of its own that has a request in the table, than the table has requests
+  few_open : (os : List (ℕ × A)) (rs : List (Option ℕ)) → Apart s os → ((j : ℕ) → is_some (under s j os) ≡ true → is_some (request_of rs j) ≡ true) → length os ≤ count_by is_some rs
+  few_open [] rs apart all = omega arith
+  few_open (o ∷ os) rs apart all =
+      let here : (o.0 == o.0) ≡ true = grind (arith, nat_tests) in
+      let k = some_there (request_of rs o.0) (all o.0 (ap (λ b. is_some (cond b (Some o) (under s o.0 os))) here)) in
+      let at = some_within rs o.0 k.0 k.1 in
+      let rs' : List (Option ℕ) = slice_set rs (o.0 - 1) None in
+      omega (arith, few_open os rs' apart.1 (other_there os o rs rs' apart.0 (λ j. set_request rs o.0 None j at.0 at.1) all), count_less rs o.0 k.0 k.1)
+
+some_at : {A : Type 0} (asks : List A) (o : Option ℕ) → is_some (ask_at asks o) ≡ true → is_some o ≡ true
+some_at asks None e = e
+some_at asks (Some k) e = refl
+
+some_ask : {A : Type 0} (o : Option (ℕ × A)) → is_some o ≡ true → is_some (ask_of o) ≡ true
+some_ask None e = e
+some_ask (Some o) e = refl
+
+module _ {T S A Q R : Type 0} (s : WireFormat Item A Q R) (asks : List A) (w : Asking T S R) where
+  -- the request that waits goes under an id that is free among those that were sent
+  goes_free : (id : ℕ) (a : A) (p : Item) → w.waiting ≡ Some id → slice_get asks w.next ≡ Some a → s.id_of p ≡ id → IsAsking s asks w → GoesFree s (length w.table) asks p w.end.state.past
+  goes_free id a p waits at own h =
+      let os : List (ℕ × A) = open_of s asks w.end.state.past in
+      let here : waits_in (drop w.next asks) w.waiting ≡ (id, a) ∷ [] = ap (waits_in (drop w.next asks)) waits ∙ ap (λ l. waits_in l (Some id)) (first_of asks w.next a at) in
+      let apart : Apart s (os ++ (id, a) ∷ []) = subst (λ l. Apart s (os ++ l)) here h.kept.apart in
+      let none : under s id os ≡ None = apart_last s os id a apart in
+      let opens : (j : ℕ) → asked_in asks w.table j ≡ ask_of (under s j (os ++ (id, a) ∷ [])) = λ j. h.kept.opens j ∙ ap (λ l. ask_of (under s j (os ++ l))) here in
+      let all : (j : ℕ) → is_some (under s j (os ++ (id, a) ∷ [])) ≡ true → is_some (request_of w.table j) ≡ true =
+      λ j there. some_at asks (request_of w.table j) (ap is_some (opens j) ∙ some_ask (under s j (os ++ (id, a) ∷ [])) there) in
+      let same : (id == id) ≡ true = grind (arith, nat_tests) in
+      let stands : asked_in asks w.table id ≡ Some a = opens id ∙ (under_more s os (id, a) id none ∙ ap (λ b. if b then Some a else ask_of (under s id os)) same) in
+      let k = some_there (request_of w.table id) (some_at asks (request_of w.table id) (ap is_some stands)) in
+      let within = some_within w.table id k.0 k.1 in
+      record {
+        least = omega (arith, within.0, own);
+        within = omega (arith, within.1, own);
+        none = ap (λ j. under s j os) own ∙ none;
+        fewer = omega (arith, few_open s (os ++ (id, a) ∷ []) w.table apart all, length-append os ((id, a) ∷ []), count_by-le-length is_some w.table);
+      }
+
 module _ {T S A Q R : Type 0} (s : WireFormat Item A Q R) (keeps : Keeps s) (asks : List A) (w : Asking T S R) where
   -- the table as a map, and what waits
   abbrev tabled : ℕ → Option A
@@ -156,6 +214,7 @@ module _ {T S A Q R : Type 0} (s : WireFormat Item A Q R) (keeps : Keeps s) (ask
     rests = λ e. not_both end'.state.machine.asleep awake e;
     paced = subst (IsPaced s w.starts asks) (sym is) h.paced;
     alone = λ id e few. ap (open_of s asks) is ∙ h.alone id e few;
+    from = subst (AskedFrom s (length w.table) asks) (sym is) h.from;
   }
 
   pub saw_kept : (end' : Line S) (hold' : Blocked) → end'.state.past ≡ Saw ∷ w.end.state.past → end'.state.got ≡ w.end.state.got → end'.state.machine.asleep ≡ false → IsAsking s asks w → IsAsking s asks (record w { end = end'; seen = true; hold = hold' })
@@ -171,6 +230,7 @@ module _ {T S A Q R : Type 0} (s : WireFormat Item A Q R) (keeps : Keeps s) (ask
     rests = λ e. not_both end'.state.machine.asleep awake e;
     paced = subst (IsPaced s w.starts asks) (sym is) h.paced;
     alone = λ id e few. ap (open_of s asks) is ∙ h.alone id e few;
+    from = subst (AskedFrom s (length w.table) asks) (sym is) h.from;
   }
 
   -- nothing was done that the peer sees
@@ -188,14 +248,15 @@ module _ {T S A Q R : Type 0} (s : WireFormat Item A Q R) (keeps : Keeps s) (ask
     rests = rests;
     paced = subst (IsPaced s w.starts asks) (sym is) h.paced;
     alone = λ id e few. ap (open_of s asks) is ∙ h.alone id e few;
+    from = subst (AskedFrom s (length w.table) asks) (sym is) h.from;
   }
 
   -- an answer was taken: the packet that came just before it is read with it, where that was none
   pub took_kept : (end' : Line S) (table' : List (Option ℕ)) (told' : List R) (p : Item) → s.is_answer p ≡ true → got_of w.end.state.past ≡ w.end.state.got → end'.state.past ≡ Got p ∷ w.end.state.past
       → end'.state.got ≡ w.end.state.got ++ p ∷ [] → end'.state.machine.asleep ≡ false → waits_under w.waiting (s.id_of p) ≡ false
-      → ((j : ℕ) → request_of table' j ≡ (if j == s.id_of p then None else request_of w.table j)) → told' ≡ w.told ++ answer_of s (asked_in asks w.table (s.id_of p)) (since s None w.end.state.got) p → IsAsking s asks w
+      → ((j : ℕ) → request_of table' j ≡ (if j == s.id_of p then None else request_of w.table j)) → told' ≡ w.told ++ answer_of s (asked_in asks w.table (s.id_of p)) (since s None w.end.state.got) p → length table' ≡ length w.table → IsAsking s asks w
       → IsAsking s asks (record w { end = end'; table = table'; told = told' })
-  took_kept end' table' told' p answers line is more awake free set new h =
+  took_kept end' table' told' p answers line is more awake free set new size h =
       let other = not_waiting s todo w.waiting (s.id_of p) free in
       let open' = asker_open s asks w.end.state.past todo (waits_in todo w.waiting) tabled w.told (s.id_of p) other h.kept in
       let before : Option Item = since s None (got_of w.end.state.past) in
@@ -215,6 +276,7 @@ module _ {T S A Q R : Type 0} (s : WireFormat Item A Q R) (keeps : Keeps s) (ask
         rests = λ e. not_both end'.state.machine.asleep awake e;
         paced = subst (IsPaced s w.starts asks) (sym is) h.paced;
         alone = λ id e few. ap (open_of s asks) is ∙ none_opens s p (open_of s asks w.end.state.past) (h.alone id e few);
+        from = subst (AskedFrom s (length table') asks) (sym is) (subst (λ n. AskedFrom s n asks w.end.state.past) (sym size) h.from);
       }
 
   -- a packet was taken that is no answer
@@ -232,6 +294,7 @@ module _ {T S A Q R : Type 0} (s : WireFormat Item A Q R) (keeps : Keeps s) (ask
     rests = λ e. not_both end'.state.machine.asleep awake e;
     paced = subst (IsPaced s w.starts asks) (sym is) h.paced;
     alone = λ id e few. ap (open_of s asks) is ∙ none_opens s p (open_of s asks w.end.state.past) (h.alone id e few);
+    from = subst (AskedFrom s (length w.table) asks) (sym is) h.from;
   }
 
   -- the packets before the next message were passed over
@@ -248,12 +311,13 @@ module _ {T S A Q R : Type 0} (s : WireFormat Item A Q R) (keeps : Keeps s) (ask
     rests = λ e. not_both w.end.state.machine.asleep awake e;
     paced = h.paced;
     alone = h.alone;
+    from = h.from;
   }
 
   -- the next message was acknowledged
   pub acked_kept : (end' : Line S) (m p : Item) → slice_get w.end.state.got w.acked ≡ Some m → s.is_message m ≡ true → p ≡ s.ack m → end'.state.past ≡ Sent p ∷ w.end.state.past → end'.state.got ≡ w.end.state.got
-      → end'.state.machine.asleep ≡ false → w.seen ≡ false → IsAsking s asks w → IsAsking s asks (record w { end = end'; acked = w.acked + 1 })
-  acked_kept end' m p at is_message made is got awake unseen h =
+      → end'.state.machine.asleep ≡ false → IsAsking s asks w → IsAsking s asks (record w { end = end'; acked = w.acked + 1 })
+  acked_kept end' m p at is_message made is got awake h =
       let silent : s.is_request (s.ack m) ≡ false = keeps.ack_asks (s.ack m) (keeps.acks m is_message).0 in
       let first : drop w.acked w.end.state.got ≡ m ∷ drop (w.acked + 1) w.end.state.got = first_of w.end.state.got w.acked m at in
       let opens : open_of s asks (Sent (s.ack m) ∷ w.end.state.past) ≡ open_of s asks w.end.state.past =
@@ -268,8 +332,9 @@ module _ {T S A Q R : Type 0} (s : WireFormat Item A Q R) (keeps : Keeps s) (ask
         asked = h.asked;
         saw = ap has_seen is ∙ h.saw;
         rests = λ e. not_both end'.state.machine.asleep awake e;
-        paced = subst (IsPaced s w.starts asks) (sym is) (λ asks_one few. not_both (s.is_request p) (ap s.is_request made ∙ silent) asks_one, h.saw ∙ unseen, h.paced);
+        paced = subst (IsPaced s w.starts asks) (sym is) (λ asks_one. not_both (s.is_request p) (ap s.is_request made ∙ silent) asks_one, h.paced);
         alone = λ id e few. ap (open_of s asks) (is ∙ ap (λ q. Sent q ∷ w.end.state.past) made) ∙ (opens ∙ h.alone id e few);
+        from = subst (AskedFrom s (length w.table) asks) (sym is) (λ waits. not_both (s.waits p) (keeps.asks p (ap s.is_request made ∙ silent)) waits, h.from);
       }
 
 module _ {T S A Q R : Type 0} (s : WireFormat Item A Q R) (keeps : Keeps s) (asks : List A) (w : Asking T S R) where
@@ -295,6 +360,7 @@ module _ {T S A Q R : Type 0} (s : WireFormat Item A Q R) (keeps : Keeps s) (ask
         rests = λ e. not_both end'.state.machine.asleep awake e;
         paced = subst (IsPaced s w.starts asks) (sym is) h.paced;
         alone = λ j e few. ap (open_of s asks) is ∙ none_opens s p (open_of s asks w.end.state.past) (h.alone j e few);
+        from = subst (AskedFrom s (length w.table) asks) (sym is) h.from;
       }
 
   -- the next request got a free id
@@ -320,6 +386,7 @@ module _ {T S A Q R : Type 0} (s : WireFormat Item A Q R) (keeps : Keeps s) (ask
         rests = λ e. not_both w.end.state.machine.asleep awake e;
         paced = h.paced;
         alone = λ j e few. none_stands s asks w h (alone few);
+        from = subst (λ n. AskedFrom s n asks w.end.state.past) (sym (ap length is ∙ length-set w.table (id - 1) (Some w.next))) h.from;
       }
 
   -- it was sent
@@ -349,8 +416,9 @@ module _ {T S A Q R : Type 0} (s : WireFormat Item A Q R) (keeps : Keeps s) (ask
         asked = λ j e. some_none j (sym e);
         saw = ap has_seen is ∙ h.saw;
         rests = λ e. not_both end'.state.machine.asleep awake e;
-        paced = subst (IsPaced s w.starts asks) (sym is) (λ _ few. h.alone id waits (omega (arith, few, sent_next s asks w h)), h.saw ∙ unseen, h.paced);
+        paced = subst (IsPaced s w.starts asks) (sym is) (λ _. (λ few. h.alone id waits (omega (arith, few, sent_next s asks w h)), h.saw ∙ unseen), h.paced);
         alone = λ j e few. some_none j (sym e);
+        from = subst (AskedFrom s (length w.table) asks) (sym is) (λ _. goes_free s asks w id a p waits at (ap s.id_of made ∙ same) h, h.from);
       }
 
   -- a request that has no answer was sent
@@ -374,8 +442,9 @@ module _ {T S A Q R : Type 0} (s : WireFormat Item A Q R) (keeps : Keeps s) (ask
         asked = λ j e. some_none j (sym e ∙ none);
         saw = ap has_seen is ∙ h.saw;
         rests = λ e. not_both end'.state.machine.asleep awake e;
-        paced = subst (IsPaced s w.starts asks) (sym is) (λ _ few. none_stands s asks w h (alone (omega (arith, few, sent_next s asks w h))), h.saw ∙ unseen, h.paced);
+        paced = subst (IsPaced s w.starts asks) (sym is) (λ _. (λ few. none_stands s asks w h (alone (omega (arith, few, sent_next s asks w h))), h.saw ∙ unseen), h.paced);
         alone = λ j e few. some_none j (sym e ∙ none);
+        from = subst (AskedFrom s (length w.table) asks) (sym is) (λ waits. not_both (s.waits p) (ap s.waits made ∙ (keeps.waits_ask 0 a ∙ silent)) waits, h.from);
       }
 
   marked_kept : IsAsking s asks w → AskerKept s asks (Marked ∷ w.end.state.past) (drop w.next asks) (waits_in (drop w.next asks) w.waiting) (asked_in asks w.table) w.told
@@ -457,6 +526,7 @@ module _ {T S A Q R : Type 0} (s : WireFormat Item A Q R) (keeps : Keeps s) (ask
     rests = λ e. not_both w.end.state.machine.asleep awake e;
     paced = subst (IsPaced s w.starts asks) (sym past) tt;
     alone = λ id e few. some_none id (sym e ∙ waiting);
+    from = subst (AskedFrom s (length w.table) asks) (sym past) tt;
   }
 
   -- why nothing is sent doesn't lie with the end
@@ -475,6 +545,55 @@ module _ {T S A Q R : Type 0} (s : WireFormat Item A Q R) (keeps : Keeps s) (ask
   need_in Answer h = tt
   need_in (Ack need) h = (h.4, h.5)
   need_in (Room need) h = (h.4, h.5)
+
+module _ {A Q R : Type 0} (s : WireFormat Item A Q R) where
+  -- what acknowledges the packets that came is what was sent of it, and what those that are still to be looked at want
+  acks_split : (past : List (Event Item)) (rest : List Item) → AcksKept s past rest → acks_for s (got_of past) ≡ filter s.is_ack (sent_of past) ++ acks_for s rest
+  acks_split past rest h =
+      ap (acks_for s) h.got_is ∙ (ap (map s.ack) (filter-append s.is_message h.done rest) ∙ (map-append s.ack (filter s.is_message h.done) (filter s.is_message rest) ∙ ap (λ l. l ++ acks_for s rest) (sym h.acks)))
+
+module _ {T S A Q R : Type 0} (s : WireFormat Item A Q R) (asks : List A) (w : Asking T S R) where
+  -- each message that came was acknowledged
+  pub leaves_none : (next count : ℕ) → count ≡ length w.end.state.got → nat_lt next count ≡ false → IsNext s w.end.state.got w.acked next → IsAsking s asks w → LeavesAcks s w.end
+  leaves_none next count is none far h =
+      let past : List (Event Item) = w.end.state.past in
+      let all : count ≤ next = grind (arith, nat_tests, none) in
+      let rest : drop next w.end.state.got ≡ [] = drop_all next w.end.state.got (omega (arith, is, all)) in
+      record { left = []; acks = sym (acks_whole s past (subst (AcksKept s past) rest (acks_skipped s w.end.state.got past w.acked next far h.acks))) ∙ sym (append-nil (filter s.is_ack (sent_of past))); full = inl refl }
+
+  -- what acknowledges the next one found too little room
+  pub leaves_full : (end' : Line S) (m : Item) → slice_get w.end.state.got w.acked ≡ Some m → s.is_message m ≡ true → end'.state.past ≡ w.end.state.past → (end'.state.machine.room ≤ length (s.ack m).packet + 1) × (end'.state.machine.words ≡ length (s.ack m).packet) → IsAsking s asks w
+      → LeavesAcks s end'
+  leaves_full end' m at is same found h =
+      let past : List (Event Item) = w.end.state.past in
+      let rest : List Item = drop w.acked w.end.state.got in
+      let more : List Item = drop (w.acked + 1) w.end.state.got in
+      let next : acks_for s rest ≡ s.ack m ∷ acks_for s more = ap (acks_for s) (first_of w.end.state.got w.acked m at) ∙ ap (λ b. map s.ack (cond b (m ∷ filter s.is_message more) (filter s.is_message more))) is in
+      record {
+        left = acks_for s rest;
+        acks = subst (λ (l : List (Event Item)). acks_for s (got_of l) ≡ filter s.is_ack (sent_of l) ++ acks_for s rest) (sym same) (acks_split s past rest h.acks);
+        full = inr (record { packet = s.ack m; rest = acks_for s more; first = next; room = found.0; words = found.1 });
+      }
+
+module _ {S A Q R : Type 0} (s : WireFormat Item A Q R) (e e' : Line S) where
+  met_still : (left : List Item) → (e'.state.machine.room ≡ e.state.machine.room) × (e'.state.machine.words ≡ e.state.machine.words) → (left ≡ []) ⊎ MetFull left e → (left ≡ []) ⊎ MetFull left e'
+  met_still left same (inl none) = inl none
+  met_still left same (inr met) = inr (record { packet = met.packet; rest = met.rest; first = met.first; room = omega (arith, same.0, met.room); words = same.1 ∙ met.words })
+
+  -- the mark leaves it so
+  pub leaves_marked : e'.state.past ≡ Marked ∷ e.state.past → (e'.state.machine.room ≡ e.state.machine.room) × (e'.state.machine.words ≡ e.state.machine.words) → LeavesAcks s e → LeavesAcks s e'
+  leaves_marked past same h = record {
+    left = h.left;
+    acks = subst (λ (l : List (Event Item)). acks_for s (got_of l) ≡ filter s.is_ack (sent_of l) ++ h.left) (sym past) h.acks;
+    full = met_still h.left same h.full;
+  }
+
+module _ {T S A Q R : Type 0} (s : WireFormat Item A Q R) (besides : Bool) (asks : List A) (w : Asking T S R) where
+  pub ends_acked : (how : Ended) → AskLacks s besides asks how w → EndsAcked s how w.end
+  ends_acked EndMarked h = tt
+  ends_acked EndPeerMarked h = h.1
+  ends_acked (EndRoom packets words left) h = tt
+  ends_acked EndBroken h = tt
 
 pub ask_trans : {T S R C : Type 0} (channel : S → C) (told_by : S → Option Told) (u v w : Asking T S R) → AsksOn channel told_by u v → AsksOn channel told_by v w → AsksOn channel told_by u w
 ask_trans channel told_by u v w a b = record { tells = b.tells ∙ a.tells; protocol = b.protocol ∙ a.protocol; relid = b.relid ∙ a.relid; starts = b.starts ∙ a.starts; window = b.window ∙ a.window; end = record { seat = b.end.seat ∙ a.end.seat; side = b.end.side ∙ a.end.side } }

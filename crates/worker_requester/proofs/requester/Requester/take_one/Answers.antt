@@ -69,7 +69,7 @@ invariant_of-self-in-Packet g c =
       bare = l.bare;
       live = took_kept s (g.T.Protocol.keeps c.self.inside.protocol) asks _ _ _ _ t.0 answers c.take.ensures.list t.1 t.2 c.in-Packet.ensures.finds.awake e (λ j. c.settle.ensures.closed j ∙ ap (λ q. if j == s.id_of q then None else request_of c.self.inside.table j) same)
           (c.settle.ensures.told ∙ (ap (λ q. c.self.inside.replies.items ++ answer_of s (asked_in asks c.self.inside.table (s.id_of q)) (item_in g.T.Protocol.said c.came_before-before.result.now []) q) same
-          ∙ ap (λ b. c.self.inside.replies.items ++ answer_of s (asked_in asks c.self.inside.table (s.id_of t.0)) b t.0) before)) l.live;
+          ∙ ap (λ b. c.self.inside.replies.items ++ answer_of s (asked_in asks c.self.inside.table (s.id_of t.0)) b t.0) before)) c.settle.ensures.size l.live;
       replies = omega (arith, l.replies, c.settle.ensures.room, c.settle.ensures.capacity);
       spare = omega (arith, l.spare, c.settle.ensures.size);
       size = omega (arith, l.size, c.settle.ensures.size);
