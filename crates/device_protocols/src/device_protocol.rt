@@ -1,5 +1,5 @@
 //! The protocol of a channel of any kind.
-ghost use Rattle.std.specs.Prelude.{◌≡◌, ◌≤◌, ◌<◌, ◌^◌, ◌&&◌, ◌==◌, ◌⊎◌, ◌∷◌, ◌+◌, ◌++◌, [], length, take, true, false, Some, None, IsSome, MatchOption, is_some, vec_len, vec_capacity};
+ghost use Rattle.std.specs.Prelude.{◌≡◌, ◌≤◌, ◌<◌, ◌^◌, ◌&&◌, ◌==◌, ◌⊎◌, ◌∷◌, ◌+◌, ◌++◌, [], length, take, slice_get, true, false, Some, None, IsSome, MatchOption, is_some, vec_len, vec_capacity};
 ghost use Rattle.std.specs.List.{AllByRecursion};
 ghost use Rattle.ring_machine.specs.States.{IsPacket};
 ghost use Rattle.channel_protocol.specs.Listed.{answer_in, has_message_in, listed_packet, message_in, packet_in};

@@ -27,10 +27,11 @@ use Rattle.channel_model.proofs.Opens.{by_test, filter_yes, filter_no}
 use Rattle.channel_model.proofs.Counts.{calls_left}
 use Rattle.channel_model.proofs.Serving.{server_took, server_served, server_passed, server_gave, server_quiet, server_new, server_ends, server_follows, server_breaks}
 use Rattle.worker_port.specs.Line.{Line, SleepsFor}
+use Rattle.ring_core.specs.declared.room.Room.{Room as Spare}
 use Rattle.worker_port.specs.Owed.{is_nil, need_of, MetFull}
 use Rattle.worker_port.specs.Rooms.{ServedWithin, AskedOver, ServeLacksFor, OnlyWith, is_asked}
 use Rattle.txn_table.specs.Open.{HasNone}
-use Rattle.worker_server.specs.Serving.{Responder, Serving, IsServing, Rests, HasServed, HasToWait, Closes, ServesPacket, Orders, EndsAll, BreaksOff, CallsEach, AnswersAll, LetsGo, LacksPlace, LeftOff, EndsBy, LeavesOff, LacksRoom, ServesOn, IsFull, own_in, has_done, has_served, lacks_call, marked_by}
+use Rattle.worker_server.specs.Serving.{Responder, Serving, IsServing, Rests, HasRoomFor, HasServed, HasToWait, Closes, ServesPacket, Orders, EndsAll, BreaksOff, CallsEach, AnswersAll, LetsGo, LacksPlace, LeftOff, EndsBy, LeavesOff, LacksRoom, ServesOn, IsFull, own_in, has_done, has_served, lacks_call, marked_by}
 use Rattle.worker_server.proofs.OwnLaws.{own_within, full_open, none_full, table_empty}
 use Rattle.worker_port.specs.declared.ended.Ended.{Ended}
 use Rattle.worker_port.specs.declared.ended.Ended.TheVariants.{Marked as EndedMarked, PeerMarked, Room, Broken as EndedBroken}
@@ -49,6 +50,19 @@ only_on false f x = x
 -- the end that met Full has done nothing since of which the room that it found tells
 pub full_still : {E : Type 0} → (owed : List Item) (old new : Line E) → (new.state.machine.room ≡ old.state.machine.room) × (new.state.machine.words ≡ old.state.machine.words) → MetFull owed old → MetFull owed new
 full_still owed old new same full = record { packet = full.packet; rest = full.rest; first = full.first; room = omega (arith, full.room, same.0); words = same.1 ∙ full.words }
+
+-- the list of what was sent has room for what is owed as long as neither changes
+pub room_still : {E : Type 0} (owed : List Item) (old new : Line E) → new.spare_sent ≡ old.spare_sent → HasRoomFor owed old → HasRoomFor owed new
+room_still [] old new same room = tt
+room_still (p ∷ ps) old new same room = subst (λ (r : Spare). (0 < r.packets) × (length p.packet ≤ r.words)) (sym same) room
+
+pub room_on : {T S E Q R : Type 0} (old new : Serving T S E Q R) → new.responder ≡ old.responder → new.end.spare_sent ≡ old.end.spare_sent → HasRoomFor old.responder.owed old.end → HasRoomFor new.responder.owed new.end
+room_on old new responder same room = subst (λ d. HasRoomFor d.owed new.end) (sym responder) (room_still old.responder.owed old.end new.end same room)
+
+-- nothing that is owed needs none
+pub room_none : {E : Type 0} (owed : List Item) (e : Line E) → owed ≡ [] → HasRoomFor owed e
+room_none [] e none = tt
+room_none (p ∷ ps) e none = absurd (cc)
 
 module _ {T S E Q R : Type 0} (w : Serving T S E Q R) where
   -- a worker that has done what its plan says
@@ -446,8 +460,8 @@ module _ {T S E A Q R : Type 0} (s : WireFormat Item A Q R) (keeps : Keeps s) (b
   drains end' is h seen = ap is_drained is ∙ ap (λ b. b || is_drained w.end.state.past) (h.saw ∙ seen)
 
   -- it sleeps
-  pub rests_at : (end' : Line E) (want' : Option ℕ) → want' ≡ need_of w.responder.owed → SleepsFor want' end' → end'.state.got ≡ w.end.state.got → (is_nil w.responder.owed ≡ true → HasToWait s besides w) → end'.state.past ≡ w.end.state.past → w.seen ≡ false → Rests s besides (record w { end = end'; want = want' })
-  rests_at end' want' want armed got waits is unseen = record { want = want; armed = armed; waits = λ e. still (waits e); unseen = unseen }
+  pub rests_at : (end' : Line E) (want' : Option ℕ) → want' ≡ need_of w.responder.owed → SleepsFor want' end' → end'.spare_sent ≡ w.end.spare_sent → HasRoomFor w.responder.owed w.end → end'.state.got ≡ w.end.state.got → (is_nil w.responder.owed ≡ true → HasToWait s besides w) → end'.state.past ≡ w.end.state.past → w.seen ≡ false → Rests s besides (record w { end = end'; want = want' })
+  rests_at end' want' want armed spare room got waits is unseen = record { want = want; armed = armed; room = room_still w.responder.owed w.end end' spare room; waits = λ e. still (waits e); unseen = unseen }
     where
       still : HasToWait s besides w → HasToWait s besides (record w { end = end'; want = want' })
       still (inl (all, more)) = inl (all ∙ ap length (sym got), more)

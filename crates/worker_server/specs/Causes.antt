@@ -1,7 +1,7 @@
 -- Why a turn of the serving worker moved, or left the end asleep: what the turn itself did.
 use Rattle.page_kept.specs.declared.item.Item.{Item}
 use Rattle.worker_port.specs.Line.{Line}
-use Rattle.std.specs.Prelude.{ℕ, ◌≡◌, ◌⊎◌, true, false, List, ◌∷◌, Option}
+use Rattle.std.specs.Prelude.{◌≡◌, ◌⊎◌, true, false, List, ◌∷◌, Option}
 use Rattle.channel_trace.specs.declared.event.Event.{Event}
 use Rattle.channel_trace.specs.declared.event.Event.TheVariants.{Empty}
 use Rattle.ring_core.specs.declared.told.Told.{Told}

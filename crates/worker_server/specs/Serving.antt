@@ -16,7 +16,7 @@ use Rattle.channel_model.specs.Server.{Serves}
 use Rattle.channel_model.specs.Channel.{RequestPlan, count_of, held_of, ServerEnds, ServerBreaks}
 use Rattle.channel_model.specs.Workers.{left_after, ServerKept, OwnKept}
 use Rattle.worker_port.specs.Line.{IsBroken, IsReady, IsSameEnd, LacksTake, Line, SleepsFor}
-use Rattle.worker_port.specs.Owed.{is_nil, need_of, LacksSend, MetFull}
+use Rattle.worker_port.specs.Owed.{is_nil, need_of, HasSendRoom, LacksSend, MetFull}
 use Rattle.worker_port.specs.Rooms.{ServedWithin, ServeLacksFor, KeepsRoom, OnlyWith, is_asked}
 use Rattle.worker_port.specs.declared.ended.Ended.{Ended}
 use Rattle.worker_port.specs.declared.ended.Ended.TheVariants.{Marked, PeerMarked, Room, Broken as EndedBroken}
@@ -105,10 +105,17 @@ HasServed s besides w = (w.served ≡ length w.end.state.got) ⊎ OnlyWith besid
 abbrev pub HasToWait : {T S E A Q R : Type 0} → WireFormat Item A Q R → Bool → Serving T S E Q R → Type 0
 HasToWait s besides w = ((w.served ≡ length w.end.state.got) × (has_done w ≡ false)) ⊎ ((w.served < length w.end.state.got) × OnlyWith besides (AllOwnOpen s 64 w.end.state.past))
 
--- asleep before the other end's mark was seen, with the need of the packet that waits as its want; where none waits there is nothing that it could serve
+-- the list of what was sent has room for the first of these packets, if there is one
+abbrev pub HasRoomFor : {E : Type 0} → List Item → Line E → Type 0
+HasRoomFor [] e = Unit {0}
+HasRoomFor (p ∷ ps) e = HasSendRoom p.packet e
+
+-- asleep before the other end's mark was seen, with the need of the packet that waits as its want, for which the list of what was sent has room; where none
+-- waits there is nothing that it could serve
 pub record Rests {T S E A Q R : Type 0} (s : WireFormat Item A Q R) (besides : Bool) (w : Serving T S E Q R) : Type 0 where
   pub want : w.want ≡ need_of w.responder.owed
   pub armed : SleepsFor w.want w.end
+  pub room : HasRoomFor w.responder.owed w.end
   pub waits : is_nil w.responder.owed ≡ true → HasToWait s besides w
   pub unseen : w.seen ≡ false
 
@@ -236,7 +243,7 @@ Turns left_at s besides (TurnEnded how) w = EndsBy s besides how w w.end w.respo
 -- a packet that is owed was sent, or nothing changed
 abbrev pub GaveOne : {T S E Q R : Type 0} → Given → Serving T S E Q R → Serving T S E Q R → Type 0
 GaveOne GivenSent old new = Unit {0}
-GaveOne GivenFull old new = (new.responder ≡ old.responder) × (new.served ≡ old.served) × (new.end.state.got ≡ old.end.state.got) × (new.seen ≡ old.seen) × (new.end.state.past ≡ old.end.state.past) × MetFull new.responder.owed new.end
+GaveOne GivenFull old new = (new.responder ≡ old.responder) × (new.served ≡ old.served) × (new.end.state.got ≡ old.end.state.got) × (new.seen ≡ old.seen) × (new.end.state.past ≡ old.end.state.past) × MetFull new.responder.owed new.end × HasRoomFor new.responder.owed new.end
 GaveOne (GivenLacks packets words) old new = LacksSend packets words new.responder.owed new.end × (got_of new.end.state.past ≡ new.end.state.got)
 GaveOne GivenBroken old new = Unit {0}
 

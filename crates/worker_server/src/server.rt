@@ -6,7 +6,7 @@ ghost use Rattle.worker_server.specs.Causes.{GivesLast, GivesOne, GivesOrTakes, 
 ghost use Rattle.worker_port.specs.Line.{new_end, IsLine, line_of, past_as, Finds, IsBroken, IsReady, IsSameEnd, HasTakeRoom, LacksTake, TookOne};
 ghost use Rattle.worker_port.specs.Owed.{is_nil, LacksSend, MetFull};
 ghost use Rattle.worker_port.specs.Rooms.{KeepsRoom, OnlyWith, ServeLacksFor, ServedWithin, broke, is_broken};
-ghost use Rattle.worker_server.specs.Serving.{Closes, EndsBy, HasServed, HasToWait, Lacks, LacksRoom, Turns, GaveOne, ServeEnds, ServesOn, BreaksOff, StandsGiven, calls_behind, has_done, lacks_call, marked_by};
+ghost use Rattle.worker_server.specs.Serving.{Closes, EndsBy, HasRoomFor, HasServed, HasToWait, Lacks, LacksRoom, Turns, GaveOne, ServeEnds, ServesOn, BreaksOff, StandsGiven, calls_behind, has_done, lacks_call, marked_by};
 ghost use Rattle.channel_model.specs.Acks.{AllOwnOpen, OwnFrom};
 ghost use Rattle.worker_port.specs.declared.found.Found.TheVariants.{Nothing as NothingFound, Broken as BrokenFound};
 ghost use Rattle.worker_server.specs.declared.put.Given.TheVariants.{Broken as BrokenGiven};
@@ -113,6 +113,7 @@ impl<T: Protocol, S: Device<T>, E: Parks + Drop> Server<T, S, E> {
         requires ready { IsReady self.old.end }
         requires room { HasTakeRoom self.old.end }
         ensures took { TookOne result self.old.end.state self.new.end.state }
+        ensures sent { self.new.end.spare_sent ≡ self.old.end.spare_sent }
         ensures drained { result ≡ NothingFound → self.old.seen ≡ true → is_drained self.new.end.state.past ≡ true }
         ensures kept { (self.new.responder.owed ≡ self.old.responder.owed) × (self.new.served ≡ self.old.served) × (self.new.seen ≡ self.old.seen) }
         ensures none { result ≡ NothingFound → self.new.responder ≡ self.old.responder }
@@ -178,6 +179,7 @@ impl<T: Protocol, S: Device<T>, E: Parks + Drop> Server<T, S, E> {
     // Arms for the room that the packet needs that is owed, and sleeps where nothing is to be done.
     fn arm_or_sleep(&mut self) -> Turn
         requires ready { IsReady self.old.end }
+        requires room { HasRoomFor self.old.responder.owed self.old.end }
         requires waits { is_nil self.old.responder.owed ≡ true → HasToWait (T.format self.old.responder.protocol) (T.besides self.old.responder.protocol) self.old }
         requires unseen { self.old.seen ≡ false }
         ensures turns { Turns S.left (T.format self.new.responder.protocol) (T.besides self.new.responder.protocol) result self.new }
@@ -254,9 +256,10 @@ impl<T: Protocol, S: Device<T>, E: Parks + Drop> Server<T, S, E> {
     }
 
     // Takes a packet. Where none waits once the other end's mark was seen, and nothing is owed, this end follows; else it rests.
-    #[tactic(auto, using(crate::proofs::ServeSteps::wait_served, crate::proofs::ServeSteps::waits_on))]
+    #[tactic(auto, using(crate::proofs::ServeSteps::wait_served, crate::proofs::ServeSteps::waits_on, crate::proofs::ServeSteps::room_on))]
     fn take_or_rest(&mut self) -> Turn
         requires ready { IsReady self.old.end }
+        requires room { HasRoomFor self.old.responder.owed self.old.end }
         requires waits { is_nil self.old.responder.owed ≡ true → HasToWait (T.format self.old.responder.protocol) (T.besides self.old.responder.protocol) self.old }
         requires unseen { is_nil self.old.responder.owed ≡ false → self.old.seen ≡ false }
         ensures turns { Turns S.left (T.format self.new.responder.protocol) (T.besides self.new.responder.protocol) result self.new }
@@ -343,7 +346,7 @@ impl<T: Protocol, S: Device<T>, E: Parks + Drop> Server<T, S, E> {
     }
 
     // Stops where the plan says so, with nothing owed and all served. Where its own table is full it takes first, since an acknowledgement makes a place free.
-    #[tactic(auto, using(crate::proofs::ServeSteps::waits_full))]
+    #[tactic(auto, using(crate::proofs::ServeSteps::waits_full, crate::proofs::ServeSteps::room_none))]
     fn stop_or_take(&mut self) -> Turn
         requires ready { IsReady self.old.end }
         requires owed { self.old.responder.owed ≡ [] }
