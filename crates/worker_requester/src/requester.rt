@@ -643,6 +643,17 @@ impl<T: Protocol, S: Parks + Drop> Requester<T, S> {
         self.work(gate)
     }
 
+    /// A law of a worker that hasn't ended, which does nothing: what it sent so far are at most its asks and one acknowledgement for each message, each
+    /// request before the other end's mark was seen, and under an id that was free.
+    pub fn sends_so_far(&self)
+        requires unmarked { self.now.end.state.machine.marked ≡ false }
+        ensures sent { AskedWithin (T.format self.now.protocol) (length (T.asks self.now.protocol)) self.now.end.state.past }
+        ensures paced { IsPaced (T.format self.now.protocol) self.now.starts (T.asks self.now.protocol) self.now.end.state.past }
+        ensures ids { AskedFrom (T.format self.now.protocol) (length self.now.table) (T.asks self.now.protocol) self.now.end.state.past }
+    {
+        let _ = &self.next;
+    }
+
     // Sleeps until the signal was up.
     fn sleep<R: Wait>(&mut self, rt: &R)
         requires asleep { self.old.end.state.machine.asleep ≡ true }
