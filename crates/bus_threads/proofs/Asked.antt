@@ -1,5 +1,6 @@
 -- How many packets of an end that asks ask the device for something.
 use Rattle.std.proofs.Common.{◌≡◌, ℕ, ◌≤◌, List, [], ◌∷◌, ◌++◌, length, filter, Bool, false, refl, ap, ◌∙◌, arith, None, is_some}
+use Rattle.page_kept.specs.declared.item.Item.{Item}
 use Rattle.channel_trace.specs.declared.event.Event.{Event}
 use Rattle.channel_trace.specs.Runs.{sent_of}
 use Rattle.channel_model.specs.WireFormat.{WireFormat, Keeps}
@@ -13,16 +14,16 @@ use Rattle.worker_port.specs.Rooms.{is_asked}
 use Rattle.worker_port.specs.declared.ended.Ended.{Ended}
 use Rattle.worker_port.specs.declared.ended.Ended.TheVariants.{Marked, PeerMarked, Room, Broken}
 
-filter_le : (f : List ℕ → Bool) (ps : List (List ℕ)) → length (filter f ps) ≤ length ps
+filter_le : (f : Item → Bool) (ps : List Item) → length (filter f ps) ≤ length ps
 filter_le f [] = omega arith
 filter_le f (p ∷ ps) =
     by_test (f p)
     (λ e. omega (arith, ap length (filter_first f p ps e), filter_le f ps))
     (λ e. omega (arith, ap length (filter_past f p ps e), filter_le f ps))
 
-module _ {A Q R : Type 0} (s : WireFormat (List ℕ) A Q R) (keeps : Keeps s) where
+module _ {A Q R : Type 0} (s : WireFormat Item A Q R) (keeps : Keeps s) where
   -- the start-up asks nothing of the device
-  asked_few : (start script : List A) (ps : List (List ℕ)) → AllFixed s start → Encoded s (start ++ script) ps → length (filter (is_asked s) ps) ≤ length script
+  asked_few : (start script : List A) (ps : List Item) → AllFixed s start → Encoded s (start ++ script) ps → length (filter (is_asked s) ps) ≤ length script
   asked_few [] script ps fixed h = omega (arith, filter_le (is_asked s) ps, encoded_few s script ps h)
   asked_few (a ∷ start) script [] fixed h = omega arith
   asked_few (a ∷ start) script (p ∷ ps) fixed h =
@@ -30,7 +31,7 @@ module _ {A Q R : Type 0} (s : WireFormat (List ℕ) A Q R) (keeps : Keeps s) wh
       omega (arith, ap length (filter_past (is_asked s) p ps none), asked_few start script ps fixed.1 h.1)
 
   -- nothing but requests asks it
-  requests_alone : (ps : List (List ℕ)) → length (filter (is_asked s) ps) ≤ length (filter (is_asked s) (filter s.is_request ps))
+  requests_alone : (ps : List Item) → length (filter (is_asked s) ps) ≤ length (filter (is_asked s) (filter s.is_request ps))
   requests_alone [] = omega arith
   requests_alone (p ∷ ps) =
       by_test (s.is_request p)
@@ -41,12 +42,12 @@ module _ {A Q R : Type 0} (s : WireFormat (List ℕ) A Q R) (keeps : Keeps s) wh
       (λ e. let none : is_asked s p ≡ false = ap is_some (keeps.unread p (keeps.asks p e)) in
       omega (arith, requests_alone ps, ap length (filter_past (is_asked s) p ps none), ap (λ l. length (filter (is_asked s) l)) (filter_past s.is_request p ps e)))
 
-  encoded_by : (how : Ended) (start script : List A) (past : List (Event (List ℕ))) (told : List R) → AsksBy s how (start ++ script) past told → Encoded s (start ++ script) (requests_of s past)
+  encoded_by : (how : Ended) (start script : List A) (past : List (Event Item)) (told : List R) → AsksBy s how (start ++ script) past told → Encoded s (start ++ script) (requests_of s past)
   encoded_by Marked start script past told by = (by.0 (record { start = start; script = script; stop = None }) refl).encoded
   encoded_by PeerMarked start script past told by = (by.0 (record { start = start; script = script; stop = None }) refl).encoded
   encoded_by (Room packets words left) start script past told by = by.encoded
   encoded_by Broken start script past told by = by.encoded
 
   -- an end that ended asked no more of the device than its script does
-  pub few_asked : (how : Ended) (start script : List A) (past : List (Event (List ℕ))) (told : List R) → AllFixed s start → AsksBy s how (start ++ script) past told → length (filter (is_asked s) (sent_of past)) ≤ length script
+  pub few_asked : (how : Ended) (start script : List A) (past : List (Event Item)) (told : List R) → AllFixed s start → AsksBy s how (start ++ script) past told → length (filter (is_asked s) (sent_of past)) ≤ length script
   few_asked how start script past told fixed by = omega (arith, requests_alone (sent_of past), asked_few start script (requests_of s past) fixed (encoded_by how start script past told by))

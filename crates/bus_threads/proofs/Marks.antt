@@ -1,5 +1,6 @@
 -- Which of the two ends of a channel marked itself first.
 use Rattle.std.proofs.Common.{◌≡◌, ◌⊎◌, ℕ, Bool, true, false, List, [], ◌∷◌, ◌++◌, Option, Some, None, refl, sym, ap, ◌∙◌, subst, inl, inr}
+use Rattle.page_kept.specs.declared.item.Item.{Item}
 use Rattle.channel_trace.specs.declared.event.Event.{Event}
 use Rattle.channel_trace.specs.declared.event.Event.TheVariants.{Sent, Got, Empty, Marked as MarkedEvent, Saw}
 use Rattle.channel_trace.specs.Laws.{AreOfOneRun, EndsAtMark, Follows, HasFirstMark, MarksFirst}
@@ -11,7 +12,7 @@ use Rattle.channel_model.specs.WireFormat.{WireFormat}
 use Rattle.hist_lock.specs.Seat.{Call}
 use Rattle.worker_requester.specs.Asking.{AsksBy}
 use Rattle.worker_server.specs.Serving.{Serving, EndsBy}
-use Rattle.ring_core.specs.Seen.{Seen}
+use Rattle.worker_port.specs.Line.{Line}
 use Rattle.worker_port.specs.declared.ended.Ended.{Ended}
 use Rattle.worker_port.specs.declared.ended.Ended.TheVariants.{Marked, PeerMarked, Room, Broken}
 use Rattle.bus_threads.specs.Pairs.{MarkedFirst, is_whole}
@@ -23,13 +24,13 @@ EndsSo PeerMarked past = (has_marked past ≡ true) × (has_seen past ≡ true)
 EndsSo (Room packets words left) past = ⊥
 EndsSo Broken past = ⊥
 
-pub asks_so : {A Q R : Type 0} (s : WireFormat (List ℕ) A Q R) (how : Ended) (asks : List A) (past : List (Event (List ℕ))) (told : List R) → is_whole how ≡ true → AsksBy s how asks past told → EndsSo how past
+pub asks_so : {A Q R : Type 0} (s : WireFormat Item A Q R) (how : Ended) (asks : List A) (past : List (Event Item)) (told : List R) → is_whole how ≡ true → AsksBy s how asks past told → EndsSo how past
 asks_so s Marked asks past told whole by = (by.1, by.2)
 asks_so s PeerMarked asks past told whole by = (by.1, by.2)
 asks_so s (Room packets words left) asks past told whole by = absurd (cc (whole))
 asks_so s Broken asks past told whole by = absurd (cc (whole))
 
-pub serves_so : {T S E A Q R : Type 0} (s : WireFormat (List ℕ) A Q R) (besides : Bool) (how : Ended) (w : Serving T S E Q R) (e : Seen E) (calls : List (Call Q R)) → is_whole how ≡ true → EndsBy s besides how w e calls → EndsSo how e.state.past
+pub serves_so : {T S E A Q R : Type 0} (s : WireFormat Item A Q R) (besides : Bool) (how : Ended) (w : Serving T S E Q R) (e : Line E) (calls : List (Call Q R)) → is_whole how ≡ true → EndsBy s besides how w e calls → EndsSo how e.state.past
 serves_so s besides Marked w e calls whole by = (by.3, by.4)
 serves_so s besides PeerMarked w e calls whole by = (by.3, by.4)
 serves_so s besides (Room packets words left) w e calls whole by = absurd (cc (whole))

@@ -1,6 +1,8 @@
 -- What both workers of a pair come to, once they ended.
 use Rattle.std.proofs.Common.{◌≡◌, ◌≤◌, ◌+◌, ℕ, length, filter, arith, Bool, true, false, List, [], ◌++◌, map, Option, refl, sym, ap, ◌∙◌, subst}
 use Rattle.std.proofs.lemmas.List.{length-map, append-nil}
+use Rattle.page_kept.specs.declared.item.Item.{Item}
+use Rattle.page_kept.specs.Items.{packets}
 use Rattle.channel_trace.specs.declared.event.Event.{Event}
 use Rattle.channel_trace.specs.Laws.{AreOfOneRun}
 use Rattle.channel_trace.specs.Runs.{sent_of, got_of}
@@ -13,7 +15,10 @@ use Rattle.script_lines.specs.declared.line.Ask.{Ask}
 use Rattle.bus_script.specs.declared.outcome.Reply.{Reply}
 use Rattle.device_formats.specs.Formats.{besides_on, format_of}
 use Rattle.device_formats.specs.Wants.{startup}
-use Rattle.device_formats.proofs.FormatLaws.{keeps, start_is_fixed}
+use Rattle.device_formats.specs.ItemFormats.{item_format}
+use Rattle.device_formats.proofs.FormatLaws.{start_is_fixed}
+use Rattle.device_formats.proofs.ItemFormatLaws.{keeps_items}
+use Rattle.channel_protocol.proofs.PacketRuns.{packets_bare}
 use Rattle.device_formats.specs.ChannelScript.{ChannelScript, asks_of}
 use Rattle.device_formats.specs.declared.want.Want.{Want}
 use Rattle.device_formats.specs.declared.want.Want.TheVariants.{Script}
@@ -30,8 +35,10 @@ use Rattle.worker_port.specs.Rooms.{AskedWithin, AskLacksFor, has_room, is_asked
 use Rattle.worker_server.specs.Serving.{Serving, EndsAll, EndsBy, calls_behind}
 use Rattle.worker_port.specs.declared.ended.Ended.{Ended}
 use Rattle.worker_port.specs.declared.ended.Ended.TheVariants.{Marked, PeerMarked, Room, Broken}
+use Rattle.worker_port.specs.Line.{IsLine, Line, line_of}
+use Rattle.worker_port.proofs.ItemRuns.{items_got, items_run, items_sent}
 use Rattle.worker_port.proofs.RoomLaws.{never_lacks}
-use Rattle.worker_pair.specs.Leaving.{Leaves, LeavesAsked, LeavesServed, WorkerDone}
+use Rattle.worker_pair.specs.Leaving.{Leaves, LeavesAsked, LeavesServed, WorkerDone, items_in, told_at}
 use Rattle.worker_pair.specs.Pairs.{ArePair, PlansAgree}
 use Rattle.worker_pair.specs.Seats.{served_at, device_place, IsSameSeat, at_guest, at_host}
 use Rattle.worker_pair.specs.declared.device_seat.DeviceSeat.{DeviceSeat}
@@ -41,16 +48,16 @@ use Rattle.worker_pair.proofs.SeatLaws.{same_place}
 use Rattle.bus_threads.specs.Pairs.{MadeFor, MarkedFirst, RunsPair, ComesBack, ended_at, first_of, is_whole}
 use Rattle.bus_threads.specs.declared.pair.PairDone.{PairDone}
 use Rattle.bus_threads.proofs.Asked.{few_asked}
-use Rattle.bus_threads.proofs.Joining.{BothEnd, told_is, runs}
+use Rattle.bus_threads.proofs.Joining.{BothEnd, fixed_items, told_is, runs}
 use Rattle.bus_threads.proofs.Marks.{asks_so, serves_so, stops_nowhere, marked_first}
 
 -- what the joined ends of a channel tell: their lists, and one run of both
 pub record Joins (asker server : Seen TableSeat) (lists : Lists) (side : Side) : Type 0 where
-  pub one : AreOfOneRun asker.state.past server.state.past
-  pub asker_sent : sent_by side lists ≡ sent_of asker.state.past
-  pub asker_got : got_by side lists ≡ got_of asker.state.past
-  pub server_sent : sent_by (other side) lists ≡ sent_of server.state.past
-  pub server_got : got_by (other side) lists ≡ got_of server.state.past
+  pub one : AreOfOneRun (items_in asker) (items_in server)
+  pub asker_sent : sent_by side lists ≡ packets (sent_of (items_in asker))
+  pub asker_got : got_by side lists ≡ packets (got_of (items_in asker))
+  pub server_sent : sent_by (other side) lists ≡ packets (sent_of (items_in server))
+  pub server_got : got_by (other side) lists ≡ packets (got_of (items_in server))
 
 -- both workers have ended, and their ends were joined
 pub record BothLeave (a : Asking ChannelScript TableSeat Reply) (s : Serving ChannelScript DeviceSeat TableSeat Ask Reply) (asked served : WorkerDone) (lists : Lists) (side : Side) : Type 0 where
@@ -66,44 +73,44 @@ is_whole_of (Room packets words left) is honest = absurd (cc (is))
 is_whole_of Broken is honest = absurd (cc (honest))
 
 -- the one that asks asks no more of the device than the other one has calls for, unless that one stops
-few_for : (a : Asking ChannelScript TableSeat Reply) (s : Serving ChannelScript DeviceSeat TableSeat Ask Reply) (asked : WorkerDone) → PlansAgree a s → LeavesAsked a asked → s.stops ≡ false → length (filter (is_asked (format_of s.responder.protocol.kind)) (sent_of asked.end.state.past)) ≤ s.serve
+few_for : (a : Asking ChannelScript TableSeat Reply) (s : Serving ChannelScript DeviceSeat TableSeat Ask Reply) (asked : WorkerDone) → PlansAgree a s → LeavesAsked a asked → s.stops ≡ false → length (filter (is_asked (item_format s.responder.protocol.kind)) (sent_of (items_in asked.end))) ≤ s.serve
 few_for a s asked agree leaves go =
     let kind = a.protocol.kind in
-    let few = few_asked (format_of kind) (keeps kind) asked.ended (startup kind a.protocol.sub a.protocol.subs) (map Script a.protocol.asks) asked.end.state.past asked.replies.items (start_is_fixed kind a.protocol.sub a.protocol.subs) leaves.asks in
-    omega (arith, ap (λ k. length (filter (is_asked (format_of k)) (sent_of asked.end.state.past))) agree.kind, few, length-map a.protocol.asks Script, agree.calls go)
+    let few = few_asked (item_format kind) (keeps_items kind) asked.ended (startup kind a.protocol.sub a.protocol.subs) (map Script a.protocol.asks) (items_in asked.end) asked.replies.items (fixed_items kind (startup kind a.protocol.sub a.protocol.subs) (start_is_fixed kind a.protocol.sub a.protocol.subs)) leaves.asks in
+    omega (arith, ap (λ k. length (filter (is_asked (item_format k)) (sent_of (items_in asked.end)))) agree.kind, few, length-map a.protocol.asks Script, agree.calls go)
 
 -- neither ended for want of room, or of a call
 both_whole : (a : Asking ChannelScript TableSeat Reply) (s : Serving ChannelScript DeviceSeat TableSeat Ask Reply) (asked served : WorkerDone) (lists : Lists) (side : Side) → BothLeave a s asked served lists side → (is_whole asked.ended ≡ true) × (is_whole served.ended ≡ true)
 both_whole a s asked served lists side both =
     let kind = s.responder.protocol.kind in
     let count = length (asks_of a.protocol) in
-    let sent = subst (λ k. AskedWithin (format_of k) count asked.end.state.past) both.agree.kind both.asker_leaves.sent in
-    let lacks = subst (λ k. AskLacksFor (format_of k) (besides_on k) count asked.ended asked.end.state.past) both.agree.kind both.asker_leaves.room in
-    let whole = never_lacks (format_of kind) (besides_on kind) count (s.starts + s.come) s.serve s.stops asked.end.state.past served.end.state.past asked.ended served.ended both.agree.room (few_for a s asked both.agree both.asker_leaves) both.joins.one sent lacks both.server_leaves.sent both.server_leaves.room in
+    let sent = subst (λ k. AskedWithin (item_format k) count (items_in asked.end)) both.agree.kind both.asker_leaves.sent in
+    let lacks = subst (λ k. AskLacksFor (item_format k) (besides_on k) count asked.ended (items_in asked.end)) both.agree.kind both.asker_leaves.room in
+    let whole = never_lacks (item_format kind) (besides_on kind) count (s.starts + s.come) s.serve s.stops (items_in asked.end) (items_in served.end) asked.ended served.ended both.agree.room (few_for a s asked both.agree both.asker_leaves) both.joins.one sent lacks both.server_leaves.sent both.server_leaves.room in
     (is_whole_of asked.ended whole.0 both.asker_leaves.honest, is_whole_of served.ended whole.1 both.server_leaves.honest)
 
-asks_all : (s : WireFormat (List ℕ) Want Ask Reply) (how : Ended) (asks : List Want) (past : List (Event (List ℕ))) (told : List Reply) → is_whole how ≡ true → AsksBy s how asks past told → AsksAll s asks past told
+asks_all : (s : WireFormat Item Want Ask Reply) (how : Ended) (asks : List Want) (past : List (Event Item)) (told : List Reply) → is_whole how ≡ true → AsksBy s how asks past told → AsksAll s asks past told
 asks_all s Marked asks past told whole by = by.0
 asks_all s PeerMarked asks past told whole by = by.0
 asks_all s (Room packets words left) asks past told whole by = absurd (cc (whole))
 asks_all s Broken asks past told whole by = absurd (cc (whole))
 
-ends_all : (s : WireFormat (List ℕ) Want Ask Reply) (besides : Bool) (how : Ended) (w : Serving ChannelScript DeviceSeat TableSeat Ask Reply) (e : Seen TableSeat) (calls : List Served) → is_whole how ≡ true → EndsBy s besides how w e calls → EndsAll s w e.state.past calls
+ends_all : (s : WireFormat Item Want Ask Reply) (besides : Bool) (how : Ended) (w : Serving ChannelScript DeviceSeat TableSeat Ask Reply) (e : Line TableSeat) (calls : List Served) → is_whole how ≡ true → EndsBy s besides how w e calls → EndsAll s w e.state.past calls
 ends_all s besides Marked w e calls whole by = by.0
 ends_all s besides PeerMarked w e calls whole by = by.0
 ends_all s besides (Room packets words left) w e calls whole by = absurd (cc (whole))
 ends_all s besides Broken w e calls whole by = absurd (cc (whole))
 
 -- the end that asks, for what the phase orders
-asker_ends : (order : Order) (protocol : ChannelScript) (past : List (Event (List ℕ))) (told : List Reply) → protocol ≡ record { kind = order.kind; sub = order.sub; subs = order.subs; asks = order.asks } → AsksAll (format_of protocol.kind) (asks_of protocol) past told
-    → AskerEnds (format_of order.kind) (plan_of order) past told
-asker_ends order protocol past told is all = subst (λ (t : ChannelScript). AsksAll (format_of t.kind) (asks_of t) past told) is all (plan_of order) refl
+asker_ends : (order : Order) (protocol : ChannelScript) (past : List (Event Item)) (told : List Reply) → protocol ≡ record { kind = order.kind; sub = order.sub; subs = order.subs; asks = order.asks } → AsksAll (item_format protocol.kind) (asks_of protocol) past told
+    → AskerEnds (item_format order.kind) (plan_of order) past told
+asker_ends order protocol past told is all = subst (λ (t : ChannelScript). AsksAll (item_format t.kind) (asks_of t) past told) is all (plan_of order) refl
 
 -- and the one that serves
-server_ends : (order : Order) (seat : DeviceSeat) (a : Asking ChannelScript TableSeat Reply) (s : Serving ChannelScript DeviceSeat TableSeat Ask Reply) (past : List (Event (List ℕ))) (calls : List Served) → MadeFor order seat a s
-    → EndsAll (format_of s.responder.protocol.kind) s past calls → ServerEnds (format_of order.kind) (plan_of order) past calls
+server_ends : (order : Order) (seat : DeviceSeat) (a : Asking ChannelScript TableSeat Reply) (s : Serving ChannelScript DeviceSeat TableSeat Ask Reply) (past : List (Event Item)) (calls : List Served) → MadeFor order seat a s
+    → EndsAll (item_format s.responder.protocol.kind) s past calls → ServerEnds (item_format order.kind) (plan_of order) past calls
 server_ends order seat a s past calls made all =
-    subst (λ k. EndsAll (format_of k) s past calls) made.answers all (plan_of order) (record {
+    subst (λ k. EndsAll (item_format k) s past calls) made.answers all (plan_of order) (record {
       serve = made.serve ∙ ap (count_of order.stop) (sym (length-map order.asks Script));
       held = made.held ∙ ap (held_of order.stop) (sym (length-map order.asks Script));
       stops = made.stops;
@@ -134,21 +141,21 @@ ran order seat a s asked served lists side at_side made ended =
     let none_before : calls_behind s.responder.before calls ≡ calls = ap (λ l. calls_behind l calls) made.before in
     let whole = both_whole a s asked served lists side ended in
     let at : Joins asked.end served.end lists (side_that_asks order.kind) = subst (Joins asked.end served.end lists) (sym at_side) ended.joins in
-    let both : BothEnd order asked.end.state.past served.end.state.past calls told = record {
+    let both : BothEnd order (items_in asked.end) (items_in served.end) calls told = record {
       can = made.can;
       one = at.one;
-      asker_ends = asker_ends order a.protocol asked.end.state.past told made.protocol (asks_all _ asked.ended _ _ _ whole.0 ended.asker_leaves.asks);
-      server_ends = server_ends order seat a s served.end.state.past calls made (ends_all _ _ served.ended _ _ _ whole.1 (subst (λ l. EndsBy (format_of s.responder.protocol.kind) (besides_on s.responder.protocol.kind) served.ended s served.end l) none_before ended.server_leaves.serves));
+      asker_ends = asker_ends order a.protocol (items_in asked.end) told made.protocol (asks_all _ asked.ended _ _ _ whole.0 ended.asker_leaves.asks);
+      server_ends = server_ends order seat a s (items_in served.end) calls made (ends_all _ _ served.ended _ _ _ whole.1 (subst (λ l. EndsBy (item_format s.responder.protocol.kind) (besides_on s.responder.protocol.kind) served.ended s (line_of (λ i. i) served.end) l) none_before ended.server_leaves.serves));
     } in
     let carried : Carries (side_that_asks order.kind) order lists calls =
-    lists_are (side_that_asks order.kind) order _ _ _ _ lists calls at.asker_sent at.asker_got at.server_sent at.server_got (runs order asked.end.state.past served.end.state.past calls told both) in
+    lists_are (side_that_asks order.kind) order _ _ _ _ lists calls at.asker_sent at.asker_got at.server_sent at.server_got (runs order (items_in asked.end) (items_in served.end) calls told both) in
     record {
       channel = record { carried = carried; serves = serves_first_lem (side_that_asks order.kind) order lists calls made.can carried };
       same = same_place seat ended.server_leaves.back (ended.server_leaves.place ∙ ap device_place made.seat_is);
       serials = ended.server_leaves.serials ∙ ap (map (λ c. c.serial)) none_before;
-      replies = told_is order asked.end.state.past served.end.state.past calls told both;
-      marks = marked_first order.stop asked.ended served.ended asked.end.state.past served.end.state.past at.one (asks_so _ asked.ended _ _ _ whole.0 ended.asker_leaves.asks) (serves_so _ _ served.ended s served.end _ whole.1 ended.server_leaves.serves)
-          (λ none. stops_nowhere (format_of order.kind) (plan_of order) served.end.state.past calls none both.server_ends);
+      replies = told_is order (items_in asked.end) (items_in served.end) calls told both;
+      marks = marked_first order.stop asked.ended served.ended (items_in asked.end) (items_in served.end) at.one (asks_so _ asked.ended _ _ _ whole.0 ended.asker_leaves.asks) (serves_so _ _ served.ended s (line_of (λ i. i) served.end) _ whole.1 ended.server_leaves.serves)
+          (λ none. stops_nowhere (item_format order.kind) (plan_of order) (items_in served.end) calls none both.server_ends);
     }
 
 -- the done's ends, by the side that asks
@@ -188,12 +195,23 @@ none_before {A} all front back is none = is ∙ ap (λ (l : List A). l ++ back) 
 none_after : {A : Type 0} (all front back : List A) → all ≡ front ++ back → back ≡ [] → all ≡ front
 none_after {A} all front back is none = is ∙ ap (λ (l : List A). front ++ l) none ∙ append-nil front
 
+-- the packets that an end sent and got are those of its items
+sent_is : (e : Seen TableSeat) → IsLine told_at e → sent_of e.state.past ≡ packets (sent_of (items_in e))
+sent_is e h = h.sent ∙ (sym (packets_bare e.state.sent) ∙ ap packets (sym (items_sent (λ i. i) e h)))
+
+got_is : (e : Seen TableSeat) → IsLine told_at e → got_of e.state.past ≡ packets (got_of (items_in e))
+got_is e h = h.got ∙ (sym (packets_bare e.state.got) ∙ ap packets (sym (items_got (λ i. i) e h)))
+
+joined : (asker server : Seen TableSeat) (lists : Lists) (side : Side) → IsLine told_at asker → IsLine told_at server → AreOfOneRun (items_in asker) (items_in server) → sent_by side lists ≡ sent_of asker.state.past → got_by side lists ≡ got_of asker.state.past
+    → sent_by (other side) lists ≡ sent_of server.state.past → got_by (other side) lists ≡ got_of server.state.past → Joins asker server lists side
+joined asker server lists side h k one a b c d = record { one = one; asker_sent = a ∙ sent_is asker h; asker_got = b ∙ got_is asker h; server_sent = c ∙ sent_is server k; server_got = d ∙ got_is server k }
+
 guest_asks : (a : Asking ChannelScript TableSeat Reply) (s : Serving ChannelScript DeviceSeat TableSeat Ask Reply) (guest host : WorkerDone) (done : PairDone) → Closes (Asks a) (Serves s) guest host done → BothLeave a s guest host done.settled Guest
 guest_asks a s guest host done closes = record {
   agree = closes.pair.roles;
   asker_leaves = closes.guest_leaves;
   server_leaves = closes.host_leaves;
-  joins = record { one = closes.run; asker_sent = closes.guest_sent; asker_got = closes.guest_got; server_sent = closes.host_sent; server_got = closes.host_got };
+  joins = joined guest.end host.end done.settled Guest closes.guest_leaves.stands closes.host_leaves.stands (items_run (λ i. i) guest.end host.end closes.guest_leaves.stands closes.host_leaves.stands closes.run) closes.guest_sent closes.guest_got closes.host_sent closes.host_got;
 }
 
 host_asks : (a : Asking ChannelScript TableSeat Reply) (s : Serving ChannelScript DeviceSeat TableSeat Ask Reply) (guest host : WorkerDone) (done : PairDone) → Closes (Serves s) (Asks a) guest host done → BothLeave a s host guest done.settled Host
@@ -201,7 +219,7 @@ host_asks a s guest host done closes = record {
   agree = closes.pair.roles;
   asker_leaves = closes.host_leaves;
   server_leaves = closes.guest_leaves;
-  joins = record { one = ends_exchanged _ _ closes.run; asker_sent = closes.host_sent; asker_got = closes.host_got; server_sent = closes.guest_sent; server_got = closes.guest_got };
+  joins = joined host.end guest.end done.settled Host closes.host_leaves.stands closes.guest_leaves.stands (ends_exchanged _ _ (items_run (λ i. i) guest.end host.end closes.guest_leaves.stands closes.host_leaves.stands closes.run)) closes.host_sent closes.host_got closes.guest_sent closes.guest_got;
 }
 
 pub runs_pair : (g h : Worker) (guest host : WorkerDone) (done : PairDone) → Closes g h guest host done → RunsPair (record { guest = g; host = h }) done

@@ -1,1 +1,3 @@
 pub mod EchoLaws
+pub mod InPackets
+pub mod PacketRuns

@@ -6,6 +6,7 @@ use std::sync::Wait;
 pub trait Device<T: Protocol>: Drop {
     ghost use Rattle.std.specs.Prelude.{◌≡◌, ◌<◌, ◌+◌, ℕ, true, List, [], ◌∷◌, ◌++◌, Some};
     ghost use Rattle.hist_lock.specs.Seat.{Call};
+    ghost use Rattle.page_kept.specs.declared.item.Item.{Item};
 
     /// The calls that were made, each with its serial, in order.
     ghost calls: { Self → List (Call T.Request T.Reply) };
@@ -31,7 +32,7 @@ pub trait Device<T: Protocol>: Drop {
     fn call<R: Wait>(&mut self, rt: &R, protocol: &T, request: T::Request) -> (u32, T::Reply)
         requires some { 0 < left self.old }
         requires serves { serves self.old protocol.now }
-        requires asked { (p : List ℕ) × ((T.format protocol.now).read p ≡ Some request) }
+        requires asked { (p : Item) × ((T.format protocol.now).read p ≡ Some request) }
         ensures calls { calls self.new ≡ calls self.old ++ record { serial = result.0; request = request; reply = result.1 } ∷ [] }
         ensures fits { (T.format protocol.now).fits request result.1 ≡ true }
         ensures left { left self.new + 1 ≡ left self.old }

@@ -6,4 +6,4 @@ pub mod laws;
 mod protocol;
 
 pub use device::Device;
-pub use protocol::Protocol;
+pub use protocol::{Protocol, Written};

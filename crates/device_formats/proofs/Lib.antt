@@ -9,3 +9,4 @@ pub mod KindLaws
 pub mod FormatLaws
 pub mod ChannelScriptLaws
 pub mod NetLaws
+pub mod ItemFormatLaws

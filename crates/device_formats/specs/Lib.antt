@@ -6,4 +6,5 @@ pub mod Nets
 pub mod Kinds
 pub mod Wants
 pub mod Formats
+pub mod ItemFormats
 pub mod ChannelScript

@@ -11,6 +11,7 @@ ghost use Rattle.script_lines.specs.declared.line.Ask.{Ask};
 ghost use Rattle.script_lines.specs.declared.line.Ask.TheVariants.{Net as AskNet};
 ghost use Rattle.bus_script.specs.declared.outcome.Reply.TheVariants.{Net as ReplyNet};
 ghost use Rattle.channel_model.specs.WireFormat.{Keeps};
+ghost use Rattle.channel_model.specs.Amounts.{MayHaveMessages};
 ghost use Rattle.channel_model.specs.Channel.{AllFixed, AllAsk};
 ghost use Rattle.device_formats.specs.Codecs.{format_by};
 ghost use Rattle.device_formats.specs.Disks.{disk_codec};
@@ -18,7 +19,8 @@ ghost use Rattle.device_formats.specs.Nets.{net_format};
 ghost use Rattle.device_formats.specs.Services.{service_codec};
 ghost use Rattle.device_formats.specs.declared.want.Want.TheVariants.{Script};
 ghost use Rattle.device_formats.specs.Wants.{startup, AsksForSubs, IsAskable};
-ghost use Rattle.device_formats.specs.Formats.{asked_as, encode_on, read_on, fits_on, format_of};
+ghost use Rattle.device_formats.specs.ItemFormats.{item_format};
+ghost use Rattle.device_formats.specs.Formats.{asked_as, besides_on, encode_on, read_on, fits_on, format_of};
 
 /// The packets of a service's channel keep to the laws of a wire format in the service's own requests and replies, those of a disk's in the disk's, and those of a
 /// network's in the adapter's.
@@ -32,6 +34,12 @@ pub fn kinds_keep()
 /// read in the answer.
 pub fn keeps_to_its_laws()
     ensures { (kind : Kind) → Keeps (format_of kind) }
+{}
+
+/// And so do the items that carry them on a channel without data pages. A disk and a service give no message besides the answer.
+pub fn items_keep_to_them()
+    ensures keeps { (kind : Kind) → Keeps (item_format kind) }
+    ensures may { (kind : Kind) → MayHaveMessages (item_format kind) (besides_on kind) }
 {}
 
 /// What goes back for a start-up is fixed: no device is asked.

@@ -1,5 +1,5 @@
 //! The protocol of a channel of any kind.
-ghost use Rattle.std.specs.Prelude.{◌≡◌, ◌≤◌, ◌<◌, ◌^◌, ◌&&◌, ◌==◌, ◌⊎◌, ◌∷◌, ◌+◌, ◌++◌, [], length, take, true, false, Some, None, IsSome, MatchOption, is_some, vec_len, vec_capacity};
+ghost use Rattle.std.specs.Prelude.{◌≡◌, ◌≤◌, ◌<◌, ◌^◌, ◌&&◌, ◌==◌, ◌⊎◌, ◌∷◌, ◌+◌, ◌++◌, [], length, take, slice_get, true, false, Some, None, IsSome, MatchOption, is_some, vec_len, vec_capacity};
 ghost use Rattle.std.specs.List.{AllByRecursion};
 ghost use Rattle.ring_machine.specs.States.{IsPacket};
 ghost use Rattle.channel_protocol.specs.Listed.{answer_in, has_message_in, listed_packet, message_in, packet_in};
@@ -32,7 +32,7 @@ use crate::services::{
     write_service_answer, write_service_fixed,
 };
 use bus_script::{Ask, Reply};
-use channel_protocol::Protocol;
+use channel_protocol::{Protocol, Written};
 use contact::Kind;
 use device_formats::Want;
 use rndis_msg::Rndis;
@@ -88,6 +88,45 @@ impl DeviceProtocol {
     {
         self.kind
     }
+
+    // Writes the packet that asks the k-th thing under an id: its words.
+    fn write_ask(&self, k: u32, id: u64, out: &mut [u64]) -> usize
+        requires which { k < length (asks_of self.now) }
+        requires out { length out.old ≡ 384 }
+        ensures value { (a : OneWant) → slice_get (asks_of self.now) k ≡ Some a → take result out.new ≡ encode_on self.now.kind id a }
+        ensures packet { IsPacket (take result out.new) }
+        ensures most { result ≤ 384 }
+    {
+        let starts = count_starts(self.kind, self.sub, self.subs);
+        if k < starts {
+            return encode_start(self.kind, self.sub, self.subs, k, id, out);
+        }
+        encode_ask(self.kind, &self.asks[(k - starts) as usize], id, out)
+    }
+
+    // Puts what an answer says to the k-th ask at the end of the replies. A request of the start-up asks nothing of the device.
+    fn keep_answer(&self, k: u32, before: &[u64], packet: &[u64], replies: &mut Vec<Reply>)
+        requires which { k < length (asks_of self.now) }
+        requires before { before.now ≡ [] ⊎ IsPacket before.now }
+        requires packet { IsPacket packet.now }
+        requires room { vec_len replies.old < vec_capacity replies.old }
+        ensures told { (a : OneWant) → slice_get (asks_of self.now) k ≡ Some a → replies.new.items ≡ replies.old.items ++ listed ((format_of self.now.kind).result a (packet_in before.now) packet.now) }
+        ensures one { vec_len replies.new ≤ vec_len replies.old + 1 }
+        ensures capacity { vec_capacity replies.new ≡ vec_capacity replies.old }
+    {
+        if k >= count_starts(self.kind, self.sub, self.subs) {
+            keep_said(self.kind, before, packet, replies);
+        }
+    }
+}
+
+/// The id of a packet.
+#[tactic(auto, using(device_formats::proofs::FormatLaws::id_is))]
+fn id(kind: Kind, packet: &[u64]) -> u64
+    requires { IsPacket packet.now }
+    ensures { result ≡ (format_of kind).id_of packet.now }
+{
+    packet[1]
 }
 
 /// Whether messages go back besides the answers: a disk and a service give one packet for each request, and a network may give two.
@@ -472,12 +511,14 @@ fn keep_said(kind: Kind, before: &[u64], packet: &[u64], replies: &mut Vec<Reply
 }
 
 impl Protocol for DeviceProtocol {
-    ghost use Rattle.std.specs.Prelude.{length, map};
-    ghost use Rattle.device_formats.specs.Formats.{besides_on, format_of};
+    ghost use Rattle.std.specs.Prelude.{false, length, map};
+    ghost use Rattle.std.proofs.Common.{refl};
+    ghost use Rattle.device_formats.specs.Formats.{besides_on};
+    ghost use Rattle.device_formats.specs.ItemFormats.{item_format};
     ghost use Rattle.device_formats.specs.ChannelScript.{asks_of};
     ghost use Rattle.device_formats.specs.Wants.{startup};
     ghost use Rattle.device_formats.specs.declared.want.Want.TheVariants.{Script};
-    ghost use Rattle.device_formats.proofs.FormatLaws.{keeps, may_have};
+    ghost use Rattle.device_formats.proofs.ItemFormatLaws.{keeps_items, may_items};
     ghost use Rattle.device_formats.proofs.ChannelScriptLaws.{starts_within};
     ghost use Rattle.device_protocols.specs.Heads.{IsHead};
 
@@ -489,15 +530,23 @@ impl Protocol for DeviceProtocol {
 
     type Head = Head;
 
-    ghost is_head = { λ s p h. IsHead s.kind p h };
+    ghost is_head = { λ s i h. IsHead s.kind i.packet h };
 
-    ghost format = { λ s. format_of s.kind };
+    ghost said = { λ i. i };
 
-    ghost keeps = { λ s. keeps s.kind };
+    ghost said_packet = { λ i. refl };
+
+    ghost said_bare = { λ p. refl };
+
+    ghost format = { λ s. item_format s.kind };
+
+    ghost lends = { λ s. false };
+
+    ghost keeps = { λ s. keeps_items s.kind };
 
     ghost besides = { λ s. besides_on s.kind };
 
-    ghost may = { λ s. may_have s.kind };
+    ghost may = { λ s. may_items s.kind };
 
     ghost asks = { asks_of };
 
@@ -525,17 +574,12 @@ impl Protocol for DeviceProtocol {
         true
     }
 
-    fn encode(&self, k: u32, id: u64, out: &mut [u64]) -> usize {
-        let starts = count_starts(self.kind, self.sub, self.subs);
-        if k < starts {
-            return encode_start(self.kind, self.sub, self.subs, k, id, out);
-        }
-        encode_ask(self.kind, &self.asks[(k - starts) as usize], id, out)
+    fn encode(&self, k: u32, id: u64, out: &mut [u64], _page: &mut [u64]) -> Written {
+        Written::bare(self.write_ask(k, id, out))
     }
 
-    #[tactic(auto, using(device_formats::proofs::FormatLaws::id_is))]
     fn id(&self, packet: &[u64]) -> u64 {
-        packet[1]
+        id(self.kind, packet)
     }
 
     fn is_waiting(&self, packet: &[u64]) -> bool {
@@ -558,42 +602,70 @@ impl Protocol for DeviceProtocol {
         write_ack_on(self.kind, packet, out)
     }
 
-    fn head(&self, packet: &[u64]) -> Option<Head> {
+    fn head(&self, packet: &[u64], _words: &[u64]) -> Option<Head> {
         head(self.kind, packet)
     }
 
-    fn read(&self, packet: &[u64], head: &Head) -> Ask {
+    fn read(&self, packet: &[u64], _words: &[u64], head: &Head) -> Ask {
         read(self.kind, packet, head)
     }
 
-    fn has_fixed_message(&self, packet: &[u64]) -> bool {
+    fn has_fixed_message(&self, packet: &[u64], _words: &[u64]) -> bool {
         has_fixed_message_on(self.kind, packet)
     }
 
-    fn write_fixed_message(&self, packet: &[u64], own: u64, out: &mut [u64]) -> usize {
-        write_fixed_message_on(self.kind, packet, own, out)
+    fn write_fixed_message(
+        &self,
+        packet: &[u64],
+        _words: &[u64],
+        own: u64,
+        out: &mut [u64],
+        _page: &mut [u64],
+    ) -> Written {
+        Written::bare(write_fixed_message_on(self.kind, packet, own, out))
     }
 
-    fn write_fixed(&self, packet: &[u64], out: &mut [u64]) -> usize {
+    fn write_fixed(&self, packet: &[u64], _words: &[u64], out: &mut [u64]) -> usize {
         write_fixed_on(self.kind, packet, out)
     }
 
-    fn has_message(&self, packet: &[u64], reply: &Reply) -> bool {
+    fn has_message(&self, packet: &[u64], _words: &[u64], reply: &Reply) -> bool {
         has_message_on(self.kind, packet, reply)
     }
 
-    fn write_message(&self, packet: &[u64], reply: &Reply, own: u64, out: &mut [u64]) -> usize {
-        write_message_on(self.kind, packet, reply, own, out)
+    fn write_message(
+        &self,
+        packet: &[u64],
+        _words: &[u64],
+        reply: &Reply,
+        own: u64,
+        out: &mut [u64],
+        _page: &mut [u64],
+    ) -> Written {
+        Written::bare(write_message_on(self.kind, packet, reply, own, out))
     }
 
-    fn write_answer(&self, packet: &[u64], head: &Head, reply: &Reply, out: &mut [u64]) -> usize {
-        write_answer_on(self.kind, packet, head, reply, out)
+    fn write_answer(
+        &self,
+        packet: &[u64],
+        _words: &[u64],
+        head: &Head,
+        reply: &Reply,
+        out: &mut [u64],
+        _page: &mut [u64],
+    ) -> Written {
+        Written::bare(write_answer_on(self.kind, packet, head, reply, out))
     }
 
-    /// A request of the start-up asks nothing of the device.
-    fn keep_result(&self, k: u32, before: &[u64], packet: &[u64], replies: &mut Vec<Reply>) {
-        if k >= count_starts(self.kind, self.sub, self.subs) {
-            keep_said(self.kind, before, packet, replies);
-        }
+    fn keep_result(
+        &self,
+        k: u32,
+        before: &[u64],
+        _before_words: &[u64],
+        packet: &[u64],
+        _words: &[u64],
+        replies: &mut Vec<Reply>,
+    ) {
+        self.keep_answer(k, before, packet, replies);
     }
 }

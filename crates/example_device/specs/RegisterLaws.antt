@@ -3,7 +3,8 @@ use Rattle.std.specs.Prelude.{◌≡◌, ℕ, Bool, true, false, Option, Some, N
 use Rattle.std.proofs.Common.{refl, sym, subst}
 use Rattle.channel_model.specs.Amounts.{HasNoMessages}
 use Rattle.channel_model.specs.WireFormat.{Keeps}
-use Rattle.example_device.specs.Registers.{register_format}
+use Rattle.channel_protocol.proofs.InPackets.{keeps_in_packets, may_in_packets}
+use Rattle.example_device.specs.Registers.{register_format, register_items}
 
 abbrev IsThere : {X : Type 0} → Option X → Type 0
 IsThere (Some v) = Unit {0}
@@ -32,3 +33,10 @@ register_keeps = record {
 
 pub register_silent : HasNoMessages register_format
 register_silent = record { gives = λ p r. refl; fixed = λ p b e. absurd (subst IsThere (sym e) tt) }
+
+-- and so do the items that carry them
+pub items_keep : Keeps register_items
+items_keep = keeps_in_packets register_format register_keeps
+
+pub items_silent : HasNoMessages register_items
+items_silent = may_in_packets register_format false register_silent

@@ -2,7 +2,7 @@
 ghost use Rattle.std.specs.Prelude.{◌≡◌, ◌≤◌, ◌<◌, ◌^◌, [], length, take, slice_index_or};
 ghost use Rattle.example_device.specs.Registers.{register_packet};
 
-use channel_protocol::Protocol;
+use channel_protocol::{Protocol, Written};
 
 // The first word of a packet of three words: in-band data with a payload of one.
 const HEAD: u64 = 12_885_032_966;
@@ -36,8 +36,9 @@ fn word(packet: &[u64], i: usize) -> u64
 
 impl Protocol for RegisterProtocol {
     ghost use Rattle.std.specs.Prelude.{false};
-    ghost use Rattle.example_device.specs.Registers.{register_format};
-    ghost use Rattle.example_device.specs.RegisterLaws.{register_keeps, register_silent};
+    ghost use Rattle.std.proofs.Common.{refl};
+    ghost use Rattle.example_device.specs.Registers.{register_items};
+    ghost use Rattle.example_device.specs.RegisterLaws.{items_keep, items_silent};
 
     type Ask = u64;
 
@@ -47,13 +48,21 @@ impl Protocol for RegisterProtocol {
 
     type Head = ();
 
-    ghost format = { λ s. register_format };
+    ghost said = { λ i. i };
 
-    ghost keeps = { λ s. register_keeps };
+    ghost said_packet = { λ i. refl };
+
+    ghost said_bare = { λ p. refl };
+
+    ghost format = { λ s. register_items };
+
+    ghost lends = { λ s. false };
+
+    ghost keeps = { λ s. items_keep };
 
     ghost besides = { λ s. false };
 
-    ghost may = { λ s. register_silent };
+    ghost may = { λ s. items_silent };
 
     ghost asks = { λ s. s.values.items };
 
@@ -61,7 +70,7 @@ impl Protocol for RegisterProtocol {
 
     ghost within = { λ s. s.within };
 
-    ghost is_head = { λ s p h. Unit {0} };
+    ghost is_head = { λ s i h. Unit {0} };
 
     fn count(&self) -> u32 {
         self.values.len() as u32
@@ -79,8 +88,8 @@ impl Protocol for RegisterProtocol {
         true
     }
 
-    fn encode(&self, k: u32, id: u64, out: &mut [u64]) -> usize {
-        write(out, id, self.values[k as usize])
+    fn encode(&self, k: u32, id: u64, out: &mut [u64], _page: &mut [u64]) -> Written {
+        Written::bare(write(out, id, self.values[k as usize]))
     }
 
     fn id(&self, packet: &[u64]) -> u64 {
@@ -107,39 +116,70 @@ impl Protocol for RegisterProtocol {
         0
     }
 
-    fn head(&self, _packet: &[u64]) -> Option<()> {
+    fn head(&self, _packet: &[u64], _words: &[u64]) -> Option<()> {
         Some(())
     }
 
-    fn read(&self, packet: &[u64], _head: &()) -> u64 {
+    fn read(&self, packet: &[u64], _words: &[u64], _head: &()) -> u64 {
         word(packet, 2)
     }
 
-    fn has_fixed_message(&self, _packet: &[u64]) -> bool {
+    fn has_fixed_message(&self, _packet: &[u64], _words: &[u64]) -> bool {
         false
     }
 
-    fn write_fixed_message(&self, _packet: &[u64], _own: u64, _out: &mut [u64]) -> usize {
+    fn write_fixed_message(
+        &self,
+        _packet: &[u64],
+        _words: &[u64],
+        _own: u64,
+        _out: &mut [u64],
+        _page: &mut [u64],
+    ) -> Written {
+        Written::bare(0)
+    }
+
+    fn write_fixed(&self, _packet: &[u64], _words: &[u64], _out: &mut [u64]) -> usize {
         0
     }
 
-    fn write_fixed(&self, _packet: &[u64], _out: &mut [u64]) -> usize {
-        0
-    }
-
-    fn has_message(&self, _packet: &[u64], _reply: &u64) -> bool {
+    fn has_message(&self, _packet: &[u64], _words: &[u64], _reply: &u64) -> bool {
         false
     }
 
-    fn write_message(&self, _packet: &[u64], _reply: &u64, _own: u64, _out: &mut [u64]) -> usize {
-        0
+    fn write_message(
+        &self,
+        _packet: &[u64],
+        _words: &[u64],
+        _reply: &u64,
+        _own: u64,
+        _out: &mut [u64],
+        _page: &mut [u64],
+    ) -> Written {
+        Written::bare(0)
     }
 
-    fn write_answer(&self, packet: &[u64], _head: &(), reply: &u64, out: &mut [u64]) -> usize {
-        write(out, word(packet, 1), *reply)
+    fn write_answer(
+        &self,
+        packet: &[u64],
+        _words: &[u64],
+        _head: &(),
+        reply: &u64,
+        out: &mut [u64],
+        _page: &mut [u64],
+    ) -> Written {
+        Written::bare(write(out, word(packet, 1), *reply))
     }
 
-    fn keep_result(&self, _k: u32, _before: &[u64], packet: &[u64], replies: &mut Vec<u64>) {
+    fn keep_result(
+        &self,
+        _k: u32,
+        _before: &[u64],
+        _before_words: &[u64],
+        packet: &[u64],
+        _words: &[u64],
+        replies: &mut Vec<u64>,
+    ) {
         replies.push_reserved(word(packet, 2));
     }
 }

@@ -3,7 +3,8 @@ ghost use Rattle.std.specs.Prelude.{◌≡◌, ◌≤◌, ◌^◌, ◌<◌, fals
 ghost use Rattle.io_edge.specs.declared.side.Side.TheVariants.{Guest as GuestSide, Host as HostSide};
 ghost use Rattle.worker_requester.specs.Asking.{AsksBy};
 ghost use Rattle.ring_seat.specs.Seats.{new_end};
-ghost use Rattle.example_device.specs.Registers.{register_format};
+ghost use Rattle.worker_port.specs.Line.{past_as};
+ghost use Rattle.example_device.specs.Registers.{register_items};
 
 use crate::register::Register;
 use crate::register_protocol::RegisterProtocol;
@@ -87,13 +88,13 @@ fn run<R: Threads + Wait + Sync>(
 ) -> Stored
     requires guest { guest.end.state.machine.marked ≡ false }
     requires host { host.end.state.machine.marked ≡ false }
-    ensures { AsksBy register_format result.0.ended guest.protocol.values.items result.0.end.state.past result.0.replies.items }
+    ensures { AsksBy register_items result.0.ended guest.protocol.values.items (past_as (λ i. i) result.0.end.state) result.0.replies.items }
 {
     join(
         rt,
         move ||
             requires { guest.end.state.machine.marked ≡ false }
-            ensures { AsksBy register_format result.ended guest.protocol.values.items result.end.state.past result.replies.items }
+            ensures { AsksBy register_items result.ended guest.protocol.values.items (past_as (λ i. i) result.end.state) result.replies.items }
         { guest.run(rt, &NoGate) },
         move ||
             requires { host.end.state.machine.marked ≡ false }
@@ -108,7 +109,7 @@ pub fn store_all<R: Threads + Wait + Sync>(
     values: Vec<u64>,
 ) -> Result<Stored, AllocError>
     requires { length values.items < 2 ^ 32 }
-    ensures asked { IfOk result (λ r. AsksBy register_format r.0.ended values.items r.0.end.state.past r.0.replies.items) }
+    ensures asked { IfOk result (λ r. AsksBy register_items r.0.ended values.items (past_as (λ i. i) r.0.end.state) r.0.replies.items) }
 {
     let count = values.len() as u32;
     let seat = only_seat(alloc, count)?;

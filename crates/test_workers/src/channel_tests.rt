@@ -70,12 +70,26 @@ fn server_of(
     .expect(rt, "memory")
 }
 
-// How the guest's worker ends, and how many replies it has.
-fn ask(rt: &impl Wait, asker: Requester<Echo, TableSeat>) -> (Ended, usize)
+// How many of the packets that an end sent acknowledge a message.
+fn acknowledged(end: &GuestEnd) -> usize {
+    let sent = end.sent();
+    let mut count = 0_usize;
+    for i in 0..sent.len() {
+        if let Some(packet) = sent.get(i)
+            && packet.first() == Some(&12885032971)
+        {
+            count = count.wrapping_add(1);
+        }
+    }
+    count
+}
+
+// How the guest's worker ends, how many replies it has, and how many messages it acknowledged.
+fn ask(rt: &impl Wait, asker: Requester<Echo, TableSeat>) -> (Ended, usize, usize)
     requires { asker.end.state.machine.marked ≡ false }
 {
     let done = asker.run(rt, &NoGate);
-    (done.ended, done.replies.len())
+    (done.ended, done.replies.len(), acknowledged(&done.end))
 }
 
 // How the host's worker ends, and how many requests it served.
@@ -93,7 +107,7 @@ fn run<R: Threads + Wait + Abort + AllocGlobal + Sync>(
     window: u32,
     serves: u32,
     stops: bool,
-) -> ((Ended, usize), (Ended, usize))
+) -> ((Ended, usize, usize), (Ended, usize))
     requires { (1 ≤ window) × (window ≤ 64) }
 {
     let (guest, host) = ChannelMem::make(rt.alloc(), 1, 0).expect(rt, "memory");
@@ -113,13 +127,14 @@ fn run<R: Threads + Wait + Abort + AllocGlobal + Sync>(
 #[test]
 fn all_is_asked_and_served(rt: HostRuntime) {
     let (guest, host) = run(&rt, 300, 8, 300, false);
-    check(&rt, guest == (Ended::Marked, 300));
+    check(&rt, guest == (Ended::Marked, 300, 299));
     check(&rt, host == (Ended::PeerMarked, 300));
 }
 
 #[test]
 fn a_stop_holds_the_last_answer(rt: HostRuntime) {
     let (guest, host) = run(&rt, 40, 4, 7, true);
-    check(&rt, guest == (Ended::PeerMarked, 6));
+    // The message of each answer that came is acknowledged, also behind the host's mark. The first answer has none.
+    check(&rt, guest == (Ended::PeerMarked, 6, 5));
     check(&rt, host == (Ended::Marked, 7));
 }

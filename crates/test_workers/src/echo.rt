@@ -1,7 +1,7 @@
 //! A protocol and a device for the tests: the device's reply is the value that it was asked. It goes back in a message before the answer, and 0 without one.
 ghost use Rattle.std.specs.Prelude.{◌≡◌, ◌≤◌, ◌<◌, ◌+◌, ◌^◌, ◌∷◌, [], length, take, slice_index_or, IfOk};
 
-use channel_protocol::{Device, Protocol};
+use channel_protocol::{Device, Protocol, Written};
 use std::alloc::{AllocError, Global};
 use std::sync::Wait;
 
@@ -38,9 +38,12 @@ fn word(packet: &[u64], i: usize) -> u64
 }
 
 impl Protocol for Echo {
-    ghost use Rattle.std.specs.Prelude.{true};
+    ghost use Rattle.std.specs.Prelude.{true, false};
+    ghost use Rattle.std.proofs.Common.{refl};
     ghost use Rattle.channel_protocol.specs.Echo.{echo_format};
+    ghost use Rattle.channel_protocol.specs.Paged.{in_packets};
     ghost use Rattle.channel_protocol.proofs.EchoLaws.{echo_keeps};
+    ghost use Rattle.channel_protocol.proofs.InPackets.{keeps_in_packets};
 
     type Ask = u64;
 
@@ -50,9 +53,17 @@ impl Protocol for Echo {
 
     type Head = ();
 
-    ghost format = { λ s. echo_format };
+    ghost said = { λ i. i };
 
-    ghost keeps = { λ s. echo_keeps };
+    ghost said_packet = { λ i. refl };
+
+    ghost said_bare = { λ p. refl };
+
+    ghost format = { λ s. in_packets echo_format };
+
+    ghost lends = { λ s. false };
+
+    ghost keeps = { λ s. keeps_in_packets echo_format echo_keeps };
 
     ghost besides = { λ s. true };
 
@@ -64,7 +75,7 @@ impl Protocol for Echo {
 
     ghost within = { λ s. s.within };
 
-    ghost is_head = { λ s p h. Unit {0} };
+    ghost is_head = { λ s i h. Unit {0} };
 
     fn count(&self) -> u32 {
         self.asks.len() as u32
@@ -82,8 +93,8 @@ impl Protocol for Echo {
         true
     }
 
-    fn encode(&self, k: u32, id: u64, out: &mut [u64]) -> usize {
-        write(out, INBAND, id, self.asks[k as usize])
+    fn encode(&self, k: u32, id: u64, out: &mut [u64], _page: &mut [u64]) -> Written {
+        Written::bare(write(out, INBAND, id, self.asks[k as usize]))
     }
 
     fn id(&self, packet: &[u64]) -> u64 {
@@ -110,7 +121,7 @@ impl Protocol for Echo {
         write(out, COMPLETION, word(packet, 1), 1)
     }
 
-    fn head(&self, packet: &[u64]) -> Option<()> {
+    fn head(&self, packet: &[u64], _words: &[u64]) -> Option<()> {
         if word(packet, 0) == INBAND {
             Some(())
         } else {
@@ -118,38 +129,69 @@ impl Protocol for Echo {
         }
     }
 
-    fn read(&self, packet: &[u64], _head: &()) -> u64 {
+    fn read(&self, packet: &[u64], _words: &[u64], _head: &()) -> u64 {
         word(packet, 2)
     }
 
-    fn has_fixed_message(&self, _packet: &[u64]) -> bool {
+    fn has_fixed_message(&self, _packet: &[u64], _words: &[u64]) -> bool {
         false
     }
 
-    fn write_fixed_message(&self, _packet: &[u64], _own: u64, _out: &mut [u64]) -> usize {
+    fn write_fixed_message(
+        &self,
+        _packet: &[u64],
+        _words: &[u64],
+        _own: u64,
+        _out: &mut [u64],
+        _page: &mut [u64],
+    ) -> Written {
+        Written::bare(0)
+    }
+
+    fn write_fixed(&self, _packet: &[u64], _words: &[u64], _out: &mut [u64]) -> usize {
         0
     }
 
-    fn write_fixed(&self, _packet: &[u64], _out: &mut [u64]) -> usize {
-        0
-    }
-
-    fn has_message(&self, _packet: &[u64], reply: &u64) -> bool {
+    fn has_message(&self, _packet: &[u64], _words: &[u64], reply: &u64) -> bool {
         *reply != 0
     }
 
-    fn write_message(&self, _packet: &[u64], reply: &u64, own: u64, out: &mut [u64]) -> usize {
+    fn write_message(
+        &self,
+        _packet: &[u64],
+        _words: &[u64],
+        reply: &u64,
+        own: u64,
+        out: &mut [u64],
+        _page: &mut [u64],
+    ) -> Written {
         if *reply == 0 {
-            return 0;
+            return Written::bare(0);
         }
-        write(out, INBAND, own, *reply)
+        Written::bare(write(out, INBAND, own, *reply))
     }
 
-    fn write_answer(&self, packet: &[u64], _head: &(), _reply: &u64, out: &mut [u64]) -> usize {
-        write(out, COMPLETION, word(packet, 1), 1)
+    fn write_answer(
+        &self,
+        packet: &[u64],
+        _words: &[u64],
+        _head: &(),
+        _reply: &u64,
+        out: &mut [u64],
+        _page: &mut [u64],
+    ) -> Written {
+        Written::bare(write(out, COMPLETION, word(packet, 1), 1))
     }
 
-    fn keep_result(&self, _k: u32, before: &[u64], _packet: &[u64], replies: &mut Vec<u64>) {
+    fn keep_result(
+        &self,
+        _k: u32,
+        before: &[u64],
+        _before_words: &[u64],
+        _packet: &[u64],
+        _words: &[u64],
+        replies: &mut Vec<u64>,
+    ) {
         let reply = if before.is_empty() {
             0
         } else {

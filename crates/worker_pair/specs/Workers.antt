@@ -1,7 +1,8 @@
 -- The workers of a channel, as contracts see them.
 use Rattle.std.specs.Prelude.{ℕ, ◌≡◌, false, length, Option, Some, None}
 use Rattle.io_edge.specs.declared.side.Side.{Side}
-use Rattle.device_formats.specs.Formats.{besides_on, format_of}
+use Rattle.device_formats.specs.Formats.{besides_on}
+use Rattle.device_formats.specs.ItemFormats.{item_format}
 use Rattle.device_formats.specs.ChannelScript.{asks_of}
 use Rattle.ring_core.specs.Seen.{Seen}
 use Rattle.ring_seat.specs.declared.table_seat.TableSeat.{TableSeat}
@@ -10,16 +11,22 @@ use Rattle.worker_requester.specs.Asking.{AskTurns, AskEnds, AsksOn}
 use Rattle.worker_requester.specs.Causes.{AskCause}
 use Rattle.worker_server.specs.Causes.{ServeCause}
 use Rattle.worker_server.specs.Serving.{Turns, ServeEnds, ServesOn}
+use Rattle.worker_port.specs.Line.{Line}
 use Rattle.worker_port.specs.declared.ended.Turn.{Turn}
 use Rattle.worker_pair.specs.Seats.{device_place, left_at, IsAt}
 use Rattle.worker_pair.specs.declared.device_seat.DeviceSeat.{DeviceSeat}
 use Rattle.worker_pair.specs.declared.worker.Worker.{Worker}
 use Rattle.worker_pair.specs.declared.worker.Worker.TheVariants.{Asks, Serves}
 
+-- its end of the channel, with what it did there in items
+abbrev pub line_at : Worker → Line TableSeat
+line_at (Asks w) = w.end
+line_at (Serves w) = w.end
+
 -- its end of the channel
 abbrev pub end_at : Worker → Seen TableSeat
-end_at (Asks w) = w.end
-end_at (Serves w) = w.end
+end_at (Asks w) = w.end.end
+end_at (Serves w) = w.end.end
 
 -- the relid of its channel
 abbrev pub relid_at : Worker → ℕ
@@ -38,7 +45,7 @@ HasWindow n (Serves w) = Unit {0}
 
 -- it has not ended
 abbrev pub IsLive : Worker → Type 0
-IsLive w = (end_at w).state.machine.marked ≡ false
+IsLive w = (line_at w).state.machine.marked ≡ false
 
 -- it has the end of this side, and serves no device of the other side
 pub record IsOfSide (side : Side) (w : Worker) : Type 0 where
@@ -47,8 +54,8 @@ pub record IsOfSide (side : Side) (w : Worker) : Type 0 where
 
 -- how a turn ends, by what the worker does
 abbrev pub Turned : Turn → Worker → Type 0
-Turned turn (Asks w) = AskTurns (format_of w.protocol.kind) (besides_on w.protocol.kind) (asks_of w.protocol) turn w × AskEnds (format_of w.protocol.kind) (besides_on w.protocol.kind) w.starts (asks_of w.protocol) turn w.end.state.past
-Turned turn (Serves w) = Turns left_at (format_of w.responder.protocol.kind) (besides_on w.responder.protocol.kind) turn w × ServeEnds (format_of w.responder.protocol.kind) (besides_on w.responder.protocol.kind) turn w
+Turned turn (Asks w) = AskTurns (item_format w.protocol.kind) (besides_on w.protocol.kind) (asks_of w.protocol) turn w × AskEnds (item_format w.protocol.kind) (besides_on w.protocol.kind) w.starts (asks_of w.protocol) turn w.end.state.past
+Turned turn (Serves w) = Turns left_at (item_format w.responder.protocol.kind) (besides_on w.responder.protocol.kind) turn w × ServeEnds (item_format w.responder.protocol.kind) (besides_on w.responder.protocol.kind) turn w
 
 -- why it went so: what the worker did in it
 abbrev pub Caused : Turn → Worker → Worker → Type 0

@@ -1,5 +1,5 @@
 //! Both workers of a new channel.
-ghost use Rattle.std.specs.Prelude.{◌≡◌, ◌≤◌, IfOk};
+ghost use Rattle.std.specs.Prelude.{◌≡◌, ◌≤◌, false, IfOk};
 ghost use Rattle.io_edge.specs.declared.side.Side.TheVariants.{Guest as GuestSide, Host as HostSide};
 ghost use Rattle.ring_seat.specs.Settling.{AreOfOneChannel};
 ghost use Rattle.channel_model.specs.Roles.{side_that_asks};
@@ -35,8 +35,9 @@ fn make_roles(
     requires serving { IsNewEnd serves_at serving }
     ensures asker { IfOk result (λ r. AsksFor (planned plan asks.items) r.0) }
     ensures server { IfOk result (λ r. ServesFor (planned plan asks.items) seat r.1) }
-    ensures asking { IfOk result (λ r. (r.0.end.state ≡ asking.state) × (r.0.end.seat ≡ asking.seat)) }
-    ensures serving { IfOk result (λ r. (r.1.end.state ≡ serving.state) × (r.1.end.seat ≡ serving.seat)) }
+    ensures asking { IfOk result (λ r. (r.0.end.end.state ≡ asking.state) × (r.0.end.end.seat ≡ asking.seat)) }
+    ensures serving { IfOk result (λ r. (r.1.end.end.state ≡ serving.state) × (r.1.end.end.seat ≡ serving.seat)) }
+    ensures live { IfOk result (λ r. (r.0.end.state.machine.marked ≡ false) × (r.1.end.state.machine.marked ≡ false)) }
 {
     let sub = u32::from(plan.sub);
     let asker = make_asker(

@@ -49,6 +49,7 @@ impl GuestWorker {
         requires size { (512 ≤ end.state.machine.cells) × (end.state.machine.cells ≤ 16777216) }
         ensures made { IfOk result (IsMade (guest_planned plan) (at_guest seat)) }
         ensures end { IfOk result (λ w. ((end_at w).state ≡ end.state) × ((end_at w).seat ≡ end.seat)) }
+        ensures live { IfOk result IsLive }
     {
         let asks = guest_asks(alloc, plan.kind, plan.disk, plan.net)?;
         let channel = ChannelPlan {

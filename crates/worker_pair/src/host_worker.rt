@@ -49,6 +49,7 @@ impl HostWorker {
         requires size { (512 ≤ end.state.machine.cells) × (end.state.machine.cells ≤ 16777216) }
         ensures made { IfOk result (IsMade (host_planned plan) (at_host seat)) }
         ensures end { IfOk result (λ w. ((end_at w).state ≡ end.state) × ((end_at w).seat ≡ end.seat)) }
+        ensures live { IfOk result IsLive }
     {
         let asks = ic_asks(alloc, plan.asks)?;
         let channel = ChannelPlan {

@@ -1,5 +1,5 @@
 //! The making of a worker.
-ghost use Rattle.std.specs.Prelude.{◌≡◌, ◌≤◌, ◌+◌, [], length, map, filter, is_some, IfOk, None};
+ghost use Rattle.std.specs.Prelude.{◌≡◌, ◌≤◌, ◌+◌, false, [], length, map, filter, is_some, IfOk, None};
 ghost use Rattle.std.specs.List.{AllByRecursion};
 ghost use Rattle.script_lines.specs.Parts.{kind_asked};
 ghost use Rattle.script_lines.specs.Requests.{CanBeCarried, IsSent};
@@ -14,7 +14,7 @@ ghost use Rattle.ring_seat.specs.Seats.{new_end};
 ghost use Rattle.worker_pair.specs.Plans.{AllCarried, CanPlan, HasSeat, IsMade, guest_asks, planned, silent, stop_of};
 ghost use Rattle.channel_model.specs.Channel.{count_of, held_of};
 ghost use Rattle.worker_pair.specs.Seats.{served_at, kind_at, left_at, IsAt};
-ghost use Rattle.worker_pair.specs.Workers.{IsOfSide, end_at};
+ghost use Rattle.worker_pair.specs.Workers.{IsLive, IsOfSide, end_at};
 
 use crate::worker::{ChannelRequester, ChannelServer, Worker};
 use crate::{ChannelPlan, DeviceSeat};
@@ -154,7 +154,8 @@ pub(crate) fn make_asker(
     ensures relid { IfOk result (λ w. w.relid ≡ relid) }
     ensures starts { IfOk result (λ w. w.starts ≡ length (startup kind sub subs)) }
     ensures window { IfOk result (λ w. length w.table ≡ window) }
-    ensures end { IfOk result (λ w. (w.end.state ≡ end.state) × (w.end.seat ≡ end.seat)) }
+    ensures end { IfOk result (λ w. (w.end.end.state ≡ end.state) × (w.end.end.seat ≡ end.seat)) }
+    ensures live { IfOk result (λ w. w.end.state.machine.marked ≡ false) }
 {
     all_can(kind, &asks);
     let protocol = DeviceProtocol::make(kind, sub, subs, asks);
@@ -218,7 +219,8 @@ pub(crate) fn make_server(
     ensures orders { IfOk result (λ w. (w.serve ≡ count_of (stop_of stop) count) × (w.responder.held ≡ held_of (stop_of stop) count) × (w.stops ≡ is_some (stop_of stop))) }
     ensures come { IfOk result (λ w. w.starts + w.come ≡ length (startup kind sub subs) + count) }
     ensures starts { IfOk result (λ w. w.starts ≡ length (filter (has_answer_on kind) (startup kind sub subs))) }
-    ensures end { IfOk result (λ w. (w.end.state ≡ end.state) × (w.end.seat ≡ end.seat)) }
+    ensures end { IfOk result (λ w. (w.end.end.state ≡ end.state) × (w.end.end.seat ≡ end.seat)) }
+    ensures live { IfOk result (λ w. w.end.state.machine.marked ≡ false) }
 {
     let protocol = DeviceProtocol::make(kind, sub, subs, Vec::new(alloc));
     let silent = count_silent(kind, sub);
@@ -258,6 +260,7 @@ pub(crate) fn make_worker(
     requires size { (512 ≤ end.state.machine.cells) × (end.state.machine.cells ≤ 16777216) }
     ensures made { IfOk result (IsMade (planned plan asks.items) seat) }
     ensures end { IfOk result (λ w. ((end_at w).state ≡ end.state) × ((end_at w).seat ≡ end.seat)) }
+    ensures live { IfOk result IsLive }
     ensures side { IfOk result (IsOfSide side) }
 {
     let sub = u32::from(plan.sub);

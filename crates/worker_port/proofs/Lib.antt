@@ -1,3 +1,6 @@
 pub mod RoomLaws
 pub mod PortLaws
 pub mod TakeLaws
+pub mod ItemLaws
+pub mod ItemSteps
+pub mod ItemRuns

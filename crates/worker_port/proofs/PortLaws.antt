@@ -3,7 +3,7 @@ use Rattle.std.proofs.Common.{◌≡◌, ◌≤◌, ◌+◌, ◌*◌, ℕ, zero,
 use Rattle.std.specs.Prelude.{slice_get, not, leb, ltb, Result, Ok, Err, is_some}
 use Rattle.std.proofs.lemmas.Bool.Decides.{nat_tests}
 use Rattle.channel_trace.specs.declared.event.Event.{Event}
-use Rattle.channel_trace.specs.Runs.{got_of, has_marked}
+use Rattle.channel_trace.specs.Runs.{sent_of, got_of, has_marked}
 use Rattle.ring_machine.specs.declared.last.Armed.{Armed}
 use Rattle.ring_machine.specs.declared.last.Armed.TheVariants.{Asleep, Work}
 use Rattle.ring_machine.specs.declared.machine.Ending.{Ending}
@@ -20,27 +20,29 @@ use Rattle.ring_machine.specs.declared.machine.Stage.{Stage}
 use Rattle.ring_machine.specs.declared.machine.Stage.TheVariants.{Idle, Stopped, SendRead, SendCell, SendWrite, SendMask, SendLook, SendRaise, ArmPending, ArmMask, ArmWrite, ArmRead, ArmMark, ArmUndoMask, ArmUndoPending, PollSignal, PollMask, PollPending, MarkStore, MarkRaise}
 use Rattle.ring_machine.specs.declared.state.EndState.{EndState}
 use Rattle.ring_machine.specs.Places.{low, free, is_index, cell_of}
-use Rattle.ring_machine.specs.States.{afters, entered, past_of}
+use Rattle.ring_machine.specs.States.{afters, entered, past_of, sent_by}
 use Rattle.ring_machine.specs.EndCalls.{Arm, Poll, Send}
 use Rattle.ring_machine.specs.Steps.{is_broken, is_busy_at, is_sent, arm_begun, call_by, fed_at, finds_room, mark_begun, poll_begun, send_begun}
 use Rattle.ring_machine.proofs.Sound.{at_cond}
 use Rattle.ring_core.specs.declared.told.Told.{Told}
 use Rattle.ring_core.specs.Told.{Memory, Ran}
-use Rattle.ring_sleep.proofs.Telling.{tells_on, told_of}
+use Rattle.ring_sleep.proofs.Telling.{told_of}
 use Rattle.ring_sleep.specs.Sleeping.{Sleeps}
-use Rattle.worker_port.specs.Line.{IsLine, Tries, new_end, past_tried, tried_of, armed_by, look_of, polled_by}
+use Rattle.worker_port.specs.Line.{IsLine, Line, Tries, new_end, tried_of, armed_by, look_of, polled_by}
 
 pub slept_line : {S C : Type 0} (channel : S → C) (told : S → Option Told) (old new : Seen S) → Sleeps channel told old new → old.state.machine.marked ≡ false → new.state.machine.marked ≡ false → IsLine told old → IsLine told new
 slept_line channel told old new s before after h = record {
   rests = ap is_busy_at s.idle;
   dozes = λ _. s.idle;
   honest = λ _. s.idle;
+  sent = ap sent_of s.past ∙ (h.sent ∙ sym s.kept.sent);
   got = ap got_of s.past ∙ (h.got ∙ sym s.kept.got);
   packets = λ i p e. h.packets i p (ap (λ l. slice_get l i) (sym s.kept.got) ∙ e);
   committed = s.start ∙ (h.committed ∙ sym s.read);
   mark = after ∙ (sym before ∙ (h.mark ∙ ap has_marked (sym s.past)));
   size = subst (λ n. (512 ≤ n) × (n ≤ 16777216)) (sym s.cells) h.size;
   bare = ap (λ k. k.count) s.kept.pages ∙ h.bare;
+  none = (ap (λ k. k.sent) s.kept.pages ∙ h.none.0, ap (λ k. k.got) s.kept.pages ∙ h.none.1);
 }
 
 -- a send adds nothing that came, and no mark
@@ -58,6 +60,13 @@ sent_mark Full saw p past e = refl
 sent_mark BadPeer saw p past e = refl
 sent_mark _ saw p past e = absurd (cc)
 
+sent_sent : (how : Ending) (saw : Bool) (p : List ℕ) (past : List (Event (List ℕ))) → call_by how ≡ Send → sent_of (past_of how saw p past) ≡ cond (is_sent how) (sent_of past ++ p ∷ []) (sent_of past)
+sent_sent SentQuiet saw p past e = refl
+sent_sent SentRaised saw p past e = refl
+sent_sent Full saw p past e = refl
+sent_sent BadPeer saw p past e = refl
+sent_sent _ saw p past e = absurd (cc)
+
 rests_by : (b : Bool) → is_busy_at (cond b Stopped Idle) ≡ false
 rests_by true = refl
 rests_by false = refl
@@ -68,18 +77,20 @@ awake_dozes b e f = absurd (cc)
 -- after a send
 pub sent_line : {S : Type 0} (told : S → Option Told) (old new : Seen S) (p : List ℕ) → is_some (told new.seat) ≡ is_some (told old.seat) → ((u : Told) → told old.seat ≡ Some u → new.state.machine.stage ≡ Idle)
     → Leaves old.state.machine new.state.machine → call_by new.state.machine.ended ≡ Send
-    → LeavesBy Send old.state.machine new.state.machine → new.state.past ≡ past_of new.state.machine.ended new.state.machine.saw p old.state.past → new.state.got ≡ old.state.got → new.state.machine.cells ≡ old.state.machine.cells
-    → new.state.pages.count ≡ old.state.pages.count → old.state.machine.marked ≡ false → IsLine told old → IsLine told new
-sent_line told old new p tells honest leaves call after past got cells count unmarked h = record {
+    → LeavesBy Send old.state.machine new.state.machine → new.state.past ≡ past_of new.state.machine.ended new.state.machine.saw p old.state.past → new.state.sent ≡ sent_by new.state.machine old.state.sent p → new.state.got ≡ old.state.got → new.state.machine.cells ≡ old.state.machine.cells
+    → new.state.pages ≡ old.state.pages → old.state.machine.marked ≡ false → IsLine told old → IsLine told new
+sent_line told old new p tells honest leaves call after past sent got cells pages unmarked h = record {
   rests = ap is_busy_at leaves.stage ∙ rests_by (is_broken new.state.machine.ended);
   dozes = λ e. awake_dozes new.state.machine.asleep (after.awake (λ e. cc) (λ e. cc)) e;
   honest = λ e. let o = told_of (told old.seat) (sym tells ∙ e) in honest o.0 o.1;
+  sent = ap sent_of past ∙ (sent_sent new.state.machine.ended new.state.machine.saw p old.state.past call ∙ (ap (λ l. cond (is_sent new.state.machine.ended) (l ++ p ∷ []) l) h.sent ∙ sym sent));
   got = ap got_of past ∙ (sent_got new.state.machine.ended new.state.machine.saw p old.state.past call ∙ (h.got ∙ sym got));
   packets = λ i q e. h.packets i q (ap (λ l. slice_get l i) (sym got) ∙ e);
   committed = after.start (λ e. cc) ∙ (h.committed ∙ sym (after.read (λ e. cc)));
   mark = after.unmarked (λ e. cc) ∙ (sym unmarked ∙ (h.mark ∙ sym (ap has_marked past ∙ sent_mark new.state.machine.ended new.state.machine.saw p old.state.past call)));
   size = subst (λ n. (512 ≤ n) × (n ≤ 16777216)) (sym cells) h.size;
-  bare = count ∙ h.bare;
+  bare = ap (λ k. k.count) pages ∙ h.bare;
+  none = (ap (λ k. k.sent) pages ∙ h.none.0, ap (λ k. k.got) pages ∙ h.none.1);
 }
 
 abbrev tried_stage : Tried → Stage
@@ -87,13 +98,6 @@ tried_stage TriedBroken = Stopped
 tried_stage _ = Idle
 
 -- how a send ended, by its answer
-pub tried_past : (how : Ending) (m : EndMachine) (saw : Bool) (p : List ℕ) (past : List (Event (List ℕ))) (r : Result Signalled SendRefusal) → call_by how ≡ Send → r ≡ send_answer how m → past_of how saw p past ≡ past_tried (tried_of r) p past
-tried_past SentQuiet m saw p past r call is = ap (λ x. past_tried (tried_of x) p past) (sym is)
-tried_past SentRaised m saw p past r call is = ap (λ x. past_tried (tried_of x) p past) (sym is)
-tried_past Full m saw p past r call is = ap (λ x. past_tried (tried_of x) p past) (sym is)
-tried_past BadPeer m saw p past r call is = ap (λ x. past_tried (tried_of x) p past) (sym is)
-tried_past _ m saw p past r call is = absurd (cc)
-
 stage_tried : (how : Ending) (m : EndMachine) (r : Result Signalled SendRefusal) → call_by how ≡ Send → r ≡ send_answer how m → cond (is_broken how) Stopped Idle ≡ tried_stage (tried_of r)
 stage_tried SentQuiet m r call is = ap (λ x. tried_stage (tried_of x)) (sym is)
 stage_tried SentRaised m r call is = ap (λ x. tried_stage (tried_of x)) (sym is)
@@ -101,12 +105,12 @@ stage_tried Full m r call is = ap (λ x. tried_stage (tried_of x)) (sym is)
 stage_tried BadPeer m r call is = ap (λ x. tried_stage (tried_of x)) (sym is)
 stage_tried _ m r call is = absurd (cc)
 
-tries_at : {S : Type 0} (t : Tried) (e : Seen S) → e.state.machine.stage ≡ tried_stage t → e.state.machine.asleep ≡ false → e.state.machine.marked ≡ false → Tries t e
+tries_at : {S : Type 0} (t : Tried) (e : Line S) → e.state.machine.stage ≡ tried_stage t → e.state.machine.asleep ≡ false → e.state.machine.marked ≡ false → Tries t e
 tries_at TriedSent e at awake unmarked = record { idle = at; awake = awake; unmarked = unmarked }
 tries_at TriedFull e at awake unmarked = record { idle = at; awake = awake; unmarked = unmarked }
 tries_at TriedBroken e at awake unmarked = record { stopped = at; awake = awake; unmarked = unmarked }
 
-pub tries : {S : Type 0} (old : EndMachine) (e : Seen S) (r : Result Signalled SendRefusal) → Leaves old e.state.machine → call_by e.state.machine.ended ≡ Send → r ≡ send_answer e.state.machine.ended e.state.machine → e.state.machine.asleep ≡ false
+pub tries : {S : Type 0} (old : EndMachine) (e : Line S) (r : Result Signalled SendRefusal) → Leaves old e.state.machine → call_by e.state.machine.ended ≡ Send → r ≡ send_answer e.state.machine.ended e.state.machine → e.state.machine.asleep ≡ false
     → e.state.machine.marked ≡ false → Tries (tried_of r) e
 tries old e r leaves call is awake unmarked = tries_at (tried_of r) e (leaves.stage ∙ stage_tried e.state.machine.ended e.state.machine r call is) awake unmarked
 
@@ -134,7 +138,7 @@ honest_tried (Err (SendFull free need)) honest broken = absurd (cc)
 honest_tried (Err why) honest broken = absurd (cc)
 
 -- what stands last
-pub last_is : (xs : List (List ℕ)) (p q : List ℕ) (i : ℕ) → i + 1 ≡ length (xs ++ p ∷ []) → slice_get (xs ++ p ∷ []) i ≡ Some q → q ≡ p
+pub last_is : {P : Type 0} (xs : List P) (p q : P) (i : ℕ) → i + 1 ≡ length (xs ++ p ∷ []) → slice_get (xs ++ p ∷ []) i ≡ Some q → q ≡ p
 last_is [] p q zero e h = cc
 last_is [] p q (suc i) e h = absurd (omega (arith, e))
 last_is (x ∷ xs) p q zero e h = absurd (omega (arith, e, length-append xs (p ∷ [])))
@@ -297,12 +301,14 @@ new_line told e fresh size = record {
   rests = ap (λ s. is_busy_at s.machine.stage) fresh;
   dozes = λ _. ap (λ s. s.machine.stage) fresh;
   honest = λ _. ap (λ s. s.machine.stage) fresh;
+  sent = ap (λ s. sent_of s.past) fresh ∙ sym (ap (λ s. s.sent) fresh);
   got = ap (λ s. got_of s.past) fresh ∙ sym (ap (λ s. s.got) fresh);
   packets = λ i p at. none p (ap (λ s. slice_get s.got i) (sym fresh) ∙ at);
   committed = ap (λ s. s.machine.start) fresh ∙ sym (ap (λ s. s.machine.read) fresh);
   mark = ap (λ s. s.machine.marked) fresh ∙ sym (ap (λ s. has_marked s.past) fresh);
   size = size;
   bare = ap (λ s. s.pages.count) fresh;
+  none = (ap (λ s. s.pages.sent) fresh, ap (λ s. s.pages.got) fresh);
 }
   where
     none : {X : Type 0} (p : List ℕ) → None ≡ Some p → X

@@ -1,9 +1,9 @@
 -- What a worker knows of its end after a take.
-use Rattle.std.proofs.Common.{◌≡◌, ◌≤◌, ℕ, zero, suc, List, [], ◌∷◌, ◌++◌, Option, Some, None, Bool, true, false, cond, refl, sym, ap, ◌∙◌, subst}
+use Rattle.std.proofs.Common.{◌≡◌, ◌≤◌, ℕ, zero, suc, List, [], ◌∷◌, ◌++◌, Option, Some, None, Bool, true, false, cond, eqb, refl, sym, ap, ◌∙◌, subst}
 use Rattle.std.specs.Prelude.{slice_get, is_some}
 use Rattle.channel_trace.specs.declared.event.Event.{Event}
-use Rattle.channel_trace.specs.declared.event.Event.TheVariants.{Empty, Got}
-use Rattle.channel_trace.specs.Runs.{got_of, has_marked}
+use Rattle.channel_trace.specs.declared.event.Event.TheVariants.{Got}
+use Rattle.channel_trace.specs.Runs.{sent_of, got_of, has_marked}
 use Rattle.ring_machine.specs.declared.last.TakeRefusal.{TakeRefusal}
 use Rattle.ring_machine.specs.declared.machine.Ending.{Ending}
 use Rattle.ring_machine.specs.declared.machine.Ending.TheVariants.{Empty as EndedEmpty, BadIndex, BadLength, BadOffset, CommittedQuiet, CommittedRaised}
@@ -11,19 +11,24 @@ use Rattle.ring_machine.specs.declared.last.TakeRefusal.TheVariants.{Empty as Ta
 use Rattle.ring_machine.specs.declared.machine.EndMachine.{EndMachine}
 use Rattle.ring_machine.specs.declared.machine.Stage.{Stage}
 use Rattle.ring_machine.specs.declared.machine.Stage.TheVariants.{Idle, Stopped}
-use Rattle.ring_machine.specs.declared.state.EndState.{EndState}
 use Rattle.worker_port.specs.declared.found.Found.{Found}
 use Rattle.worker_port.specs.declared.found.Found.TheVariants.{Packet as FoundPacket, Nothing as FoundNothing, Broken as FoundBroken}
 use Rattle.ring_machine.specs.EndCalls.{Commit, Take}
 use Rattle.ring_machine.specs.Endings.{LeavesBy, take_refusal}
 use Rattle.ring_machine.specs.States.{Gets, IsPacket, past_of}
 use Rattle.ring_machine.specs.Steps.{call_by, is_broken, is_busy_at, is_took}
+use Rattle.page_kept.specs.declared.item.Item.{Item}
+use Rattle.page_kept.specs.declared.kept.Kept.{Kept as Pages}
+use Rattle.page_kept.specs.Kept.{first_page, gives_back, has_back, holds_now, is_held, is_lent, lends_out, pages_sent, pages_took}
+use Rattle.page_kept.specs.Layouts.{layout}
+use Rattle.pkt_desc.specs.Packets.{kind_of, id_of}
 use Rattle.ring_core.specs.declared.told.Told.{Told}
 use Rattle.ring_core.specs.Seen.{Kept, Seen}
 use Rattle.ring_core.specs.Taking.{Takes, TakesIdle, is_honest_take}
 use Rattle.ring_core.specs.Told.{Memory}
 use Rattle.ring_sleep.proofs.Telling.{tells_on, told_of}
-use Rattle.worker_port.specs.Line.{Finds, IsLine, TookOne, found_of, has_packet}
+use Rattle.worker_port.specs.Line.{Finds, IsLine, Line, LineState, TookOne, found_of, has_packet, line_of}
+use Rattle.worker_port.proofs.ItemLaws.{found_past, got_same_as, past_finds}
 
 untook : (took : Bool) (r other : TakeRefusal) → Some r ≡ cond took None (Some other) → took ≡ false
 untook true r other e = absurd (cc)
@@ -33,20 +38,16 @@ refusal_is : (took : Bool) (r other : TakeRefusal) → Some r ≡ cond took None
 refusal_is true r other e = absurd (cc)
 refusal_is false r other e = cc
 
-abbrev past_found : Found → List (Event (List ℕ)) → List (Event (List ℕ))
-past_found FoundNothing past = Empty ∷ past
-past_found _ past = past
-
 abbrev found_stage : Found → Stage
 found_stage FoundBroken = Stopped
 found_stage _ = Idle
 
 -- how a take ended that took nothing, by its refusal
-refused_past : (how : Ending) (m : EndMachine) (saw : Bool) (past : List (Event (List ℕ))) (r : TakeRefusal) → call_by how ≡ Take → is_took how ≡ false → r ≡ take_refusal how m → past_of how saw [] past ≡ past_found (found_of (Some r)) past
-refused_past EndedEmpty m saw past r call none is = ap (λ x. past_found (found_of (Some x)) past) (sym is)
-refused_past BadIndex m saw past r call none is = ap (λ x. past_found (found_of (Some x)) past) (sym is)
-refused_past BadLength m saw past r call none is = ap (λ x. past_found (found_of (Some x)) past) (sym is)
-refused_past BadOffset m saw past r call none is = ap (λ x. past_found (found_of (Some x)) past) (sym is)
+refused_past : (how : Ending) (m : EndMachine) (saw : Bool) (past : List (Event (List ℕ))) (r : TakeRefusal) → call_by how ≡ Take → is_took how ≡ false → r ≡ take_refusal how m → past_of how saw [] past ≡ found_past (found_of (Some r)) past
+refused_past EndedEmpty m saw past r call none is = ap (λ x. found_past (found_of (Some x)) past) (sym is)
+refused_past BadIndex m saw past r call none is = ap (λ x. found_past (found_of (Some x)) past) (sym is)
+refused_past BadLength m saw past r call none is = ap (λ x. found_past (found_of (Some x)) past) (sym is)
+refused_past BadOffset m saw past r call none is = ap (λ x. found_past (found_of (Some x)) past) (sym is)
 refused_past _ m saw past r call none is = absurd (cc)
 
 refused_stage : (how : Ending) (m : EndMachine) (r : TakeRefusal) → call_by how ≡ Take → is_took how ≡ false → r ≡ take_refusal how m → cond (is_broken how) Stopped Idle ≡ found_stage (found_of (Some r))
@@ -56,12 +57,17 @@ refused_stage BadLength m r call none is = ap (λ x. found_stage (found_of (Some
 refused_stage BadOffset m r call none is = ap (λ x. found_stage (found_of (Some x))) (sym is)
 refused_stage _ m r call none is = absurd (cc)
 
-found_got : (f : Found) (past : List (Event (List ℕ))) → got_of (past_found f past) ≡ got_of past
+found_got : (f : Found) (past : List (Event (List ℕ))) → got_of (found_past f past) ≡ got_of past
 found_got FoundPacket past = refl
 found_got FoundNothing past = refl
 found_got FoundBroken past = refl
 
-found_mark : (f : Found) (past : List (Event (List ℕ))) → has_marked (past_found f past) ≡ has_marked past
+found_sent : (f : Found) (past : List (Event (List ℕ))) → sent_of (found_past f past) ≡ sent_of past
+found_sent FoundPacket past = refl
+found_sent FoundNothing past = refl
+found_sent FoundBroken past = refl
+
+found_mark : (f : Found) (past : List (Event (List ℕ))) → has_marked (found_past f past) ≡ has_marked past
 found_mark FoundPacket past = refl
 found_mark FoundNothing past = refl
 found_mark FoundBroken past = refl
@@ -84,12 +90,12 @@ no_refusal None is = refl
 no_refusal (Some (TakeEmpty at)) is = absurd (cc)
 no_refusal (Some r) is = absurd (cc)
 
-finds_at : {S : Type 0} (f : Found) (e : Seen S) → e.state.machine.stage ≡ found_stage f → e.state.machine.asleep ≡ false → e.state.machine.marked ≡ false → Finds f e
+finds_at : {S : Type 0} (f : Found) (e : Line S) → e.state.machine.stage ≡ found_stage f → e.state.machine.asleep ≡ false → e.state.machine.marked ≡ false → Finds f e
 finds_at FoundPacket e at awake unmarked = record { idle = at; awake = awake; unmarked = unmarked }
 finds_at FoundNothing e at awake unmarked = record { idle = at; awake = awake; unmarked = unmarked }
 finds_at FoundBroken e at awake unmarked = record { stopped = at; awake = awake; unmarked = unmarked }
 
-took_by : (f : Found) (s t : EndState) → (f ≡ FoundPacket → ⊥) → t.past ≡ past_found f s.past → t.got ≡ s.got → TookOne f s t
+took_by : (f : Found) (s t : LineState) → (f ≡ FoundPacket → ⊥) → t.past ≡ found_past f s.past → t.got ≡ s.got → TookOne f s t
 took_by FoundPacket s t not past got = absurd (not refl)
 took_by FoundNothing s t not past got = (past, got)
 took_by FoundBroken s t not past got = (past, got)
@@ -146,48 +152,68 @@ module _ {S : Type 0} {told : S → Option Told} {memory : S → Option Memory} 
     is : r ≡ take_refusal m.ended m
     is = refusal_is (is_took m.ended) r (take_refusal m.ended m) (sym some ∙ t.answer)
 
-    past : new.state.past ≡ past_found (found_of o) old.state.past
-    past = (t.refused none).1 ∙ (refused_past m.ended m m.saw old.state.past r t.call none is ∙ ap (λ x. past_found (found_of x) old.state.past) (sym some))
+    past : new.state.past ≡ found_past (found_of o) old.state.past
+    past = (t.refused none).1 ∙ (refused_past m.ended m m.saw old.state.past r t.call none is ∙ ap (λ x. found_past (found_of x) old.state.past) (sym some))
 
-    pub refused_took : TookOne (found_of o) old.state new.state
-    refused_took = took_by (found_of o) old.state new.state not past (t.refused none).0
+    module _ (f : Item → Item) (pages : new.state.pages ≡ old.state.pages) where
+      pub refused_took : TookOne (found_of o) (line_of f old).state (line_of f new).state
+      refused_took = took_by (found_of o) (line_of f old).state (line_of f new).state not (past_finds f (found_of o) old.state new.state not past takes.kept.0 (t.refused none).0 pages) (got_same_as f old.state new.state (t.refused none).0 pages)
 
-    pub refused_room : (new.state.got ≡ old.state.got) × (new.spare_got ≡ old.spare_got)
-    refused_room = ((t.refused none).0, (t.refused none).2)
+      pub refused_room : ((line_of f new).state.got ≡ (line_of f old).state.got) × (new.spare_got ≡ old.spare_got)
+      refused_room = (got_same_as f old.state new.state (t.refused none).0 pages, (t.refused none).2)
 
-    pub refused_finds : Finds (found_of o) new
-    refused_finds = finds_at (found_of o) new (t.leaves.stage ∙ (refused_stage m.ended m r t.call none is ∙ ap (λ x. found_stage (found_of x)) (sym some))) takes.awake.0 takes.awake.1
+    pub refused_finds : (f : Item → Item) → Finds (found_of o) (line_of f new)
+    refused_finds f = finds_at (found_of o) (line_of f new) (t.leaves.stage ∙ (refused_stage m.ended m r t.call none is ∙ ap (λ x. found_stage (found_of x)) (sym some))) takes.awake.0 takes.awake.1
 
     pub refused_tells : is_some (told new.seat) ≡ is_some (told old.seat)
     refused_tells = tells_on _ _ _ _ _ _ t.ran
 
-    pub refused_line : new.state.pages.count ≡ old.state.pages.count → old.state.machine.marked ≡ false → IsLine told old → IsLine told new
-    refused_line count unmarked h = record {
+    pub refused_line : new.state.pages ≡ old.state.pages → old.state.machine.marked ≡ false → IsLine told old → IsLine told new
+    refused_line pages unmarked h = record {
       rests = ap is_busy_at t.leaves.stage ∙ rests_by (is_broken m.ended);
       dozes = λ e. awake_dozes m.asleep takes.awake.0 e;
       honest = λ e. let u = told_of (told old.seat) (sym refused_tells ∙ e) in (takes.honest u.0 u.1).1;
+      sent = ap sent_of past ∙ (found_sent (found_of o) old.state.past ∙ (h.sent ∙ sym takes.kept.0));
       got = ap got_of past ∙ (found_got (found_of o) old.state.past ∙ (h.got ∙ sym (t.refused none).0));
       packets = λ i p e. h.packets i p (ap (λ l. slice_get l i) (sym (t.refused none).0) ∙ e);
       committed = t.after.start (λ e. cc) ∙ (h.committed ∙ sym (kept (is_took m.ended) m.read _ old.state.machine.read t.leaves.read none));
       mark = takes.awake.1 ∙ (sym unmarked ∙ (h.mark ∙ sym (ap has_marked past ∙ found_mark (found_of o) old.state.past)));
       size = subst (λ n. (512 ≤ n) × (n ≤ 16777216)) (sym takes.cells) h.size;
-      bare = count ∙ h.bare;
+      bare = ap (λ k. k.count) pages ∙ h.bare;
+      none = (ap (λ k. k.sent) pages ∙ h.none.0, ap (λ k. k.got) pages ∙ h.none.1);
     }
 
   -- after one that took a packet, whose cells were given back
   pub one_taken : (old mid new : Seen S) (o : Option TakeRefusal) → Takes S told memory same old mid o → Gets mid.state.machine.len old.state.got mid.state.got old.state.past mid.state.past
-      → mid.state.pages.count ≡ old.state.pages.count → old.state.machine.marked ≡ false → LeavesBy Commit mid.state.machine new.state.machine → new.state.machine.cells ≡ mid.state.machine.cells → new.state.past ≡ mid.state.past → Kept mid new → IsLine told old → IsLine told new
-  one_taken old mid new o takes gets count unmarked after cells past kept h =
+      → mid.state.pages ≡ old.state.pages → old.state.machine.marked ≡ false → LeavesBy Commit mid.state.machine new.state.machine → new.state.machine.cells ≡ mid.state.machine.cells → new.state.past ≡ mid.state.past → Kept mid new → IsLine told old → IsLine told new
+  one_taken old mid new o takes gets pages unmarked after cells past kept h =
       let list : new.state.got ≡ old.state.got ++ gets.words ∷ [] = kept.got ∙ gets.list in
       let events : new.state.past ≡ Got gets.words ∷ old.state.past = past ∙ gets.past_is in
       record {
         rests = ap is_busy_at (after.idle (λ e. cc) (λ e. cc));
         dozes = λ _. after.idle (λ e. cc) (λ e. cc);
         honest = λ _. after.idle (λ e. cc) (λ e. cc);
+        sent = ap sent_of events ∙ (h.sent ∙ sym (kept.sent ∙ takes.kept.0));
         got = ap got_of events ∙ (ap (λ l. l ++ gets.words ∷ []) h.got ∙ sym list);
         packets = λ i p e. packets_more old.state.got gets.words gets.packet h.packets i p (ap (λ l. slice_get l i) (sym list) ∙ e);
         committed = after.committed refl;
         mark = after.unmarked (λ e. cc) ∙ (sym unmarked ∙ (h.mark ∙ ap has_marked (sym events)));
         size = subst (λ n. (512 ≤ n) × (n ≤ 16777216)) (sym (cells ∙ takes.cells)) h.size;
-        bare = ap (λ k. k.count) kept.pages ∙ (count ∙ h.bare);
+        bare = ap (λ k. k.count) (kept.pages ∙ pages) ∙ h.bare;
+        none = (ap (λ k. k.sent) (kept.pages ∙ pages) ∙ h.none.0, ap (λ k. k.got) (kept.pages ∙ pages) ∙ h.none.1);
       }
+
+-- a channel without pages keeps none
+none_took : (k : Pages) (b : Bool) (p : List ℕ) → k.count ≡ 0 → cond b (pages_took (layout k.count) k p) k ≡ k
+none_took k true p e = ap (λ (n : ℕ). cond (eqb n 0) k (cond (eqb (kind_of p) 11) (has_back k p (first_page (is_lent (id_of p)) 0 k.owners)) (holds_now k p ((layout k.count).lends p)))) e
+none_took k false p e = refl
+
+pub no_pages_took : (k k' : Pages) (b : Bool) (p : List ℕ) → k.count ≡ 0 → k' ≡ cond b (pages_took (layout k.count) k p) k → k' ≡ k
+no_pages_took k k' b p e is = is ∙ none_took k b p e
+
+none_sent : (k : Pages) (b : Bool) (p : List ℕ) → k.count ≡ 0 → cond b (pages_sent (layout k.count) k p) k ≡ k
+none_sent k true p e = ap (λ (n : ℕ). cond (eqb n 0) k (cond (eqb (kind_of p) 11) (gives_back k p (first_page (is_held (id_of p)) 0 k.owners)) (lends_out k p ((layout k.count).lends p)))) e
+none_sent k false p e = refl
+
+pub no_pages_sent : (k k' : Pages) (b : Bool) (p : List ℕ) → k.count ≡ 0 → k' ≡ cond b (pages_sent (layout k.count) k p) k → k' ≡ k
+no_pages_sent k k' b p e is = is ∙ none_sent k b p e

@@ -1,15 +1,20 @@
 -- One end of a channel, as its worker sees it.
-use Rattle.std.specs.Prelude.{ℕ, ◌≡◌, ◌<◌, ◌≤◌, ◌⊎◌, Bool, true, false, List, [], ◌∷◌, ◌++◌, slice_get, Option, Some, None, is_some, Result, Ok, Err}
+use Rattle.std.specs.Prelude.{ℕ, ◌≡◌, ◌<◌, ◌≤◌, ◌⊎◌, Bool, true, false, List, [], ◌∷◌, ◌++◌, map, slice_get, Option, Some, None, is_some, Result, Ok, Err}
 use Rattle.channel_trace.specs.declared.event.Event.{Event}
 use Rattle.channel_trace.specs.declared.event.Event.TheVariants.{Sent, Got, Empty, Saw}
-use Rattle.channel_trace.specs.Runs.{got_of, has_marked}
+use Rattle.channel_trace.specs.Runs.{sent_of, got_of, has_marked}
+use Rattle.channel_trace.specs.Filled.{filled}
+use Rattle.page_kept.specs.declared.item.Item.{Item}
+use Rattle.page_kept.specs.Items.{item_of}
 use Rattle.ring_machine.specs.declared.machine.Stage.TheVariants.{Idle, Stopped}
 use Rattle.ring_machine.specs.declared.last.Armed.{Armed}
 use Rattle.ring_machine.specs.declared.last.Armed.TheVariants.{Asleep, Work as ArmedWork}
 use Rattle.ring_machine.specs.declared.machine.Ending.{Ending}
 use Rattle.ring_machine.specs.declared.machine.Ending.TheVariants.{FellAsleep, FoundWork, NoSignal, Woke}
+use Rattle.ring_machine.specs.declared.machine.EndMachine.{EndMachine}
 use Rattle.ring_machine.specs.declared.state.EndState.{EndState}
 use Rattle.ring_machine.specs.Endings.{want_of}
+use Rattle.ring_core.specs.declared.room.Room.{Room}
 use Rattle.ring_core.specs.Seen.{Seen}
 use Rattle.ring_machine.specs.States.{IsPacket, resting}
 use Rattle.ring_machine.specs.Steps.{is_busy_at, machine_new, poll_begun}
@@ -32,38 +37,74 @@ use Rattle.worker_port.specs.declared.port.ArmResult.TheVariants.{Nothing, Work,
 abbrev pub new_end : ℕ → Side → EndState
 new_end n x = resting (machine_new x n) [] [] []
 
+-- packets, each with the page words that it has in these items: none past the items
+abbrev pub whole : List (List ℕ) → List Item → List Item
+whole [] is = []
+whole (p ∷ ps) [] = item_of p [] ∷ whole ps []
+whole (p ∷ ps) (i ∷ is) = i ∷ whole ps is
+
+-- what an end did and got, in items as they are read
+unfoldable pub past_as : (Item → Item) → EndState → List (Event Item)
+past_as f e = filled (λ p. f (item_of p [])) (map f (whole e.sent e.pages.sent)) (map f (whole e.got e.pages.got)) e.past
+
+unfoldable pub got_as : (Item → Item) → EndState → List Item
+got_as f e = map f (whole e.got e.pages.got)
+
+-- what a worker sees of its end's state
+pub record LineState : Type 0 where
+  pub machine : EndMachine
+  pub past : List (Event Item)
+  pub got : List Item
+
+-- an end, and what it did and got in items as they are read
+pub record Line (S : Type 0) : Type 0 where
+  pub end : Seen S
+  pub state : LineState
+  pub seat : S
+  pub spare_sent : Room
+  pub spare_got : Room
+
+abbrev pub line_of : {S : Type 0} → (Item → Item) → Seen S → Line S
+line_of f e = record { end = e; state = record { machine = e.state.machine; past = past_as f e.state; got = got_as f e.state }; seat = e.seat; spare_sent = e.spare_sent; spare_got = e.spare_got }
+
 -- between two calls of a worker: the list of what was got is that of the end's past, the cells of each packet in it were given back, and the channel has no
 -- data pages. No call is under way; where the end sleeps, or the seat tells the end's state, the end isn't stopped
 pub record IsLine {S : Type 0} (told : S → Option Told) (e : Seen S) : Type 0 where
   pub rests : is_busy_at e.state.machine.stage ≡ false
   pub dozes : e.state.machine.asleep ≡ true → e.state.machine.stage ≡ Idle
   pub honest : is_some (told e.seat) ≡ true → e.state.machine.stage ≡ Idle
+  pub sent : sent_of e.state.past ≡ e.state.sent
   pub got : got_of e.state.past ≡ e.state.got
   pub packets : (i : ℕ) (p : List ℕ) → slice_get e.state.got i ≡ Some p → IsPacket p
   pub committed : e.state.machine.start ≡ e.state.machine.read
   pub mark : e.state.machine.marked ≡ has_marked e.state.past
   pub size : (512 ≤ e.state.machine.cells) × (e.state.machine.cells ≤ 16777216)
   pub bare : e.state.pages.count ≡ 0
+  pub none : (e.state.pages.sent ≡ []) × (e.state.pages.got ≡ [])
+
+-- the item that a send of this packet keeps, behind a store of these page words: it has no page words in a channel without data pages
+unfoldable pub item_sent : {S : Type 0} → Line S → List ℕ → List ℕ → Item
+item_sent e p words = item_of p []
 
 -- it can begin a call
-pub record IsReady {S : Type 0} (e : Seen S) : Type 0 where
+pub record IsReady {S : Type 0} (e : Line S) : Type 0 where
   pub idle : e.state.machine.stage ≡ Idle
   pub awake : e.state.machine.asleep ≡ false
   pub unmarked : e.state.machine.marked ≡ false
 
 -- a call that it made loaded a value that breaks the rings' rules: it makes no step any more
-pub record IsBroken {S : Type 0} (e : Seen S) : Type 0 where
+pub record IsBroken {S : Type 0} (e : Line S) : Type 0 where
   pub stopped : e.state.machine.stage ≡ Stopped
   pub awake : e.state.machine.asleep ≡ false
   pub unmarked : e.state.machine.marked ≡ false
 
 -- after a send, and after a take
-abbrev pub Tries : {S : Type 0} → Tried → Seen S → Type 0
+abbrev pub Tries : {S : Type 0} → Tried → Line S → Type 0
 Tries TriedSent e = IsReady e
 Tries TriedFull e = IsReady e
 Tries TriedBroken e = IsBroken e
 
-abbrev pub Finds : {S : Type 0} → Found → Seen S → Type 0
+abbrev pub Finds : {S : Type 0} → Found → Line S → Type 0
 Finds FoundPacket e = IsReady e
 Finds FoundNothing e = IsReady e
 Finds FoundBroken e = IsBroken e
@@ -86,10 +127,10 @@ has_packet FoundNothing = false
 has_packet FoundBroken = false
 
 -- what a send adds to the past
-abbrev pub past_tried : Tried → List ℕ → List (Event (List ℕ)) → List (Event (List ℕ))
-past_tried TriedSent p past = Sent p ∷ past
-past_tried TriedFull p past = past
-past_tried TriedBroken p past = past
+abbrev pub past_tried : Tried → Item → List (Event Item) → List (Event Item)
+past_tried TriedSent i past = Sent i ∷ past
+past_tried TriedFull i past = past
+past_tried TriedBroken i past = past
 
 -- a later state of one and the same end
 pub record IsSameEnd {S C : Type 0} (channel : S → C) (old new : Seen S) : Type 0 where
@@ -97,19 +138,20 @@ pub record IsSameEnd {S C : Type 0} (channel : S → C) (old new : Seen S) : Typ
   pub side : new.state.machine.side ≡ old.state.machine.side
 
 -- one and the same end, with the same cells
-pub record Stays {S C : Type 0} (channel : S → C) (told : S → Option Told) (old new : Seen S) : Type 0 where
+pub record Stays {S C : Type 0} (channel : S → C) (told : S → Option Told) (old new : Line S) : Type 0 where
   pub tells : is_some (told new.seat) ≡ is_some (told old.seat)
-  pub same : IsSameEnd channel old new
+  pub same : IsSameEnd channel old.end new.end
   pub cells : new.state.machine.cells ≡ old.state.machine.cells
+  pub side : new.state.machine.side ≡ old.state.machine.side
 
 -- a packet was taken, or none waited, or what stood there was refused
-abbrev pub TookOne : Found → EndState → EndState → Type 0
-TookOne FoundPacket old new = (p : List ℕ) × (new.past ≡ Got p ∷ old.past) × (new.got ≡ old.got ++ p ∷ []) × IsPacket p
+abbrev pub TookOne : Found → LineState → LineState → Type 0
+TookOne FoundPacket old new = (i : Item) × (new.past ≡ Got i ∷ old.past) × (new.got ≡ old.got ++ i ∷ []) × IsPacket i.packet
 TookOne FoundNothing old new = (new.past ≡ Empty ∷ old.past) × (new.got ≡ old.got)
 TookOne FoundBroken old new = (new.past ≡ old.past) × (new.got ≡ old.got)
 
 -- what the looks of an arm add to the past
-abbrev pub looked : ArmResult → List (Event (List ℕ)) → List (Event (List ℕ))
+abbrev pub looked : ArmResult → List (Event Item) → List (Event Item)
 looked Nothing past = past
 looked Work past = past
 looked Mark past = Saw ∷ past
@@ -137,19 +179,19 @@ polled_by true = Woke
 polled_by false = NoSignal
 
 -- its signal was exchanged once
-abbrev pub PolledOnce : {S : Type 0} → (S → Option Told) → (S → Option Memory) → Seen S → Seen S → Type 0
-PolledOnce told memory old new = MakesSteps told memory (poll_begun old.state.machine) [] old new
+abbrev pub PolledOnce : {S : Type 0} → (S → Option Told) → (S → Option Memory) → Line S → Line S → Type 0
+PolledOnce told memory old new = MakesSteps told memory (poll_begun old.end.state.machine) [] old.end new.end
 
 -- it is asleep, and waits for this room
-pub record SleepsFor {S : Type 0} (want : Option ℕ) (e : Seen S) : Type 0 where
+pub record SleepsFor {S : Type 0} (want : Option ℕ) (e : Line S) : Type 0 where
   pub asleep : e.state.machine.asleep ≡ true
   pub want_is : e.state.machine.want ≡ want_of want
 
 -- the next packet lacks the room of the list of what was got
-pub record LacksTake {S : Type 0} (packets words : ℕ) (e : Seen S) : Type 0 where
+pub record LacksTake {S : Type 0} (packets words : ℕ) (e : Line S) : Type 0 where
   pub packets_is : packets ≡ e.spare_got.packets
   pub words_is : words ≡ e.spare_got.words
   pub lacks : (packets ≡ 0) ⊎ (words < e.state.machine.cells)
 
-abbrev pub HasTakeRoom : {S : Type 0} → Seen S → Type 0
+abbrev pub HasTakeRoom : {S : Type 0} → Line S → Type 0
 HasTakeRoom e = (0 < e.spare_got.packets) × (e.state.machine.cells ≤ e.spare_got.words)

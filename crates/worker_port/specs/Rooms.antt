@@ -3,7 +3,8 @@ use Rattle.std.specs.Prelude.{ℕ, ◌≡◌, ◌<◌, ◌≤◌, ◌+◌, ◌*�
 use Rattle.channel_trace.specs.declared.event.Event.{Event}
 use Rattle.channel_trace.specs.Laws.{AreOfOneRun}
 use Rattle.channel_trace.specs.Runs.{sent_of, got_of}
-use Rattle.ring_core.specs.Seen.{Seen}
+use Rattle.page_kept.specs.declared.item.Item.{Item}
+use Rattle.worker_port.specs.Line.{Line}
 use Rattle.channel_model.specs.WireFormat.{WireFormat}
 use Rattle.channel_model.specs.Amounts.{room_of, besides_of, AsksAtMost, ServesAtMost}
 use Rattle.worker_port.specs.declared.ended.Ended.{Ended}
@@ -12,47 +13,47 @@ use Rattle.worker_port.specs.declared.ended.Turn.{Turn}
 use Rattle.worker_port.specs.declared.ended.Turn.TheVariants.{Moved, Idle, Ended as TurnEnded}
 
 -- the words of these packets
-abbrev pub words_in : List (List ℕ) → ℕ
+abbrev pub words_in : List Item → ℕ
 words_in [] = 0
-words_in (p ∷ ps) = length p + words_in ps
+words_in (p ∷ ps) = length p.packet + words_in ps
 
 -- each packet has at most 384 words
-abbrev pub AreShort : List (List ℕ) → Type 0
+abbrev pub AreShort : List Item → Type 0
 AreShort [] = Unit {0}
-AreShort (p ∷ ps) = (length p ≤ 384) × AreShort ps
+AreShort (p ∷ ps) = (length p.packet ≤ 384) × AreShort ps
 
 -- more came than room was made for: more packets of 384 words than `room`, more words in all, or more of one kind than `most`
-pub record CameOver (kind : List ℕ → Bool) (most room : ℕ) (past : List (Event (List ℕ))) : Type 0 where
+pub record CameOver (kind : Item → Bool) (most room : ℕ) (past : List (Event Item)) : Type 0 where
   pub over : (room < length (got_of past)) ⊎ ((384 * room < words_in (got_of past)) ⊎ (most < length (filter kind (got_of past))))
 
 -- more packets came that ask the device than so many
-abbrev pub AskedOver : (List ℕ → Bool) → ℕ → List (Event (List ℕ)) → Type 0
+abbrev pub AskedOver : (Item → Bool) → ℕ → List (Event Item) → Type 0
 AskedOver asks serve past = serve < length (filter asks (got_of past))
 
 -- the room that was reserved for what comes, some of which is used up by what came: one packet more than so many, and the words of a whole ring besides
 -- 384 for each
-pub record HasReserved {S : Type 0} (room : ℕ) (e : Seen S) : Type 0 where
+pub record HasReserved {S : Type 0} (room : ℕ) (e : Line S) : Type 0 where
   pub packets : room + 1 ≤ e.spare_got.packets + length e.state.got
   pub words : 384 * room + e.state.machine.cells ≤ e.spare_got.words + words_in e.state.got
 
 -- the room that was reserved for what goes, some of which is used up by what went
-pub record HasReservedSent {S : Type 0} (room : ℕ) (e : Seen S) : Type 0 where
+pub record HasReservedSent {S : Type 0} (room : ℕ) (e : Line S) : Type 0 where
   pub packets : room ≤ e.spare_sent.packets + length (sent_of e.state.past)
   pub words : 384 * room ≤ e.spare_sent.words + words_in (sent_of e.state.past)
   pub short : AreShort (sent_of e.state.past)
 
 -- a worker keeps within its room: as many packets come and go
-pub record KeepsRoom {S : Type 0} (room : ℕ) (e : Seen S) : Type 0 where
+pub record KeepsRoom {S : Type 0} (room : ℕ) (e : Line S) : Type 0 where
   pub got : HasReserved room e
   pub sent : HasReservedSent room e
 
 -- what is left of the room for what comes shrinks by what came alone
-pub record GotInto {S : Type 0} (old new : Seen S) : Type 0 where
+pub record GotInto {S : Type 0} (old new : Line S) : Type 0 where
   pub packets : old.spare_got.packets + length old.state.got ≤ new.spare_got.packets + length new.state.got
   pub words : old.spare_got.words + words_in old.state.got ≤ new.spare_got.words + words_in new.state.got
 
 -- a packet that is sent takes its room at most
-pub record SentInto {S : Type 0} (words : ℕ) (old new : Seen S) : Type 0 where
+pub record SentInto {S : Type 0} (words : ℕ) (old new : Line S) : Type 0 where
   pub packets : old.spare_sent.packets ≤ new.spare_sent.packets + 1
   pub words_is : old.spare_sent.words ≤ new.spare_sent.words + words
 
@@ -81,30 +82,30 @@ abbrev pub OnlyWith : Bool → Type 0 → Type 0
 OnlyWith false Holds = ⊥
 OnlyWith true Holds = Holds
 
-module _ {A Q R : Type 0} (s : WireFormat (List ℕ) A Q R) where
+module _ {A Q R : Type 0} (s : WireFormat Item A Q R) where
   -- a packet asks the device for something
-  abbrev pub is_asked : List ℕ → Bool
+  abbrev pub is_asked : Item → Bool
   is_asked p = is_some (s.read p)
 
   -- what the end that asks sent: no more requests than so many, no more acknowledgements than messages came, and each of at most 384 words
-  pub record AskedWithin (most : ℕ) (past : List (Event (List ℕ))) : Type 0 where
+  pub record AskedWithin (most : ℕ) (past : List (Event Item)) : Type 0 where
     pub kinds : AsksAtMost s most past
     pub short : AreShort (sent_of past)
 
   -- what the end that serves sent: at most one answer for each request that came, a message besides only where there are messages, and each of at most 384 words
-  pub record ServedWithin (besides : Bool) (past : List (Event (List ℕ))) : Type 0 where
+  pub record ServedWithin (besides : Bool) (past : List (Event Item)) : Type 0 where
     pub kinds : ServesAtMost s besides past
     pub short : AreShort (sent_of past)
 
   -- a worker that asks so much ended for want of room only where more came than it made room for
-  abbrev pub AskLacksFor : Bool → ℕ → Ended → List (Event (List ℕ)) → Type 0
+  abbrev pub AskLacksFor : Bool → ℕ → Ended → List (Event Item) → Type 0
   AskLacksFor besides asks Marked past = Unit {0}
   AskLacksFor besides asks PeerMarked past = Unit {0}
   AskLacksFor besides asks (Room packets words left) past = CameOver s.is_message (besides_of besides asks) (room_of besides asks) past
   AskLacksFor besides asks Broken past = Unit {0}
 
   -- and one that serves, with room for so many requests, there, or where more was asked of the device than it serves and it doesn't stop behind that
-  abbrev pub ServeLacksFor : Bool → ℕ → ℕ → Bool → Ended → List (Event (List ℕ)) → Type 0
+  abbrev pub ServeLacksFor : Bool → ℕ → ℕ → Bool → Ended → List (Event Item) → Type 0
   ServeLacksFor besides most serve stops Marked past = Unit {0}
   ServeLacksFor besides most serve stops PeerMarked past = Unit {0}
   ServeLacksFor besides most serve stops (Room packets words left) past = CameOver s.is_request most (room_of besides most) past ⊎ ((stops ≡ false) × AskedOver is_asked serve past)
@@ -115,7 +116,7 @@ module _ {A Q R : Type 0} (s : WireFormat (List ℕ) A Q R) where
   -- of a call
   abbrev pub NeverLacks : Type 0
   NeverLacks =
-      (besides : Bool) (asks most serve : ℕ) (stops : Bool) (asker server : List (Event (List ℕ))) (asked served : Ended)
+      (besides : Bool) (asks most serve : ℕ) (stops : Bool) (asker server : List (Event Item)) (asked served : Ended)
       → asks ≤ most → (stops ≡ false → length (filter is_asked (sent_of asker)) ≤ serve) → AreOfOneRun asker server
       → AskedWithin asks asker → AskLacksFor besides asks asked asker → ServedWithin besides server → ServeLacksFor besides most serve stops served server
       → (has_room asked ≡ true) × (has_room served ≡ true)

@@ -1,11 +1,26 @@
-//! A law of the two workers of a channel: the function does nothing, and its contract is the law.
-ghost use Rattle.std.specs.Prelude.{ℕ, List};
+//! Laws of the two workers of a channel: each function does nothing, and its contract is a law.
+ghost use Rattle.std.specs.Prelude.{◌≡◌, [], ℕ, map};
+ghost use Rattle.channel_trace.specs.Laws.{AreOfOneRun};
+ghost use Rattle.channel_trace.specs.Runs.{sent_of, got_of};
+ghost use Rattle.page_kept.specs.declared.item.Item.{Item};
+ghost use Rattle.page_kept.specs.Items.{item_of};
+ghost use Rattle.ring_core.specs.Seen.{Seen};
+ghost use Rattle.worker_port.specs.Line.{IsLine, past_as};
 ghost use Rattle.worker_port.specs.Rooms.{NeverLacks};
 ghost use Rattle.channel_model.specs.WireFormat.{WireFormat};
+
+use ring_sleep::Parks;
 
 /// Between two ends of one channel whose plans agree neither worker ends for want of room or of a call: the end that asks sends as many requests as it has
 /// asks, and acknowledges each message once; the end that serves made room for as many, serves as many of the device, and sends at most one answer for each
 /// request that it got, and one message besides where there are messages. `Requester::run` and `Server::run` say what it takes.
 pub fn never_lacks<A, Q, R>()
-    ensures { (s : WireFormat (List ℕ) A Q R) → NeverLacks s }
+    ensures { (s : WireFormat Item A Q R) → NeverLacks s }
+{}
+
+/// Two ends of one run are of one run in items too, however these are read; and in items each sent and got its packets, as they are read.
+pub fn items_are_one_run<S: Parks>()
+    ensures run { (f : Item → Item) (guest host : Seen S) → IsLine S.told guest → IsLine S.told host → AreOfOneRun guest.state.past host.state.past → AreOfOneRun (past_as f guest.state) (past_as f host.state) }
+    ensures sent { (f : Item → Item) (e : Seen S) → IsLine S.told e → sent_of (past_as f e.state) ≡ map (λ p. f (item_of p [])) e.state.sent }
+    ensures got { (f : Item → Item) (e : Seen S) → IsLine S.told e → got_of (past_as f e.state) ≡ map (λ p. f (item_of p [])) e.state.got }
 {}

@@ -7,10 +7,12 @@ mod found;
 pub mod laws;
 mod packet_buffer;
 mod port;
+mod reads;
 mod room;
 
 pub use ended::{Ended, Turn};
 pub use found::{Found, Tried};
 pub use packet_buffer::PacketBuffer;
 pub use port::{ArmResult, Port};
+pub use reads::{id_read, is_ack_read, is_answer_read, is_message_read, is_waiting_read};
 pub use room::room_of;

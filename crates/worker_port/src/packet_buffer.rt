@@ -1,111 +1,165 @@
 //! A buffer in which a packet is written.
-ghost use Rattle.std.specs.Prelude.{◌≡◌, ◌<◌, ◌≤◌, ◌+◌, ◌*◌, [], ℕ, length, slice_get, Some, IfOk, true, ◌⊎◌};
-ghost use Rattle.channel_protocol.specs.Listed.{answer_in, listed_packet, message_in};
-ghost use Rattle.channel_model.specs.WireFormat.{listed, under_own};
+ghost use Rattle.std.specs.Prelude.{◌≡◌, ◌<◌, ◌≤◌, ◌+◌, ◌*◌, [], ℕ, length, slice_get, Some, IfOk, true, false, ◌⊎◌};
+ghost use Rattle.page_kept.specs.declared.item.Item.{Item};
+ghost use Rattle.page_kept.specs.Items.{item_of};
+ghost use Rattle.channel_protocol.specs.Listed.{answer_in, message_in};
+ghost use Rattle.channel_model.specs.WireFormat.{under_own};
 ghost use Rattle.ring_machine.specs.States.{IsPacket};
-ghost use Rattle.worker_port.specs.Owed.{is_nil, FitsReply};
+ghost use Rattle.worker_port.specs.Owed.{is_nil, FitsReply, LaysOn, LaysSomeOn};
 
-use channel_protocol::Protocol;
+use channel_protocol::{Protocol, Written};
 use std::alloc::{AllocError, Global};
 use std::marker::Model;
 
 // The words of a packet at most.
 const MOST: usize = 384;
 
-/// A packet of at most 384 words, or none. Contracts see its words.
+// The words of a page.
+const PAGE: usize = 512;
+
+// No packet, and no page words.
+const NONE: Written = Written {
+    packet: 0,
+    words: 0,
+    lent: 0,
+};
+
+/// A packet of at most 384 words, or none, and its page words.
 #[derive(Drop)]
 pub struct PacketBuffer {
     words: Vec<u64>,
-    len: usize,
+    page: Vec<u64>,
+    spread: Written,
 }
 
 impl Model for PacketBuffer {
-    ghost use Rattle.std.specs.Prelude.{List, ℕ, take};
-    ghost use Rattle.worker_port.specs.Owed.{IsPacketBuffer};
+    ghost use Rattle.std.specs.Prelude.{take};
+    ghost use Rattle.worker_port.specs.Owed.{IsPacketBuffer, Written};
 
-    ghost Value = { List ℕ };
+    ghost Value = { Written };
 
-    ghost view = { λ s. take s.len s.words.items };
+    ghost view = { λ s. record { packet = take s.spread.packet s.words.items; words = take s.spread.words s.page.items; lent = s.spread.lent } };
 
-    ghost invariant = { λ s. IsPacketBuffer s.words.items s.len };
+    ghost invariant = { λ s. IsPacketBuffer s.words.items s.page.items s.spread };
 }
 
 impl PacketBuffer {
     /// A buffer with no packet. It takes the memory of one of 384 words.
     pub fn make(alloc: Global) -> Result<PacketBuffer, AllocError>
-        ensures { IfOk result (λ s. s ≡ []) }
+        ensures { IfOk result (λ s. s.packet ≡ []) }
     {
         let words = Vec::from_elem(alloc, 0, MOST)?;
-        Ok(PacketBuffer { words, len: 0 })
+        let page = Vec::from_elem(alloc, 0, PAGE)?;
+        Ok(PacketBuffer {
+            words,
+            page,
+            spread: NONE,
+        })
     }
 
     /// Whether it has no packet.
     pub fn is_empty(&self) -> bool
-        ensures { result ≡ is_nil self.now }
+        ensures { result ≡ is_nil self.now.packet }
     {
-        self.len == 0
+        self.spread.packet == 0
     }
 
     /// Takes the packet away.
     pub fn clear(&mut self)
-        ensures { self.new ≡ [] }
+        ensures { self.new.packet ≡ [] }
     {
-        self.len = 0;
+        self.spread = NONE;
     }
 
     /// The words of the packet.
     pub fn packet(&self) -> &[u64]
-        ensures value { result.now ≡ self.now }
-        ensures packet { is_nil self.now ≡ true ⊎ IsPacket result.now }
+        ensures value { result.now ≡ self.now.packet }
+        ensures packet { is_nil self.now.packet ≡ true ⊎ IsPacket result.now }
         ensures most { length result.now ≤ 384 }
     {
-        &self.words[..self.len]
+        &self.words[..self.spread.packet]
+    }
+
+    /// The page words that are to be stored.
+    pub fn page(&self) -> &[u64]
+        ensures value { result.now ≡ self.now.words }
+        ensures most { (length result.now ≤ self.now.lent) × (self.now.lent ≤ 512) }
+    {
+        &self.page[..self.spread.words]
     }
 
     /// The room in bytes that the packet needs.
     pub fn need(&self) -> u32
-        requires { IsPacket self.now }
-        ensures value { result ≡ 8 * length self.now + 8 }
+        requires { IsPacket self.now.packet }
+        ensures value { result ≡ 8 * length self.now.packet + 8 }
         ensures most { (24 ≤ result) × (result ≤ 3080) }
     {
-        8 * self.len as u32 + 8
+        8 * self.spread.packet as u32 + 8
     }
 
     /// Writes the k-th request of a protocol under an id.
     pub fn encode<T: Protocol>(&mut self, protocol: &T, k: u32, id: u64)
         requires which { k < length (T.asks protocol.now) }
-        ensures value { (a : T.Ask) → slice_get (T.asks protocol.now) k ≡ Some a → self.new ≡ (T.format protocol.now).encode id a }
-        ensures packet { IsPacket self.new }
-        ensures most { length self.new ≤ 384 }
+        ensures value { (a : T.Ask) (i : Item) → slice_get (T.asks protocol.now) k ≡ Some a → LaysOn self.new i → T.said i ≡ (T.format protocol.now).encode id a }
+        ensures packet { IsPacket self.new.packet }
+        ensures most { length self.new.packet ≤ 384 }
+        ensures none { T.lends protocol.now ≡ false → (self.new.words ≡ []) × (self.new.lent ≡ 0) }
     {
-        self.len = protocol.encode(k, id, self.words.as_mut_slice());
+        self.spread = protocol.encode(k, id, self.words.as_mut_slice(), self.page.as_mut_slice());
     }
 
     /// Writes what acknowledges a message.
     pub fn write_ack<T: Protocol>(&mut self, protocol: &T, packet: &[u64])
         requires packet { IsPacket packet.now }
-        requires message { (T.format protocol.now).is_message packet.now ≡ true }
-        ensures value { self.new ≡ (T.format protocol.now).ack packet.now }
-        ensures packet { IsPacket self.new }
-        ensures most { length self.new ≤ 384 }
+        requires message { (i : Item) × (i.packet ≡ packet.now) × ((T.format protocol.now).is_message i ≡ true) }
+        ensures value { (i : Item) → i.packet ≡ packet.now → (T.format protocol.now).is_message i ≡ true → item_of self.new.packet [] ≡ (T.format protocol.now).ack i }
+        ensures packet { IsPacket self.new.packet }
+        ensures most { length self.new.packet ≤ 384 }
+        ensures none { (self.new.words ≡ []) × (self.new.lent ≡ 0) }
     {
-        self.len = protocol.write_ack(packet, self.words.as_mut_slice());
+        let packet = protocol.write_ack(packet, self.words.as_mut_slice());
+        self.spread = Written {
+            packet,
+            words: 0,
+            lent: 0,
+        };
     }
 
     /// Writes the message that goes back for a packet that asks nothing of the device, if there is one, under an id of the serving end's own.
-    pub fn write_fixed_message<T: Protocol>(&mut self, protocol: &T, packet: &[u64], own: u64)
+    pub fn write_fixed_message<T: Protocol>(
+        &mut self,
+        protocol: &T,
+        packet: &[u64],
+        words: &[u64],
+        own: u64,
+    )
         requires packet { IsPacket packet.now }
-        ensures { listed_packet self.new ≡ listed (message_in own ((T.format protocol.now).fixed packet.now)) }
+        requires words { length words.now ≤ 512 }
+        ensures value { LaysSomeOn T.said self.new (message_in own ((T.format protocol.now).fixed (T.said (item_of packet.now words.now)))) }
+        ensures none { T.lends protocol.now ≡ false → (self.new.words ≡ []) × (self.new.lent ≡ 0) }
     {
-        self.len = protocol.write_fixed_message(packet, own, self.words.as_mut_slice());
+        self.spread = protocol.write_fixed_message(
+            packet,
+            words,
+            own,
+            self.words.as_mut_slice(),
+            self.page.as_mut_slice(),
+        );
     }
 
     /// Writes the answer that goes back for it, if one does.
-    pub fn write_fixed<T: Protocol>(&mut self, protocol: &T, packet: &[u64])
+    pub fn write_fixed<T: Protocol>(&mut self, protocol: &T, packet: &[u64], words: &[u64])
         requires packet { IsPacket packet.now }
-        ensures { listed_packet self.new ≡ listed (answer_in ((T.format protocol.now).fixed packet.now)) }
+        requires words { length words.now ≤ 512 }
+        ensures value { LaysSomeOn T.said self.new (answer_in ((T.format protocol.now).fixed (T.said (item_of packet.now words.now)))) }
+        ensures none { (self.new.words ≡ []) × (self.new.lent ≡ 0) }
     {
-        self.len = protocol.write_fixed(packet, self.words.as_mut_slice());
+        let packet = protocol.write_fixed(packet, words, self.words.as_mut_slice());
+        self.spread = Written {
+            packet,
+            words: 0,
+            lent: 0,
+        };
     }
 
     /// Writes the message that goes back before the answer, if there is one, under an id of the serving end's own.
@@ -113,14 +167,24 @@ impl PacketBuffer {
         &mut self,
         protocol: &T,
         packet: &[u64],
+        words: &[u64],
         reply: &T::Reply,
         own: u64,
     )
         requires packet { IsPacket packet.now }
-        requires fits { FitsReply (T.format protocol.now) packet.now reply.now }
-        ensures { listed_packet self.new ≡ listed (under_own own ((T.format protocol.now).gives packet.now reply.now).message) }
+        requires words { length words.now ≤ 512 }
+        requires fits { FitsReply (T.format protocol.now) (T.said (item_of packet.now words.now)) reply.now }
+        ensures value { LaysSomeOn T.said self.new (under_own own ((T.format protocol.now).gives (T.said (item_of packet.now words.now)) reply.now).message) }
+        ensures none { T.lends protocol.now ≡ false → (self.new.words ≡ []) × (self.new.lent ≡ 0) }
     {
-        self.len = protocol.write_message(packet, reply, own, self.words.as_mut_slice());
+        self.spread = protocol.write_message(
+            packet,
+            words,
+            reply,
+            own,
+            self.words.as_mut_slice(),
+            self.page.as_mut_slice(),
+        );
     }
 
     /// Writes the answer with the device's reply.
@@ -128,15 +192,25 @@ impl PacketBuffer {
         &mut self,
         protocol: &T,
         packet: &[u64],
+        words: &[u64],
         head: &T::Head,
         reply: &T::Reply,
     )
         requires packet { IsPacket packet.now }
-        requires head { T.is_head protocol.now packet.now head.now }
-        requires fits { FitsReply (T.format protocol.now) packet.now reply.now }
-        ensures value { self.new ≡ ((T.format protocol.now).gives packet.now reply.now).answer }
-        ensures packet { IsPacket self.new }
+        requires words { length words.now ≤ 512 }
+        requires head { T.is_head protocol.now (T.said (item_of packet.now words.now)) head.now }
+        requires fits { FitsReply (T.format protocol.now) (T.said (item_of packet.now words.now)) reply.now }
+        ensures value { (i : Item) → LaysOn self.new i → T.said i ≡ ((T.format protocol.now).gives (T.said (item_of packet.now words.now)) reply.now).answer }
+        ensures packet { IsPacket self.new.packet }
+        ensures none { T.lends protocol.now ≡ false → (self.new.words ≡ []) × (self.new.lent ≡ 0) }
     {
-        self.len = protocol.write_answer(packet, head, reply, self.words.as_mut_slice());
+        self.spread = protocol.write_answer(
+            packet,
+            words,
+            head,
+            reply,
+            self.words.as_mut_slice(),
+            self.page.as_mut_slice(),
+        );
     }
 }

@@ -9,13 +9,17 @@ ghost use Rattle.worker_port.specs.declared.found.Found.TheVariants.{Packet as P
 ghost use Rattle.ring_machine.specs.States.{IsPacket};
 ghost use Rattle.worker_port.specs.Owed.{HasSendRoom, IsNeed, LacksSendOf};
 ghost use Rattle.worker_port.specs.Rooms.{GotInto, KeepsRoom, SentInto};
-ghost use Rattle.worker_port.specs.Line.{new_end, IsBroken, IsReady, Tries, Finds, past_tried, Stays, TookOne, looked, look_of, is_asleep, armed_by, polled_by, PolledOnce, HasTakeRoom, LacksTake};
+ghost use Rattle.page_kept.specs.declared.item.Item.{Item};
+ghost use Rattle.page_kept.specs.Items.{item_of};
+ghost use Rattle.channel_protocol.specs.Paged.{Lays};
+ghost use Rattle.worker_port.specs.Line.{new_end, IsLine, line_of, item_sent, past_as, IsBroken, IsReady, Tries, Finds, past_tried, Stays, TookOne, looked, look_of, is_asleep, armed_by, polled_by, PolledOnce, HasTakeRoom, LacksTake};
 
 use crate::found::{Found, Tried, found_by, has_packet, tried_by};
+use channel_protocol::Protocol;
 use ring_core::{Armed, End, Room};
 use ring_sleep::{Parks, sleep};
 use std::alloc::AllocError;
-use std::marker::Model;
+use std::marker::{Model, PhantomData};
 use std::sync::Wait;
 
 /// What the looks of an arm found.
@@ -29,36 +33,40 @@ pub enum ArmResult {
     Mark,
 }
 
-/// An end of a channel whose peer is one of this program's. It gives the cells of a packet back as soon as it took it.
+/// An end of a channel whose peer is one of this program's. It gives the cells of a packet back as soon as it took it. Contracts see what it did and got in
+/// items as this protocol reads them.
 #[derive(Drop)]
-pub struct Port<S: Parks> {
+pub struct Port<T: Protocol, S: Parks> {
     end: End<S>,
+    of: PhantomData<T>,
 }
 
-impl<S: Parks> Model for Port<S> {
-    ghost use Rattle.ring_core.specs.Seen.{Seen};
-    ghost use Rattle.worker_port.specs.Line.{IsLine};
+impl<T: Protocol, S: Parks> Model for Port<T, S> {
+    ghost use Rattle.worker_port.specs.Line.{IsLine, Line, line_of};
 
-    ghost Value = { Seen S };
+    ghost Value = { Line S };
 
-    ghost view = { λ p. p.end };
+    ghost view = { λ p. line_of T.said p.end };
 
     ghost invariant = { λ p. IsLine S.told p.end };
 }
 
-impl<S: Parks + Drop> Port<S> {
+impl<T: Protocol, S: Parks + Drop> Port<T, S> {
     // A port over a new end, whose rings have 512 to 16,777,216 cells.
-    fn over(end: End<S>) -> Port<S>
+    fn over(end: End<S>) -> Port<T, S>
         requires fresh { end.state ≡ new_end end.state.machine.cells end.state.machine.side }
         requires size { (512 ≤ end.state.machine.cells) × (end.state.machine.cells ≤ 16777216) }
-        ensures { result ≡ end }
+        ensures { result ≡ line_of T.said end }
     {
-        Port { end }
+        Port {
+            end,
+            of: PhantomData,
+        }
     }
 
     // Makes room in both lists of packets.
     fn reserve(&mut self, sent: Room, got: Room) -> Result<(), AllocError>
-        ensures state { (self.new.state ≡ self.old.state) × (self.new.seat ≡ self.old.seat) }
+        ensures state { (self.new.end.state ≡ self.old.end.state) × (self.new.state ≡ self.old.state) × (self.new.end.seat ≡ self.old.end.seat) × (self.new.seat ≡ self.old.seat) }
         ensures room { OnOk result ((sent.packets ≤ self.new.spare_sent.packets) × (sent.words ≤ self.new.spare_sent.words) × (got.packets ≤ self.new.spare_got.packets) × (got.words ≤ self.new.spare_got.words)) }
     {
         self.end.reserve(sent, got)
@@ -66,11 +74,12 @@ impl<S: Parks + Drop> Port<S> {
 
     /// A port over a new end, whose rings have 512 to 16,777,216 cells. It makes room for so many packets each way, and of what comes for one more, and the words
     /// of a whole ring besides 384 for each. Afterwards neither `send` nor `take` allocates.
-    pub fn with_room(end: End<S>, packets: u64) -> Result<Port<S>, AllocError>
+    pub fn with_room(end: End<S>, packets: u64) -> Result<Port<T, S>, AllocError>
         requires fresh { end.state ≡ new_end end.state.machine.cells end.state.machine.side }
         requires size { (512 ≤ end.state.machine.cells) × (end.state.machine.cells ≤ 16777216) }
         requires few { packets ≤ 2 ^ 34 }
-        ensures end { IfOk result (λ p. (p.state ≡ end.state) × (p.seat ≡ end.seat)) }
+        ensures end { IfOk result (λ p. (p.end.state ≡ end.state) × (p.end.seat ≡ end.seat) × (p.seat ≡ end.seat)) }
+        ensures new { IfOk result (λ p. (p.state.past ≡ []) × (p.state.got ≡ []) × (p.state.machine ≡ end.state.machine)) }
         ensures room { IfOk result (λ p. KeepsRoom packets p) }
     {
         let mut port = Port::over(end);
@@ -160,7 +169,7 @@ impl<S: Parks + Drop> Port<S> {
     /// The i-th packet that was got.
     pub fn got(&self, i: usize) -> &[u64]
         requires { i < length self.now.state.got }
-        ensures value { slice_get self.now.state.got i ≡ Some result.now }
+        ensures value { slice_get self.now.state.got i ≡ Some (T.said (item_of result.now [])) }
         ensures packet { IsPacket result.now }
     {
         match self.end.got().get(i) {
@@ -172,7 +181,7 @@ impl<S: Parks + Drop> Port<S> {
     /// The packet that was got last, where one was.
     pub fn last(&self) -> &[u64]
         requires { 0 < length self.now.state.got }
-        ensures value { (before : List (List ℕ)) (p : List ℕ) → self.now.state.got ≡ before ++ p ∷ [] → result.now ≡ p }
+        ensures value { (before : List Item) (p : Item) → self.now.state.got ≡ before ++ p ∷ [] → T.said (item_of result.now []) ≡ p }
         ensures packet { IsPacket result.now }
     {
         self.got(self.got_len() - 1)
@@ -180,12 +189,14 @@ impl<S: Parks + Drop> Port<S> {
 
     /// Sends a packet, if the ring has room for it. The signal is raised where the peer waits for it. Where the peer's read index is in no form the end is broken,
     /// which can't be where the seat tells its end's state.
-    pub fn send(&mut self, packet: &[u64]) -> Tried
+    pub fn send(&mut self, packet: &[u64], words: &[u64]) -> Tried
         requires ready { IsReady self.old }
         requires packet { IsPacket packet.now }
         requires most { length packet.now ≤ 384 }
+        requires words { words.now ≡ [] }
         requires room { HasSendRoom packet.now self.old }
-        ensures past { self.new.state.past ≡ past_tried result packet.now self.old.state.past }
+        ensures past { self.new.state.past ≡ past_tried result (T.said (item_sent self.old packet.now words.now)) self.old.state.past }
+        ensures lays { Lays packet.now words.now 0 (item_sent self.old packet.now words.now) }
         ensures tries { Tries result self.new }
         ensures honest { is_some (S.told self.old.seat) ≡ true → result ≢ BrokenTry }
         ensures stays { Stays S.channel S.told self.old self.new }
@@ -195,6 +206,7 @@ impl<S: Parks + Drop> Port<S> {
         ensures found { result ≡ FullTry → (self.new.state.machine.room ≤ length packet.now + 1) × (self.new.state.machine.words ≡ length packet.now) }
         ensures into { SentInto (length packet.now) self.old self.new }
     {
+        let _none = words;
         tried_by(self.end.send(packet))
     }
 
@@ -286,9 +298,12 @@ impl<S: Parks + Drop> Port<S> {
 
     /// The end that it stands over.
     pub fn into_end(self) -> End<S>
-        ensures { result ≡ self }
+        ensures end { result ≡ self.end }
+        ensures line { self ≡ line_of T.said result }
+        ensures stands { IsLine S.told result }
+        ensures past { self.state.past ≡ past_as T.said result.state }
     {
-        let Port { end } = self;
+        let Port { end, of: _ } = self;
         end
     }
 }

@@ -1,4 +1,5 @@
 -- Which packet is acknowledged next.
+use Rattle.page_kept.specs.declared.item.Item.{Item}
 use Rattle.std.proofs.Common.{◌≡◌, ℕ, zero, suc, ◌+◌, ◌<◌, ◌≤◌, List, [], ◌∷◌, length, drop, refl, sym, ap, ◌∙◌, subst, arith, Some, true, false}
 use Rattle.std.specs.Prelude.{slice_get, ◌⊎◌, nat_lt}
 use Rattle.std.proofs.Common.{inl, inr}
@@ -20,11 +21,11 @@ module _ {A : Type 0} where
   at_least (a ∷ asks) zero lt = (a, refl)
   at_least (a ∷ asks) (suc k) lt = at_least asks k (omega (arith, lt))
 
-module _ {A Q R : Type 0} (s : WireFormat (List ℕ) A Q R) (got : List (List ℕ)) where
+module _ {A Q R : Type 0} (s : WireFormat Item A Q R) (got : List Item) where
   pub none_first : (from : ℕ) → NoneIn s got from from
   none_first from i p le lt at = absurd (omega (arith, le, lt))
 
-  pub none_more : (from to : ℕ) (q : List ℕ) → slice_get got to ≡ Some q → s.is_message q ≡ false → NoneIn s got from to → NoneIn s got from (to + 1)
+  pub none_more : (from to : ℕ) (q : Item) → slice_get got to ≡ Some q → s.is_message q ≡ false → NoneIn s got from to → NoneIn s got from (to + 1)
   none_more from to q here none h i p le lt at = by_place (omega_or i to lt)
     where
       omega_or : (i to : ℕ) → i < to + 1 → (i < to) ⊎ (i ≡ to)
@@ -41,7 +42,7 @@ module _ {A Q R : Type 0} (s : WireFormat (List ℕ) A Q R) (got : List (List �
       by_place (inl less) = h i p le less at
       by_place (inr same) = let one : Some q ≡ Some p = sym here ∙ (ap (slice_get got) (sym same) ∙ at) in let is : q ≡ p = cc in ap s.is_message (sym is) ∙ none
 
-  pub next_found : (from i : ℕ) (q : List ℕ) → slice_get got i ≡ Some q → s.is_message q ≡ true → from ≤ i → NoneIn s got from i → IsNext s got from i
+  pub next_found : (from i : ℕ) (q : Item) → slice_get got i ≡ Some q → s.is_message q ≡ true → from ≤ i → NoneIn s got from i → IsNext s got from i
   next_found from i q here one le h = record {
     behind = le;
     within = omega (arith, slice_get_within got i q here);
@@ -58,7 +59,7 @@ module _ {A Q R : Type 0} (s : WireFormat (List ℕ) A Q R) (got : List (List �
   }
 
   -- the packets before it are passed over
-  skip : (past : List (Event (List ℕ))) (n from : ℕ) → NoneIn s got from (from + n) → from + n ≤ length got → AcksKept s past (drop from got) → AcksKept s past (drop (from + n) got)
+  skip : (past : List (Event Item)) (n from : ℕ) → NoneIn s got from (from + n) → from + n ≤ length got → AcksKept s past (drop from got) → AcksKept s past (drop (from + n) got)
   skip past zero from none le h = subst (λ k. AcksKept s past (drop k got)) (let e : from ≡ from + 0 = omega arith in e) h
   skip past (suc n) from none le h =
       let q = at_least got from (omega (arith, le)) in
@@ -67,7 +68,7 @@ module _ {A Q R : Type 0} (s : WireFormat (List ℕ) A Q R) (got : List (List �
       let far : (from + 1) + n ≡ from + suc n = omega arith in
       subst (λ k. AcksKept s past (drop k got)) far (skip past n (from + 1) (λ i p a b at. none i p (omega (arith, a)) (omega (arith, b, far)) at) (omega (arith, le, far)) one)
 
-  pub acks_skipped : (past : List (Event (List ℕ))) (from next : ℕ) → IsNext s got from next → AcksKept s past (drop from got) → AcksKept s past (drop next got)
+  pub acks_skipped : (past : List (Event Item)) (from next : ℕ) → IsNext s got from next → AcksKept s past (drop from got) → AcksKept s past (drop next got)
   acks_skipped past from next is h =
       let far = split from next is.behind in
       subst (λ k. AcksKept s past (drop k got)) far.1 (skip past far.0 from (subst (NoneIn s got from) (sym far.1) is.none) (omega (arith, far.1, is.within)) h)
@@ -78,7 +79,7 @@ module _ {A Q R : Type 0} (s : WireFormat (List ℕ) A Q R) (got : List (List �
       split (suc from) (suc next) le = let r = split from next (omega (arith, le)) in (r.0, omega (arith, r.1))
 
   -- one that stands within the list is a message
-  pub found_next : (from next count : ℕ) → count ≡ length got → nat_lt next count ≡ true → IsNext s got from next → (m : List ℕ) × (slice_get got next ≡ Some m) × (s.is_message m ≡ true)
+  pub found_next : (from next count : ℕ) → count ≡ length got → nat_lt next count ≡ true → IsNext s got from next → (m : Item) × (slice_get got next ≡ Some m) × (s.is_message m ≡ true)
   found_next from next count is less h =
       let lt : next < count = grind (arith, nat_tests, less) in
       let m = at_least got next (omega (arith, is, lt)) in

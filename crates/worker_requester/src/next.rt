@@ -9,7 +9,7 @@ use worker_port::Port;
 // The place of the next message among the packets that came, from a place on; or the end of the list.
 pub(crate) fn next_message<T: Protocol, S: Parks + Drop>(
     protocol: &T,
-    port: &Port<S>,
+    port: &Port<T, S>,
     from: usize,
 ) -> usize
     requires { from ≤ length port.now.state.got }

@@ -7,8 +7,8 @@ ghost use Rattle.worker_port.specs.Causes.{Arms, Polls};
 ghost use Rattle.worker_port.specs.declared.found.Found.TheVariants.{Nothing as NothingFound, Broken as BrokenFound};
 ghost use Rattle.worker_requester.specs.declared.requester.Asked.TheVariants.{Broken as BrokenAsked};
 ghost use Rattle.worker_requester.specs.Causes.{AskCause, AskerActs, AsksOne, AsksOrArms};
-ghost use Rattle.worker_port.specs.Line.{new_end, Finds, IsBroken, IsReady, IsSameEnd, HasTakeRoom, TookOne};
-ghost use Rattle.worker_requester.specs.Asking.{AsksBy, AskTurns, IsPaced, AskLacks, AskerLacks, AsksOn, AskEnds, Holds, HasAcked, HasMessage, HasOpen, HasSettled, StandsAsked, waits_under, want_by, AskedBy};
+ghost use Rattle.worker_port.specs.Line.{new_end, line_of, past_as, IsLine, Finds, IsBroken, IsReady, IsSameEnd, HasTakeRoom, TookOne};
+ghost use Rattle.worker_requester.specs.Asking.{AsksBy, AskTurns, AskedFrom, EndsAcked, HeldAcks, IsPaced, LeavesAcks, AskLacks, AskerLacks, AsksOn, AskEnds, Holds, HasAcked, HasMessage, HasOpen, HasSettled, StandsAsked, waits_under, want_by, AskedBy};
 ghost use Rattle.worker_port.specs.Rooms.{AskedWithin, AskLacksFor, KeepsRoom, broke, is_broken};
 ghost use Rattle.txn_table.specs.Open.{HasNone};
 ghost use Rattle.channel_model.specs.Amounts.{room_of};
@@ -57,7 +57,7 @@ enum Asked {
 #[derive(Drop)]
 pub struct Requester<T: Protocol, S: Parks> {
     protocol: T,
-    port: Port<S>,
+    port: Port<T, S>,
     table: TxnTable<u32>,
     next: u32,
     waiting: Option<u64>,
@@ -85,7 +85,7 @@ impl<T: Protocol, S: Parks> Model for Requester<T, S> {
 
     ghost view = { λ w. record { protocol = w.protocol; end = w.port; table = w.table; next = w.next; waiting = w.waiting; acked = w.acked; told = w.replies.items; starts = w.starts; seen = w.seen; hold = w.hold; relid = w.relid } };
 
-    ghost invariant = { λ w. w.port.state.machine.marked ≡ false → record { live : IsAsking (T.format w.protocol) (T.asks w.protocol) (record { protocol = w.protocol; end = w.port; table = w.table; next = w.next; waiting = w.waiting; acked = w.acked; told = w.replies.items; starts = w.starts; seen = w.seen; hold = w.hold; relid = w.relid }); replies : vec_len w.replies + count_by is_some w.table + (length (T.asks w.protocol) - w.next) ≤ vec_capacity w.replies + pending w.waiting; spare : vec_len w.rescinded + length w.table ≤ vec_capacity w.rescinded; size : length w.table ≤ 64; room : KeepsRoom (room_of (T.besides w.protocol) (length (T.asks w.protocol))) w.port; side : w.side ≡ w.port.state.machine.side } };
+    ghost invariant = { λ w. w.port.state.machine.marked ≡ false → record { bare : T.lends w.protocol ≡ false; live : IsAsking (T.format w.protocol) (T.asks w.protocol) (record { protocol = w.protocol; end = w.port; table = w.table; next = w.next; waiting = w.waiting; acked = w.acked; told = w.replies.items; starts = w.starts; seen = w.seen; hold = w.hold; relid = w.relid }); replies : vec_len w.replies + count_by is_some w.table + (length (T.asks w.protocol) - w.next) ≤ vec_capacity w.replies + pending w.waiting; spare : vec_len w.rescinded + length w.table ≤ vec_capacity w.rescinded; size : length w.table ≤ 64; room : KeepsRoom (room_of (T.besides w.protocol) (length (T.asks w.protocol))) w.port; side : w.side ≡ w.port.state.machine.side } };
 }
 
 /// What an asking worker gives once it has ended.
@@ -139,6 +139,7 @@ impl<T: Protocol, S: Parks + Drop> Requester<T, S> {
         requires ready { IsReady self.old.end }
         ensures message { result ≡ true → HasMessage (T.format self.new.protocol) self.new }
         ensures none { result ≡ false → HasAcked self.new }
+        ensures left { result ≡ false → LeavesAcks (T.format self.new.protocol) self.new.end }
         ensures same { (self.new.end ≡ self.old.end) × (self.new.seen ≡ self.old.seen) }
         ensures on { AsksOn S.channel S.told self.old self.new }
     {
@@ -150,9 +151,9 @@ impl<T: Protocol, S: Parks + Drop> Requester<T, S> {
     fn acknowledge(&mut self) -> Asked
         requires ready { IsReady self.old.end }
         requires message { HasMessage (T.format self.old.protocol) self.old }
-        requires unseen { self.old.seen ≡ false }
         ensures asked { AskedBy (T.format self.new.protocol) (T.asks self.new.protocol) result self.new }
-        ensures unseen { self.new.seen ≡ false }
+        ensures seen { self.new.seen ≡ self.old.seen }
+        ensures left { HeldAcks (T.format self.new.protocol) result self.new.end }
         ensures cause { AsksOne result self.old.end.state.past self.new.end }
         ensures stands { StandsAsked result self.new.end }
         ensures honest { is_some (S.told self.old.end.seat) ≡ true → result ≢ BrokenAsked }
@@ -169,7 +170,7 @@ impl<T: Protocol, S: Parks + Drop> Requester<T, S> {
                 words: room.words,
             };
         }
-        match self.port.send(packet) {
+        match self.port.send(packet, &[]) {
             Tried::Sent => {
                 self.acked += 1;
                 Asked::Sent
@@ -226,7 +227,7 @@ impl<T: Protocol, S: Parks + Drop> Requester<T, S> {
                 words: room.words,
             };
         }
-        match self.port.send(packet) {
+        match self.port.send(packet, &[]) {
             Tried::Sent => {
                 self.next += 1;
                 self.waiting = None;
@@ -266,7 +267,7 @@ impl<T: Protocol, S: Parks + Drop> Requester<T, S> {
                 words: room.words,
             };
         }
-        match self.port.send(packet) {
+        match self.port.send(packet, &[]) {
             Tried::Sent => {
                 self.next += 1;
                 self.passed = false;
@@ -375,6 +376,7 @@ impl<T: Protocol, S: Parks + Drop> Requester<T, S> {
         ensures none { HasNone self.new.table }
         ensures sent { AskedWithin (T.format self.new.protocol) (length (T.asks self.new.protocol)) self.new.end.state.past }
         ensures paced { IsPaced (T.format self.new.protocol) self.new.starts (T.asks self.new.protocol) self.new.end.state.past }
+        ensures ids { AskedFrom (T.format self.new.protocol) (length self.new.table) (T.asks self.new.protocol) self.new.end.state.past }
         ensures on { AsksOn S.channel S.told self.old self.new }
     {
         self.port.mark();
@@ -384,10 +386,13 @@ impl<T: Protocol, S: Parks + Drop> Requester<T, S> {
     fn rescind_open(&mut self)
         requires ready { IsReady self.old.end }
         requires drained { is_drained self.old.end.state.past ≡ true }
+        requires left { LeavesAcks (T.format self.old.protocol) self.old.end }
         ensures ends { AsksBy (T.format self.new.protocol) PeerMarkedEnd (T.asks self.new.protocol) self.new.end.state.past self.new.told }
         ensures none { HasNone self.new.table }
+        ensures left { LeavesAcks (T.format self.new.protocol) self.new.end }
         ensures sent { AskedWithin (T.format self.new.protocol) (length (T.asks self.new.protocol)) self.new.end.state.past }
         ensures paced { IsPaced (T.format self.new.protocol) self.new.starts (T.asks self.new.protocol) self.new.end.state.past }
+        ensures ids { AskedFrom (T.format self.new.protocol) (length self.new.table) (T.asks self.new.protocol) self.new.end.state.past }
         ensures on { AsksOn S.channel S.told self.old self.new }
     {
         self.table.rescind_all(&mut self.rescinded);
@@ -405,6 +410,7 @@ impl<T: Protocol, S: Parks + Drop> Requester<T, S> {
         ensures over { AskLacksFor (T.format self.now.protocol) (T.besides self.now.protocol) (length (T.asks self.now.protocol)) (RoomEnd packets words 0) self.now.end.state.past }
         ensures sent { AskedWithin (T.format self.now.protocol) (length (T.asks self.now.protocol)) self.now.end.state.past }
         ensures paced { IsPaced (T.format self.now.protocol) self.now.starts (T.asks self.now.protocol) self.now.end.state.past }
+        ensures ids { AskedFrom (T.format self.now.protocol) (length self.now.table) (T.asks self.now.protocol) self.now.end.state.past }
     {
         let _ = &self.next;
         Ended::Room {
@@ -422,16 +428,19 @@ impl<T: Protocol, S: Parks + Drop> Requester<T, S> {
         ensures breaks { AskerBreaks (T.format self.now.protocol) (T.asks self.now.protocol) self.now.end.state.past self.now.told }
         ensures sent { AskedWithin (T.format self.now.protocol) (length (T.asks self.now.protocol)) self.now.end.state.past }
         ensures paced { IsPaced (T.format self.now.protocol) self.now.starts (T.asks self.now.protocol) self.now.end.state.past }
+        ensures ids { AskedFrom (T.format self.now.protocol) (length self.now.table) (T.asks self.now.protocol) self.now.end.state.past }
     {
         let _ = &self.next;
         Ended::Broken
     }
 
-    // Acknowledges the message that is next, or rests.
-    fn acknowledge_or_rest(&mut self) -> Turn
+    // Acknowledges the message that is next. Where the ring has no room for that it rests; once the other end's mark was seen, which makes no more room, it gives
+    // up.
+    fn acknowledge_next(&mut self, seen: bool) -> Turn
         requires ready { IsReady self.old.end }
         requires message { HasMessage (T.format self.old.protocol) self.old }
-        requires unseen { self.old.seen ≡ false }
+        requires seen { self.old.seen ≡ seen }
+        requires drained { seen ≡ true → is_drained self.old.end.state.past ≡ true }
         ensures turns { AskTurns (T.format self.new.protocol) (T.besides self.new.protocol) (T.asks self.new.protocol) result self.new }
         ensures cause { AsksOrArms result self.old.end.state.past self.new.end }
         ensures honest { is_some (S.told self.old.end.seat) ≡ true → broke result ≡ false }
@@ -439,7 +448,13 @@ impl<T: Protocol, S: Parks + Drop> Requester<T, S> {
     {
         match self.acknowledge() {
             Asked::Sent => Turn::Moved,
-            Asked::Held(hold) => self.arm_or_sleep(hold),
+            Asked::Held(hold) => {
+                if seen {
+                    self.rescind_open();
+                    return Turn::Ended(Ended::PeerMarked);
+                }
+                self.arm_or_sleep(hold)
+            }
             Asked::Lacks { packets, words } => Turn::Ended(self.out_of_room(packets, words)),
             Asked::Broken => Turn::Ended(self.broke_off()),
         }
@@ -464,8 +479,8 @@ impl<T: Protocol, S: Parks + Drop> Requester<T, S> {
         }
     }
 
-    // A turn of an end that is awake: it takes what comes. Where nothing comes once the other end's mark was seen it gives up; else it acknowledges the next
-    // message, with all settled it ends, and else it asks the next request. Or it rests.
+    // A turn of an end that is awake: it takes what comes. Where nothing comes it acknowledges the next message; once the other end's mark was seen it gives up,
+    // with all settled it ends, and else it asks the next request. Or it rests.
     fn work<G: Gate>(&mut self, gate: &G) -> Turn
         requires ready { IsReady self.old.end }
         ensures turns { AskTurns (T.format self.new.protocol) (T.besides self.new.protocol) (T.asks self.new.protocol) result self.new }
@@ -484,8 +499,8 @@ impl<T: Protocol, S: Parks + Drop> Requester<T, S> {
         }
     }
 
-    // Where nothing comes once the other end's mark was seen it gives up; else it acknowledges the next message, with all settled it ends, and else it asks
-    // the next request. Or it rests.
+    // Where nothing comes it acknowledges the next message; once the other end's mark was seen it gives up, with all settled it ends, and else it asks the next
+    // request. Or it rests.
     fn go_on<G: Gate>(&mut self, seen: bool, gate: &G) -> Turn
         requires ready { IsReady self.old.end }
         requires seen { self.old.seen ≡ seen }
@@ -495,12 +510,12 @@ impl<T: Protocol, S: Parks + Drop> Requester<T, S> {
         ensures honest { is_some (S.told self.old.end.seat) ≡ true → broke result ≡ false }
         ensures on { AsksOn S.channel S.told self.old self.new }
     {
+        if self.find_message() {
+            return self.acknowledge_next(seen);
+        }
         if seen {
             self.rescind_open();
             return Turn::Ended(Ended::PeerMarked);
-        }
-        if self.find_message() {
-            return self.acknowledge_or_rest();
         }
         if self.is_settled() {
             self.finish();
@@ -538,11 +553,13 @@ impl<T: Protocol, S: Parks + Drop> Requester<T, S> {
         requires fresh { end.state ≡ new_end end.state.machine.cells end.state.machine.side }
         requires size { (512 ≤ end.state.machine.cells) × (end.state.machine.cells ≤ 16777216) }
         requires side { side ≡ end.state.machine.side }
+        requires bare { T.lends protocol ≡ false }
         ensures protocol { IfOk result (λ w. w.protocol ≡ protocol) }
         ensures relid { IfOk result (λ w. w.relid ≡ relid) }
         ensures starts { IfOk result (λ w. w.starts ≡ T.starts protocol) }
         ensures window { IfOk result (λ w. length w.table ≡ window) }
-        ensures end { IfOk result (λ w. (w.end.state ≡ end.state) × (w.end.seat ≡ end.seat)) }
+        ensures end { IfOk result (λ w. (w.end.end.state ≡ end.state) × (w.end.end.seat ≡ end.seat) × (w.end.seat ≡ end.seat)) }
+        ensures machine { IfOk result (λ w. w.end.state.machine ≡ end.state.machine) }
     {
         let count = protocol.count();
         let packets = room_of(protocol.besides(), count as u64);
@@ -566,13 +583,14 @@ impl<T: Protocol, S: Parks + Drop> Requester<T, S> {
     // A worker that has asked nothing, over a port with room and empty lists.
     fn over(
         protocol: T,
-        port: Port<S>,
+        port: Port<T, S>,
         lists: Lists<T::Reply>,
         side: Side,
         relid: u32,
     ) -> Requester<T, S>
         requires fresh { (port.state.past ≡ []) × (port.state.got ≡ []) × (port.state.machine.asleep ≡ false) }
         requires side { side ≡ port.state.machine.side }
+        requires bare { T.lends protocol ≡ false }
         requires room { KeepsRoom (room_of (T.besides protocol) (length (T.asks protocol))) port }
         requires window { (window : ℕ) × (window ≤ 64) × (lists.table ≡ replicate window None) }
         requires none { lists.replies.items ≡ [] }
@@ -612,7 +630,7 @@ impl<T: Protocol, S: Parks + Drop> Requester<T, S> {
         requires unmarked { self.old.end.state.machine.marked ≡ false }
         ensures turns { AskTurns (T.format self.new.protocol) (T.besides self.new.protocol) (T.asks self.new.protocol) result self.new }
         ensures cause { AskCause S.told S.memory result self.old.end self.new.end }
-        ensures room { AskEnds (T.format self.new.protocol) (T.besides self.new.protocol) self.new.starts (T.asks self.new.protocol) result self.new.end.state.past }
+        ensures room { AskEnds (T.format self.new.protocol) (T.besides self.new.protocol) self.new.starts (length self.new.table) (T.asks self.new.protocol) result self.new.end.state.past }
         ensures honest { is_some (S.told self.old.end.seat) ≡ true → broke result ≡ false }
         ensures on { AsksOn S.channel S.told self.old self.new }
     {
@@ -623,6 +641,17 @@ impl<T: Protocol, S: Parks + Drop> Requester<T, S> {
             return Turn::Ended(self.broke_off());
         }
         self.work(gate)
+    }
+
+    /// A law of a worker that hasn't ended, which does nothing: what it sent so far are at most its asks and one acknowledgement for each message, each
+    /// request before the other end's mark was seen, and under an id that was free.
+    pub fn sends_so_far(&self)
+        requires unmarked { self.now.end.state.machine.marked ≡ false }
+        ensures sent { AskedWithin (T.format self.now.protocol) (length (T.asks self.now.protocol)) self.now.end.state.past }
+        ensures paced { IsPaced (T.format self.now.protocol) self.now.starts (T.asks self.now.protocol) self.now.end.state.past }
+        ensures ids { AskedFrom (T.format self.now.protocol) (length self.now.table) (T.asks self.now.protocol) self.now.end.state.past }
+    {
+        let _ = &self.next;
     }
 
     // Sleeps until the signal was up.
@@ -638,8 +667,11 @@ impl<T: Protocol, S: Parks + Drop> Requester<T, S> {
     /// Gives what it did, once it has ended.
     pub fn done(self, ended: Ended) -> RequesterDone<T, S>
         requires { AsksBy (T.format self.protocol) ended (T.asks self.protocol) self.end.state.past self.told }
-        ensures ends { AsksBy (T.format self.protocol) result.ended (T.asks self.protocol) result.end.state.past result.replies.items }
-        ensures same { (result.ended ≡ ended) × (result.end ≡ self.end) }
+        ensures ends { AsksBy (T.format self.protocol) result.ended (T.asks self.protocol) (past_as T.said result.end.state) result.replies.items }
+        ensures same { (result.ended ≡ ended) × (result.end ≡ self.end.end) }
+        ensures past { self.end.state.past ≡ past_as T.said result.end.state }
+        ensures line { self.end ≡ line_of T.said result.end }
+        ensures stands { IsLine S.told result.end }
     {
         let Requester {
             protocol,
@@ -672,12 +704,15 @@ impl<T: Protocol, S: Parks + Drop> Requester<T, S> {
     /// Takes turns, and sleeps after a turn that found nothing to do, until the worker has ended.
     pub fn run<R: Wait, G: Gate>(mut self, rt: &R, gate: &G) -> RequesterDone<T, S>
         requires unmarked { self.end.state.machine.marked ≡ false }
-        ensures ends { AsksBy (T.format self.protocol) result.ended (T.asks self.protocol) result.end.state.past result.replies.items }
-        ensures end { IsSameEnd S.channel self.end result.end }
+        ensures ends { AsksBy (T.format self.protocol) result.ended (T.asks self.protocol) (past_as T.said result.end.state) result.replies.items }
+        ensures end { IsSameEnd S.channel self.end.end result.end }
+        ensures stands { IsLine S.told result.end }
         ensures honest { is_some (S.told self.end.seat) ≡ true → is_broken result.ended ≡ false }
-        ensures sent { AskedWithin (T.format self.protocol) (length (T.asks self.protocol)) result.end.state.past }
-        ensures room { AskLacksFor (T.format self.protocol) (T.besides self.protocol) (length (T.asks self.protocol)) result.ended result.end.state.past }
-        ensures paced { IsPaced (T.format self.protocol) self.starts (T.asks self.protocol) result.end.state.past }
+        ensures sent { AskedWithin (T.format self.protocol) (length (T.asks self.protocol)) (past_as T.said result.end.state) }
+        ensures room { AskLacksFor (T.format self.protocol) (T.besides self.protocol) (length (T.asks self.protocol)) result.ended (past_as T.said result.end.state) }
+        ensures paced { IsPaced (T.format self.protocol) self.starts (T.asks self.protocol) (past_as T.said result.end.state) }
+        ensures ids { AskedFrom (T.format self.protocol) (length self.table) (T.asks self.protocol) (past_as T.said result.end.state) }
+        ensures acks { EndsAcked (T.format self.protocol) result.ended (line_of T.said result.end) }
     {
         for _ in rt.forever() {
             match self.turn(rt, gate) {

@@ -1,3 +1,4 @@
+pub mod OwedLaws
 pub mod ResponderLaws
 pub mod OwnLaws
 pub mod ServeSteps

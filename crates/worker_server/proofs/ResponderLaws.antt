@@ -1,4 +1,5 @@
 -- How one packet is served.
+use Rattle.page_kept.specs.declared.item.Item.{Item}
 use Rattle.std.proofs.Common.{◌≡◌, ℕ, suc, ◌+◌, ◌-◌, ◌≤◌, List, [], ◌∷◌, ◌++◌, length, length-append, take, drop, refl, sym, ap, ◌∙◌, subst, arith, Option, Some, None, is_some, Bool, true, false}
 use Rattle.std.specs.Prelude.{IsSome, ◌<◌, ◌^◌, ◌&&◌, ◌==◌, if◌then◌else◌}
 use Rattle.std.proofs.lemmas.List.{append-nil, drop-append-le, drop_all, take-append-drop, take-append-le, take_all}
@@ -50,9 +51,9 @@ behind_is before before' calls all is same = ap (drop (length before)) (is ∙ a
 pub front_is : {Q R : Type 0} (before before' calls all : List (Call Q R)) → all ≡ before' ++ calls → before' ≡ before → take (length before) all ≡ before
 front_is before before' calls all is same = ap (take (length before)) (is ∙ ap (λ l. l ++ calls) same) ∙ take-append_seam before calls
 
-module _ {A Q R : Type 0} (s : WireFormat (List ℕ) A Q R) (held : Bool) (p : List ℕ) where
+module _ {A Q R : Type 0} (s : WireFormat Item A Q R) (held : Bool) (p : Item) where
   -- a packet that asks nothing of the device
-  pub serves_fixed : (left left' : Option ℕ) (m own : ℕ) (calls calls' : List (Call Q R)) (owed : List (List ℕ)) → left ≡ Some m → left' ≡ Some m → calls' ≡ calls → s.read p ≡ None → owed ≡ packets_in own (s.fixed p)
+  pub serves_fixed : (left left' : Option ℕ) (m own : ℕ) (calls calls' : List (Call Q R)) (owed : List Item) → left ≡ Some m → left' ≡ Some m → calls' ≡ calls → s.read p ≡ None → owed ≡ packets_in own (s.fixed p)
       → ServesPacket s held p left calls calls' owed left'
   serves_fixed left left' m own calls calls' owed is is' same reads e =
       subst (λ l. ServesPacket s held p l calls calls' owed left') (sym is) (
@@ -63,7 +64,7 @@ module _ {A Q R : Type 0} (s : WireFormat (List ℕ) A Q R) (held : Bool) (p : L
       )
 
   -- a request past the last one that is served
-  pub serves_past : (q : Q) (m : ℕ) (calls calls' : List (Call Q R)) (owed : List (List ℕ)) → m ≡ 0 → s.read p ≡ Some q → owed ≡ [] → calls' ≡ calls → ServesPacket s held p (Some m) calls calls' owed None
+  pub serves_past : (q : Q) (m : ℕ) (calls calls' : List (Call Q R)) (owed : List Item) → m ≡ 0 → s.read p ≡ Some q → owed ≡ [] → calls' ≡ calls → ServesPacket s held p (Some m) calls calls' owed None
   serves_past q m calls calls' owed zero reads none same =
       subst (λ k. ServesPacket s held p (Some k) calls calls' owed None) (sym zero) (
         [],
@@ -73,7 +74,7 @@ module _ {A Q R : Type 0} (s : WireFormat (List ℕ) A Q R) (held : Bool) (p : L
       )
 
   -- the last one, whose answer is held
-  pub serves_held : (q : Q) (c : Call Q R) (m k : ℕ) (calls calls' : List (Call Q R)) (owed : List (List ℕ)) → m ≡ suc k → (held && k == 0) ≡ true → s.read p ≡ Some q → IsCall s q c → owed ≡ [] → calls' ≡ calls ++ c ∷ []
+  pub serves_held : (q : Q) (c : Call Q R) (m k : ℕ) (calls calls' : List (Call Q R)) (owed : List Item) → m ≡ suc k → (held && k == 0) ≡ true → s.read p ≡ Some q → IsCall s q c → owed ≡ [] → calls' ≡ calls ++ c ∷ []
       → ServesPacket s held p (Some m) calls calls' owed None
   serves_held q c m k calls calls' owed is last reads call none more =
       subst (λ n. ServesPacket s held p (Some n) calls calls' owed None) (sym is) (
@@ -85,7 +86,7 @@ module _ {A Q R : Type 0} (s : WireFormat (List ℕ) A Q R) (held : Bool) (p : L
       )
 
   -- any other one
-  pub serves_given : (q : Q) (c : Call Q R) (m k own : ℕ) (calls calls' : List (Call Q R)) (owed : List (List ℕ)) (left' : Option ℕ) → m ≡ suc k → left' ≡ Some k → (held && k == 0) ≡ false → s.read p ≡ Some q
+  pub serves_given : (q : Q) (c : Call Q R) (m k own : ℕ) (calls calls' : List (Call Q R)) (owed : List Item) (left' : Option ℕ) → m ≡ suc k → left' ≡ Some k → (held && k == 0) ≡ false → s.read p ≡ Some q
       → IsCall s q c → owed ≡ packets_of own (s.gives p c.reply) → calls' ≡ calls ++ c ∷ [] → ServesPacket s held p (Some m) calls calls' owed left'
   serves_given q c m k own calls calls' owed left' is is' last reads call e more =
       subst (λ n. ServesPacket s held p (Some n) calls calls' owed left') (sym is) (
@@ -96,30 +97,30 @@ module _ {A Q R : Type 0} (s : WireFormat (List ℕ) A Q R) (held : Bool) (p : L
         is' ∙ sym (ap (λ o. left_one s held o (suc k) (λ n. Some n)) reads ∙ ap (λ b. if b then None else Some k) last),
       )
 
-module _ {A Q R : Type 0} (s : WireFormat (List ℕ) A Q R) (keeps : Keeps s) where
+module _ {A Q R : Type 0} (s : WireFormat Item A Q R) (keeps : Keeps s) where
   -- what goes back is in form
-  fixed_back : (p : List ℕ) (b : Back (List ℕ)) → s.read p ≡ None → s.fixed p ≡ Some b → IsBack s (s.id_of p) b
+  fixed_back : (p : Item) (b : Back Item) → s.read p ≡ None → s.fixed p ≡ Some b → IsBack s (s.id_of p) b
   fixed_back p b reads is =
       by_test (s.waits p)
       (λ e. let back = keeps.fixes p e reads in let same : back.0 ≡ b = cc (back.1, is) in subst (IsBack s (s.id_of p)) same back.2)
       (λ e. let bad : None ≡ Some b = sym (keeps.silent p e) ∙ is in absurd (cc))
 
-  pub given_back : (p : List ℕ) (q : Q) (r : R) → s.read p ≡ Some q → IsBack s (s.id_of p) (s.gives p r)
+  pub given_back : (p : Item) (q : Q) (r : R) → s.read p ≡ Some q → IsBack s (s.id_of p) (s.gives p r)
   given_back p q r reads =
       by_test (s.waits p)
       (λ e. keeps.given p r e)
       (λ e. let bad : None ≡ Some q = sym (keeps.unread p e) ∙ reads in absurd (cc))
 
-  message_of : (o : Option (ℕ → List ℕ)) → is_some o ≡ true → (m : ℕ → List ℕ) × (o ≡ Some m)
+  message_of : (o : Option (ℕ → Item)) → is_some o ≡ true → (m : ℕ → Item) × (o ≡ Some m)
   message_of None e = absurd (cc)
   message_of (Some m) e = (m, refl)
 
-  no_message : (o : Option (ℕ → List ℕ)) → is_some o ≡ false → o ≡ None
+  no_message : (o : Option (ℕ → Item)) → is_some o ≡ false → o ≡ None
   no_message None e = refl
   no_message (Some m) e = absurd (cc)
 
   -- a message that goes back stands in the table
-  pub owes_by : (id own : ℕ) (b : Back (List ℕ)) (rs rs' : List (Option ℕ)) (besides : Bool) → own < 2 ^ 64 → IsBack s id b → is_some b.message ≡ besides → (besides ≡ true → own_in rs own ≡ false)
+  pub owes_by : (id own : ℕ) (b : Back Item) (rs rs' : List (Option ℕ)) (besides : Bool) → own < 2 ^ 64 → IsBack s id b → is_some b.message ≡ besides → (besides ≡ true → own_in rs own ≡ false)
       → (besides ≡ true → (j : ℕ) → own_in rs' j ≡ (if j == own then true else own_in rs j)) → (besides ≡ false → rs' ≡ rs) → Owes s (packets_of own b) (own_in rs) (own_in rs')
   owes_by id own b rs rs' besides fits back is free set same =
       by_test besides
@@ -127,10 +128,10 @@ module _ {A Q R : Type 0} (s : WireFormat (List ℕ) A Q R) (keeps : Keeps s) wh
       (λ e. owes_answer s id own b (own_in rs) (own_in rs') back (no_message b.message (is ∙ e)) (λ j. ap (λ t. own_in t j) (same e)))
 
   -- and so does one that is fixed
-  pub owes_fixed : (p : List ℕ) (own : ℕ) (rs rs' : List (Option ℕ)) (besides : Bool) → own < 2 ^ 64 → s.read p ≡ None → besides ≡ has_message_in (s.fixed p) → (besides ≡ true → own_in rs own ≡ false)
+  pub owes_fixed : (p : Item) (own : ℕ) (rs rs' : List (Option ℕ)) (besides : Bool) → own < 2 ^ 64 → s.read p ≡ None → besides ≡ has_message_in (s.fixed p) → (besides ≡ true → own_in rs own ≡ false)
       → (besides ≡ true → (j : ℕ) → own_in rs' j ≡ (if j == own then true else own_in rs j)) → (besides ≡ false → rs' ≡ rs) → Owes s (packets_in own (s.fixed p)) (own_in rs) (own_in rs')
   owes_fixed p own rs rs' besides fits reads is free set same = by (s.fixed p) refl
     where
-      by : (o : Option (Back (List ℕ))) → s.fixed p ≡ o → Owes s (packets_in own o) (own_in rs) (own_in rs')
+      by : (o : Option (Back Item)) → s.fixed p ≡ o → Owes s (packets_in own o) (own_in rs) (own_in rs')
       by None e = owes_nothing s (own_in rs) (own_in rs') (λ j. ap (λ t. own_in t j) (same (is ∙ ap has_message_in e)))
       by (Some b) e = owes_by (s.id_of p) own b rs rs' besides fits (fixed_back p b reads e) (sym (is ∙ ap has_message_in e)) free set same

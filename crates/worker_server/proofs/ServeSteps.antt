@@ -1,4 +1,6 @@
 -- The serving worker's steps keep what it keeps.
+use Rattle.page_kept.specs.declared.item.Item.{Item}
+use Rattle.page_kept.specs.Items.{item_of}
 use Rattle.std.proofs.Common.{◌≡◌, ℕ, ◌+◌, ◌-◌, ◌≤◌, List, [], ◌∷◌, ◌++◌, length, map, filter, drop, replicate, refl, sym, ap, ◌∙◌, subst, arith, Option, Some, None, is_some, Bool, true, false, inl, inr, ◌⊎◌, length-append}
 use Rattle.std.specs.Prelude.{◌&&◌, ◌||◌, ◌<◌, ◌==◌, not, zero, suc, take, if◌then◌else◌, slice_get}
 use Rattle.std.specs.Option.{option_map_or}
@@ -12,7 +14,6 @@ use Rattle.channel_trace.specs.Runs.{sent_of, got_of, has_marked, has_seen, is_d
 use Rattle.channel_trace.specs.Laws.{Follows}
 use Rattle.channel_trace.proofs.Pasts.{drained_seen, follows_unmarked}
 use Rattle.hist_lock.specs.Seat.{Call}
-use Rattle.ring_core.specs.Seen.{Seen}
 use Rattle.ring_core.specs.declared.told.Told.{Told}
 use Rattle.channel_model.specs.WireFormat.{WireFormat, Keeps}
 use Rattle.channel_model.specs.Acks.{is_in, own_open, OwnFrom, AllOwnOpen}
@@ -25,11 +26,12 @@ use Rattle.channel_model.proofs.Amounts.{own_none}
 use Rattle.channel_model.proofs.Opens.{by_test, filter_yes, filter_no}
 use Rattle.channel_model.proofs.Counts.{calls_left}
 use Rattle.channel_model.proofs.Serving.{server_took, server_served, server_passed, server_gave, server_quiet, server_new, server_ends, server_follows, server_breaks}
-use Rattle.worker_port.specs.Line.{SleepsFor}
+use Rattle.worker_port.specs.Line.{Line, SleepsFor}
+use Rattle.ring_core.specs.declared.room.Room.{Room as Spare}
 use Rattle.worker_port.specs.Owed.{is_nil, need_of, MetFull}
 use Rattle.worker_port.specs.Rooms.{ServedWithin, AskedOver, ServeLacksFor, OnlyWith, is_asked}
 use Rattle.txn_table.specs.Open.{HasNone}
-use Rattle.worker_server.specs.Serving.{Responder, Serving, IsServing, Rests, HasServed, HasToWait, Closes, ServesPacket, Orders, EndsAll, BreaksOff, CallsEach, AnswersAll, LetsGo, LacksPlace, LeftOff, EndsBy, LeavesOff, LacksRoom, ServesOn, IsFull, own_in, has_done, has_served, lacks_call, marked_by}
+use Rattle.worker_server.specs.Serving.{Responder, Serving, IsServing, Rests, HasRoomFor, HasServed, HasToWait, Closes, ServesPacket, Orders, EndsAll, BreaksOff, CallsEach, AnswersAll, LetsGo, LacksPlace, LeftOff, EndsBy, LeavesOff, LacksRoom, ServesOn, IsFull, own_in, has_done, has_served, lacks_call, marked_by}
 use Rattle.worker_server.proofs.OwnLaws.{own_within, full_open, none_full, table_empty}
 use Rattle.worker_port.specs.declared.ended.Ended.{Ended}
 use Rattle.worker_port.specs.declared.ended.Ended.TheVariants.{Marked as EndedMarked, PeerMarked, Room, Broken as EndedBroken}
@@ -46,8 +48,21 @@ only_on true f x = f x
 only_on false f x = x
 
 -- the end that met Full has done nothing since of which the room that it found tells
-pub full_still : {E : Type 0} → (owed : List (List ℕ)) (old new : Seen E) → (new.state.machine.room ≡ old.state.machine.room) × (new.state.machine.words ≡ old.state.machine.words) → MetFull owed old → MetFull owed new
+pub full_still : {E : Type 0} → (owed : List Item) (old new : Line E) → (new.state.machine.room ≡ old.state.machine.room) × (new.state.machine.words ≡ old.state.machine.words) → MetFull owed old → MetFull owed new
 full_still owed old new same full = record { packet = full.packet; rest = full.rest; first = full.first; room = omega (arith, full.room, same.0); words = same.1 ∙ full.words }
+
+-- the list of what was sent has room for what is owed as long as neither changes
+pub room_still : {E : Type 0} (owed : List Item) (old new : Line E) → new.spare_sent ≡ old.spare_sent → HasRoomFor owed old → HasRoomFor owed new
+room_still [] old new same room = tt
+room_still (p ∷ ps) old new same room = subst (λ (r : Spare). (0 < r.packets) × (length p.packet ≤ r.words)) (sym same) room
+
+pub room_on : {T S E Q R : Type 0} (old new : Serving T S E Q R) → new.responder ≡ old.responder → new.end.spare_sent ≡ old.end.spare_sent → HasRoomFor old.responder.owed old.end → HasRoomFor new.responder.owed new.end
+room_on old new responder same room = subst (λ d. HasRoomFor d.owed new.end) (sym responder) (room_still old.responder.owed old.end new.end same room)
+
+-- nothing that is owed needs none
+pub room_none : {E : Type 0} (owed : List Item) (e : Line E) → owed ≡ [] → HasRoomFor owed e
+room_none [] e none = tt
+room_none (p ∷ ps) e none = absurd (cc)
 
 module _ {T S E Q R : Type 0} (w : Serving T S E Q R) where
   -- a worker that has done what its plan says
@@ -61,7 +76,7 @@ module _ {T S E Q R : Type 0} (w : Serving T S E Q R) where
       and_parts true c e = (refl, e)
       and_parts false c e = absurd (cc)
 
-module _ {T S E A Q R : Type 0} (s : WireFormat (List ℕ) A Q R) (besides : Bool) (w : Serving T S E Q R) where
+module _ {T S E A Q R : Type 0} (s : WireFormat Item A Q R) (besides : Bool) (w : Serving T S E Q R) where
   -- why it has to wait: packets that came aren't served, or there is more to do than to stop
   pub waits_full : w.served < length w.end.state.got → HasServed s besides w → HasToWait s besides w
   waits_full less (inl all) = absurd (omega (arith, less, all))
@@ -72,7 +87,7 @@ module _ {T S E A Q R : Type 0} (s : WireFormat (List ℕ) A Q R) (besides : Boo
   wait_served (inr (less, full)) = inr full
 
 -- and it does where none waited, and nothing of that changed
-pub waits_on : {T S E A Q R : Type 0} (sp : T → WireFormat (List ℕ) A Q R) (besides : T → Bool) (old new : Serving T S E Q R) → new.responder ≡ old.responder → new.served ≡ old.served → new.missing ≡ old.missing → new.stops ≡ old.stops → new.end.state.got ≡ old.end.state.got
+pub waits_on : {T S E A Q R : Type 0} (sp : T → WireFormat Item A Q R) (besides : T → Bool) (old new : Serving T S E Q R) → new.responder ≡ old.responder → new.served ≡ old.served → new.missing ≡ old.missing → new.stops ≡ old.stops → new.end.state.got ≡ old.end.state.got
     → new.end.state.past ≡ Empty ∷ old.end.state.past → HasToWait (sp old.responder.protocol) (besides old.responder.protocol) old → HasToWait (sp new.responder.protocol) (besides new.responder.protocol) new
 waits_on sp besides old new responder served missing stops got past (inl (all, more)) =
     inl (
@@ -86,8 +101,8 @@ waits_on sp besides old new responder served missing stops got past (inr (less, 
       subst (λ d. OnlyWith (besides d.protocol) (AllOwnOpen (sp d.protocol) 64 new.end.state.past)) (sym responder) (subst (λ l. OnlyWith (besides old.responder.protocol) (AllOwnOpen (sp old.responder.protocol) 64 l)) (sym past) full),
     )
 
-module _ {T S E A Q R : Type 0} (s : WireFormat (List ℕ) A Q R) (keeps : Keeps s) (besides : Bool) (w : Serving T S E Q R) where
-  waited_more : (p : List ℕ) (got : List (List ℕ)) → length (filter s.waits (filter s.is_request (got ++ p ∷ []))) ≡ length (filter s.waits (filter s.is_request got)) + (if s.is_request p && s.waits p then 1 else 0)
+module _ {T S E A Q R : Type 0} (s : WireFormat Item A Q R) (keeps : Keeps s) (besides : Bool) (w : Serving T S E Q R) where
+  waited_more : (p : Item) (got : List Item) → length (filter s.waits (filter s.is_request (got ++ p ∷ []))) ≡ length (filter s.waits (filter s.is_request got)) + (if s.is_request p && s.waits p then 1 else 0)
   waited_more p got =
       by_test (s.is_request p)
       (λ e. ap (λ l. length (filter s.waits l)) (filter_yes s.is_request got p e)
@@ -101,7 +116,7 @@ module _ {T S E A Q R : Type 0} (s : WireFormat (List ℕ) A Q R) (keeps : Keeps
       (λ e. ap (λ l. length (filter s.waits l)) (filter_no s.is_request got p e) ∙ (omega arith ∙ ap (λ b. length (filter s.waits (filter s.is_request got)) + (if b && s.waits p then 1 else 0)) (sym e)))
 
   -- what came closes what it acknowledges
-  closes : (p : List ℕ) (table' : List (Option ℕ)) → Closes s w.responder.owed p w.responder.table table' → OwnKept s w.end.state.past w.responder.owed (own_in w.responder.table) → OwnKept s (Got p ∷ w.end.state.past) w.responder.owed (own_in table')
+  closes : (p : Item) (table' : List (Option ℕ)) → Closes s w.responder.owed p w.responder.table table' → OwnKept s w.end.state.past w.responder.owed (own_in w.responder.table) → OwnKept s (Got p ∷ w.end.state.past) w.responder.owed (own_in table')
   closes p table' c own =
       by_test (s.is_ack p)
       (λ e. by_test (is_in (s.id_of p) (map s.id_of (filter s.is_message w.responder.owed)))
@@ -110,7 +125,7 @@ module _ {T S E A Q R : Type 0} (s : WireFormat (List ℕ) A Q R) (keeps : Keeps
       (λ e. subst (λ t. OwnKept s (Got p ∷ w.end.state.past) w.responder.owed (own_in t)) (sym (c.other e)) (own_came s w.end.state.past p w.responder.owed (own_in w.responder.table) e own))
 
   -- a packet was taken
-  pub took_kept : (end' : Seen E) (table' : List (Option ℕ)) (missing' : ℕ) (p : List ℕ) → end'.state.past ≡ Got p ∷ w.end.state.past → end'.state.got ≡ w.end.state.got ++ p ∷ [] → end'.state.machine.asleep ≡ false
+  pub took_kept : (end' : Line E) (table' : List (Option ℕ)) (missing' : ℕ) (p : Item) → end'.state.past ≡ Got p ∷ w.end.state.past → end'.state.got ≡ w.end.state.got ++ p ∷ [] → end'.state.machine.asleep ≡ false
       → missing' ≡ w.missing - (if s.is_request p && s.waits p then 1 else 0) → Closes s w.responder.owed p w.responder.table table' → length table' ≡ length w.responder.table → w.end.state.machine.marked ≡ false → IsServing s besides w
       → IsServing s besides (record w { end = end'; missing = missing'; responder = record w.responder { table = table' } })
   took_kept end' table' missing' p is more awake less close size unmarked h =
@@ -132,7 +147,7 @@ module _ {T S E A Q R : Type 0} (s : WireFormat (List ℕ) A Q R) (keeps : Keeps
       }
 
   -- nothing was sent or got
-  pub quiet_kept : (end' : Seen E) (seen' : Bool) (want' : Option ℕ) (e : Event (List ℕ)) → end'.state.past ≡ e ∷ w.end.state.past → sent_of (e ∷ w.end.state.past) ≡ sent_of w.end.state.past
+  pub quiet_kept : (end' : Line E) (seen' : Bool) (want' : Option ℕ) (e : Event Item) → end'.state.past ≡ e ∷ w.end.state.past → sent_of (e ∷ w.end.state.past) ≡ sent_of w.end.state.past
       → got_of (e ∷ w.end.state.past) ≡ got_of w.end.state.past → end'.state.got ≡ w.end.state.got → end'.state.machine.asleep ≡ false → has_seen (e ∷ w.end.state.past) ≡ seen'
       → (end'.state.machine.marked ≡ false → OwnKept s (e ∷ w.end.state.past) w.responder.owed (own_in w.responder.table)) → OwnFrom s 64 (e ∷ w.end.state.past)
       → IsServing s besides w → IsServing s besides (record w { end = end'; seen = seen'; want = want' })
@@ -153,17 +168,17 @@ module _ {T S E A Q R : Type 0} (s : WireFormat (List ℕ) A Q R) (keeps : Keeps
       }
 
   -- none waited, or the other end's mark was seen
-  pub empty_kept : (end' : Seen E) → end'.state.past ≡ Empty ∷ w.end.state.past → end'.state.got ≡ w.end.state.got → end'.state.machine.asleep ≡ false → w.end.state.machine.marked ≡ false → IsServing s besides w → IsServing s besides (record w { end = end' })
+  pub empty_kept : (end' : Line E) → end'.state.past ≡ Empty ∷ w.end.state.past → end'.state.got ≡ w.end.state.got → end'.state.machine.asleep ≡ false → w.end.state.machine.marked ≡ false → IsServing s besides w → IsServing s besides (record w { end = end' })
   empty_kept end' is got awake unmarked h =
       quiet_kept end' w.seen w.want Empty is refl refl got awake h.saw (λ u. own_empty s w.end.state.past w.responder.owed (own_in w.responder.table) (h.own unmarked)) h.from h
 
-  pub saw_kept : (end' : Seen E) (want' : Option ℕ) → end'.state.past ≡ Saw ∷ w.end.state.past → end'.state.got ≡ w.end.state.got → end'.state.machine.asleep ≡ false → w.end.state.machine.marked ≡ false → IsServing s besides w
+  pub saw_kept : (end' : Line E) (want' : Option ℕ) → end'.state.past ≡ Saw ∷ w.end.state.past → end'.state.got ≡ w.end.state.got → end'.state.machine.asleep ≡ false → w.end.state.machine.marked ≡ false → IsServing s besides w
       → IsServing s besides (record w { end = end'; seen = true; want = want' })
   saw_kept end' want' is got awake unmarked h =
       quiet_kept end' true want' Saw is refl refl got awake refl (λ u. own_saw s w.end.state.past w.responder.owed (own_in w.responder.table) (h.own unmarked)) h.from h
 
   -- nothing was done that the peer sees
-  pub still_kept : (end' : Seen E) (want' : Option ℕ) → end'.state.past ≡ w.end.state.past → end'.state.got ≡ w.end.state.got
+  pub still_kept : (end' : Line E) (want' : Option ℕ) → end'.state.past ≡ w.end.state.past → end'.state.got ≡ w.end.state.got
       → (end'.state.machine.asleep ≡ true → Rests s besides (record w { end = end'; want = want' })) → w.end.state.machine.marked ≡ false → IsServing s besides w → IsServing s besides (record w { end = end'; want = want' })
   still_kept end' want' is got rests unmarked h =
       record {
@@ -181,7 +196,7 @@ module _ {T S E A Q R : Type 0} (s : WireFormat (List ℕ) A Q R) (keeps : Keeps
       }
 
   -- a packet that was owed was sent
-  pub gave_kept : (end' : Seen E) (responder' : Responder T S Q R) (p : List ℕ) → end'.state.past ≡ Sent p ∷ w.end.state.past → w.responder.owed ≡ p ∷ drop 1 w.responder.owed
+  pub gave_kept : (end' : Line E) (responder' : Responder T S Q R) (p : Item) → end'.state.past ≡ Sent p ∷ w.end.state.past → w.responder.owed ≡ p ∷ drop 1 w.responder.owed
       → responder' ≡ record w.responder { owed = drop 1 w.responder.owed } → end'.state.got ≡ w.end.state.got → end'.state.machine.asleep ≡ false → w.end.state.machine.marked ≡ false
       → IsServing s besides w → IsServing s besides (record w { end = end'; responder = responder' })
   gave_kept end' responder' p is first responder got awake unmarked h =
@@ -204,13 +219,13 @@ module _ {T S E A Q R : Type 0} (s : WireFormat (List ℕ) A Q R) (keeps : Keeps
       })
 
   -- a packet that came was served
-  served_left : (past : List (Event (List ℕ))) (calls calls' : List (Call Q R)) (owed : List (List ℕ)) (left left' : Option ℕ) (p : List ℕ) (rest : List (List ℕ)) → ServesPacket s w.responder.held p left calls calls' owed left'
+  served_left : (past : List (Event Item)) (calls calls' : List (Call Q R)) (owed : List Item) (left left' : Option ℕ) (p : Item) (rest : List Item) → ServesPacket s w.responder.held p left calls calls' owed left'
       → ServerKept s w.responder.held w.serve past calls [] left (p ∷ rest) → ServerKept s w.responder.held w.serve past calls' owed left' rest
   served_left past calls calls' owed None left' p rest one h = rw (one.0, one.1, one.2) (server_passed s keeps w.responder.held w.serve past calls [] p rest h)
   served_left past calls calls' owed (Some m) left' p rest one h = rw (one.2, one.3) (server_served s keeps w.responder.held w.serve past calls one.0 [] owed m p rest one.1 h)
 
   -- it makes a call exactly where it asks the device
-  ask_calls : (o : Option Q) (m : ℕ) (p : List ℕ) (cs : List (Call Q R)) (owed : List (List ℕ)) → (is_some o ≡ true → (m == 0) ≡ false) → ServesOne s w.responder.held p o m cs owed (λ k later rest. Serves s w.responder.held [] k later rest)
+  ask_calls : (o : Option Q) (m : ℕ) (p : Item) (cs : List (Call Q R)) (owed : List Item) → (is_some o ≡ true → (m == 0) ≡ false) → ServesOne s w.responder.held p o m cs owed (λ k later rest. Serves s w.responder.held [] k later rest)
       → length cs ≡ (if is_some o then 1 else 0)
   ask_calls None m p cs owed go h = ap length h.3.0
   ask_calls (Some q) zero p cs owed go h = let bad : true ≡ false = go refl in absurd (cc)
@@ -221,7 +236,7 @@ module _ {T S E A Q R : Type 0} (s : WireFormat (List ℕ) A Q R) (keeps : Keeps
       one true asks = ap (λ l. suc (length l)) asks.0
       one false asks = ap (λ l. suc (length l)) asks.3.0
 
-  calls_one : (p : List ℕ) (calls calls' : List (Call Q R)) (owed : List (List ℕ)) (left left' : Option ℕ) → (is_asked s p ≡ true → has_served left ≡ false) → ServesPacket s w.responder.held p left calls calls' owed left'
+  calls_one : (p : Item) (calls calls' : List (Call Q R)) (owed : List Item) (left left' : Option ℕ) → (is_asked s p ≡ true → has_served left ≡ false) → ServesPacket s w.responder.held p left calls calls' owed left'
       → length calls' ≡ length calls + (if is_asked s p then 1 else 0)
   calls_one p calls calls' owed None left' go h =
       by_test (is_asked s p)
@@ -229,13 +244,13 @@ module _ {T S E A Q R : Type 0} (s : WireFormat (List ℕ) A Q R) (keeps : Keeps
       (λ e. ap length h.0 ∙ (omega arith ∙ ap (λ b. length calls + (if b then 1 else 0)) (sym e)))
   calls_one p calls calls' owed (Some m) left' go h = omega (arith, ap length h.2, length-append calls h.0, ask_calls (s.read p) m p h.0 owed go h.1)
 
-  asked_more : (p : List ℕ) (ps : List (List ℕ)) → length (filter (is_asked s) (ps ++ p ∷ [])) ≡ length (filter (is_asked s) ps) + (if is_asked s p then 1 else 0)
+  asked_more : (p : Item) (ps : List Item) → length (filter (is_asked s) (ps ++ p ∷ [])) ≡ length (filter (is_asked s) ps) + (if is_asked s p then 1 else 0)
   asked_more p ps =
       by_test (is_asked s p)
       (λ e. ap length (filter_yes (is_asked s) ps p e) ∙ (length-append (filter (is_asked s) ps) (p ∷ []) ∙ ap (λ b. length (filter (is_asked s) ps) + (if b then 1 else 0)) (sym e)))
       (λ e. ap length (filter_no (is_asked s) ps p e) ∙ (omega arith ∙ ap (λ b. length (filter (is_asked s) ps) + (if b then 1 else 0)) (sym e)))
 
-  has_call : (p : List ℕ) → slice_get w.end.state.got w.served ≡ Some p → lacks_call s w ≡ false → w.stops ≡ false → is_asked s p ≡ true → has_served w.responder.left ≡ false
+  has_call : (p : Item) → slice_get w.end.state.got w.served ≡ Some p → lacks_call s w ≡ false → w.stops ≡ false → is_asked s p ≡ true → has_served w.responder.left ≡ false
   has_call p at not_lacks go asks =
       by_test (has_served w.responder.left)
       (λ all.
@@ -244,19 +259,19 @@ module _ {T S E A Q R : Type 0} (s : WireFormat (List ℕ) A Q R) (keeps : Keeps
       let bad : true ≡ false = sym lacks ∙ not_lacks in absurd (cc))
       (λ some. some)
 
-  each_served : (p : List ℕ) (calls' : List (Call Q R)) (owed' : List (List ℕ)) (left' : Option ℕ) → w.served + 1 ≤ length w.end.state.got → slice_get w.end.state.got w.served ≡ Some p → lacks_call s w ≡ false
+  each_served : (p : Item) (calls' : List (Call Q R)) (owed' : List Item) (left' : Option ℕ) → w.served + 1 ≤ length w.end.state.got → slice_get w.end.state.got w.served ≡ Some p → lacks_call s w ≡ false
       → ServesPacket s w.responder.held p w.responder.left w.responder.calls calls' owed' left' → IsServing s besides w → w.stops ≡ false → length (filter (is_asked s) (take (w.served + 1) w.end.state.got)) ≡ length calls'
   each_served p calls' owed' left' less at not_lacks one h go =
       let got = w.end.state.got in
-      let grown : take (w.served + 1) got ≡ take w.served got ++ p ∷ [] = take_more got w.served [] (omega (arith, less)) ∙ ap (λ x. take w.served got ++ x ∷ []) (get_or_from_slice_get got w.served p [] at) in
+      let grown : take (w.served + 1) got ≡ take w.served got ++ p ∷ [] = take_more got w.served (item_of [] []) (omega (arith, less)) ∙ ap (λ x. take w.served got ++ x ∷ []) (get_or_from_slice_get got w.served p (item_of [] []) at) in
       omega (arith, ap (λ l. length (filter (is_asked s) l)) grown, asked_more p (take w.served got), h.each go, calls_one p w.responder.calls calls' owed' w.responder.left left' (has_call p at not_lacks go) one)
 
-  pub served_kept : (responder' : Responder T S Q R) (p : List ℕ) → w.served + 1 ≤ length w.end.state.got → slice_get w.end.state.got w.served ≡ Some p → w.responder.owed ≡ [] → lacks_call s w ≡ false → length responder'.owed ≤ 2 → responder'.held ≡ w.responder.held
+  pub served_kept : (responder' : Responder T S Q R) (p : Item) → w.served + 1 ≤ length w.end.state.got → slice_get w.end.state.got w.served ≡ Some p → w.responder.owed ≡ [] → lacks_call s w ≡ false → length responder'.owed ≤ 2 → responder'.held ≡ w.responder.held
       → ServesPacket s responder'.held p w.responder.left w.responder.calls responder'.calls responder'.owed responder'.left → Owes s responder'.owed (own_in w.responder.table) (own_in responder'.table) → length responder'.table ≡ length w.responder.table → w.end.state.machine.asleep ≡ false
       → IsServing s besides w → IsServing s besides (record w { responder = responder'; served = w.served + 1 })
   served_kept responder' p less at none not_lacks few held one owes size awake h =
       let got = w.end.state.got in
-      let first : drop w.served got ≡ p ∷ drop (w.served + 1) got = drop_more got w.served [] (omega (arith, less)) ∙ ap (λ x. x ∷ drop (w.served + 1) got) (get_or_from_slice_get got w.served p [] at) in
+      let first : drop w.served got ≡ p ∷ drop (w.served + 1) got = drop_more got w.served (item_of [] []) (omega (arith, less)) ∙ ap (λ x. x ∷ drop (w.served + 1) got) (get_or_from_slice_get got w.served p (item_of [] []) at) in
       let k : ServerKept s w.responder.held w.serve w.end.state.past w.responder.calls [] w.responder.left (p ∷ drop (w.served + 1) got) =
       subst (λ l. ServerKept s w.responder.held w.serve w.end.state.past w.responder.calls [] w.responder.left l) first
       (subst (λ l. ServerKept s w.responder.held w.serve w.end.state.past w.responder.calls l w.responder.left (drop w.served got)) none h.kept) in
@@ -290,24 +305,24 @@ module _ {T S E A Q R : Type 0} (s : WireFormat (List ℕ) A Q R) (keeps : Keeps
       (subst (λ l. ServerKept s (held_of plan.stop (length plan.script)) (count_of plan.stop (length plan.script)) w.end.state.past w.responder.calls l w.responder.left (drop w.served w.end.state.got)) none (kept_plan plan is h)) in
       server_ends s plan w.end.state.past w.responder.calls w.responder.left k (inl end)
 
-  served_all : (left : Option ℕ) (rest : List (List ℕ)) → has_served left ≡ true → ServerKept s w.responder.held w.serve w.end.state.past w.responder.calls w.responder.owed left rest → length w.responder.calls ≡ w.serve
+  served_all : (left : Option ℕ) (rest : List Item) → has_served left ≡ true → ServerKept s w.responder.held w.serve w.end.state.past w.responder.calls w.responder.owed left rest → length w.responder.calls ≡ w.serve
   served_all None rest e h = (calls_left s keeps w.responder.held h.served w.serve w.responder.calls (sent_of w.end.state.past ++ w.responder.owed) h.serves).1 h.stands
   served_all (Some m) rest e h =
       let none : m ≡ 0 = grind (arith, nat_tests, e) in
       omega (arith, none, (calls_left s keeps w.responder.held h.served w.serve w.responder.calls (sent_of w.end.state.past ++ w.responder.owed) h.serves).0 m h.stands)
 
   -- each packet that came and asks the device was a call, once all that came is served
-  pub calls_each : (past : List (Event (List ℕ))) → got_of past ≡ w.end.state.got → w.served ≡ length w.end.state.got → IsServing s besides w → CallsEach s w past w.responder.calls
+  pub calls_each : (past : List (Event Item)) → got_of past ≡ w.end.state.got → w.served ≡ length w.end.state.got → IsServing s besides w → CallsEach s w past w.responder.calls
   calls_each past is all h go = ap (λ l. length (filter (is_asked s) l)) (is ∙ sym (take_all w.served w.end.state.got (omega (arith, all)))) ∙ h.each go
 
   -- no call is left for what is served next: more asked the device than there were calls for
-  parts : (b : Bool) (o : Option (List ℕ)) → (not w.stops && (b && option_map_or (is_asked s) o false)) ≡ true → (w.stops ≡ false) × (b ≡ true) × ((p : List ℕ) × (o ≡ Some p) × (is_asked s p ≡ true))
+  parts : (b : Bool) (o : Option Item) → (not w.stops && (b && option_map_or (is_asked s) o false)) ≡ true → (w.stops ≡ false) × (b ≡ true) × ((p : Item) × (o ≡ Some p) × (is_asked s p ≡ true))
   parts b o e =
       by_test w.stops
       (λ yes. let bad : false ≡ true = sym (ap (λ x. not x && (b && option_map_or (is_asked s) o false)) yes) ∙ e in absurd (cc))
       (λ go. let rest : (b && option_map_or (is_asked s) o false) ≡ true = sym (ap (λ x. not x && (b && option_map_or (is_asked s) o false)) go) ∙ e in let more = next b o rest in (go, more.0, more.1))
     where
-      next : (b : Bool) (o : Option (List ℕ)) → (b && option_map_or (is_asked s) o false) ≡ true → (b ≡ true) × ((p : List ℕ) × (o ≡ Some p) × (is_asked s p ≡ true))
+      next : (b : Bool) (o : Option Item) → (b && option_map_or (is_asked s) o false) ≡ true → (b ≡ true) × ((p : Item) × (o ≡ Some p) × (is_asked s p ≡ true))
       next false o e = let bad : false ≡ true = e in absurd (cc)
       next true None e = let bad : false ≡ true = e in absurd (cc)
       next true (Some p) e = (refl, (p, refl, e))
@@ -318,7 +333,7 @@ module _ {T S E A Q R : Type 0} (s : WireFormat (List ℕ) A Q R) (keeps : Keeps
       let part = parts (has_served w.responder.left) (slice_get got w.served) lacks in
       let p = part.2.0 in
       let less : w.served < length got = slice_get_within got w.served p part.2.1 in
-      let grown : take (w.served + 1) got ≡ take w.served got ++ p ∷ [] = take_more got w.served [] less ∙ ap (λ x. take w.served got ++ x ∷ []) (get_or_from_slice_get got w.served p [] part.2.1) in
+      let grown : take (w.served + 1) got ≡ take w.served got ++ p ∷ [] = take_more got w.served (item_of [] []) less ∙ ap (λ x. take w.served got ++ x ∷ []) (get_or_from_slice_get got w.served p (item_of [] []) part.2.1) in
       let whole : got ≡ take (w.served + 1) got ++ drop (w.served + 1) got = sym (take-append-drop (w.served + 1) got) in
       let count = length (filter (is_asked s) (take (w.served + 1) got)) in
       let front : count ≤ length (filter (is_asked s) got) =
@@ -377,12 +392,12 @@ module _ {T S E A Q R : Type 0} (s : WireFormat (List ℕ) A Q R) (keeps : Keeps
   ends_drained : is_drained w.end.state.past ≡ true → Follows w.end.state.past → IsServing s besides w → EndsAll s w w.end.state.past w.responder.calls
   ends_drained drained follows h plan is = server_follows s plan w.end.state.past w.responder.calls w.responder.left w.responder.owed (drop w.served w.end.state.got) (kept_plan plan is h) drained follows
 
-module _ {T S E A Q R : Type 0} (s : WireFormat (List ℕ) A Q R) (keeps : Keeps s) (besides : Bool) (w : Serving T S E Q R) where
+module _ {T S E A Q R : Type 0} (s : WireFormat Item A Q R) (keeps : Keeps s) (besides : Bool) (w : Serving T S E Q R) where
   -- the mark, with the table emptied
   abbrev gone : Responder T S Q R
   gone = record w.responder { table = replicate 64 None }
 
-  pub marked_kept : (end' : Seen E) → end'.state.past ≡ Marked ∷ w.end.state.past → end'.state.got ≡ w.end.state.got → end'.state.machine.asleep ≡ false → end'.state.machine.marked ≡ true → IsServing s besides w → IsServing s besides (record w { end = end'; responder = gone })
+  pub marked_kept : (end' : Line E) → end'.state.past ≡ Marked ∷ w.end.state.past → end'.state.got ≡ w.end.state.got → end'.state.machine.asleep ≡ false → end'.state.machine.marked ≡ true → IsServing s besides w → IsServing s besides (record w { end = end'; responder = gone })
   marked_kept end' is got awake marked h =
       let q = quiet_kept s keeps besides w end' w.seen w.want Marked is refl refl got awake h.saw (λ u. absurd (let bad : true ≡ false = sym marked ∙ u in cc)) h.from h in
       record {
@@ -399,27 +414,27 @@ module _ {T S E A Q R : Type 0} (s : WireFormat (List ℕ) A Q R) (keeps : Keeps
       }
 
   -- a mark is an end
-  pub marks_stopped : (end' : Seen E) → end'.state.past ≡ Marked ∷ w.end.state.past → end'.state.got ≡ w.end.state.got → end'.state.machine.asleep ≡ false → end'.state.machine.marked ≡ true
+  pub marks_stopped : (end' : Line E) → end'.state.past ≡ Marked ∷ w.end.state.past → end'.state.got ≡ w.end.state.got → end'.state.machine.asleep ≡ false → end'.state.machine.marked ≡ true
       → w.stops ≡ true → w.responder.owed ≡ [] → w.served ≡ length w.end.state.got → has_served w.responder.left ≡ true → w.missing ≡ 0 → IsServing s besides w → EndsAll s (record w { end = end'; responder = gone }) end'.state.past w.responder.calls
   marks_stopped end' is got awake marked stops none all served started h =
       ends_stopped s keeps besides (record w { end = end'; responder = gone }) stops none (all ∙ ap length (sym got)) served started (marked_kept end' is got awake marked h)
 
-  pub marks_answered : (end' : Seen E) → end'.state.past ≡ Marked ∷ w.end.state.past → end'.state.got ≡ w.end.state.got → end'.state.machine.asleep ≡ false → end'.state.machine.marked ≡ true → got_of end'.state.past ≡ end'.state.got
+  pub marks_answered : (end' : Line E) → end'.state.past ≡ Marked ∷ w.end.state.past → end'.state.got ≡ w.end.state.got → end'.state.machine.asleep ≡ false → end'.state.machine.marked ≡ true → got_of end'.state.past ≡ end'.state.got
       → w.responder.owed ≡ [] → w.served ≡ length w.end.state.got → IsServing s besides w → AnswersAll s (record w { end = end'; responder = gone }) end'.state.past w.responder.calls
   marks_answered end' is got awake marked list none all h = answers_all s keeps besides (record w { end = end'; responder = gone }) none list (all ∙ ap length (sym got)) (marked_kept end' is got awake marked h)
 
-  pub marks_gone : (end' : Seen E) → end'.state.past ≡ Marked ∷ w.end.state.past → end'.state.got ≡ w.end.state.got → end'.state.machine.asleep ≡ false → end'.state.machine.marked ≡ true
+  pub marks_gone : (end' : Line E) → end'.state.past ≡ Marked ∷ w.end.state.past → end'.state.got ≡ w.end.state.got → end'.state.machine.asleep ≡ false → end'.state.machine.marked ≡ true
       → MetFull w.responder.owed end' → IsServing s besides w → LetsGo s (record w { end = end'; responder = gone }) end' w.responder.calls
   marks_gone end' is got awake marked full h = lets_go s keeps besides (record w { end = end'; responder = gone }) full (marked_kept end' is got awake marked h)
 
-  pub marks_drained : (end' : Seen E) → end'.state.past ≡ Marked ∷ w.end.state.past → end'.state.got ≡ w.end.state.got → end'.state.machine.asleep ≡ false → end'.state.machine.marked ≡ true
+  pub marks_drained : (end' : Line E) → end'.state.past ≡ Marked ∷ w.end.state.past → end'.state.got ≡ w.end.state.got → end'.state.machine.asleep ≡ false → end'.state.machine.marked ≡ true
       → is_drained w.end.state.past ≡ true → has_marked w.end.state.past ≡ false → IsServing s besides w → EndsAll s (record w { end = end'; responder = gone }) end'.state.past w.responder.calls
   marks_drained end' is got awake marked drained unmarked h =
       ends_drained s keeps besides (record w { end = end'; responder = gone }) (ap is_drained is ∙ drained) (subst Follows (sym is) (drained_seen w.end.state.past drained, follows_unmarked w.end.state.past unmarked))
       (marked_kept end' is got awake marked h)
 
   -- a place of the table is missing
-  pub marks_lacking : (end' : Seen E) → end'.state.past ≡ Marked ∷ w.end.state.past → w.responder.owed ≡ [] → AllOwnOpen s 64 w.end.state.past → IsServing s besides w → LacksPlace s (record w { end = end'; responder = gone }) end'.state.past w.responder.calls
+  pub marks_lacking : (end' : Line E) → end'.state.past ≡ Marked ∷ w.end.state.past → w.responder.owed ≡ [] → AllOwnOpen s 64 w.end.state.past → IsServing s besides w → LacksPlace s (record w { end = end'; responder = gone }) end'.state.past w.responder.calls
   marks_lacking end' is none opens h = record {
     served = h.kept.served;
     first = (drop w.served w.end.state.got, ap got_of is ∙ h.kept.got_is);
@@ -429,7 +444,7 @@ module _ {T S E A Q R : Type 0} (s : WireFormat (List ℕ) A Q R) (keeps : Keeps
   }
 
   -- so it leaves off that follows with nothing owed
-  pub follows_off : (end' : Seen E) → end'.state.past ≡ Marked ∷ w.end.state.past → end'.state.got ≡ w.end.state.got → end'.state.machine.asleep ≡ false → end'.state.machine.marked ≡ true → got_of end'.state.past ≡ end'.state.got
+  pub follows_off : (end' : Line E) → end'.state.past ≡ Marked ∷ w.end.state.past → end'.state.got ≡ w.end.state.got → end'.state.machine.asleep ≡ false → end'.state.machine.marked ≡ true → got_of end'.state.past ≡ end'.state.got
       → w.responder.owed ≡ [] → HasServed s besides w → IsServing s besides w
       → LeftOff s besides (record w { end = end'; responder = gone }) end' w.responder.calls × LeavesOff s besides (record w { end = end'; responder = gone })
   follows_off end' is got awake marked list none (inl all) h =
@@ -441,12 +456,12 @@ module _ {T S E A Q R : Type 0} (s : WireFormat (List ℕ) A Q R) (keeps : Keeps
       by false f = absurd f
 
   -- none waited after the mark was seen
-  pub drains : (end' : Seen E) → end'.state.past ≡ Empty ∷ w.end.state.past → IsServing s besides w → w.seen ≡ true → is_drained end'.state.past ≡ true
+  pub drains : (end' : Line E) → end'.state.past ≡ Empty ∷ w.end.state.past → IsServing s besides w → w.seen ≡ true → is_drained end'.state.past ≡ true
   drains end' is h seen = ap is_drained is ∙ ap (λ b. b || is_drained w.end.state.past) (h.saw ∙ seen)
 
   -- it sleeps
-  pub rests_at : (end' : Seen E) (want' : Option ℕ) → want' ≡ need_of w.responder.owed → SleepsFor want' end' → end'.state.got ≡ w.end.state.got → (is_nil w.responder.owed ≡ true → HasToWait s besides w) → end'.state.past ≡ w.end.state.past → w.seen ≡ false → Rests s besides (record w { end = end'; want = want' })
-  rests_at end' want' want armed got waits is unseen = record { want = want; armed = armed; waits = λ e. still (waits e); unseen = unseen }
+  pub rests_at : (end' : Line E) (want' : Option ℕ) → want' ≡ need_of w.responder.owed → SleepsFor want' end' → end'.spare_sent ≡ w.end.spare_sent → HasRoomFor w.responder.owed w.end → end'.state.got ≡ w.end.state.got → (is_nil w.responder.owed ≡ true → HasToWait s besides w) → end'.state.past ≡ w.end.state.past → w.seen ≡ false → Rests s besides (record w { end = end'; want = want' })
+  rests_at end' want' want armed spare room got waits is unseen = record { want = want; armed = armed; room = room_still w.responder.owed w.end end' spare room; waits = λ e. still (waits e); unseen = unseen }
     where
       still : HasToWait s besides w → HasToWait s besides (record w { end = end'; want = want' })
       still (inl (all, more)) = inl (all ∙ ap length (sym got), more)
@@ -479,38 +494,38 @@ module _ {T S E A Q R : Type 0} (s : WireFormat (List ℕ) A Q R) (keeps : Keeps
     each = λ go. ap (λ n. length (filter (is_asked s) (take n w.end.state.got))) served ∙ ap length (sym calls);
   }
 
-module _ {T S E A Q R : Type 0} (sp : T → WireFormat (List ℕ) A Q R) (keeps : (t : T) → Keeps (sp t)) (besides : T → Bool) (w : Serving T S E Q R) where
-  pub took_by : (end' : Seen E) (responder' : Responder T S Q R) (missing' : ℕ) (p : List ℕ) → end'.state.past ≡ Got p ∷ w.end.state.past → end'.state.got ≡ w.end.state.got ++ p ∷ [] → end'.state.machine.asleep ≡ false
+module _ {T S E A Q R : Type 0} (sp : T → WireFormat Item A Q R) (keeps : (t : T) → Keeps (sp t)) (besides : T → Bool) (w : Serving T S E Q R) where
+  pub took_by : (end' : Line E) (responder' : Responder T S Q R) (missing' : ℕ) (p : Item) → end'.state.past ≡ Got p ∷ w.end.state.past → end'.state.got ≡ w.end.state.got ++ p ∷ [] → end'.state.machine.asleep ≡ false
       → missing' ≡ w.missing - (if (sp w.responder.protocol).is_request p && (sp w.responder.protocol).waits p then 1 else 0) → Closes (sp w.responder.protocol) w.responder.owed p w.responder.table responder'.table → length responder'.table ≡ length w.responder.table
       → responder' ≡ record w.responder { table = responder'.table } → w.end.state.machine.marked ≡ false → IsServing (sp w.responder.protocol) (besides w.responder.protocol) w → IsServing (sp responder'.protocol) (besides responder'.protocol) (record w { end = end'; missing = missing'; responder = responder' })
   took_by end' responder' missing' p is more awake less close size responder unmarked h =
       subst (λ d. IsServing (sp d.protocol) (besides d.protocol) (record w { end = end'; missing = missing'; responder = d })) (sym responder)
       (took_kept (sp w.responder.protocol) (keeps w.responder.protocol) (besides w.responder.protocol) w end' responder'.table missing' p is more awake less close size unmarked h)
 
-  pub marked_by_protocol : (end' : Seen E) (responder' : Responder T S Q R) → end'.state.past ≡ Marked ∷ w.end.state.past → end'.state.got ≡ w.end.state.got → end'.state.machine.asleep ≡ false → end'.state.machine.marked ≡ true → responder' ≡ record w.responder { table = replicate 64 None }
+  pub marked_by_protocol : (end' : Line E) (responder' : Responder T S Q R) → end'.state.past ≡ Marked ∷ w.end.state.past → end'.state.got ≡ w.end.state.got → end'.state.machine.asleep ≡ false → end'.state.machine.marked ≡ true → responder' ≡ record w.responder { table = replicate 64 None }
       → IsServing (sp w.responder.protocol) (besides w.responder.protocol) w → IsServing (sp responder'.protocol) (besides responder'.protocol) (record w { end = end'; responder = responder' })
   marked_by_protocol end' responder' is got awake marked responder h =
       subst (λ d. IsServing (sp d.protocol) (besides d.protocol) (record w { end = end'; responder = d })) (sym responder) (marked_kept (sp w.responder.protocol) (keeps w.responder.protocol) (besides w.responder.protocol) w end' is got awake marked h)
 
   -- what a worker gives whose table was emptied
-  pub ends_gone : (how : Ended) (end' : Seen E) (responder' : Responder T S Q R) → responder' ≡ record w.responder { table = replicate 64 None }
+  pub ends_gone : (how : Ended) (end' : Line E) (responder' : Responder T S Q R) → responder' ≡ record w.responder { table = replicate 64 None }
       → EndsBy (sp w.responder.protocol) (besides w.responder.protocol) how (record w { end = end'; responder = record w.responder { table = replicate 64 None } }) end' w.responder.calls
       → EndsBy (sp responder'.protocol) (besides responder'.protocol) how (record w { end = end'; responder = responder' }) end' responder'.calls
   ends_gone how end' responder' responder h = subst (λ d. EndsBy (sp d.protocol) (besides d.protocol) how (record w { end = end'; responder = d }) end' d.calls) (sym responder) h
 
-  pub room_gone : (left_at : S → ℕ) (how : Ended) (end' : Seen E) (responder' : Responder T S Q R) → responder' ≡ record w.responder { table = replicate 64 None }
+  pub room_gone : (left_at : S → ℕ) (how : Ended) (end' : Line E) (responder' : Responder T S Q R) → responder' ≡ record w.responder { table = replicate 64 None }
       → LacksRoom left_at (sp w.responder.protocol) (besides w.responder.protocol) how (record w { end = end'; responder = record w.responder { table = replicate 64 None } })
       → LacksRoom left_at (sp responder'.protocol) (besides responder'.protocol) how (record w { end = end'; responder = responder' })
   room_gone left_at how end' responder' responder h = subst (λ d. LacksRoom left_at (sp d.protocol) (besides d.protocol) how (record w { end = end'; responder = d })) (sym responder) h
 
-  pub gave_by : (end' : Seen E) (responder' : Responder T S Q R) (p : List ℕ) → end'.state.past ≡ Sent p ∷ w.end.state.past → w.responder.owed ≡ p ∷ drop 1 w.responder.owed
+  pub gave_by : (end' : Line E) (responder' : Responder T S Q R) (p : Item) → end'.state.past ≡ Sent p ∷ w.end.state.past → w.responder.owed ≡ p ∷ drop 1 w.responder.owed
       → responder' ≡ record w.responder { owed = drop 1 w.responder.owed } → end'.state.got ≡ w.end.state.got → end'.state.machine.asleep ≡ false → w.end.state.machine.marked ≡ false
       → IsServing (sp w.responder.protocol) (besides w.responder.protocol) w → IsServing (sp responder'.protocol) (besides responder'.protocol) (record w { end = end'; responder = responder' })
   gave_by end' responder' p is first responder got awake unmarked h =
       subst (λ t. IsServing (sp t) (besides t) (record w { end = end'; responder = responder' })) (sym (ap (λ (d : Responder T S Q R). d.protocol) responder))
       (gave_kept (sp w.responder.protocol) (keeps w.responder.protocol) (besides w.responder.protocol) w end' responder' p is first responder got awake unmarked h)
 
-  pub served_by : (responder' : Responder T S Q R) (p : List ℕ) → w.served + 1 ≤ length w.end.state.got → slice_get w.end.state.got w.served ≡ Some p → w.responder.owed ≡ [] → lacks_call (sp w.responder.protocol) w ≡ false → length responder'.owed ≤ 2 → responder'.held ≡ w.responder.held → responder'.protocol ≡ w.responder.protocol
+  pub served_by : (responder' : Responder T S Q R) (p : Item) → w.served + 1 ≤ length w.end.state.got → slice_get w.end.state.got w.served ≡ Some p → w.responder.owed ≡ [] → lacks_call (sp w.responder.protocol) w ≡ false → length responder'.owed ≤ 2 → responder'.held ≡ w.responder.held → responder'.protocol ≡ w.responder.protocol
       → ServesPacket (sp responder'.protocol) responder'.held p w.responder.left w.responder.calls responder'.calls responder'.owed responder'.left → Owes (sp responder'.protocol) responder'.owed (own_in w.responder.table) (own_in responder'.table) → length responder'.table ≡ length w.responder.table
       → w.end.state.machine.asleep ≡ false → IsServing (sp w.responder.protocol) (besides w.responder.protocol) w → IsServing (sp responder'.protocol) (besides responder'.protocol) (record w { responder = responder'; served = w.served + 1 })
   served_by responder' p less at none not_lacks few held protocol one owes size awake h =
@@ -538,23 +553,23 @@ module _ {T S E Q R C : Type 0} (same : S → S → Type 0) (channel : E → C) 
   pub on_refl : ((a : S) → same a a) → (w : Serving T S E Q R) → ServesOn same channel told w w
   on_refl r w = record { protocol = refl; relid = refl; held = refl; serve = refl; stops = refl; starts = refl; come = refl; before = refl; end = record { seat = refl; side = refl }; tells = refl; seat = r w.responder.seat }
 
-  orders_on : {A : Type 0} (s : WireFormat (List ℕ) A Q R) (plan : RequestPlan A) (u w : Serving T S E Q R) → ServesOn same channel told u w → Orders s plan u → Orders s plan w
+  orders_on : {A : Type 0} (s : WireFormat Item A Q R) (plan : RequestPlan A) (u w : Serving T S E Q R) → ServesOn same channel told u w → Orders s plan u → Orders s plan w
   orders_on s plan u w on is = record { serve = on.serve ∙ is.serve; held = on.held ∙ is.held; stops = on.stops ∙ is.stops; starts = on.starts ∙ is.starts }
 
-  serves_on : {A : Type 0} (s : WireFormat (List ℕ) A Q R) (u w : Serving T S E Q R) (got sent : List (List ℕ)) (calls : List (Call Q R)) → ServesOn same channel told u w → Serves s w.responder.held got w.serve calls sent → Serves s u.responder.held got u.serve calls sent
+  serves_on : {A : Type 0} (s : WireFormat Item A Q R) (u w : Serving T S E Q R) (got sent : List Item) (calls : List (Call Q R)) → ServesOn same channel told u w → Serves s w.responder.held got w.serve calls sent → Serves s u.responder.held got u.serve calls sent
   serves_on s u w got sent calls on h = subst (λ b. Serves s b got u.serve calls sent) on.held (subst (λ n. Serves s w.responder.held got n calls sent) on.serve h)
 
-  answers_on : {A : Type 0} (s : WireFormat (List ℕ) A Q R) (u w : Serving T S E Q R) (past : List (Event (List ℕ))) (calls : List (Call Q R)) → ServesOn same channel told u w → AnswersAll s w past calls → AnswersAll s u past calls
+  answers_on : {A : Type 0} (s : WireFormat Item A Q R) (u w : Serving T S E Q R) (past : List (Event Item)) (calls : List (Call Q R)) → ServesOn same channel told u w → AnswersAll s w past calls → AnswersAll s u past calls
   answers_on s u w past calls on h = record { serves = serves_on s u w (got_of past) (sent_of past) calls on h.serves; each = λ go. h.each (on.stops ∙ go) }
 
-  gone_on : {A : Type 0} (s : WireFormat (List ℕ) A Q R) (u w : Serving T S E Q R) (e : Seen E) (calls : List (Call Q R)) → ServesOn same channel told u w → LetsGo s w e calls → LetsGo s u e calls
+  gone_on : {A : Type 0} (s : WireFormat Item A Q R) (u w : Serving T S E Q R) (e : Line E) (calls : List (Call Q R)) → ServesOn same channel told u w → LetsGo s w e calls → LetsGo s u e calls
   gone_on s u w e calls on h = record { served = h.served; first = h.first; missing = h.missing; serves = serves_on s u w h.served (sent_of e.state.past ++ h.missing) calls on h.serves; few = h.few; full = h.full }
 
-  place_on : {A : Type 0} (s : WireFormat (List ℕ) A Q R) (u w : Serving T S E Q R) (past : List (Event (List ℕ))) (calls : List (Call Q R)) → ServesOn same channel told u w → LacksPlace s w past calls → LacksPlace s u past calls
+  place_on : {A : Type 0} (s : WireFormat Item A Q R) (u w : Serving T S E Q R) (past : List (Event Item)) (calls : List (Call Q R)) → ServesOn same channel told u w → LacksPlace s w past calls → LacksPlace s u past calls
   place_on s u w past calls on h = record { served = h.served; first = h.first; serves = serves_on s u w h.served (sent_of past) calls on h.serves; full = h.full }
 
   -- what it gives at its end is what was asked of it at its beginning
-  pub ends_on : {A : Type 0} (sp : T → WireFormat (List ℕ) A Q R) (besides : T → Bool) (how : Ended) (u w : Serving T S E Q R) (e : Seen E) (calls : List (Call Q R)) → ServesOn same channel told u w
+  pub ends_on : {A : Type 0} (sp : T → WireFormat Item A Q R) (besides : T → Bool) (how : Ended) (u w : Serving T S E Q R) (e : Line E) (calls : List (Call Q R)) → ServesOn same channel told u w
       → EndsBy (sp w.responder.protocol) (besides w.responder.protocol) how w e calls → EndsBy (sp u.responder.protocol) (besides u.responder.protocol) how u e calls
   ends_on {A = A} sp besides how u w e calls on h = by how (subst (λ t. EndsBy (sp t) (besides t) how w e calls) on.protocol h)
     where
@@ -575,7 +590,7 @@ module _ {T S E Q R C : Type 0} (same : S → S → Type 0) (channel : E → C) 
           (subst (λ b. ServerBreaks (sp u.responder.protocol) b u.serve e.state.past calls) on.held (subst (λ n. ServerBreaks (sp u.responder.protocol) w.responder.held n e.state.past calls) on.serve h.0), h.1)
 
   -- and so is what it lacked
-  pub lacks_on : {A : Type 0} (sp : T → WireFormat (List ℕ) A Q R) (besides : T → Bool) (how : Ended) (u w : Serving T S E Q R) (past : List (Event (List ℕ))) → ServesOn same channel told u w
+  pub lacks_on : {A : Type 0} (sp : T → WireFormat Item A Q R) (besides : T → Bool) (how : Ended) (u w : Serving T S E Q R) (past : List (Event Item)) → ServesOn same channel told u w
       → ServeLacksFor (sp w.responder.protocol) (besides w.responder.protocol) (w.starts + w.come) w.serve w.stops how past → ServeLacksFor (sp u.responder.protocol) (besides u.responder.protocol) (u.starts + u.come) u.serve u.stops how past
   lacks_on sp besides how u w past on h =
       let room : w.starts + w.come ≡ u.starts + u.come = omega (arith, on.starts, on.come) in

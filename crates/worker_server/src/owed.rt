@@ -1,7 +1,8 @@
 //! What the serving end owes for one packet.
 ghost use Rattle.std.specs.Prelude.{◌≡◌, ◌≤◌, [], ◌∷◌, MatchOption, drop, filter, length, map, IfOk, true, false};
 ghost use Rattle.ring_machine.specs.States.{IsPacket};
-ghost use Rattle.channel_protocol.specs.Listed.{listed_packet};
+ghost use Rattle.page_kept.specs.Items.{item_of};
+ghost use Rattle.worker_server.specs.Serving.{items_of};
 ghost use Rattle.worker_port.specs.Owed.{is_nil, FitsReply};
 ghost use Rattle.channel_model.specs.Acks.{is_in};
 ghost use Rattle.channel_model.specs.WireFormat.{packets_in, packets_of};
@@ -11,7 +12,7 @@ use std::alloc::{AllocError, Global};
 use std::marker::Model;
 use worker_port::PacketBuffer;
 
-/// A message and an answer, each of which may be none. The message is sent first.
+/// A message and an answer, each of which may be none, and neither of which has page words. The message is sent first.
 #[derive(Drop)]
 pub(crate) struct Owed {
     message: PacketBuffer,
@@ -19,12 +20,13 @@ pub(crate) struct Owed {
 }
 
 impl Model for Owed {
-    ghost use Rattle.std.specs.Prelude.{List, ◌++◌, ℕ};
-    ghost use Rattle.channel_protocol.specs.Listed.{listed_packet};
+    ghost use Rattle.std.specs.Prelude.{List, ◌++◌};
+    ghost use Rattle.page_kept.specs.declared.item.Item.{Item};
+    ghost use Rattle.worker_server.specs.Serving.{items_of};
 
-    ghost Value = { List (List ℕ) };
+    ghost Value = { List Item };
 
-    ghost view = { λ o. listed_packet o.message ++ listed_packet o.answer };
+    ghost view = { λ o. items_of o.message.packet ++ items_of o.answer.packet };
 }
 
 impl Owed {
@@ -36,6 +38,7 @@ impl Owed {
         Ok(Owed { message, answer })
     }
 
+    #[tactic(auto, using(crate::proofs::OwedLaws::both_nil, crate::proofs::OwedLaws::both_clear))]
     pub(crate) fn is_empty(&self) -> bool
         ensures value { result ≡ is_nil self.now }
         ensures clear { result ≡ true → self.now ≡ [] }
@@ -44,9 +47,10 @@ impl Owed {
     }
 
     // The packet that is sent next.
+    #[tactic(auto, using(crate::proofs::OwedLaws::first_answer, crate::proofs::OwedLaws::first_message))]
     pub(crate) fn first(&self) -> &[u64]
         requires { is_nil self.now ≡ false }
-        ensures value { self.now ≡ result.now ∷ drop 1 self.now }
+        ensures value { self.now ≡ item_of result.now [] ∷ drop 1 self.now }
         ensures packet { IsPacket result.now }
         ensures most { length result.now ≤ 384 }
     {
@@ -57,6 +61,7 @@ impl Owed {
         }
     }
 
+    #[tactic(auto, using(crate::proofs::OwedLaws::pop_answer, crate::proofs::OwedLaws::pop_message))]
     pub(crate) fn pop(&mut self)
         ensures { self.new ≡ drop 1 self.old }
     {
@@ -79,11 +84,12 @@ impl Owed {
     // What goes back for a packet that asks nothing of the device.
     pub(crate) fn owe_fixed<T: Protocol>(&mut self, protocol: &T, packet: &[u64], own: u64)
         requires packet { IsPacket packet.now }
-        ensures value { self.new ≡ packets_in own ((T.format protocol.now).fixed packet.now) }
+        requires bare { T.lends protocol.now ≡ false }
+        ensures value { self.new ≡ packets_in own ((T.format protocol.now).fixed (T.said (item_of packet.now []))) }
         ensures few { length self.new ≤ 2 }
     {
-        self.message.write_fixed_message(protocol, packet, own);
-        self.answer.write_fixed(protocol, packet);
+        self.message.write_fixed_message(protocol, packet, &[], own);
+        self.answer.write_fixed(protocol, packet, &[]);
     }
 
     // What goes back with the device's reply.
@@ -96,23 +102,41 @@ impl Owed {
         own: u64,
     )
         requires packet { IsPacket packet.now }
-        requires head { T.is_head protocol.now packet.now head.now }
-        requires fits { FitsReply (T.format protocol.now) packet.now reply.now }
-        ensures value { self.new ≡ packets_of own ((T.format protocol.now).gives packet.now reply.now) }
+        requires head { T.is_head protocol.now (T.said (item_of packet.now [])) head.now }
+        requires fits { FitsReply (T.format protocol.now) (T.said (item_of packet.now [])) reply.now }
+        requires bare { T.lends protocol.now ≡ false }
+        ensures value { self.new ≡ packets_of own ((T.format protocol.now).gives (T.said (item_of packet.now [])) reply.now) }
         ensures few { length self.new ≤ 2 }
     {
-        self.message.write_message(protocol, packet, reply, own);
-        self.answer.write_answer(protocol, packet, head, reply);
+        self.message
+            .write_message(protocol, packet, &[], reply, own);
+        self.answer.write_answer(protocol, packet, &[], head, reply);
     }
 }
 
 // Whether a packet, if there is one, is a message under this id.
 #[tactic(auto, using(crate::proofs::OwnLaws::none_under, crate::proofs::OwnLaws::one_under))]
 fn is_message_under<T: Protocol>(protocol: &T, buffer: &PacketBuffer, id: u64) -> bool
-    ensures { result ≡ is_in id (map (T.format protocol.now).id_of (filter (T.format protocol.now).is_message (listed_packet buffer.now))) }
+    ensures { result ≡ is_in id (map (T.format protocol.now).id_of (filter (T.format protocol.now).is_message (items_of buffer.now.packet))) }
 {
     if buffer.is_empty() {
         return false;
     }
-    protocol.is_message(buffer.packet()) && protocol.id(buffer.packet()) == id
+    is_message(protocol, buffer.packet()) && id_of(protocol, buffer.packet()) == id
+}
+
+// Whether a packet without page words is a message.
+fn is_message<T: Protocol>(protocol: &T, packet: &[u64]) -> bool
+    requires { IsPacket packet.now }
+    ensures { result ≡ (T.format protocol.now).is_message (item_of packet.now []) }
+{
+    protocol.is_message(packet)
+}
+
+// The id of one.
+fn id_of<T: Protocol>(protocol: &T, packet: &[u64]) -> u64
+    requires { IsPacket packet.now }
+    ensures { result ≡ (T.format protocol.now).id_of (item_of packet.now []) }
+{
+    protocol.id(packet)
 }

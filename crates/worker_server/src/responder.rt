@@ -1,5 +1,6 @@
 //! Where the serving end serves one packet after another.
 ghost use Rattle.std.specs.Prelude.{◌≡◌, ◌<◌, ◌≤◌, ◌+◌, ◌-◌, if◌then◌else◌, [], ◌∷◌, ◌++◌, drop, length, Some, None, true, false, IfOk, map, filter, count_by, is_some, IsSome, vec_len, vec_capacity, replicate, ◌&&◌, ◌==◌, ℕ, suc};
+ghost use Rattle.page_kept.specs.Items.{item_of};
 ghost use Rattle.ring_machine.specs.States.{IsPacket};
 ghost use Rattle.worker_port.specs.Owed.{is_nil, need_of, IsNeed};
 ghost use Rattle.worker_port.specs.Rooms.{is_asked};
@@ -16,6 +17,7 @@ use std::alloc::{AllocError, Global};
 use std::marker::Model;
 use std::sync::Wait;
 use txn_table::TxnTable;
+use worker_port::{id_read, is_ack_read, is_waiting_read};
 
 /// The protocol, the place at the device, the messages of its own that are open or owed, and what is owed for the packet that was served last.
 #[derive(Drop)]
@@ -35,14 +37,14 @@ pub(crate) struct Responder<T: Protocol, S: Device<T>> {
 }
 
 impl<T: Protocol, S: Device<T>> Model for Responder<T, S> {
-    ghost use Rattle.std.specs.Prelude.{◌≡◌, ◌≤◌, ◌-◌, length, map, vec_len, vec_capacity};
+    ghost use Rattle.std.specs.Prelude.{◌≡◌, ◌≤◌, ◌-◌, false, length, map, vec_len, vec_capacity};
     ghost use Rattle.worker_server.specs.Serving.{Responder, HasCalls, first_calls, last_calls};
 
     ghost Value = { Responder T S T.Request T.Reply };
 
     ghost view = { λ d. record { protocol = d.protocol; seat = d.seat; before = first_calls (S.calls d.seat) (length d.serials.items); calls = last_calls (S.calls d.seat) (length d.serials.items); table = d.table; owed = d.owed; left = d.left; held = d.held; serials = d.serials.items; side = d.side; relid = d.relid } };
 
-    ghost invariant = { λ d. record { calls : HasCalls d.left (S.left d.seat); room : HasCalls d.left (vec_capacity d.serials - vec_len d.serials); serves : S.serves d.seat d.protocol; made : length d.serials.items ≤ length (S.calls d.seat); serials : d.serials.items ≡ map (λ c. c.serial) (last_calls (S.calls d.seat) (length d.serials.items)); places : length d.table ≡ 64; rescinds : (vec_len d.rescinded ≡ 0) × (64 ≤ vec_capacity d.rescinded) } };
+    ghost invariant = { λ d. record { calls : HasCalls d.left (S.left d.seat); room : HasCalls d.left (vec_capacity d.serials - vec_len d.serials); serves : S.serves d.seat d.protocol; bare : T.lends d.protocol ≡ false; made : length d.serials.items ≤ length (S.calls d.seat); serials : d.serials.items ≡ map (λ c. c.serial) (last_calls (S.calls d.seat) (length d.serials.items)); places : length d.table ≡ 64; rescinds : (vec_len d.rescinded ≡ 0) × (64 ≤ vec_capacity d.rescinded) } };
 }
 
 impl<T: Protocol, S: Device<T>> Responder<T, S> {
@@ -58,6 +60,7 @@ impl<T: Protocol, S: Device<T>> Responder<T, S> {
     ) -> Result<Responder<T, S>, AllocError>
         requires serves { S.serves seat protocol }
         requires calls { serve ≤ S.left seat }
+        requires bare { T.lends protocol ≡ false }
         ensures { IfOk result (λ d. d ≡ record { protocol = protocol; seat = seat; before = S.calls seat; calls = []; table = replicate 64 None; owed = []; left = Some serve; held = held; serials = []; side = side; relid = relid }) }
     {
         match Lists::make(alloc, serve) {
@@ -82,6 +85,7 @@ impl<T: Protocol, S: Device<T>> Responder<T, S> {
     ) -> Responder<T, S>
         requires serves { S.serves seat protocol }
         requires calls { serve ≤ S.left seat }
+        requires bare { T.lends protocol ≡ false }
         requires table { lists.table ≡ replicate 64 None }
         requires rescinded { (vec_len lists.rescinded ≡ 0) × (64 ≤ vec_capacity lists.rescinded) }
         requires owed { lists.owed ≡ [] }
@@ -130,9 +134,9 @@ impl<T: Protocol, S: Device<T>> Responder<T, S> {
     // How many requests of the start-up are missing after this packet, where so many were before it. A packet is read only while some are.
     pub(crate) fn missing_after(&self, missing: u32, packet: &[u64]) -> u32
         requires { IsPacket packet.now }
-        ensures { result ≡ missing - (if (T.format self.now.protocol).is_request packet.now && (T.format self.now.protocol).waits packet.now then 1 else 0) }
+        ensures { result ≡ missing - (if (T.format self.now.protocol).is_request (T.said (item_of packet.now [])) && (T.format self.now.protocol).waits (T.said (item_of packet.now [])) then 1 else 0) }
     {
-        if missing == 0 || !self.protocol.is_waiting(packet) {
+        if missing == 0 || !is_waiting_read(&self.protocol, packet, &[]) {
             return missing;
         }
         missing - 1
@@ -141,9 +145,9 @@ impl<T: Protocol, S: Device<T>> Responder<T, S> {
     // Whether a packet asks the device for something.
     pub(crate) fn is_asked(&self, packet: &[u64]) -> bool
         requires { IsPacket packet.now }
-        ensures { result ≡ is_asked (T.format self.now.protocol) packet.now }
+        ensures { result ≡ is_asked (T.format self.now.protocol) (T.said (item_of packet.now [])) }
     {
-        self.protocol.head(packet).is_some()
+        self.protocol.head(packet, &[]).is_some()
     }
 
     // Whether each place of its own table is taken: then a message that goes back waits for an acknowledgement.
@@ -157,14 +161,14 @@ impl<T: Protocol, S: Device<T>> Responder<T, S> {
     // Closes the message that a packet acknowledges, if it is one that does. One that is only owed isn't closed.
     pub(crate) fn close(&mut self, packet: &[u64])
         requires { IsPacket packet.now }
-        ensures closes { Closes (T.format self.old.protocol) self.old.owed packet.now self.old.table self.new.table }
+        ensures closes { Closes (T.format self.old.protocol) self.old.owed (T.said (item_of packet.now [])) self.old.table self.new.table }
         ensures size { length self.new.table ≡ length self.old.table }
         ensures same { self.new ≡ record self.old { table = self.new.table } }
     {
-        if !self.protocol.is_ack(packet) {
+        if !is_ack_read(&self.protocol, packet, &[]) {
             return;
         }
-        let id = self.protocol.id(packet);
+        let id = id_read(&self.protocol, packet, &[]);
         if self.owed.has_message(&self.protocol, id) {
             return;
         }
@@ -184,7 +188,7 @@ impl<T: Protocol, S: Device<T>> Responder<T, S> {
     // The packet that is sent next.
     pub(crate) fn first(&self) -> &[u64]
         requires { is_nil self.now.owed ≡ false }
-        ensures value { self.now.owed ≡ result.now ∷ drop 1 self.now.owed }
+        ensures value { self.now.owed ≡ item_of result.now [] ∷ drop 1 self.now.owed }
         ensures packet { IsPacket result.now }
         ensures most { length result.now ≤ 384 }
     {
@@ -220,7 +224,7 @@ impl<T: Protocol, S: Device<T>> Responder<T, S> {
         requires owed { self.old.owed ≡ [] }
         requires packet { IsPacket packet.now }
         requires room { count_by is_some self.old.table < length self.old.table }
-        ensures serves { ServesPacket (T.format self.new.protocol) self.new.held packet.now self.old.left self.old.calls self.new.calls self.new.owed self.new.left }
+        ensures serves { ServesPacket (T.format self.new.protocol) self.new.held (T.said (item_of packet.now [])) self.old.left self.old.calls self.new.calls self.new.owed self.new.left }
         ensures owes { Owes (T.format self.new.protocol) self.new.owed (own_in self.old.table) (own_in self.new.table) }
         ensures size { length self.new.table ≡ length self.old.table }
         ensures few { length self.new.owed ≤ 2 }
@@ -231,7 +235,7 @@ impl<T: Protocol, S: Device<T>> Responder<T, S> {
         let Some(count) = self.left else {
             return;
         };
-        match self.protocol.head(packet) {
+        match self.protocol.head(packet, &[]) {
             None => self.serve_fixed(count, packet),
             Some(head) => self.serve_request(rt, gate, count, packet, &head),
         }
@@ -242,9 +246,9 @@ impl<T: Protocol, S: Device<T>> Responder<T, S> {
         requires owed { self.old.owed ≡ [] }
         requires packet { IsPacket packet.now }
         requires count { self.old.left ≡ Some count }
-        requires reads { (T.format self.old.protocol).read packet.now ≡ None }
+        requires reads { (T.format self.old.protocol).read (T.said (item_of packet.now [])) ≡ None }
         requires room { count_by is_some self.old.table < length self.old.table }
-        ensures serves { ServesPacket (T.format self.new.protocol) self.new.held packet.now (Some count) self.old.calls self.new.calls self.new.owed self.new.left }
+        ensures serves { ServesPacket (T.format self.new.protocol) self.new.held (T.said (item_of packet.now [])) (Some count) self.old.calls self.new.calls self.new.owed self.new.left }
         ensures owes { Owes (T.format self.new.protocol) self.new.owed (own_in self.old.table) (own_in self.new.table) }
         ensures size { length self.new.table ≡ length self.old.table }
         ensures few { length self.new.owed ≤ 2 }
@@ -252,7 +256,7 @@ impl<T: Protocol, S: Device<T>> Responder<T, S> {
         ensures channel { (self.new.side ≡ self.old.side) × (self.new.relid ≡ self.old.relid) }
         ensures before { self.new.before ≡ self.old.before }
     {
-        let besides = self.protocol.has_fixed_message(packet);
+        let besides = self.protocol.has_fixed_message(packet, &[]);
         let own = open_own(&mut self.table, besides);
         self.owed.owe_fixed(&self.protocol, packet, own);
     }
@@ -269,10 +273,10 @@ impl<T: Protocol, S: Device<T>> Responder<T, S> {
         requires owed { self.old.owed ≡ [] }
         requires packet { IsPacket packet.now }
         requires count { self.old.left ≡ Some count }
-        requires head { T.is_head self.old.protocol packet.now head.now }
-        requires reads { IsSome ((T.format self.old.protocol).read packet.now) }
+        requires head { T.is_head self.old.protocol (T.said (item_of packet.now [])) head.now }
+        requires reads { IsSome ((T.format self.old.protocol).read (T.said (item_of packet.now []))) }
         requires room { count_by is_some self.old.table < length self.old.table }
-        ensures serves { ServesPacket (T.format self.new.protocol) self.new.held packet.now (Some count) self.old.calls self.new.calls self.new.owed self.new.left }
+        ensures serves { ServesPacket (T.format self.new.protocol) self.new.held (T.said (item_of packet.now [])) (Some count) self.old.calls self.new.calls self.new.owed self.new.left }
         ensures owes { Owes (T.format self.new.protocol) self.new.owed (own_in self.old.table) (own_in self.new.table) }
         ensures size { length self.new.table ≡ length self.old.table }
         ensures few { length self.new.owed ≤ 2 }
@@ -286,13 +290,13 @@ impl<T: Protocol, S: Device<T>> Responder<T, S> {
         }
         self.number = self.number.wrapping_add(1);
         gate.pass(self.side, self.relid, self.number);
-        let request = self.protocol.read(packet, head);
+        let request = self.protocol.read(packet, &[], head);
         let (serial, reply) = self.seat.call(rt, &self.protocol, request);
         self.serials.push_reserved(serial);
         if is_held_back(self.held, count) {
             self.left = None;
         } else {
-            let besides = self.protocol.has_message(packet, &reply);
+            let besides = self.protocol.has_message(packet, &[], &reply);
             let own = open_own(&mut self.table, besides);
             self.owed
                 .owe_reply(&self.protocol, packet, head, &reply, own);

@@ -3,10 +3,10 @@ ghost use Rattle.std.specs.Prelude.{◌≡◌, ◌≢◌, ◌<◌, ◌≤◌, �
 ghost use Rattle.channel_trace.specs.Runs.{got_of, is_drained};
 ghost use Rattle.worker_port.specs.Causes.{Arms, Polls};
 ghost use Rattle.worker_server.specs.Causes.{GivesLast, GivesOne, GivesOrTakes, ServeCause, TakesOrArms};
-ghost use Rattle.worker_port.specs.Line.{new_end, Finds, IsBroken, IsReady, IsSameEnd, HasTakeRoom, LacksTake, TookOne};
+ghost use Rattle.worker_port.specs.Line.{new_end, IsLine, line_of, past_as, Finds, IsBroken, IsReady, IsSameEnd, HasTakeRoom, LacksTake, TookOne};
 ghost use Rattle.worker_port.specs.Owed.{is_nil, LacksSend, MetFull};
 ghost use Rattle.worker_port.specs.Rooms.{KeepsRoom, OnlyWith, ServeLacksFor, ServedWithin, broke, is_broken};
-ghost use Rattle.worker_server.specs.Serving.{Closes, EndsBy, HasServed, HasToWait, Lacks, LacksRoom, Turns, GaveOne, ServeEnds, ServesOn, BreaksOff, StandsGiven, calls_behind, has_done, lacks_call, marked_by};
+ghost use Rattle.worker_server.specs.Serving.{Closes, EndsBy, HasRoomFor, HasServed, HasToWait, Lacks, LacksRoom, Turns, GaveOne, ServeEnds, ServesOn, BreaksOff, StandsGiven, calls_behind, has_done, lacks_call, marked_by};
 ghost use Rattle.channel_model.specs.Acks.{AllOwnOpen, OwnFrom};
 ghost use Rattle.worker_port.specs.declared.found.Found.TheVariants.{Nothing as NothingFound, Broken as BrokenFound};
 ghost use Rattle.worker_server.specs.declared.put.Given.TheVariants.{Broken as BrokenGiven};
@@ -28,7 +28,7 @@ use worker_port::{ArmResult, Ended, Found, Port, Tried, Turn, room_of};
 #[derive(Drop)]
 pub struct Server<T: Protocol, S: Device<T>, E: Parks> {
     responder: Responder<T, S>,
-    port: Port<E>,
+    port: Port<T, E>,
     serve: u32,
     stops: bool,
     starts: u32,
@@ -81,7 +81,7 @@ impl<T: Protocol, S: Device<T>, E: Parks + Drop> Server<T, S, E> {
                 words: room.words,
             };
         }
-        match self.port.send(packet) {
+        match self.port.send(packet, &[]) {
             Tried::Sent => {
                 self.responder.pop();
                 Given::Sent
@@ -113,6 +113,7 @@ impl<T: Protocol, S: Device<T>, E: Parks + Drop> Server<T, S, E> {
         requires ready { IsReady self.old.end }
         requires room { HasTakeRoom self.old.end }
         ensures took { TookOne result self.old.end.state self.new.end.state }
+        ensures sent { self.new.end.spare_sent ≡ self.old.end.spare_sent }
         ensures drained { result ≡ NothingFound → self.old.seen ≡ true → is_drained self.new.end.state.past ≡ true }
         ensures kept { (self.new.responder.owed ≡ self.old.responder.owed) × (self.new.served ≡ self.old.served) × (self.new.seen ≡ self.old.seen) }
         ensures none { result ≡ NothingFound → self.new.responder ≡ self.old.responder }
@@ -178,6 +179,7 @@ impl<T: Protocol, S: Device<T>, E: Parks + Drop> Server<T, S, E> {
     // Arms for the room that the packet needs that is owed, and sleeps where nothing is to be done.
     fn arm_or_sleep(&mut self) -> Turn
         requires ready { IsReady self.old.end }
+        requires room { HasRoomFor self.old.responder.owed self.old.end }
         requires waits { is_nil self.old.responder.owed ≡ true → HasToWait (T.format self.old.responder.protocol) (T.besides self.old.responder.protocol) self.old }
         requires unseen { self.old.seen ≡ false }
         ensures turns { Turns S.left (T.format self.new.responder.protocol) (T.besides self.new.responder.protocol) result self.new }
@@ -254,9 +256,10 @@ impl<T: Protocol, S: Device<T>, E: Parks + Drop> Server<T, S, E> {
     }
 
     // Takes a packet. Where none waits once the other end's mark was seen, and nothing is owed, this end follows; else it rests.
-    #[tactic(auto, using(crate::proofs::ServeSteps::wait_served, crate::proofs::ServeSteps::waits_on))]
+    #[tactic(auto, using(crate::proofs::ServeSteps::wait_served, crate::proofs::ServeSteps::waits_on, crate::proofs::ServeSteps::room_on))]
     fn take_or_rest(&mut self) -> Turn
         requires ready { IsReady self.old.end }
+        requires room { HasRoomFor self.old.responder.owed self.old.end }
         requires waits { is_nil self.old.responder.owed ≡ true → HasToWait (T.format self.old.responder.protocol) (T.besides self.old.responder.protocol) self.old }
         requires unseen { is_nil self.old.responder.owed ≡ false → self.old.seen ≡ false }
         ensures turns { Turns S.left (T.format self.new.responder.protocol) (T.besides self.new.responder.protocol) result self.new }
@@ -343,7 +346,7 @@ impl<T: Protocol, S: Device<T>, E: Parks + Drop> Server<T, S, E> {
     }
 
     // Stops where the plan says so, with nothing owed and all served. Where its own table is full it takes first, since an acknowledgement makes a place free.
-    #[tactic(auto, using(crate::proofs::ServeSteps::waits_full))]
+    #[tactic(auto, using(crate::proofs::ServeSteps::waits_full, crate::proofs::ServeSteps::room_none))]
     fn stop_or_take(&mut self) -> Turn
         requires ready { IsReady self.old.end }
         requires owed { self.old.responder.owed ≡ [] }
@@ -443,13 +446,15 @@ impl<T: Protocol, S: Device<T>, E: Parks + Drop> Server<T, S, E> {
     ) -> Result<Server<T, S, E>, AllocError>
         requires serves { S.serves seat protocol }
         requires calls { serve ≤ S.left seat }
+        requires bare { T.lends protocol ≡ false }
         requires fresh { end.state ≡ new_end end.state.machine.cells end.state.machine.side }
         requires size { (512 ≤ end.state.machine.cells) × (end.state.machine.cells ≤ 16777216) }
         requires side { side ≡ end.state.machine.side }
         ensures protocol { IfOk result (λ w. (w.responder.protocol ≡ protocol) × (w.responder.seat ≡ seat) × (w.responder.before ≡ S.calls seat)) }
         ensures relid { IfOk result (λ w. w.responder.relid ≡ relid) }
         ensures orders { IfOk result (λ w. (w.serve ≡ serve) × (w.responder.held ≡ held) × (w.stops ≡ stops) × (w.starts ≡ starts) × (w.come ≡ come)) }
-        ensures end { IfOk result (λ w. (w.end.state ≡ end.state) × (w.end.seat ≡ end.seat)) }
+        ensures end { IfOk result (λ w. (w.end.end.state ≡ end.state) × (w.end.end.seat ≡ end.seat) × (w.end.seat ≡ end.seat)) }
+        ensures machine { IfOk result (λ w. w.end.state.machine ≡ end.state.machine) }
     {
         let packets = room_of(protocol.besides(), starts as u64 + come as u64);
         let port = match Port::with_room(end, packets) {
@@ -511,10 +516,12 @@ impl<T: Protocol, S: Device<T>, E: Parks + Drop> Server<T, S, E> {
     /// Gives what it did, once it has ended.
     pub fn done(self, ended: Ended) -> ServerDone<T, S, E>
         requires { EndsBy (T.format self.responder.protocol) (T.besides self.responder.protocol) ended self self.end self.responder.calls }
-        ensures ends { (result.ended ≡ ended) × EndsBy (T.format self.responder.protocol) (T.besides self.responder.protocol) result.ended self result.end self.responder.calls }
+        ensures ends { (result.ended ≡ ended) × EndsBy (T.format self.responder.protocol) (T.besides self.responder.protocol) result.ended self (line_of T.said result.end) self.responder.calls }
         ensures calls { S.calls result.seat ≡ self.responder.before ++ self.responder.calls }
         ensures serials { result.serials.items ≡ map (λ c. c.serial) self.responder.calls }
-        ensures same { (result.end ≡ self.end) × (result.seat ≡ self.responder.seat) }
+        ensures same { (result.end ≡ self.end.end) × (result.seat ≡ self.responder.seat) }
+        ensures line { self.end ≡ line_of T.said result.end }
+        ensures stands { IsLine E.told result.end }
     {
         let Server {
             responder,
@@ -541,14 +548,15 @@ impl<T: Protocol, S: Device<T>, E: Parks + Drop> Server<T, S, E> {
     /// Takes turns, and sleeps after a turn that found nothing to do, until the worker has ended.
     pub fn run<R: Wait, G: Gate>(mut self, rt: &R, gate: &G) -> ServerDone<T, S, E>
         requires unmarked { self.end.state.machine.marked ≡ false }
-        ensures ends { EndsBy (T.format self.responder.protocol) (T.besides self.responder.protocol) result.ended self result.end (calls_behind self.responder.before (S.calls result.seat)) }
+        ensures ends { EndsBy (T.format self.responder.protocol) (T.besides self.responder.protocol) result.ended self (line_of T.said result.end) (calls_behind self.responder.before (S.calls result.seat)) }
         ensures before { take (length self.responder.before) (S.calls result.seat) ≡ self.responder.before }
         ensures serials { result.serials.items ≡ map (λ c. c.serial) (calls_behind self.responder.before (S.calls result.seat)) }
-        ensures end { IsSameEnd E.channel self.end result.end }
+        ensures end { IsSameEnd E.channel self.end.end result.end }
+        ensures stands { IsLine E.told result.end }
         ensures seat { S.same self.responder.seat result.seat }
         ensures honest { is_some (E.told self.end.seat) ≡ true → is_broken result.ended ≡ false }
-        ensures sent { ServedWithin (T.format self.responder.protocol) (T.besides self.responder.protocol) result.end.state.past }
-        ensures room { ServeLacksFor (T.format self.responder.protocol) (T.besides self.responder.protocol) (self.starts + self.come) self.serve self.stops result.ended result.end.state.past }
+        ensures sent { ServedWithin (T.format self.responder.protocol) (T.besides self.responder.protocol) (past_as T.said result.end.state) }
+        ensures room { ServeLacksFor (T.format self.responder.protocol) (T.besides self.responder.protocol) (self.starts + self.come) self.serve self.stops result.ended (past_as T.said result.end.state) }
     {
         for _ in rt.forever() {
             match self.turn(rt, gate) {

@@ -1,8 +1,26 @@
-use Rattle.std.proofs.Common.{◌∙◌, ap}
+use Rattle.std.proofs.Common.{◌≡◌, sym, ◌∙◌, ap}
+use Rattle.worker_port.specs.Line.{Line, look_of, looked}
+use Rattle.worker_port.proofs.ItemLaws.{arm_past, got_same_as}
 use Rattle.worker_port.proofs.PortLaws.{arm_waits}
 use Rattle.worker_port.proofs.port.Port.arm.Goals as goal
 
 pub returns-clause-want : goal.returns-clause-want
 returns-clause-want g c =
     let idle = c.arm-found.ensures.after.idle (λ e. cc) (λ e. cc) in
-    arm_waits c.args.want c.self.inside.end.state c.arm-found.new.self.state _ _ _ _ (ap (λ e. e.state.machine.asleep) c.self.view_is ∙ c.requires.ready.awake) c.arm-found.ensures.ran idle
+    arm_waits c.args.want c.self.inside.end.state c.arm-found.new.self.state _ _ _ _ (ap (λ (x : Line _). x.state.machine.asleep) c.self.view_is ∙ c.requires.ready.awake) c.arm-found.ensures.ran idle
+
+pub returns-clause-past : goal.returns-clause-past
+returns-clause-past g c =
+    let e = c.arm-found.ensures in
+    let n = c.arm-found.new.self.state in
+    let r : c.looked_by.result ≡ look_of c.arm-found.result n.machine.saw = c.looked_by.ensures ∙ ap (look_of c.arm-found.result) c.saw_mark.ensures in
+    arm_past g.T.Protocol.said c.self.inside.end.state n n.machine.ended c.arm-found.result n.machine.saw e.answer.1 (e.answer.0 ∙ e.leaves.asleep) e.past e.kept.sent e.kept.got e.kept.pages
+    ∙ (λ i. looked (sym r i) (ap (λ (x : Line _). x.state.past) c.self.view_is i))
+
+pub returns-clause-lists : goal.returns-clause-lists
+returns-clause-lists g c =
+    let k = c.arm-found.ensures.kept in (
+      got_same_as g.T.Protocol.said c.self.inside.end.state c.arm-found.new.self.state k.got k.pages ∙ ap (λ (x : Line _). x.state.got) c.self.view_is,
+      k.spare_got ∙ ap (λ (x : Line _). x.spare_got) c.self.view_is,
+      k.spare_sent ∙ ap (λ (x : Line _). x.spare_sent) c.self.view_is,
+    )

@@ -1,5 +1,6 @@
-use Rattle.std.proofs.Common.{◌≡◌, ap, ◌-◌, length, arith, subst, Some}
+use Rattle.std.proofs.Common.{◌≡◌, [], ap, ◌-◌, length, arith, subst, Some}
 use Rattle.std.specs.Prelude.{slice_get}
+use Rattle.page_kept.specs.Items.{item_of}
 use Rattle.worker_port.proofs.PortLaws.{last_is}
 use Rattle.worker_port.proofs.port.Port.last.Goals as goal
 
@@ -7,4 +8,5 @@ pub returns-clause-value : goal.returns-clause-value
 returns-clause-value g c =
     λ before p e.
     let i = c.got_len.result - 1 in
-    last_is before p c.got.result.now i (omega (arith, c.requires, c.got_len.ensures, ap length e)) (subst (λ l. slice_get l i ≡ Some c.got.result.now) e c.got.ensures.value)
+    let q = g.T.Protocol.said (item_of c.got.result.now []) in
+    last_is before p q i (omega (arith, c.requires, c.got_len.ensures, ap length e)) (subst (λ l. slice_get l i ≡ Some q) e c.got.ensures.value)

@@ -1,4 +1,8 @@
-use Rattle.std.proofs.Common.{ap, ◌∙◌}
+use Rattle.std.proofs.Common.{◌∷◌, sym, ap, ◌∙◌}
+use Rattle.channel_trace.specs.declared.event.Event.TheVariants.{Marked}
+use Rattle.channel_trace.specs.Runs.{got_of, has_marked}
+use Rattle.worker_port.specs.Line.{Line}
+use Rattle.worker_port.proofs.ItemLaws.{got_same_as, line_got, line_marked, mark_past}
 use Rattle.worker_port.proofs.PortLaws.{mark_keeps}
 use Rattle.worker_port.proofs.port.Port.mark.Goals as goal
 
@@ -6,4 +10,30 @@ pub returns-clause-found : goal.returns-clause-found
 returns-clause-found g c =
     let idle = c.mark.ensures.after.idle (λ e. cc) (λ e. cc) in
     let keeps = mark_keeps c.self.inside.end.state c.mark.new.self.state _ _ _ _ c.mark.ensures.ran idle in
-    (keeps.0 ∙ ap (λ e. e.state.machine.room) c.self.view_is, keeps.1 ∙ ap (λ e. e.state.machine.words) c.self.view_is)
+    (keeps.0 ∙ ap (λ (x : Line _). x.state.machine.room) c.self.view_is, keeps.1 ∙ ap (λ (x : Line _). x.state.machine.words) c.self.view_is)
+
+pub returns-clause-past : goal.returns-clause-past
+returns-clause-past g c =
+    let e = c.mark.ensures in
+    let n = c.mark.new.self.state in
+    mark_past g.T.Protocol.said c.self.inside.end.state n n.machine.ended n.machine.saw e.call e.past e.kept.sent e.kept.got e.kept.pages ∙ ap (λ (x : Line _). Marked ∷ x.state.past) c.self.view_is
+
+pub returns-clause-first : goal.returns-clause-first
+returns-clause-first g c =
+    ap (λ (x : Line _). has_marked x.state.past) (sym c.self.view_is)
+    ∙ (line_marked g.T.Protocol.said c.self.inside.end.state ∙ (sym c.self.invariant.mark ∙ (ap (λ (x : Line _). x.state.machine.marked) c.self.view_is ∙ c.requires.ready.unmarked)))
+
+pub returns-clause-got : goal.returns-clause-got
+returns-clause-got g c =
+    let e = c.mark.ensures in
+    let n = c.mark.new.self.state in
+    ap got_of (mark_past g.T.Protocol.said c.self.inside.end.state n n.machine.ended n.machine.saw e.call e.past e.kept.sent e.kept.got e.kept.pages)
+    ∙ (line_got g.T.Protocol.said c.self.inside.end c.self.invariant ∙ sym (got_same_as g.T.Protocol.said c.self.inside.end.state n e.kept.got e.kept.pages))
+
+pub returns-clause-lists : goal.returns-clause-lists
+returns-clause-lists g c =
+    let k = c.mark.ensures.kept in (
+      got_same_as g.T.Protocol.said c.self.inside.end.state c.mark.new.self.state k.got k.pages ∙ ap (λ (x : Line _). x.state.got) c.self.view_is,
+      k.spare_got ∙ ap (λ (x : Line _). x.spare_got) c.self.view_is,
+      k.spare_sent ∙ ap (λ (x : Line _). x.spare_sent) c.self.view_is,
+    )

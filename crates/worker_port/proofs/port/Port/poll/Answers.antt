@@ -1,8 +1,24 @@
 use Rattle.std.proofs.Common.{◌∙◌, ap}
+use Rattle.worker_port.specs.Line.{Line}
+use Rattle.worker_port.proofs.ItemLaws.{got_same_as, poll_past}
 use Rattle.worker_port.proofs.PortLaws.{poll_waits}
 use Rattle.worker_port.proofs.port.Port.poll.Goals as goal
 
 pub returns-clause-want : goal.returns-clause-want
 returns-clause-want g c = λ asleep.
     let idle = c.poll_signal.ensures.after.idle (λ e. cc) (λ e. cc) in
-    poll_waits c.self.inside.end.state c.poll_signal.new.self.state _ _ _ _ c.poll_signal.ensures.ran idle asleep ∙ ap (λ e. e.state.machine.want) c.self.view_is
+    poll_waits c.self.inside.end.state c.poll_signal.new.self.state _ _ _ _ c.poll_signal.ensures.ran idle asleep ∙ ap (λ (x : Line _). x.state.machine.want) c.self.view_is
+
+pub returns-clause-past : goal.returns-clause-past
+returns-clause-past g c =
+    let e = c.poll_signal.ensures in
+    let n = c.poll_signal.new.self.state in
+    poll_past g.T.Protocol.said c.self.inside.end.state n n.machine.ended n.machine.saw e.answer.1 e.past e.kept.sent e.kept.got e.kept.pages ∙ ap (λ (x : Line _). x.state.past) c.self.view_is
+
+pub returns-clause-lists : goal.returns-clause-lists
+returns-clause-lists g c =
+    let k = c.poll_signal.ensures.kept in (
+      got_same_as g.T.Protocol.said c.self.inside.end.state c.poll_signal.new.self.state k.got k.pages ∙ ap (λ (x : Line _). x.state.got) c.self.view_is,
+      k.spare_got ∙ ap (λ (x : Line _). x.spare_got) c.self.view_is,
+      k.spare_sent ∙ ap (λ (x : Line _). x.spare_sent) c.self.view_is,
+    )

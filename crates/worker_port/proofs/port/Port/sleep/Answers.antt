@@ -1,6 +1,21 @@
 use Rattle.std.proofs.Common.{ap, ◌∙◌}
+use Rattle.worker_port.specs.Line.{Line}
+use Rattle.worker_port.proofs.ItemLaws.{got_same_as, past_same}
 use Rattle.worker_port.proofs.PortLaws.{slept_line}
 use Rattle.worker_port.proofs.port.Port.sleep.Goals as goal
 
 pub invariant_of-self : goal.invariant_of-self
-invariant_of-self g c = slept_line g.S.Parks.channel g.S.Seatlike.told _ _ c.sleep.ensures.slept (ap (λ e. e.state.machine.marked) c.self.view_is ∙ c.requires.unmarked) c.sleep.ensures.awake.1 c.self.invariant
+invariant_of-self g c = slept_line g.S.Parks.channel g.S.Seatlike.told _ _ c.sleep.ensures.slept (ap (λ (x : Line _). x.state.machine.marked) c.self.view_is ∙ c.requires.unmarked) c.sleep.ensures.awake.1 c.self.invariant
+
+pub returns-clause-past : goal.returns-clause-past
+returns-clause-past g c =
+    let s = c.sleep.ensures.slept in
+    past_same g.T.Protocol.said c.self.inside.end.state c.sleep.new.e.state s.past s.kept.sent s.kept.got s.kept.pages ∙ ap (λ (x : Line _). x.state.past) c.self.view_is
+
+pub returns-clause-lists : goal.returns-clause-lists
+returns-clause-lists g c =
+    let k = c.sleep.ensures.slept.kept in (
+      got_same_as g.T.Protocol.said c.self.inside.end.state c.sleep.new.e.state k.got k.pages ∙ ap (λ (x : Line _). x.state.got) c.self.view_is,
+      k.spare_got ∙ ap (λ (x : Line _). x.spare_got) c.self.view_is,
+      k.spare_sent ∙ ap (λ (x : Line _). x.spare_sent) c.self.view_is,
+    )

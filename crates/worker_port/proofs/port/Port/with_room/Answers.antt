@@ -1,10 +1,25 @@
 use Rattle.std.proofs.Common.{◌∙◌, ap, arith}
+use Rattle.worker_port.specs.Line.{Line, LineState}
+use Rattle.worker_port.proofs.ItemLaws.{got_new, past_new}
 use Rattle.worker_port.proofs.RoomLaws.{room_new}
 use Rattle.worker_port.proofs.port.Port.with_room.Goals as goal
 
 pub returns-in-Ok-clause-room : goal.returns-in-Ok-clause-room
 returns-in-Ok-clause-room g c =
-    let e = c.reserve.ensures.state.0 ∙ (ap (λ e. e.state) c.over-port.ensures ∙ c.requires.fresh) in
+    let said = g.T.Protocol.said in
+    let e = c.reserve.ensures.state.1 ∙ ap (λ (x : Line _). x.state) c.over-port.ensures in
+    let f = c.requires.fresh in
     let r = c.in-Ok.ensures.room in
     let k = c.cells-cells.ensures.value in
-    room_new c.args.packets c.reserve.new.self (ap (λ s. s.past) e) (ap (λ s. s.got) e) (omega (arith, r.0)) (omega (arith, r.1)) (omega (arith, r.2)) (omega (arith, r.3, k, ap (λ s. s.machine.cells) c.reserve.ensures.state.0))
+    room_new c.args.packets c.reserve.new.self (ap (λ (s : LineState). s.past) e ∙ past_new said c.args.end.state (ap (λ s. s.past) f)) (ap (λ (s : LineState). s.got) e ∙ got_new said c.args.end.state (ap (λ s. s.got) f) (ap (λ s. s.pages.got) f)) (omega (arith, r.0)) (omega (arith, r.1)) (omega (arith, r.2))
+    (omega (arith, r.3, k, ap (λ (s : LineState). s.machine.cells) c.reserve.ensures.state.1))
+
+pub returns-in-Ok-clause-new : goal.returns-in-Ok-clause-new
+returns-in-Ok-clause-new g c =
+    let said = g.T.Protocol.said in
+    let e = c.reserve.ensures.state.1 ∙ ap (λ (x : Line _). x.state) c.over-port.ensures in
+    let f = c.requires.fresh in (
+      ap (λ (s : LineState). s.past) e ∙ past_new said c.args.end.state (ap (λ s. s.past) f),
+      ap (λ (s : LineState). s.got) e ∙ got_new said c.args.end.state (ap (λ s. s.got) f) (ap (λ s. s.pages.got) f),
+      ap (λ (s : LineState). s.machine) e,
+    )

@@ -1,9 +1,8 @@
 use Rattle.std.proofs.Common.{ap, ◌∙◌, length, subst}
-use Rattle.channel_model.specs.Amounts.{room_of}
 use Rattle.channel_model.specs.Channel.{AskerBreaks}
-use Rattle.worker_requester.proofs.AskSteps.{asked_so_far, breaks, lacks_by}
-use Rattle.worker_port.specs.Rooms.{AskedWithin, KeepsRoom}
-use Rattle.worker_requester.specs.Asking.{IsAsking, IsPaced}
+use Rattle.worker_requester.proofs.AskSteps.{asked_so_far, breaks}
+use Rattle.worker_port.specs.Rooms.{AskedWithin}
+use Rattle.worker_requester.specs.Asking.{AskedFrom, IsPaced}
 use Rattle.worker_requester.proofs.requester.Requester.broke_off.Goals as goal
 
 pub returns-clause-breaks : goal.returns-clause-breaks
@@ -36,3 +35,9 @@ returns-clause-paced g c =
     let v = c.self.view_is in
     let l = c.self.invariant (ap (λ w. w.end.state.machine.marked) v ∙ c.requires.broken.unmarked) in
     subst (λ w. IsPaced (g.T.Protocol.format w.protocol) w.starts (g.T.Protocol.asks w.protocol) w.end.state.past) v l.live.paced
+
+pub returns-clause-ids : goal.returns-clause-ids
+returns-clause-ids g c =
+    let v = c.self.view_is in
+    let l = c.self.invariant (ap (λ w. w.end.state.machine.marked) v ∙ c.requires.broken.unmarked) in
+    subst (λ w. AskedFrom (g.T.Protocol.format w.protocol) (length w.table) (g.T.Protocol.asks w.protocol) w.end.state.past) v l.live.from

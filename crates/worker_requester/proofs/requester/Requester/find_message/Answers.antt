@@ -1,6 +1,6 @@
 use Rattle.std.proofs.Common.{ap, ◌∙◌}
 use Rattle.worker_requester.proofs.NextLaws.{found_next}
-use Rattle.worker_requester.proofs.AskSteps.{skipped_kept}
+use Rattle.worker_requester.proofs.AskSteps.{leaves_none, skipped_kept}
 use Rattle.worker_requester.proofs.requester.Requester.find_message.Goals as goal
 
 pub invariant_of-self : goal.invariant_of-self
@@ -8,6 +8,7 @@ invariant_of-self g c =
     let v = c.self.view_is in
     let l = c.self.invariant (ap (λ w. w.end.state.machine.marked) v ∙ c.requires.ready.unmarked) in
     λ _. record {
+      bare = l.bare;
       live = skipped_kept (g.T.Protocol.format c.self.inside.protocol) (g.T.Protocol.keeps c.self.inside.protocol) (g.T.Protocol.asks c.self.inside.protocol) _ c.next_message-self-inside.result c.next_message-self-inside.ensures (ap (λ w. w.end.state.machine.asleep) v ∙ c.requires.ready.awake) l.live;
       replies = l.replies;
       spare = l.spare;
@@ -19,3 +20,8 @@ invariant_of-self g c =
 pub returns-clause-message : goal.returns-clause-message
 returns-clause-message g c less =
     found_next (g.T.Protocol.format c.self.inside.protocol) c.self.inside.port.state.got c.self.inside.acked c.next_message-self-inside.result c.got_len.result c.got_len.ensures less c.next_message-self-inside.ensures
+
+pub returns-clause-left : goal.returns-clause-left
+returns-clause-left g c none =
+    let l = c.self.invariant (ap (λ w. w.end.state.machine.marked) c.self.view_is ∙ c.requires.ready.unmarked) in
+    leaves_none (g.T.Protocol.format c.self.inside.protocol) (g.T.Protocol.asks c.self.inside.protocol) _ c.next_message-self-inside.result c.got_len.result c.got_len.ensures none c.next_message-self-inside.ensures l.live

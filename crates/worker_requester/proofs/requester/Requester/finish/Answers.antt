@@ -3,7 +3,7 @@ use Rattle.channel_trace.specs.Runs.{has_marked, has_seen}
 use Rattle.worker_requester.specs.Asking.{HasSettled}
 use Rattle.worker_requester.proofs.AskSteps.{asked_so_far, marks_settled}
 use Rattle.worker_port.proofs.RoomLaws.{asked_marked}
-use Rattle.worker_requester.specs.Asking.{IsPaced}
+use Rattle.worker_requester.specs.Asking.{AskedFrom, IsPaced}
 use Rattle.worker_requester.proofs.requester.Requester.finish.Goals as goal
 
 pub returns-clause-ends : goal.returns-clause-ends
@@ -38,3 +38,8 @@ pub returns-clause-paced : goal.returns-clause-paced
 returns-clause-paced g c =
     let l = c.self.invariant (ap (λ w. w.end.state.machine.marked) c.self.view_is ∙ c.requires.ready.unmarked) in
     subst (IsPaced (g.T.Protocol.format c.self.inside.protocol) c.self.inside.starts (g.T.Protocol.asks c.self.inside.protocol)) (sym c.mark.ensures.past) l.live.paced
+
+pub returns-clause-ids : goal.returns-clause-ids
+returns-clause-ids g c =
+    let l = c.self.invariant (ap (λ w. w.end.state.machine.marked) c.self.view_is ∙ c.requires.ready.unmarked) in
+    subst (AskedFrom (g.T.Protocol.format c.self.inside.protocol) (length c.self.inside.table) (g.T.Protocol.asks c.self.inside.protocol)) (sym c.mark.ensures.past) l.live.from

@@ -5,10 +5,10 @@ use Rattle.channel_model.specs.Amounts.{room_of}
 use Rattle.worker_requester.proofs.requester.Requester.make.Goals as goal
 
 pub over-requires-clause-fresh : goal.over-requires-clause-fresh
-over-requires-clause-fresh g c = let e = c.in-Ok.ensures.end.0 ∙ c.requires.fresh in (ap (λ s. s.past) e, ap (λ s. s.got) e, ap (λ s. s.machine.asleep) e)
+over-requires-clause-fresh g c = let e = c.in-Ok.ensures.new in (e.0, e.1, ap (λ m. m.asleep) e.2 ∙ ap (λ s. s.machine.asleep) c.requires.fresh)
 
 pub over-requires-clause-side : goal.over-requires-clause-side
-over-requires-clause-side g c = c.requires.side ∙ sym (ap (λ s. s.machine.side) c.in-Ok.ensures.end.0)
+over-requires-clause-side g c = c.requires.side ∙ sym (ap (λ m. m.side) c.in-Ok.ensures.new.2)
 
 pub over-requires-clause-room : goal.over-requires-clause-room
 over-requires-clause-room g c =

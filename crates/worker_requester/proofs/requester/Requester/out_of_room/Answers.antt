@@ -3,7 +3,7 @@ use Rattle.channel_model.specs.Amounts.{room_of}
 use Rattle.channel_model.specs.Channel.{AskerBreaks}
 use Rattle.worker_requester.proofs.AskSteps.{asked_so_far, breaks, lacks_by}
 use Rattle.worker_port.specs.Rooms.{AskedWithin, KeepsRoom}
-use Rattle.worker_requester.specs.Asking.{IsAsking, IsPaced}
+use Rattle.worker_requester.specs.Asking.{AskedFrom, IsAsking, IsPaced}
 use Rattle.worker_requester.proofs.requester.Requester.out_of_room.Goals as goal
 
 pub returns-clause-breaks : goal.returns-clause-breaks
@@ -52,3 +52,9 @@ returns-clause-paced g c =
     let v = c.self.view_is in
     let l = c.self.invariant (ap (λ w. w.end.state.machine.marked) v ∙ c.requires.unmarked) in
     subst (λ w. IsPaced (g.T.Protocol.format w.protocol) w.starts (g.T.Protocol.asks w.protocol) w.end.state.past) v l.live.paced
+
+pub returns-clause-ids : goal.returns-clause-ids
+returns-clause-ids g c =
+    let v = c.self.view_is in
+    let l = c.self.invariant (ap (λ w. w.end.state.machine.marked) v ∙ c.requires.unmarked) in
+    subst (λ w. AskedFrom (g.T.Protocol.format w.protocol) (length w.table) (g.T.Protocol.asks w.protocol) w.end.state.past) v l.live.from

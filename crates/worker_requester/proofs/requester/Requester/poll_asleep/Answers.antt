@@ -10,6 +10,7 @@ invariant_of-self-2 g c =
     let l = c.self.invariant (ap (λ w. w.end.state.machine.marked) v ∙ c.requires.unmarked) in
     let r = l.live.rests (ap (λ w. w.end.state.machine.asleep) v ∙ c.requires.asleep) in
     λ _. record {
+      bare = l.bare;
       live = still_kept (g.T.Protocol.format c.self.inside.protocol) (g.T.Protocol.keeps c.self.inside.protocol) (g.T.Protocol.asks c.self.inside.protocol) (record {
         protocol = c.self.inside.protocol;
         end = c.self.inside.port;
@@ -43,7 +44,7 @@ invariant_of-self-2 g c =
       spare = l.spare;
       size = l.size;
       room = room_quiet _ _ _ (got_same _ _ c.poll.ensures.lists.0 c.poll.ensures.lists.1) c.poll.ensures.stays.cells c.poll.ensures.lists.2 (ap sent_of c.if-poll.ensures.past) l.room;
-      side = l.side ∙ sym c.poll.ensures.stays.same.side;
+      side = l.side ∙ sym c.poll.ensures.stays.side;
     }
 
 pub returns-clause-turns : goal.returns-clause-turns

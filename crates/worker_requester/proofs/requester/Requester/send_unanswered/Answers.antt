@@ -1,4 +1,4 @@
-use Rattle.std.proofs.Common.{◌≡◌, ◌+◌, ◌*◌, ◌<◌, ◌≤◌, ℕ, List, count_by, ap, sym, ◌∙◌, length, subst, arith, false, Some, is_some, inr}
+use Rattle.std.proofs.Common.{ℕ, List, ◌≡◌, [], refl, ◌+◌, ◌*◌, ◌<◌, ◌≤◌, count_by, ap, sym, ◌∙◌, length, subst, arith, false, Some, is_some, inr}
 use Rattle.std.specs.Prelude.{slice_get}
 use Rattle.std.proofs.lemmas.Option.{slice_get_within}
 use Rattle.worker_port.specs.Owed.{LacksSendOf}
@@ -6,7 +6,9 @@ use Rattle.ring_core.specs.declared.room.Room.{Room}
 use Rattle.worker_requester.specs.Asking.{id_in}
 use Rattle.worker_requester.proofs.NextLaws.{at_least}
 use Rattle.worker_requester.proofs.AskSteps.{told_kept}
-use Rattle.worker_port.proofs.RoomLaws.{room_sent, got_same}
+use Rattle.page_kept.specs.Items.{item_of}
+use Rattle.worker_port.proofs.ItemSteps.{laid_is, lays_bare, packet_of, past_is, room_item}
+use Rattle.worker_port.proofs.RoomLaws.{got_same}
 use Rattle.worker_requester.proofs.requester.Requester.send_unanswered.Goals as goal
 
 pub invariant_of-self-in-Sent : goal.invariant_of-self-in-Sent
@@ -14,14 +16,19 @@ invariant_of-self-in-Sent g c =
     let v = c.self.view_is in
     let l = c.self.invariant (ap (λ w. w.end.state.machine.marked) v ∙ c.requires.ready.unmarked) in
     let at = at_least (g.T.Protocol.asks c.self.inside.protocol) c.self.inside.next (subst (λ w. w.next < length (g.T.Protocol.asks w.protocol)) (sym v) c.requires.next) in
-    let made = c.packet-packet.ensures.value ∙ c.encode.ensures.value at.0 at.1 in
+    let said = g.T.Protocol.said in
+    let q = (g.T.Protocol.format c.self.inside.protocol).encode 0 at.0 in
+    let made = laid_is said c.encode.new.self c.packet-packet.result.now _ q c.packet-packet.ensures.value (c.encode.ensures.none l.bare) c.send.ensures.lays (λ j lays. c.encode.ensures.value at.0 j at.1 lays) in
+    let pk = packet_of said g.T.Protocol.said_packet c.packet-packet.result.now _ q c.send.ensures.lays made in
+    let past = past_is _ _ _ q made c.in-Sent.ensures.past in
     λ _. record {
-      live = told_kept (g.T.Protocol.format c.self.inside.protocol) (g.T.Protocol.keeps c.self.inside.protocol) (g.T.Protocol.asks c.self.inside.protocol) _ _ at.0 c.packet-packet.result.now at.1 (ap (λ w. w.waiting) v ∙ c.requires.none) (subst (λ w. w.next ≤ w.starts → count_by is_some w.table ≡ 0) (sym v) c.requires.alone) (subst (λ w. (a : g.row.T-Ask.Denot) → slice_get (g.T.Protocol.asks w.protocol) w.next ≡ Some a → (g.T.Protocol.format w.protocol).has_answer a ≡ false) (sym v) c.requires.answers at.0 at.1) made c.in-Sent.ensures.past c.send.ensures.got.0 c.in-Sent.ensures.tries.awake (ap (λ w. w.seen) v ∙ c.requires.unseen) l.live;
+      bare = l.bare;
+      live = told_kept (g.T.Protocol.format c.self.inside.protocol) (g.T.Protocol.keeps c.self.inside.protocol) (g.T.Protocol.asks c.self.inside.protocol) _ _ at.0 q at.1 (ap (λ w. w.waiting) v ∙ c.requires.none) (subst (λ w. w.next ≤ w.starts → count_by is_some w.table ≡ 0) (sym v) c.requires.alone) (subst (λ w. (a : g.row.T-Ask.Denot) → slice_get (g.T.Protocol.asks w.protocol) w.next ≡ Some a → (g.T.Protocol.format w.protocol).has_answer a ≡ false) (sym v) c.requires.answers at.0 at.1) refl past c.send.ensures.got.0 c.in-Sent.ensures.tries.awake (ap (λ w. w.seen) v ∙ c.requires.unseen) l.live;
       replies = omega (arith, l.replies, slice_get_within (g.T.Protocol.asks c.self.inside.protocol) c.self.inside.next at.0 at.1);
       spare = l.spare;
       size = l.size;
-      room = room_sent _ c.packet-packet.result.now _ _ c.packet-packet.ensures.most (got_same _ _ c.send.ensures.got.0 c.send.ensures.got.1) c.send.ensures.stays.cells c.send.ensures.into c.in-Sent.ensures.past l.room;
-      side = l.side ∙ sym c.send.ensures.stays.same.side;
+      room = room_item _ q c.packet-packet.result.now _ _ pk c.packet-packet.ensures.most (got_same _ _ c.send.ensures.got.0 c.send.ensures.got.1) c.send.ensures.stays.cells c.send.ensures.into past l.room;
+      side = l.side ∙ sym c.send.ensures.stays.side;
     }
 
 pub returns-in-Full-clause-asked : goal.returns-in-Full-clause-asked
@@ -31,9 +38,12 @@ returns-in-Full-clause-asked g c =
     let at = at_least (g.T.Protocol.asks c.self.inside.protocol) c.self.inside.next (subst (λ w. w.next < length (g.T.Protocol.asks w.protocol)) (sym v) c.requires.next) in
     let none = ap (λ w. w.waiting) v ∙ c.requires.none in
     let answers = subst (λ w. (a : g.row.T-Ask.Denot) → slice_get (g.T.Protocol.asks w.protocol) w.next ≡ Some a → (g.T.Protocol.format w.protocol).has_answer a ≡ false) (sym v) c.requires.answers at.0 at.1 in
-    let encoded = c.encode.ensures.value at.0 at.1 ∙ ap (λ o. (g.T.Protocol.format c.self.inside.protocol).encode (id_in o) at.0) (sym none) in
-    let made = c.packet-packet.ensures.value ∙ encoded in
-    (at.0, at.1, ap is_some none ∙ sym answers, c.need.ensures.value ∙ ap (λ p. 8 * length p + 8) encoded, c.need.ensures.most.0, c.need.ensures.most.1, ap (λ w. w.acked) v ∙ (c.requires.acked ∙ (ap (λ w. length w.end.state.got) (sym v) ∙ ap length (sym c.send.ensures.got.0))), subst (λ (x : List ℕ × Room). (0 < x.1.packets) × (length x.0 ≤ x.1.words)) (λ i. (made i, sym (c.in-Full.ensures.unsent (λ h. cc)) i)) c.in_default.ensures.lacks)
+    let said = g.T.Protocol.said in
+    let q = (g.T.Protocol.format c.self.inside.protocol).encode 0 at.0 in
+    let made = laid_is said c.encode.new.self c.packet-packet.result.now _ q c.packet-packet.ensures.value (c.encode.ensures.none l.bare) c.send.ensures.lays (λ j lays. c.encode.ensures.value at.0 j at.1 lays) in
+    let pk = packet_of said g.T.Protocol.said_packet c.packet-packet.result.now _ q c.send.ensures.lays made in
+    let made = sym pk ∙ ap (λ o. ((g.T.Protocol.format c.self.inside.protocol).encode (id_in o) at.0).packet) (sym none) in
+    (at.0, at.1, ap is_some none ∙ sym answers, c.need.ensures.value ∙ ap (λ p. 8 * length p + 8) (sym c.packet-packet.ensures.value ∙ made), c.need.ensures.most.0, c.need.ensures.most.1, ap (λ w. w.acked) v ∙ (c.requires.acked ∙ (ap (λ w. length w.end.state.got) (sym v) ∙ ap length (sym c.send.ensures.got.0))), subst (λ (x : List ℕ × Room). (0 < x.1.packets) × (length x.0 ≤ x.1.words)) (λ i. (made i, sym (c.in-Full.ensures.unsent (λ h. cc)) i)) c.in_default.ensures.lacks)
 
 pub returns-in-Some-clause-asked : goal.returns-in-Some-clause-asked
 returns-in-Some-clause-asked g c =
@@ -41,5 +51,11 @@ returns-in-Some-clause-asked g c =
     let at = at_least (g.T.Protocol.asks c.self.inside.protocol) c.self.inside.next (subst (λ w. w.next < length (g.T.Protocol.asks w.protocol)) (sym v) c.requires.next) in
     let none = ap (λ w. w.waiting) v ∙ c.requires.none in
     let answers = subst (λ w. (a : g.row.T-Ask.Denot) → slice_get (g.T.Protocol.asks w.protocol) w.next ≡ Some a → (g.T.Protocol.format w.protocol).has_answer a ≡ false) (sym v) c.requires.answers at.0 at.1 in
-    let made = c.packet-packet.ensures.value ∙ (c.encode.ensures.value at.0 at.1 ∙ ap (λ o. (g.T.Protocol.format c.self.inside.protocol).encode (id_in o) at.0) (sym none)) in
+    let l = c.self.invariant (ap (λ w. w.end.state.machine.marked) v ∙ c.requires.ready.unmarked) in
+    let said = g.T.Protocol.said in
+    let q = (g.T.Protocol.format c.self.inside.protocol).encode 0 at.0 in
+    let bare = lays_bare c.packet-packet.result.now in
+    let item = item_of c.packet-packet.result.now [] in
+    let is = laid_is said c.encode.new.self c.packet-packet.result.now item q c.packet-packet.ensures.value (c.encode.ensures.none l.bare) bare (λ j lays. c.encode.ensures.value at.0 j at.1 lays) in
+    let made = sym (packet_of said g.T.Protocol.said_packet c.packet-packet.result.now item q bare is) ∙ ap (λ o. ((g.T.Protocol.format c.self.inside.protocol).encode (id_in o) at.0).packet) (sym none) in
     (inr (at.0, at.1, ap is_some none ∙ sym answers, subst (λ p. LacksSendOf c.in-Some.room.packets c.in-Some.room.words p c.self.inside.port) made c.in-Some.ensures.lacks), c.in-Some.ensures.got)

@@ -1,6 +1,7 @@
-use Rattle.std.proofs.Common.{◌++◌, refl, ap, sym, ◌∙◌, arith, None}
+use Rattle.std.proofs.Common.{[], ◌++◌, refl, ap, sym, ◌∙◌, arith, None}
 use Rattle.std.specs.Prelude.{if◌then◌else◌, ◌==◌}
-use Rattle.channel_protocol.specs.Listed.{packet_in}
+use Rattle.page_kept.specs.Items.{item_of}
+use Rattle.channel_protocol.specs.Paged.{item_in}
 use Rattle.txn_table.specs.Open.{request_of}
 use Rattle.channel_trace.specs.Runs.{sent_of}
 use Rattle.worker_requester.specs.Asking.{waits_under, answer_of, asked_in}
@@ -13,15 +14,18 @@ invariant_of-self g c =
     let l = c.self.invariant (ap (λ w. w.end.state.machine.marked) c.self.view_is ∙ c.requires.ready.unmarked) in
     let s = g.T.Protocol.format c.self.inside.protocol in
     let t = c.in-Packet.ensures.took in
+    let i = g.T.Protocol.said (item_of c.last-packet.result.now []) in
+    let pk = g.T.Protocol.said_packet (item_of c.last-packet.result.now []) in
     let same = c.last-packet.ensures.value c.self.inside.port.state.got t.0 t.2 in
-    let other = ap s.is_answer (sym same) ∙ (sym c.is_answer.ensures ∙ c.if-not-is_answer.true) in
+    let other = ap s.is_answer (sym same) ∙ (sym (c.is_answer.ensures i pk) ∙ c.if-not-is_answer.true) in
     λ _. record {
+      bare = l.bare;
       live = came_kept s (g.T.Protocol.keeps c.self.inside.protocol) (g.T.Protocol.asks c.self.inside.protocol) _ _ t.0 other t.1 t.2 c.in-Packet.ensures.finds.awake l.live;
       replies = l.replies;
       spare = l.spare;
       size = l.size;
       room = room_quiet _ _ _ c.take.ensures.into c.take.ensures.stays.cells c.take.ensures.sent (ap sent_of t.1) l.room;
-      side = l.side ∙ sym c.take.ensures.stays.same.side;
+      side = l.side ∙ sym c.take.ensures.stays.side;
     }
 
 pub invariant_of-self-then-is_waiting_under : goal.invariant_of-self-then-is_waiting_under
@@ -29,16 +33,19 @@ invariant_of-self-then-is_waiting_under g c =
     let l = c.self.invariant (ap (λ w. w.end.state.machine.marked) c.self.view_is ∙ c.requires.ready.unmarked) in
     let s = g.T.Protocol.format c.self.inside.protocol in
     let t = c.in-Packet.ensures.took in
+    let i = g.T.Protocol.said (item_of c.last-packet.result.now []) in
+    let pk = g.T.Protocol.said_packet (item_of c.last-packet.result.now []) in
     let same = c.last-packet.ensures.value c.self.inside.port.state.got t.0 t.2 in
-    let answers = ap s.is_answer (sym same) ∙ (sym c.is_answer.ensures ∙ c.if-not-is_answer.false) in
-    let e = ap (waits_under c.self.inside.waiting) (sym (c.id-id.ensures ∙ ap s.id_of same)) ∙ (sym c.is_waiting_under.ensures ∙ c.if-is_waiting_under.true) in
+    let answers = ap s.is_answer (sym same) ∙ (sym (c.is_answer.ensures i pk) ∙ c.if-not-is_answer.false) in
+    let e = ap (waits_under c.self.inside.waiting) (sym (c.id-id.ensures i pk ∙ ap s.id_of same)) ∙ (sym c.is_waiting_under.ensures ∙ c.if-is_waiting_under.true) in
     λ _. record {
+      bare = l.bare;
       live = stray_by s (g.T.Protocol.keeps c.self.inside.protocol) (g.T.Protocol.asks c.self.inside.protocol) _ c.self.inside.waiting refl _ t.0 answers e t.1 t.2 c.in-Packet.ensures.finds.awake l.live;
       replies = l.replies;
       spare = l.spare;
       size = l.size;
       room = room_quiet _ _ _ c.take.ensures.into c.take.ensures.stays.cells c.take.ensures.sent (ap sent_of t.1) l.room;
-      side = l.side ∙ sym c.take.ensures.stays.same.side;
+      side = l.side ∙ sym c.take.ensures.stays.side;
     }
 
 pub settle-requires-clause-room : goal.settle-requires-clause-room
@@ -52,17 +59,20 @@ invariant_of-self-in-Packet g c =
     let s = g.T.Protocol.format c.self.inside.protocol in
     let asks = g.T.Protocol.asks c.self.inside.protocol in
     let t = c.in-Packet.ensures.took in
+    let i = g.T.Protocol.said (item_of c.last-packet.result.now []) in
+    let pk = g.T.Protocol.said_packet (item_of c.last-packet.result.now []) in
     let same = c.last-packet.ensures.value c.self.inside.port.state.got t.0 t.2 in
-    let answers = ap s.is_answer (sym same) ∙ (sym c.is_answer.ensures ∙ c.if-not-is_answer.false) in
+    let answers = ap s.is_answer (sym same) ∙ (sym (c.is_answer.ensures i pk) ∙ c.if-not-is_answer.false) in
     let before = c.came_before-before.ensures.value c.self.inside.port.state.got t.0 t.2 in
-    let e = ap (waits_under c.self.inside.waiting) (sym (c.id-id.ensures ∙ ap s.id_of same)) ∙ (sym c.is_waiting_under.ensures ∙ c.if-is_waiting_under.false) in
+    let e = ap (waits_under c.self.inside.waiting) (sym (c.id-id.ensures i pk ∙ ap s.id_of same)) ∙ (sym c.is_waiting_under.ensures ∙ c.if-is_waiting_under.false) in
     λ _. record {
+      bare = l.bare;
       live = took_kept s (g.T.Protocol.keeps c.self.inside.protocol) asks _ _ _ _ t.0 answers c.take.ensures.list t.1 t.2 c.in-Packet.ensures.finds.awake e (λ j. c.settle.ensures.closed j ∙ ap (λ q. if j == s.id_of q then None else request_of c.self.inside.table j) same)
-          (c.settle.ensures.told ∙ (ap (λ q. c.self.inside.replies.items ++ answer_of s (asked_in asks c.self.inside.table (s.id_of q)) (packet_in c.came_before-before.result.now) q) same
-          ∙ ap (λ b. c.self.inside.replies.items ++ answer_of s (asked_in asks c.self.inside.table (s.id_of t.0)) b t.0) before)) l.live;
+          (c.settle.ensures.told ∙ (ap (λ q. c.self.inside.replies.items ++ answer_of s (asked_in asks c.self.inside.table (s.id_of q)) (item_in g.T.Protocol.said c.came_before-before.result.now []) q) same
+          ∙ ap (λ b. c.self.inside.replies.items ++ answer_of s (asked_in asks c.self.inside.table (s.id_of t.0)) b t.0) before)) c.settle.ensures.size l.live;
       replies = omega (arith, l.replies, c.settle.ensures.room, c.settle.ensures.capacity);
       spare = omega (arith, l.spare, c.settle.ensures.size);
       size = omega (arith, l.size, c.settle.ensures.size);
       room = room_quiet _ _ _ c.take.ensures.into c.take.ensures.stays.cells c.take.ensures.sent (ap sent_of t.1) l.room;
-      side = l.side ∙ sym c.take.ensures.stays.same.side;
+      side = l.side ∙ sym c.take.ensures.stays.side;
     }

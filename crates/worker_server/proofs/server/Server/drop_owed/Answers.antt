@@ -17,7 +17,7 @@ invariant_of-self g c =
       live = marked_by_protocol g.T.Protocol.format g.T.Protocol.keeps g.T.Protocol.besides _ _ c.rescind_all.new.self c.mark.ensures.past c.mark.ensures.lists.0 c.mark.ensures.awake c.mark.ensures.marked c.rescind_all.ensures.same c.self.invariant.live;
       room = subst (λ d. KeepsRoom (room_of (g.T.Protocol.besides d.protocol) (c.self.inside.starts + c.self.inside.come)) c.mark.new.self) (sym c.rescind_all.ensures.same)
           (room_quiet _ _ _ (got_same _ _ c.mark.ensures.lists.0 c.mark.ensures.lists.1) c.mark.ensures.stays.cells c.mark.ensures.lists.2 (ap sent_of c.mark.ensures.past) c.self.invariant.room);
-      side = ap (λ d. d.side) c.rescind_all.ensures.same ∙ (c.self.invariant.side ∙ sym c.mark.ensures.stays.same.side);
+      side = ap (λ d. d.side) c.rescind_all.ensures.same ∙ (c.self.invariant.side ∙ sym c.mark.ensures.stays.side);
     }
 
 pub returns-clause-ends : goal.returns-clause-ends

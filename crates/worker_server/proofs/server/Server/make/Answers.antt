@@ -7,12 +7,13 @@ use Rattle.worker_server.proofs.server.Server.make.Goals as goal
 pub invariant_of-result : goal.invariant_of-result
 invariant_of-result g c =
     let d = c.in-Ok-make.ensures in
-    let e = c.in-Ok.ensures.end.0 ∙ c.requires.fresh in
+    let e = c.in-Ok.ensures.new in
+    let m = e.2 ∙ ap (λ s. s.machine) c.requires.fresh in
     let p : c.room_of-packets.result ≡ room_of (g.T.Protocol.besides c.in-Ok-make.responder.protocol) (c.args.starts + c.args.come) =
     c.room_of-packets.ensures.value ∙ (ap (λ b. room_of b (c.args.starts + c.args.come)) c.besides.ensures ∙ ap (λ x. room_of (g.T.Protocol.besides x.protocol) (c.args.starts + c.args.come)) (sym d)) in
     record {
-      live = new_kept (g.T.Protocol.format c.in-Ok-make.responder.protocol) (g.T.Protocol.keeps c.in-Ok-make.responder.protocol) (g.T.Protocol.besides c.in-Ok-make.responder.protocol) _ (ap (λ s. s.past) e) (ap (λ s. s.got) e) (ap (λ d. d.calls) d) (ap (λ d. d.table) d) (ap (λ d. d.owed) d) (ap (λ d. d.left) d) refl refl refl
-          (ap (λ s. s.machine.asleep) e);
+      live = new_kept (g.T.Protocol.format c.in-Ok-make.responder.protocol) (g.T.Protocol.keeps c.in-Ok-make.responder.protocol) (g.T.Protocol.besides c.in-Ok-make.responder.protocol) _ e.0 e.1 (ap (λ d. d.calls) d) (ap (λ d. d.table) d) (ap (λ d. d.owed) d) (ap (λ d. d.left) d) refl refl refl
+          (ap (λ m. m.asleep) m);
       room = subst (λ n. KeepsRoom n c.in-Ok.port) p c.in-Ok.ensures.room;
-      side = ap (λ d. d.side) d ∙ (c.requires.side ∙ sym (ap (λ s. s.machine.side) c.in-Ok.ensures.end.0));
+      side = ap (λ d. d.side) d ∙ (c.requires.side ∙ sym (ap (λ m. m.side) e.2));
     }

@@ -1,4 +1,5 @@
 use Rattle.std.proofs.Common.{◌∙◌, ap, map, sym, subst}
+use Rattle.worker_port.specs.Line.{line_of}
 use Rattle.worker_server.specs.Serving.{EndsBy}
 use Rattle.worker_server.proofs.ResponderLaws.{behind_is, front_is}
 use Rattle.worker_server.proofs.ServeSteps.{ends_on, on_refl, on_trans}
@@ -32,8 +33,8 @@ returns-in-Ended-clause-ends g c =
     let u = c.args.self in
     let w = c.turn.new.self in
     let on = on_trans g.S.Device.same g.E.Parks.channel g.E.Seatlike.told g.S.Device.same_trans _ _ _ c.loop.invariant.on c.turn.ensures.on in
-    subst (λ l. EndsBy (g.T.Protocol.format u.responder.protocol) (g.T.Protocol.besides u.responder.protocol) c.done.result.ended u c.done.result.end l) (sym (behind_is u.responder.before w.responder.before w.responder.calls _ c.done.ensures.calls on.before))
-    (ends_on g.S.Device.same g.E.Parks.channel g.E.Seatlike.told g.T.Protocol.format g.T.Protocol.besides c.done.result.ended u w c.done.result.end w.responder.calls on c.done.ensures.ends.1)
+    subst (λ l. EndsBy (g.T.Protocol.format u.responder.protocol) (g.T.Protocol.besides u.responder.protocol) c.done.result.ended u (line_of g.T.Protocol.said c.done.result.end) l) (sym (behind_is u.responder.before w.responder.before w.responder.calls _ c.done.ensures.calls on.before))
+    (ends_on g.S.Device.same g.E.Parks.channel g.E.Seatlike.told g.T.Protocol.format g.T.Protocol.besides c.done.result.ended u w (line_of g.T.Protocol.said c.done.result.end) w.responder.calls on c.done.ensures.ends.1)
 
 pub returns-in-Ended-clause-before : goal.returns-in-Ended-clause-before
 returns-in-Ended-clause-before g c =

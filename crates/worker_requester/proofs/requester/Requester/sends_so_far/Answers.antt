@@ -1,0 +1,24 @@
+use Rattle.std.proofs.Common.{ap, ◌∙◌, length, subst}
+use Rattle.worker_requester.proofs.AskSteps.{asked_so_far}
+use Rattle.worker_port.specs.Rooms.{AskedWithin}
+use Rattle.worker_requester.specs.Asking.{AskedFrom, IsPaced}
+use Rattle.worker_requester.proofs.requester.Requester.sends_so_far.Goals as goal
+
+pub returns-clause-sent : goal.returns-clause-sent
+returns-clause-sent g c =
+    let v = c.self.view_is in
+    let l = c.self.invariant (ap (λ w. w.end.state.machine.marked) v ∙ c.requires.unmarked) in
+    subst (λ w. AskedWithin (g.T.Protocol.format w.protocol) (length (g.T.Protocol.asks w.protocol)) w.end.state.past) v
+    (asked_so_far (g.T.Protocol.format c.self.inside.protocol) (g.T.Protocol.keeps c.self.inside.protocol) (g.T.Protocol.asks c.self.inside.protocol) _ l.live l.room.sent.short)
+
+pub returns-clause-paced : goal.returns-clause-paced
+returns-clause-paced g c =
+    let v = c.self.view_is in
+    let l = c.self.invariant (ap (λ w. w.end.state.machine.marked) v ∙ c.requires.unmarked) in
+    subst (λ w. IsPaced (g.T.Protocol.format w.protocol) w.starts (g.T.Protocol.asks w.protocol) w.end.state.past) v l.live.paced
+
+pub returns-clause-ids : goal.returns-clause-ids
+returns-clause-ids g c =
+    let v = c.self.view_is in
+    let l = c.self.invariant (ap (λ w. w.end.state.machine.marked) v ∙ c.requires.unmarked) in
+    subst (λ w. AskedFrom (g.T.Protocol.format w.protocol) (length w.table) (g.T.Protocol.asks w.protocol) w.end.state.past) v l.live.from
