@@ -9,7 +9,8 @@ use Rattle.channel_trace.specs.Laws.{AreOfOneRun}
 use Rattle.channel_trace.specs.Runs.{sent_of, got_of}
 use Rattle.channel_trace.proofs.Steps.{ends_exchanged}
 use Rattle.bus_model.specs.Orders.{Order, plan_of}
-use Rattle.bus_model.specs.Channel.{IsChannelRun, Carries, replies_to, sent_by, got_by, other}
+use Rattle.std.specs.List.{AllByRecursion}
+use Rattle.bus_model.specs.Channel.{IsChannelRun, Carries, is_of_asker, replies_to, sent_by, got_by, other}
 use Rattle.bus_model.proofs.FromLists.{serves_first_lem}
 use Rattle.bus_model.specs.Served.{Served}
 use Rattle.script_lines.specs.declared.line.Ask.{Ask}
@@ -17,7 +18,7 @@ use Rattle.bus_script.specs.declared.outcome.Reply.{Reply}
 use Rattle.device_formats.specs.Formats.{besides_on, format_of}
 use Rattle.device_formats.specs.Wants.{startup}
 use Rattle.device_formats.specs.ItemFormats.{item_format}
-use Rattle.device_formats.proofs.FormatLaws.{start_is_fixed}
+use Rattle.device_formats.proofs.FormatLaws.{keeps, start_is_fixed}
 use Rattle.device_formats.proofs.ItemFormatLaws.{keeps_items}
 use Rattle.channel_protocol.proofs.PacketRuns.{packets_bare}
 use Rattle.device_formats.specs.ChannelScript.{ChannelScript, asks_of}
@@ -29,6 +30,7 @@ use Rattle.ring_core.specs.Seen.{Seen}
 use Rattle.ring_pair_laws.specs.Lists.{Lists}
 use Rattle.ring_seat.specs.declared.table_seat.TableSeat.{TableSeat}
 use Rattle.channel_model.specs.Channel.{AskerEnds, ServerEnds, count_of, held_of, IsProtocolRun as Runs}
+use Rattle.channel_model.specs.Amounts.{SendsKinds}
 use Rattle.channel_model.specs.Roles.{side_that_asks}
 use Rattle.channel_model.specs.WireFormat.{WireFormat}
 use Rattle.worker_requester.specs.Asking.{Asking, AsksAll, AsksBy}
@@ -48,6 +50,7 @@ use Rattle.worker_pair.specs.declared.worker.Worker.TheVariants.{Asks, Serves}
 use Rattle.worker_pair.proofs.SeatLaws.{same_place}
 use Rattle.bus_threads.specs.Pairs.{MadeFor, MarkedFirst, RunsPair, ComesBack, ended_at, first_of, is_whole}
 use Rattle.bus_threads.specs.declared.pair.PairDone.{PairDone}
+use Rattle.bus_threads.proofs.Alone.{alone}
 use Rattle.bus_threads.proofs.Asked.{few_asked}
 use Rattle.bus_threads.proofs.Joining.{BothEnd, fixed_items, told_is, runs}
 use Rattle.bus_threads.proofs.Marks.{asks_so, serves_so, stops_nowhere, marked_first}
@@ -152,9 +155,11 @@ ran order seat earlier a s asked served lists side at_side made ended =
     } in
     let carried : Carries (side_that_asks order.kind) order lists calls =
     lists_are (side_that_asks order.kind) order _ _ _ _ lists calls at.asker_sent at.asker_got at.server_sent at.server_got (runs order (items_in asked.end) (items_in served.end) calls told both) in
+    let kinds : SendsKinds (item_format order.kind) (items_in asked.end) = subst (λ (t : ChannelScript). SendsKinds (item_format t.kind) (items_in asked.end)) made.protocol ended.asker_leaves.sent.kinds.kinds in
+    let only = subst (AllByRecursion (λ (p : List ℕ). is_of_asker order.kind p ≡ true)) (sym at.asker_sent) (alone (format_of order.kind) (keeps order.kind) (sent_of (items_in asked.end)) kinds) in
     record {
       before = ap (λ (l : List Served). take (length l) all) (sym made.before) ∙ (ended.server_leaves.before ∙ made.before);
-      channel = record { carried = carried; serves = serves_first_lem (side_that_asks order.kind) order lists calls made.can carried };
+      channel = record { carried = carried; alone = only; serves = serves_first_lem (side_that_asks order.kind) order lists calls made.can carried };
       same = same_place seat ended.server_leaves.back (ended.server_leaves.place ∙ ap device_place made.seat_is);
       serials = ended.server_leaves.serials ∙ ap (map (λ c. c.serial)) behind;
       replies = told_is order (items_in asked.end) (items_in served.end) calls told both;
