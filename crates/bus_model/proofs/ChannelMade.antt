@@ -18,7 +18,7 @@ use Rattle.bus_model.specs.Served.{Served}
 use Rattle.bus_model.specs.Orders.{Order, startup_of, plan_of}
 use Rattle.script_phases.specs.Openings.{Phase, Opening}
 use Rattle.bus_model.specs.Orders.{order_of}
-use Rattle.bus_model.specs.Channel.{Carries, asked_under, served_count}
+use Rattle.bus_model.specs.Channel.{Carries, asked_under, is_of_asker, sent_by, served_count}
 use Rattle.bus_model.specs.Run.{Carried, IsCarried}
 use Rattle.bus_model.specs.Laws.{Suits, OrdersRun}
 use Rattle.bus_model.proofs.Made.{Fit, Made, made}
@@ -93,13 +93,17 @@ carries Host order served m = record {
   replies = rw (sym (length-map order.asks Script)) refl;
 }
 
+alone_at : (side : Side) (kind : Kind) (sent back : List (List ℕ)) → AllByRecursion (λ p. is_of_asker kind p ≡ true) sent → AllByRecursion (λ p. is_of_asker kind p ≡ true) (sent_by side (lists_of side sent back))
+alone_at Guest kind sent back h = h
+alone_at Host kind sent back h = h
+
 pub channel_made : OrdersRun
 channel_made order served suits =
     let m = plan_made order served suits in
     let side = side_that_asks order.kind in
     let carried = carries side order served m in
     let lists = lists_of side m.sent m.back in
-    (lists, record { carried = carried; serves = serves_first_lem side order lists served suits.can carried })
+    (lists, record { carried = carried; alone = alone_at side order.kind m.sent m.back m.alone; serves = serves_first_lem side order lists served suits.can carried })
 
 -- so a channel that a phase opens
 abbrev pub carry : (p : Phase) (o : Opening) (served : List Served) → Suits (order_of p o) served → Carried

@@ -1,6 +1,7 @@
 -- For each plan and for calls that fit it there are lists of a run: no field of a run excludes another one.
 use Rattle.std.proofs.Common.{◌≡◌, ℕ, zero, suc, ◌+◌, ◌≤◌, ◌^◌, Bool, true, false, List, [], ◌∷◌, ◌++◌, map, length, length-append, filter, refl, sym, ap, ◌∙◌, subst, arith, Some, None}
-use Rattle.std.specs.Prelude.{◌==◌, ◌&&◌, filter_map}
+use Rattle.std.specs.Prelude.{◌==◌, ◌&&◌, ◌||◌, filter_map}
+use Rattle.std.specs.List.{AllByRecursion}
 use Rattle.std.proofs.lemmas.List.{append-nil}
 use Rattle.std.proofs.lemmas.List.Elements.{filter-append, filter_map-append}
 use Rattle.std.proofs.lemmas.Bool.Decides.{nat_tests}
@@ -80,6 +81,29 @@ module _ {P A Q R : Type 0} (s : WireFormat P A Q R) (keeps : Keeps s) where
     where
       passed : (x : P) (xs : List P) → s.read x ≡ None → filter_map s.read (x ∷ xs) ≡ filter_map s.read xs
       passed x xs e = grind (arith, e)
+
+  -- all that is sent asks or acknowledges
+  abbrev pub Alone : List P → Type 0
+  Alone ps = AllByRecursion (λ (p : P). (s.is_request p || s.is_ack p) ≡ true) ps
+
+  or_right : (b c : Bool) → c ≡ true → (b || c) ≡ true
+  or_right true c e = refl
+  or_right false c e = e
+
+  alone_asked : (id : ℕ) (asks : List A) → Alone (packets id asks)
+  alone_asked id [] = tt
+  alone_asked id (a ∷ asks) = (ap (λ b. b || s.is_ack (s.encode id a)) (keeps.encodes id a), alone_asked (id + 1) asks)
+
+  alone_acked : (ps : List P) → Alone (acks_for s ps)
+  alone_acked [] = tt
+  alone_acked (p ∷ ps) =
+      by_test (s.is_message p)
+      (λ yes. subst Alone (sym (ap (map s.ack) (kept s.is_message p ps yes))) (or_right (s.is_request (s.ack p)) (s.is_ack (s.ack p)) (keeps.acks p yes).0, alone_acked ps))
+      (λ no. subst Alone (sym (ap (map s.ack) (dropped s.is_message p ps no))) (alone_acked ps))
+
+  alone_both : (ps qs : List P) → Alone ps → Alone qs → Alone (ps ++ qs)
+  alone_both [] qs h k = k
+  alone_both (p ∷ ps) qs h k = (h.0, alone_both ps qs h.1 k)
 
   waiting : (id : ℕ) (asks : List A) → length (filter s.waits (packets id asks)) ≡ length (filter s.has_answer asks)
   waiting id [] = refl
@@ -172,6 +196,7 @@ module _ {P A Q R : Type 0} (s : WireFormat P A Q R) (keeps : Keeps s) where
   pub record Made (plan : RequestPlan A) (calls : List (Call Q R)) : Type 0 where
     pub sent : List P
     pub back : List P
+    pub alone : Alone sent
     pub runs : IsProtocolRun s plan sent back back sent calls (map (λ c. c.reply) (answered s (held_of plan.stop (length plan.script)) (count_of plan.stop (length plan.script)) calls))
 
   pub made : (plan : RequestPlan A) (calls : List (Call Q R)) → IsRequestPlan s plan → 1 + length (asks_of s plan) ≤ 2 ^ 64 → count_of plan.stop (length plan.script) ≤ length plan.script
@@ -191,6 +216,7 @@ module _ {P A Q R : Type 0} (s : WireFormat P A Q R) (keeps : Keeps s) where
       record {
         sent = sent;
         back = back.sent;
+        alone = alone_both asked acks (alone_asked 1 (asks_of s plan)) (alone_acked back.sent);
         runs = record {
           front = ([], sym (append-nil sent));
           whole_got = λ e. refl;

@@ -1,5 +1,7 @@
 -- The run of one channel in one phase.
-use Rattle.std.specs.Prelude.{ℕ, ◌≡◌, ◌-◌, min, nat_le, Bool, true, false, List, [], ◌∷◌, ◌++◌, map, filter, take, drop, replicate, length, Option, Some, None, if◌then◌else◌}
+use Rattle.std.specs.Prelude.{ℕ, ◌≡◌, ◌-◌, min, nat_le, ◌||◌, Bool, true, false, List, [], ◌∷◌, ◌++◌, map, filter, take, drop, replicate, length, Option, Some, None, if◌then◌else◌}
+use Rattle.std.specs.List.{AllByRecursion}
+use Rattle.contact.specs.declared.kind.Kind.{Kind}
 use Rattle.device_formats.specs.Formats.{format_of, asked_as}
 use Rattle.script_lines.specs.declared.line.Ask.{Ask}
 use Rattle.bus_script.specs.declared.outcome.LineResult.{LineResult}
@@ -58,9 +60,15 @@ asked_under (id ∷ ids) (a ∷ asks) = asked_as id a ∷ asked_under ids asks
 abbrev pub asked_by : Side → Order → Lists → List Ask
 asked_by side order lists = asked_under (script_ids order (sent_by side lists)) order.asks
 
--- and what was served are the first of these requests, in order: all of them where it doesn't stop
+-- a packet of the end that asks is a request, or acknowledges a message
+abbrev pub is_of_asker : Kind → List ℕ → Bool
+is_of_asker kind p = (format_of kind).is_request p || (format_of kind).is_ack p
+
+-- and what was served are the first of these requests, in order: all of them where it doesn't stop. The end that asks sent nothing but requests and what
+-- acknowledges messages
 pub record IsChannelRun (order : Order) (lists : Lists) (served : List Served) : Type 0 where
   pub carried : Carries (side_that_asks order.kind) order lists served
+  pub alone : AllByRecursion (λ p. is_of_asker order.kind p ≡ true) (sent_by (side_that_asks order.kind) lists)
   pub serves : map (λ s. s.request) served ≡ take (served_count order) (asked_by (side_that_asks order.kind) order lists)
 
 abbrev pub rescinded_of : Served → LineResult

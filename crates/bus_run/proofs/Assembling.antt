@@ -42,7 +42,7 @@ each_ran settings old [] [] (d ∷ dones) each runs = absurd runs
 each_ran settings old [] (q ∷ pairs) dones each runs = absurd each
 each_ran settings old (g ∷ given) [] dones each runs = absurd each
 each_ran settings old (g ∷ given) (q ∷ pairs) [] each runs = absurd runs
-each_ran settings old (g ∷ given) (q ∷ pairs) (d ∷ dones) each runs = (runs.0.runs (order_at old g.order) g.seat each.0.opens, each_ran settings old given pairs dones each.1 runs.1)
+each_ran settings old (g ∷ given) (q ∷ pairs) (d ∷ dones) each runs = (runs.0.runs (order_at old g.order) g.seat [] each.0.opens, each_ran settings old given pairs dones each.1 runs.1)
 
 all_within : (plan : List ChannelOrder) (old : List DeviceSlot) → AllByRecursion (CanOpen old) plan → AllByRecursion (λ x. x.opening.device < length old) plan
 all_within [] old can = tt

@@ -1,5 +1,5 @@
 -- How many packets of an end that asks ask the device for something.
-use Rattle.std.proofs.Common.{◌≡◌, ℕ, ◌≤◌, List, [], ◌∷◌, ◌++◌, length, filter, Bool, false, refl, ap, ◌∙◌, arith, None, is_some}
+use Rattle.std.proofs.Common.{◌≡◌, ◌≤◌, List, [], ◌∷◌, ◌++◌, length, filter, Bool, false, refl, ap, ◌∙◌, arith, None, is_some}
 use Rattle.page_kept.specs.declared.item.Item.{Item}
 use Rattle.channel_trace.specs.declared.event.Event.{Event}
 use Rattle.channel_trace.specs.Runs.{sent_of}

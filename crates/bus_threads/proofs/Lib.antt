@@ -4,3 +4,4 @@ pub mod Making
 pub mod Asked
 pub mod Running
 pub mod Each
+pub mod Alone

@@ -28,7 +28,7 @@ abbrev pub ordered : Planned → Order
 ordered p = record { kind = p.kind; sub = p.sub; subs = p.subs; asks = p.asks; stop = p.stop }
 
 -- workers that were made for it were made for that order
-made_for : (p : Planned) (seat : DeviceSeat) (a : Asking ChannelScript TableSeat Reply) (s : Serving ChannelScript DeviceSeat TableSeat Ask Reply) → p.count ≡ length p.asks → served_at seat ≡ [] → AsksFor p a → ServesFor p seat s → MadeFor (ordered p) seat a s
+made_for : (p : Planned) (seat : DeviceSeat) (a : Asking ChannelScript TableSeat Reply) (s : Serving ChannelScript DeviceSeat TableSeat Ask Reply) → p.count ≡ length p.asks → served_at seat ≡ [] → AsksFor p a → ServesFor p seat s → MadeFor (ordered p) seat [] a s
 made_for p seat a s count fresh asked served = record {
   can = asked.can;
   protocol = asked.protocol;
@@ -41,7 +41,7 @@ made_for p seat a s count fresh asked served = record {
   starts = served.starts;
 }
 
-opens_at : (side : Side) (p : Planned) (seat : DeviceSeat) (guest host : Worker) → side_that_asks p.kind ≡ side → p.count ≡ length p.asks → served_at seat ≡ [] → AreMadeAt side p seat guest host → OpensAt (ordered p) seat guest host
+opens_at : (side : Side) (p : Planned) (seat : DeviceSeat) (guest host : Worker) → side_that_asks p.kind ≡ side → p.count ≡ length p.asks → served_at seat ≡ [] → AreMadeAt side p seat guest host → OpensAt (ordered p) seat [] guest host
 opens_at Guest p seat (Asks a) (Asks b) is count fresh made = absurd made.1
 opens_at Guest p seat (Asks a) (Serves s) is count fresh made = (is, made_for p seat a s count fresh made.0 made.1)
 opens_at Guest p seat (Serves s) host is count fresh made = absurd made.0

@@ -1,9 +1,9 @@
 -- Which of the two ends of a channel marked itself first.
-use Rattle.std.proofs.Common.{◌≡◌, ◌⊎◌, ℕ, Bool, true, false, List, [], ◌∷◌, ◌++◌, Option, Some, None, refl, sym, ap, ◌∙◌, subst, inl, inr}
+use Rattle.std.proofs.Common.{◌≡◌, ◌⊎◌, ℕ, Bool, true, false, List, [], ◌∷◌, ◌++◌, Option, Some, None, refl, sym, ap, ◌∙◌, inl, inr}
 use Rattle.page_kept.specs.declared.item.Item.{Item}
 use Rattle.channel_trace.specs.declared.event.Event.{Event}
 use Rattle.channel_trace.specs.declared.event.Event.TheVariants.{Sent, Got, Empty, Marked as MarkedEvent, Saw}
-use Rattle.channel_trace.specs.Laws.{AreOfOneRun, EndsAtMark, Follows, HasFirstMark, MarksFirst}
+use Rattle.channel_trace.specs.Laws.{AreOfOneRun, EndsAtMark, Follows, MarksFirst}
 use Rattle.channel_trace.specs.Runs.{has_marked, has_seen, is_drained, guest_of, host_of}
 use Rattle.channel_trace.proofs.Pasts.{true_false}
 use Rattle.channel_trace.proofs.RunLaws.{ends_at_mark, has_first_mark}

@@ -1,5 +1,6 @@
 -- What both workers of a pair come to, once they ended.
 use Rattle.std.proofs.Common.{◌≡◌, ◌≤◌, ◌+◌, ℕ, length, filter, arith, Bool, true, false, List, [], ◌++◌, map, Option, refl, sym, ap, ◌∙◌, subst}
+use Rattle.std.specs.Prelude.{take}
 use Rattle.std.proofs.lemmas.List.{length-map, append-nil}
 use Rattle.page_kept.specs.declared.item.Item.{Item}
 use Rattle.page_kept.specs.Items.{packets}
@@ -8,7 +9,8 @@ use Rattle.channel_trace.specs.Laws.{AreOfOneRun}
 use Rattle.channel_trace.specs.Runs.{sent_of, got_of}
 use Rattle.channel_trace.proofs.Steps.{ends_exchanged}
 use Rattle.bus_model.specs.Orders.{Order, plan_of}
-use Rattle.bus_model.specs.Channel.{IsChannelRun, Carries, replies_to, sent_by, got_by, other}
+use Rattle.std.specs.List.{AllByRecursion}
+use Rattle.bus_model.specs.Channel.{IsChannelRun, Carries, is_of_asker, replies_to, sent_by, got_by, other}
 use Rattle.bus_model.proofs.FromLists.{serves_first_lem}
 use Rattle.bus_model.specs.Served.{Served}
 use Rattle.script_lines.specs.declared.line.Ask.{Ask}
@@ -16,7 +18,7 @@ use Rattle.bus_script.specs.declared.outcome.Reply.{Reply}
 use Rattle.device_formats.specs.Formats.{besides_on, format_of}
 use Rattle.device_formats.specs.Wants.{startup}
 use Rattle.device_formats.specs.ItemFormats.{item_format}
-use Rattle.device_formats.proofs.FormatLaws.{start_is_fixed}
+use Rattle.device_formats.proofs.FormatLaws.{keeps, start_is_fixed}
 use Rattle.device_formats.proofs.ItemFormatLaws.{keeps_items}
 use Rattle.channel_protocol.proofs.PacketRuns.{packets_bare}
 use Rattle.device_formats.specs.ChannelScript.{ChannelScript, asks_of}
@@ -28,6 +30,7 @@ use Rattle.ring_core.specs.Seen.{Seen}
 use Rattle.ring_pair_laws.specs.Lists.{Lists}
 use Rattle.ring_seat.specs.declared.table_seat.TableSeat.{TableSeat}
 use Rattle.channel_model.specs.Channel.{AskerEnds, ServerEnds, count_of, held_of, IsProtocolRun as Runs}
+use Rattle.channel_model.specs.Amounts.{SendsKinds}
 use Rattle.channel_model.specs.Roles.{side_that_asks}
 use Rattle.channel_model.specs.WireFormat.{WireFormat}
 use Rattle.worker_requester.specs.Asking.{Asking, AsksAll, AsksBy}
@@ -47,6 +50,7 @@ use Rattle.worker_pair.specs.declared.worker.Worker.TheVariants.{Asks, Serves}
 use Rattle.worker_pair.proofs.SeatLaws.{same_place}
 use Rattle.bus_threads.specs.Pairs.{MadeFor, MarkedFirst, RunsPair, ComesBack, ended_at, first_of, is_whole}
 use Rattle.bus_threads.specs.declared.pair.PairDone.{PairDone}
+use Rattle.bus_threads.proofs.Alone.{alone}
 use Rattle.bus_threads.proofs.Asked.{few_asked}
 use Rattle.bus_threads.proofs.Joining.{BothEnd, fixed_items, told_is, runs}
 use Rattle.bus_threads.proofs.Marks.{asks_so, serves_so, stops_nowhere, marked_first}
@@ -107,9 +111,9 @@ asker_ends : (order : Order) (protocol : ChannelScript) (past : List (Event Item
 asker_ends order protocol past told is all = subst (λ (t : ChannelScript). AsksAll (item_format t.kind) (asks_of t) past told) is all (plan_of order) refl
 
 -- and the one that serves
-server_ends : (order : Order) (seat : DeviceSeat) (a : Asking ChannelScript TableSeat Reply) (s : Serving ChannelScript DeviceSeat TableSeat Ask Reply) (past : List (Event Item)) (calls : List Served) → MadeFor order seat a s
+server_ends : (order : Order) (seat : DeviceSeat) (earlier : List Served) (a : Asking ChannelScript TableSeat Reply) (s : Serving ChannelScript DeviceSeat TableSeat Ask Reply) (past : List (Event Item)) (calls : List Served) → MadeFor order seat earlier a s
     → EndsAll (item_format s.responder.protocol.kind) s past calls → ServerEnds (item_format order.kind) (plan_of order) past calls
-server_ends order seat a s past calls made all =
+server_ends order seat earlier a s past calls made all =
     subst (λ k. EndsAll (item_format k) s past calls) made.answers all (plan_of order) (record {
       serve = made.serve ∙ ap (count_of order.stop) (sym (length-map order.asks Script));
       held = made.held ∙ ap (held_of order.stop) (sym (length-map order.asks Script));
@@ -126,33 +130,38 @@ lists_are side order a b c d lists calls e f g h run =
     (subst (λ x. Of a b x (got_by (other side) lists)) (sym g) (subst (λ x. Of a b c x) (sym h) run)))
 
 -- the channel ran, and each request that was served was a call of the seat
-pub record RanBy (order : Order) (seat back : DeviceSeat) (lists : Lists) (asked served : WorkerDone) : Type 0 where
-  pub channel : IsChannelRun order lists (served_at back)
+pub record RanBy (order : Order) (seat : DeviceSeat) (earlier : List Served) (back : DeviceSeat) (lists : Lists) (asked served : WorkerDone) : Type 0 where
+  pub before : take (length earlier) (served_at back) ≡ earlier
+  pub channel : IsChannelRun order lists (calls_behind earlier (served_at back))
   pub same : IsSameSeat seat back
-  pub serials : served.serials.items ≡ map (λ s. s.serial) (served_at back)
-  pub replies : asked.replies.items ≡ map (λ s. s.reply) (replies_to order (served_at back))
+  pub serials : served.serials.items ≡ map (λ s. s.serial) (calls_behind earlier (served_at back))
+  pub replies : asked.replies.items ≡ map (λ s. s.reply) (replies_to order (calls_behind earlier (served_at back)))
   pub marks : MarkedFirst order.stop asked.ended served.ended
 
-ran : (order : Order) (seat : DeviceSeat) (a : Asking ChannelScript TableSeat Reply) (s : Serving ChannelScript DeviceSeat TableSeat Ask Reply) (asked served : WorkerDone) (lists : Lists) (side : Side) → side_that_asks order.kind ≡ side → MadeFor order seat a s
-    → (both : BothLeave a s asked served lists side) → RanBy order seat both.server_leaves.back lists asked served
-ran order seat a s asked served lists side at_side made ended =
+ran : (order : Order) (seat : DeviceSeat) (earlier : List Served) (a : Asking ChannelScript TableSeat Reply) (s : Serving ChannelScript DeviceSeat TableSeat Ask Reply) (asked served : WorkerDone) (lists : Lists) (side : Side) → side_that_asks order.kind ≡ side → MadeFor order seat earlier a s
+    → (both : BothLeave a s asked served lists side) → RanBy order seat earlier both.server_leaves.back lists asked served
+ran order seat earlier a s asked served lists side at_side made ended =
     let told = asked.replies.items in
-    let calls = served_at ended.server_leaves.back in
-    let none_before : calls_behind s.responder.before calls ≡ calls = ap (λ l. calls_behind l calls) made.before in
+    let all = served_at ended.server_leaves.back in
+    let calls = calls_behind earlier all in
+    let behind : calls_behind s.responder.before all ≡ calls = ap (λ l. calls_behind l all) made.before in
     let whole = both_whole a s asked served lists side ended in
     let at : Joins asked.end served.end lists (side_that_asks order.kind) = subst (Joins asked.end served.end lists) (sym at_side) ended.joins in
     let both : BothEnd order (items_in asked.end) (items_in served.end) calls told = record {
       can = made.can;
       one = at.one;
       asker_ends = asker_ends order a.protocol (items_in asked.end) told made.protocol (asks_all _ asked.ended _ _ _ whole.0 ended.asker_leaves.asks);
-      server_ends = server_ends order seat a s (items_in served.end) calls made (ends_all _ _ served.ended _ _ _ whole.1 (subst (λ l. EndsBy (item_format s.responder.protocol.kind) (besides_on s.responder.protocol.kind) served.ended s (line_of (λ i. i) served.end) l) none_before ended.server_leaves.serves));
+      server_ends = server_ends order seat earlier a s (items_in served.end) calls made (ends_all _ _ served.ended _ _ _ whole.1 (subst (λ l. EndsBy (item_format s.responder.protocol.kind) (besides_on s.responder.protocol.kind) served.ended s (line_of (λ i. i) served.end) l) behind ended.server_leaves.serves));
     } in
     let carried : Carries (side_that_asks order.kind) order lists calls =
     lists_are (side_that_asks order.kind) order _ _ _ _ lists calls at.asker_sent at.asker_got at.server_sent at.server_got (runs order (items_in asked.end) (items_in served.end) calls told both) in
+    let kinds : SendsKinds (item_format order.kind) (items_in asked.end) = subst (λ (t : ChannelScript). SendsKinds (item_format t.kind) (items_in asked.end)) made.protocol ended.asker_leaves.sent.kinds.kinds in
+    let only = subst (AllByRecursion (λ (p : List ℕ). is_of_asker order.kind p ≡ true)) (sym at.asker_sent) (alone (format_of order.kind) (keeps order.kind) (sent_of (items_in asked.end)) kinds) in
     record {
-      channel = record { carried = carried; serves = serves_first_lem (side_that_asks order.kind) order lists calls made.can carried };
+      before = ap (λ (l : List Served). take (length l) all) (sym made.before) ∙ (ended.server_leaves.before ∙ made.before);
+      channel = record { carried = carried; alone = only; serves = serves_first_lem (side_that_asks order.kind) order lists calls made.can carried };
       same = same_place seat ended.server_leaves.back (ended.server_leaves.place ∙ ap device_place made.seat_is);
-      serials = ended.server_leaves.serials ∙ ap (map (λ c. c.serial)) none_before;
+      serials = ended.server_leaves.serials ∙ ap (map (λ c. c.serial)) behind;
       replies = told_is order (items_in asked.end) (items_in served.end) calls told both;
       marks = marked_first order.stop asked.ended served.ended (items_in asked.end) (items_in served.end) at.one (asks_so _ asked.ended _ _ _ whole.0 ended.asker_leaves.asks) (serves_so _ _ served.ended s (line_of (λ i. i) served.end) _ whole.1 ended.server_leaves.serves)
           (λ none. stops_nowhere (item_format order.kind) (plan_of order) (items_in served.end) calls none both.server_ends);
@@ -232,11 +241,12 @@ runs_pair (Asks a) (Serves s) guest host done closes =
       guest = ap is_whole closes.guest_ended ∙ whole.0;
       host = ap is_whole closes.host_ended ∙ whole.1;
       seats = (closes.guest_seat ∙ closes.guest_leaves.seat, comes_back s host (at_host done.host_seat) closes.host_seat closes.host_leaves);
-      runs = λ order seat opens.
-          let r = ran order seat a s guest host done.settled Guest opens.0 opens.1 both in
+      runs = λ order seat earlier opens.
+          let r = ran order seat earlier a s guest host done.settled Guest opens.0 opens.1 both in
           record {
             back = closes.host_leaves.back;
             serving = ap (λ o. first_of o (at_host done.host_seat)) (closes.guest_seat ∙ closes.guest_leaves.seat) ∙ closes.host_seat ∙ closes.host_leaves.seat;
+            before = r.before;
             channel = r.channel;
             same = r.same;
             serials = none_before done.serials.items guest.serials.items host.serials.items closes.serials closes.guest_leaves.serials ∙ r.serials;
@@ -251,11 +261,12 @@ runs_pair (Serves s) (Asks a) guest host done closes =
       guest = ap is_whole closes.guest_ended ∙ whole.1;
       host = ap is_whole closes.host_ended ∙ whole.0;
       seats = (comes_back s guest (at_guest done.guest_seat) closes.guest_seat closes.guest_leaves, closes.host_seat ∙ closes.host_leaves.seat);
-      runs = λ order seat opens.
-          let r = ran order seat a s host guest done.settled Host opens.0 opens.1 both in
+      runs = λ order seat earlier opens.
+          let r = ran order seat earlier a s host guest done.settled Host opens.0 opens.1 both in
           record {
             back = closes.guest_leaves.back;
             serving = ap (λ o. first_of o (at_host done.host_seat)) (closes.guest_seat ∙ closes.guest_leaves.seat);
+            before = r.before;
             channel = r.channel;
             same = r.same;
             serials = none_after done.serials.items guest.serials.items host.serials.items closes.serials closes.host_leaves.serials ∙ r.serials;

@@ -1,8 +1,9 @@
 -- The two workers of a channel, and what they come to.
-use Rattle.std.specs.Prelude.{ℕ, ◌≡◌, ◌⊎◌, Bool, true, false, List, [], ◌∷◌, length, map, filter, Option, Some, None, is_some}
+use Rattle.std.specs.Prelude.{ℕ, ◌≡◌, ◌⊎◌, Bool, true, false, List, [], ◌∷◌, length, map, filter, take, Option, Some, None, is_some}
 use Rattle.ring_seat.specs.declared.table_seat.TableSeat.{TableSeat}
 use Rattle.std.specs.List.{AllByRecursion, filter_map}
 use Rattle.bus_model.specs.Orders.{Order, startup_of}
+use Rattle.bus_model.specs.Served.{Served}
 use Rattle.bus_model.specs.Channel.{IsChannelRun, served_count, is_held, other, replies_to}
 use Rattle.script_lines.specs.declared.line.Ask.{Ask}
 use Rattle.bus_script.specs.declared.outcome.Reply.{Reply}
@@ -21,7 +22,7 @@ use Rattle.io_edge.specs.declared.side.Side.{Side}
 use Rattle.io_edge.specs.declared.side.Side.TheVariants.{Guest, Host}
 use Rattle.channel_model.specs.Roles.{side_that_asks}
 use Rattle.worker_requester.specs.Asking.{Asking}
-use Rattle.worker_server.specs.Serving.{Serving}
+use Rattle.worker_server.specs.Serving.{Serving, calls_behind}
 use Rattle.worker_port.specs.declared.ended.Ended.{Ended}
 use Rattle.worker_port.specs.declared.ended.Ended.TheVariants.{Marked, PeerMarked, Room, Broken}
 use Rattle.bus_threads.specs.declared.pair.PairDone.{PairDone}
@@ -37,28 +38,32 @@ pub record IsPaired (p : Pairing) : Type 0 where
   pub guest : IsOfSide Guest p.guest
   pub host : IsOfSide Host p.host
 
--- The workers were made for this order of a channel, whose device has this seat: the one asks what is ordered, and the other serves as many
--- requests, holds the answer to the last one where the order says so, and stops where the order does
-pub record MadeFor (order : Order) (seat : DeviceSeat) (asker : Asking ChannelScript TableSeat Reply) (server : Serving ChannelScript DeviceSeat TableSeat Ask Reply) : Type 0 where
+-- The workers were made for this order of a channel, whose device has this seat, which had made these calls before: the one asks what is ordered, and the other
+-- serves as many requests, holds the answer to the last one where the order says so, and stops where the order does
+pub record MadeFor (order : Order) (seat : DeviceSeat) (earlier : List Served) (asker : Asking ChannelScript TableSeat Reply) (server : Serving ChannelScript DeviceSeat TableSeat Ask Reply) : Type 0 where
   pub can : AllByRecursion (IsAskable order.kind) order.asks
   pub protocol : asker.protocol ≡ record { kind = order.kind; sub = order.sub; subs = order.subs; asks = order.asks }
   pub answers : server.responder.protocol.kind ≡ order.kind
   pub seat_is : server.responder.seat ≡ seat
-  pub before : server.responder.before ≡ []
+  pub before : server.responder.before ≡ earlier
   pub serve : server.serve ≡ served_count order
   pub held : server.responder.held ≡ is_held order
   pub stops : server.stops ≡ is_some order.stop
   pub starts : server.starts ≡ length (filter (has_answer_on order.kind) (startup_of order))
 
 -- and the one that asks is at the side that asks such a device
-abbrev pub OpensAt : Order → DeviceSeat → Worker → Worker → Type 0
-OpensAt order seat (Asks a) (Asks b) = ⊥
-OpensAt order seat (Asks a) (Serves s) = (side_that_asks order.kind ≡ Guest) × MadeFor order seat a s
-OpensAt order seat (Serves s) (Asks a) = (side_that_asks order.kind ≡ Host) × MadeFor order seat a s
-OpensAt order seat (Serves s) (Serves t) = ⊥
+abbrev pub OpensAt : Order → DeviceSeat → List Served → Worker → Worker → Type 0
+OpensAt order seat earlier (Asks a) (Asks b) = ⊥
+OpensAt order seat earlier (Asks a) (Serves s) = (side_that_asks order.kind ≡ Guest) × MadeFor order seat earlier a s
+OpensAt order seat earlier (Serves s) (Asks a) = (side_that_asks order.kind ≡ Host) × MadeFor order seat earlier a s
+OpensAt order seat earlier (Serves s) (Serves t) = ⊥
 
+abbrev pub OpensBehind : Order → DeviceSeat → List Served → Pairing → Type 0
+OpensBehind order seat earlier p = OpensAt order seat earlier p.guest p.host
+
+-- where the seat had made no call
 abbrev pub Opens : Order → DeviceSeat → Pairing → Type 0
-Opens order seat p = OpensAt order seat p.guest p.host
+Opens order seat p = OpensBehind order seat [] p
 
 -- both workers have the channel of this relid, whose rings have so many cells, and so many requests can be open on it
 pub record AreOnChannel (relid cells window : ℕ) (p : Pairing) : Type 0 where
@@ -88,16 +93,22 @@ abbrev pub MarkedFirst : Option (ℕ × Bool) → Ended → Ended → Type 0
 MarkedFirst None asked served = (asked ≡ Marked) × (served ≡ PeerMarked)
 MarkedFirst (Some stop) asked served = (asked ≡ Marked) ⊎ (served ≡ Marked)
 
--- A pair with this order and this seat has run: its channel carried what is ordered, each request that was served was a call of the seat, these are the serials
--- of the calls, and these the replies that came back: all of them but that of the last call where its answer is held. And it says which end marked itself first
-pub record RanPair (order : Order) (seat : DeviceSeat) (done : PairDone) : Type 0 where
+-- A pair with this order and this seat has run, behind the calls that the seat had made, which stand as they were: its channel carried what is ordered, each
+-- request that was served was a call of the seat, these are the serials of the calls, and these the replies that came back: all of them but that of the last
+-- call where its answer is held. And it says which end marked itself first
+pub record RanBehind (order : Order) (seat : DeviceSeat) (earlier : List Served) (done : PairDone) : Type 0 where
   pub back : DeviceSeat
   pub serving : serving_of done.guest_seat done.host_seat ≡ Some back
-  pub channel : IsChannelRun order done.settled (served_at back)
+  pub before : take (length earlier) (served_at back) ≡ earlier
+  pub channel : IsChannelRun order done.settled (calls_behind earlier (served_at back))
   pub same : IsSameSeat seat back
-  pub serials : done.serials.items ≡ map (λ s. s.serial) (served_at back)
-  pub replies : done.replies.items ≡ map (λ s. s.reply) (replies_to order (served_at back))
+  pub serials : done.serials.items ≡ map (λ s. s.serial) (calls_behind earlier (served_at back))
+  pub replies : done.replies.items ≡ map (λ s. s.reply) (replies_to order (calls_behind earlier (served_at back)))
   pub marks : MarkedFirst order.stop (ended_at (side_that_asks order.kind) done) (ended_at (other (side_that_asks order.kind)) done)
+
+-- where the seat had made none, all calls that it made are those that were served
+abbrev pub RanPair : Order → DeviceSeat → PairDone → Type 0
+RanPair order seat done = RanBehind order seat [] done
 
 -- it ended where its plan ends: not for want of room in its lists, and its end isn't broken
 abbrev pub is_whole : Ended → Bool
@@ -119,12 +130,13 @@ KeepsSeats (Asks a) (Serves s) guest host = (guest ≡ None) × ComesBack s.resp
 KeepsSeats (Serves s) (Asks a) guest host = ComesBack s.responder.seat guest × (host ≡ None)
 KeepsSeats (Serves s) (Serves t) guest host = ⊥
 
--- both workers of a pair ended where their plans end, with their seats; and for each order that the pair was opened for, it has run
+-- both workers of a pair ended where their plans end, with their seats; and for each order that the pair was opened for, it has run, behind the calls that the
+-- seat had made before
 pub record RunsPair (p : Pairing) (done : PairDone) : Type 0 where
   pub guest : is_whole done.guest ≡ true
   pub host : is_whole done.host ≡ true
   pub seats : KeepsSeats p.guest p.host (at_guest done.guest_seat) (at_host done.host_seat)
-  pub runs : (order : Order) (seat : DeviceSeat) → Opens order seat p → RanPair order seat done
+  pub runs : (order : Order) (seat : DeviceSeat) (earlier : List Served) → OpensBehind order seat earlier p → RanBehind order seat earlier done
 
 -- each pair has run, in order
 abbrev pub EachRuns : List Pairing → List PairDone → Type 0

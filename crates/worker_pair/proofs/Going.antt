@@ -9,7 +9,7 @@ use Rattle.device_formats.specs.ItemFormats.{item_format}
 use Rattle.device_formats.specs.ChannelScript.{ChannelScript, asks_of}
 use Rattle.worker_port.specs.Line.{line_of}
 use Rattle.worker_port.specs.Rooms.{AskedWithin, AskLacksFor, ServedWithin}
-use Rattle.worker_requester.specs.Asking.{Asking, AsksBy, AsksOn, IsPaced}
+use Rattle.worker_requester.specs.Asking.{Asking, AskedFrom, AsksBy, AsksOn, EndsAcked, IsPaced}
 use Rattle.worker_server.specs.Serving.{Serving, ServesOn, EndsBy, calls_behind}
 use Rattle.worker_server.proofs.ServeSteps.{ends_on, lacks_on}
 use Rattle.worker_pair.specs.Leaving.{LeavesAsked, LeavesServed, WorkerDone, items_in}
@@ -44,6 +44,8 @@ asked_on u v d on leaves =
       sent = subst (λ (t : ChannelScript). AskedWithin (item_format t.kind) (length (asks_of t)) (items_in d.end)) on.protocol leaves.sent;
       room = subst (λ (t : ChannelScript). AskLacksFor (item_format t.kind) (besides_on t.kind) (length (asks_of t)) d.ended (items_in d.end)) on.protocol leaves.room;
       paced = subst (λ n. IsPaced (item_format u.protocol.kind) n (asks_of u.protocol) (items_in d.end)) on.starts (subst (λ (t : ChannelScript). IsPaced (item_format t.kind) v.starts (asks_of t) (items_in d.end)) on.protocol leaves.paced);
+      ids = subst (λ n. AskedFrom (item_format u.protocol.kind) n (asks_of u.protocol) (items_in d.end)) on.window (subst (λ (t : ChannelScript). AskedFrom (item_format t.kind) (length v.table) (asks_of t) (items_in d.end)) on.protocol leaves.ids);
+      acks = subst (λ (t : ChannelScript). EndsAcked (item_format t.kind) d.ended (line_of (λ i. i) d.end)) on.protocol leaves.acks;
       seat = leaves.seat;
       serials = leaves.serials;
     }

@@ -12,7 +12,7 @@ use Rattle.device_formats.specs.Formats.{besides_on}
 use Rattle.device_formats.specs.ItemFormats.{item_format}
 use Rattle.device_formats.specs.ChannelScript.{ChannelScript, asks_of}
 use Rattle.worker_port.specs.Line.{IsLine, IsSameEnd, line_of, past_as}
-use Rattle.worker_requester.specs.Asking.{Asking, AsksBy, IsPaced}
+use Rattle.worker_requester.specs.Asking.{Asking, AskedFrom, AsksBy, EndsAcked, IsPaced}
 use Rattle.worker_port.specs.Rooms.{AskedWithin, ServedWithin, AskLacksFor, ServeLacksFor, is_broken}
 use Rattle.worker_server.specs.Serving.{Serving, EndsBy, calls_behind}
 use Rattle.worker_port.specs.declared.ended.Ended.{Ended}
@@ -45,6 +45,8 @@ pub record LeavesAsked (w : Asking ChannelScript TableSeat Reply) (d : WorkerDon
   pub sent : AskedWithin (item_format w.protocol.kind) (length (asks_of w.protocol)) (items_in d.end)
   pub room : AskLacksFor (item_format w.protocol.kind) (besides_on w.protocol.kind) (length (asks_of w.protocol)) d.ended (items_in d.end)
   pub paced : IsPaced (item_format w.protocol.kind) w.starts (asks_of w.protocol) (items_in d.end)
+  pub ids : AskedFrom (item_format w.protocol.kind) (length w.table) (asks_of w.protocol) (items_in d.end)
+  pub acks : EndsAcked (item_format w.protocol.kind) d.ended (line_of (λ i. i) d.end)
   pub seat : d.seat ≡ None
   pub serials : d.serials.items ≡ []
 
@@ -80,7 +82,8 @@ StandsAsking None w = w.end.state.machine.marked ≡ false
 StandsAsking (Some how) w =
     AsksBy (item_format w.protocol.kind) how (asks_of w.protocol) w.end.state.past w.told × AskedWithin (item_format w.protocol.kind) (length (asks_of w.protocol)) w.end.state.past
     × AskLacksFor (item_format w.protocol.kind) (besides_on w.protocol.kind) (length (asks_of w.protocol)) how w.end.state.past
-    × IsPaced (item_format w.protocol.kind) w.starts (asks_of w.protocol) w.end.state.past × (is_broken how ≡ false)
+    × IsPaced (item_format w.protocol.kind) w.starts (asks_of w.protocol) w.end.state.past × AskedFrom (item_format w.protocol.kind) (length w.table) (asks_of w.protocol) w.end.state.past
+    × EndsAcked (item_format w.protocol.kind) how w.end × (is_broken how ≡ false)
 
 -- and one that serves
 abbrev pub StandsServing : Option Ended → Serving ChannelScript DeviceSeat TableSeat Ask Reply → Type 0

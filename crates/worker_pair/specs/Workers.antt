@@ -54,7 +54,7 @@ pub record IsOfSide (side : Side) (w : Worker) : Type 0 where
 
 -- how a turn ends, by what the worker does
 abbrev pub Turned : Turn → Worker → Type 0
-Turned turn (Asks w) = AskTurns (item_format w.protocol.kind) (besides_on w.protocol.kind) (asks_of w.protocol) turn w × AskEnds (item_format w.protocol.kind) (besides_on w.protocol.kind) w.starts (asks_of w.protocol) turn w.end.state.past
+Turned turn (Asks w) = AskTurns (item_format w.protocol.kind) (besides_on w.protocol.kind) (asks_of w.protocol) turn w × AskEnds (item_format w.protocol.kind) (besides_on w.protocol.kind) w.starts (length w.table) (asks_of w.protocol) turn w.end.state.past
 Turned turn (Serves w) = Turns left_at (item_format w.responder.protocol.kind) (besides_on w.responder.protocol.kind) turn w × ServeEnds (item_format w.responder.protocol.kind) (besides_on w.responder.protocol.kind) turn w
 
 -- why it went so: what the worker did in it
