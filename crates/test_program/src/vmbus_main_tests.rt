@@ -135,6 +135,31 @@ fn messages_are_decoded(rt: HostRuntime) {
     check_answers(&rt, b"decode", MESSAGES);
 }
 
+const TRACES: &[(&[u8], &[u8])] = &[
+    (
+        b"call guest send 0000000200020006,0000000000000000\nstep guest load tohost.read 0\nstep guest store tohost.cell.0 0x0000000200020006\nstep guest store tohost.cell.8 0\nstep guest store tohost.cell.16 0\nstep guest store tohost.write 24\nstep guest load tohost.mask 1\n",
+        b"run steps 6 guest 1 0 host 0 0\n",
+    ),
+    (
+        b"call guest send 0000000200020006,0000000000000000\nstep guest load tohost.read 0\nstep guest store tohost.cell.0 0x0000000200020006\nstep guest store tohost.cell.8 0\nstep guest store tohost.cell.16 0\nstep guest store tohost.write 16\n",
+        b"wrong 6 step\n",
+    ),
+    (
+        b"call guest send 0000000200020006,0000000000000000\nstep guest load tohost.read 0\nstep guest store tohost.cell.0 0x0000000200020006\nstep guest store tohost.cell.8 0\nstep guest store tohost.cell.16 0\nstep guest store tohost.write 24\nstep guest load tohost.mask 0\n",
+        b"wrong 7 value\n",
+    ),
+];
+
+#[test]
+fn traces_are_checked(rt: HostRuntime) {
+    check_answers(&rt, b"trace", TRACES);
+}
+
+const WRONG_TRACES: &[(&[u8], u32, Why6)] = &[
+    (b"call guest walk\n", 1, Why6::Form),
+    (b"call guest take\nring 2\n", 2, Why6::Order),
+];
+
 const WRONG_SCRIPTS: &[(&[u8], u32, Why6)] = &[
     (b"beat hb 007", 1, Why6::Form),
     (
@@ -168,6 +193,7 @@ const WRONG_MESSAGES: &[(&[u8], u32, Why6)] = &[(b"0f0\n", 1, Why6::Form)];
 fn wrong_inputs_are_refused(rt: HostRuntime) {
     check_refusals(&rt, b"run", WRONG_SCRIPTS);
     check_refusals(&rt, b"decode", WRONG_MESSAGES);
+    check_refusals(&rt, b"trace", WRONG_TRACES);
     check(&rt, answers(&rt, b"walk", ONE_BEAT, 1, b""));
 }
 

@@ -1,6 +1,7 @@
 pub mod Words
 pub mod Controls
 pub mod Between
+pub mod Verdict
 pub mod Answer
 pub mod Answered
 pub mod Call

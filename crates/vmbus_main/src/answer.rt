@@ -2,11 +2,12 @@
 ghost use Rattle.std.specs.Prelude.{◌≡◌, ◌≤◌, ◌%◌, length, IfOk};
 ghost use Rattle.vmbus_main.specs.Answer.{IsLoadAnswer};
 ghost use Rattle.vmbus_main.specs.Answered.{IsAnswered};
-ghost use Rattle.vmbus_main.specs.declared.command.InputCommand.TheVariants.{Run, Decode};
+ghost use Rattle.vmbus_main.specs.declared.command.InputCommand.TheVariants.{Run, Decode, Trace};
 
 use crate::command::InputCommand;
 use crate::outcome::Controls;
 use crate::run::{BusRan, run_script};
+use crate::trace::trace_input;
 use bus_model::{ChannelRun, DeviceHistory};
 use bus_script::{ParseFault, parse, report};
 use io_edge::Gate;
@@ -39,6 +40,7 @@ pub fn answer_input<R: Threads + Wait + Sync, G: Gate>(
     match command {
         InputCommand::Run => run_input(rt, gate, alloc, input),
         InputCommand::Decode => decode_input(alloc, input),
+        InputCommand::Trace => trace_input(alloc, input),
     }
 }
 

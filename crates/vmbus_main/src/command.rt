@@ -12,6 +12,8 @@ pub enum InputCommand {
     Run,
     /// Reads one control message in hexadecimal a line, and writes it field by field.
     Decode,
+    /// Reads calls and word steps of the two ends of a channel, and writes whether they are a run, or which line is the first that is wrong.
+    Trace,
 }
 
 /// What the program does.
@@ -49,6 +51,9 @@ fn named(word: &[u8]) -> Option<Command>
     }
     if word == b"decode".as_slice() {
         return Some(Command::Input(InputCommand::Decode));
+    }
+    if word == b"trace".as_slice() {
+        return Some(Command::Input(InputCommand::Trace));
     }
     None
 }

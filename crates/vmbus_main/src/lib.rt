@@ -7,6 +7,7 @@ mod command;
 mod laws;
 mod outcome;
 mod run;
+mod trace;
 
 pub use call::vmbus;
 pub use laws::opened_is_carried;

@@ -1,3 +1,4 @@
 pub mod Numbers
 pub mod Sound
 pub mod Ends
+pub mod Lines

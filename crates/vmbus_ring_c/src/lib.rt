@@ -3,6 +3,7 @@
 
 mod calls;
 mod end;
+mod line;
 mod machine;
 mod numbers;
 mod sound;

@@ -1,0 +1,4 @@
+pub mod Leads
+pub mod Following
+pub mod Lines
+pub mod Checked

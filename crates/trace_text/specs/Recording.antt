@@ -1,0 +1,47 @@
+-- What a recorder keeps.
+use Rattle.std.specs.Prelude.{◌≡◌, ℕ, ◌+◌, ◌++◌, Bool, true, false, ◌||◌, nat_lt, List, [], ◌∷◌, length, Option, Some, if◌then◌else◌}
+use Rattle.io_edge.specs.declared.side.Side.{Side}
+use Rattle.ring_machine.specs.declared.place.Op.{Op}
+use Rattle.ring_core.specs.Told.{Memory, memory_after, answer_of}
+use Rattle.trace_text.specs.Steps.{step_text}
+
+-- a seat, whose end it is, the text of its steps so far, the bytes that it may have, and whether a line didn't fit
+pub record Recorded (S : Type 0) : Type 0 where
+  pub seat : S
+  pub side : Side
+  pub text : List ℕ
+  pub size : ℕ
+  pub full : Bool
+
+-- A line is kept where it fits into so many bytes behind the text so far; once one doesn't, nothing more is. Whether one didn't, and the text
+abbrev pub kept_in : Bool → ℕ → List ℕ → List ℕ → Bool × List ℕ
+kept_in full size text line = if full || nat_lt size (length text + length line) then (true, text) else (false, text ++ line)
+
+abbrev pub kept : {S : Type 0} → Recorded S → List ℕ → Bool × List ℕ
+kept r line = kept_in r.full r.size r.text line
+
+-- a step, and what it answered
+pub record Made : Type 0 where
+  pub op : Op
+  pub answer : ℕ
+
+-- what is kept of the lines of these steps of an end, the first one first
+abbrev pub kept_of : ℕ → Side → List Made → Bool × List ℕ → Bool × List ℕ
+kept_of size x [] so = so
+kept_of size x (s ∷ steps) so = kept_of size x steps (kept_in so.0 size so.1 (step_text x s.op s.answer))
+
+-- these steps, one after the other, make this of a memory, and each answers what it finds there
+abbrev pub StepsLead : ℕ → List Made → Memory → Memory → Type 0
+StepsLead d [] m n = n ≡ m
+StepsLead d (s ∷ steps) m n = (s.answer ≡ answer_of d s.op m) × StepsLead d steps (memory_after d s.op m) n
+
+-- A later state of a recorder. Its seat made some steps in between: they are what it kept of them, line by line, and what led from the words that the seat
+-- had to those that it has
+pub record RecordsOn {S : Type 0} (same : S → S → Type 0) (cells : S → ℕ) (memory : S → Option Memory) (r t : Recorded S) : Type 0 where
+  pub seat : same r.seat t.seat
+  pub fits : cells t.seat ≡ cells r.seat
+  pub side : t.side ≡ r.side
+  pub size : t.size ≡ r.size
+  pub made : List Made
+  pub text : (t.full, t.text) ≡ kept_of r.size r.side made (r.full, r.text)
+  pub leads : (m : Memory) → memory r.seat ≡ Some m → (n : Memory) × (memory t.seat ≡ Some n) × StepsLead (cells r.seat) made m n
