@@ -14,4 +14,6 @@ mod echo;
 #[cfg(test)]
 mod only_seat;
 #[cfg(test)]
+mod short_plan_tests;
+#[cfg(test)]
 mod worker_pair_tests;
