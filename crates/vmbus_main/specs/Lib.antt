@@ -5,3 +5,4 @@ pub mod Answer
 pub mod Answered
 pub mod Call
 pub mod Opened
+pub mod Round
