@@ -9,6 +9,7 @@ ghost use Rattle.bus_script.specs.Report.{prints};
 ghost use Rattle.script_lines.specs.WellFormed.{AllRight};
 ghost use Rattle.bus_run.specs.DeviceSlot.{IsKept, spec_of, setup_of, slot_log};
 ghost use Rattle.bus_run.specs.Parts.{AreOpen};
+ghost use Rattle.control_run.specs.Path.{IsSamePath};
 ghost use Rattle.bus_run.specs.Whole.{AreFresh, CanMake, RunsSoFar, behind, setups_from};
 
 use crate::bads::bad_places;
@@ -22,16 +23,35 @@ use control_run::ControlPath;
 use io_edge::Gate;
 use std::alloc::{AllocError, Global};
 use std::mem;
+use std::snapshot::Snapshot;
 use std::sync::Wait;
 use std::thread::Threads;
 
 /// What a run of a script gives: what each channel carried, in order of phase and then of relid; what each device served, in order of offer; and the
-/// outcome of each line that prints.
+/// outcome of each line that prints. A runner alone makes one. Contracts see the control path whose parts stood round the phases, too.
 #[derive(Drop)]
 pub struct ScriptRun {
-    pub settled: Vec<ChannelRun>,
-    pub histories: Vec<DeviceHistory>,
-    pub results: Vec<LineResult>,
+    settled: Vec<ChannelRun>,
+    histories: Vec<DeviceHistory>,
+    results: Vec<LineResult>,
+    path: Snapshot<ControlPath>,
+}
+
+impl ScriptRun {
+    /// The three lists.
+    pub fn into_lists(self) -> (Vec<ChannelRun>, Vec<DeviceHistory>, Vec<LineResult>)
+        ensures settled { result.0 ≡ self.settled }
+        ensures histories { result.1 ≡ self.histories }
+        ensures results { result.2 ≡ self.results }
+    {
+        let ScriptRun {
+            settled,
+            histories,
+            results,
+            path: _,
+        } = self;
+        (settled, histories, results)
+    }
 }
 
 /// A script under way, between two of its phases.
@@ -48,6 +68,8 @@ pub struct Runner {
     relid: u32,
     settled: Vec<ChannelRun>,
     results: Vec<LineResult>,
+    // the control path whose parts stand round the phases, as it was at the start
+    path: Snapshot<ControlPath>,
 }
 
 /// The device that a line offers, with the bad places of all lines.
@@ -143,10 +165,11 @@ fn behind(at: usize, next: Option<usize>) -> Option<usize>
 }
 
 impl Runner {
-    /// Offers the devices of a script, of which no phase has run.
-    pub fn make(alloc: Global, script: &Script) -> Result<Runner, AllocError>
+    /// Offers the devices of a script, of which no phase has run. The parts of `path` are to stand round its phases.
+    pub fn make(alloc: Global, script: &Script, path: &ControlPath) -> Result<Runner, AllocError>
         ensures so_far { IfOk result (RunsSoFar script.now) }
         ensures phase { IfOk result (λ runner. runner.phase ≡ 0) }
+        ensures path { IfOk result (λ runner. runner.path.value ≡ path.now) }
     {
         let lines = script.lines();
         let slots = new_slots(alloc, lines)?;
@@ -163,6 +186,7 @@ impl Runner {
             relid,
             settled: Vec::new(alloc),
             results,
+            path: Snapshot::of(path),
         })
     }
 
@@ -181,7 +205,7 @@ impl Runner {
     }
 
     /// Runs the next phase: its channels are opened in order of their relids, run all at once, and are closed. `path` shows that the controls opened them:
-    /// both are done with the start of this phase, and with nothing behind it.
+    /// both are done with the start of this phase, and with nothing behind it. It is the path that the runner was made with, further on: its queues are the same.
     pub fn run_next<R: Threads + Wait + Sync, G: Gate>(
         &mut self,
         rt: &R,
@@ -193,8 +217,10 @@ impl Runner {
         requires so_far { RunsSoFar script.now self.old }
         requires more { self.old.phase < length (parts script.now) }
         requires open { AreOpen script.now self.old.phase path.now }
+        requires same { IsSamePath self.old.path.value path.now }
         ensures so_far { OnOk result (RunsSoFar script.now self.new) }
         ensures phase { OnOk result (self.new.phase ≡ self.old.phase + 1) }
+        ensures path { self.new.path.value ≡ self.old.path.value }
     {
         let Some(at) = self.next else {
             unreachable!();
@@ -219,15 +245,17 @@ impl Runner {
         Ok(())
     }
 
-    /// What ran, once no phase of the script is left.
+    /// What ran, once no phase of the script is left, round which the parts of the path that the runner was made with have stood.
     pub fn end(self, alloc: Global) -> Result<ScriptRun, AllocError>
         requires { (lines : List OneLine) × RunsSoFar lines self × (self.phase ≡ length (parts lines)) }
         ensures run { IfOk result (λ ran. (lines : List OneLine) → RunsSoFar lines self → self.phase ≡ length (parts lines) → IsBusRun lines ran.settled.items ran.histories.items ran.results.items) }
+        ensures path { IfOk result (λ ran. ran.path.value ≡ self.path.value) }
     {
         let Runner {
             slots,
             settled,
             results,
+            path,
             ..
         } = self;
         let histories = histories_of(alloc, slots)?;
@@ -235,6 +263,7 @@ impl Runner {
             settled,
             histories,
             results,
+            path,
         })
     }
 }

@@ -1,3 +1,4 @@
 pub mod RoomLaws
 pub mod OfferLaws
 pub mod SideLaws
+pub mod HandleLaws

@@ -1,1 +1,2 @@
 pub mod AsSide
+pub mod Handles

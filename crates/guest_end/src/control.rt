@@ -10,6 +10,7 @@ ghost use Rattle.control_model.specs.Plan.{BusPlan, part_after, IsPlan};
 ghost use Rattle.control_model.specs.Openings.{plan_of};
 ghost use Rattle.control_model.specs.Messages.{Sends};
 ghost use Rattle.control_model.specs.Channels.{changed};
+ghost use Rattle.guest_end.specs.Handles.{AreApart, next_handle};
 ghost use Rattle.control_model.specs.Guest.{new_guest, IsFit, GuestSeen, guest_done, can_begin, state_of, guest_hears, guest_after, GuestBegins, GuestTakes, Refuses};
 
 use bus_script::Script;
@@ -34,6 +35,9 @@ pub struct GuestControl {
     pub(crate) awaits: GuestWait,
     pub(crate) version: Option<Version>,
     pub(crate) channels: Vec<Channel>,
+    // Where each page list that was set up had a greater handle than all before it: the number from
+    // which on no channel has one. No two channels have the same handle then.
+    pub(crate) rising: Option<u64>,
     posted: Vec<Msg>,
     fed: Vec<Msg>,
 }
@@ -42,12 +46,13 @@ impl Model for GuestControl {
     ghost use Rattle.std.specs.Prelude.{◌≤◌, length};
     ghost use Rattle.control_model.specs.Plan.{most_channels};
     ghost use Rattle.control_model.specs.Guest.{GuestSeen, IsListed};
+    ghost use Rattle.guest_end.specs.Handles.{AreApart};
 
     ghost Value = { GuestSeen };
 
     ghost view = { λ c. record { plan = c.plan; part = c.part; awaits = c.awaits; version = c.version; channels = c.channels.items; posted = c.posted.items; fed = c.fed.items } };
 
-    ghost invariant = { λ c. IsListed c.awaits × (length c.channels.items ≤ most_channels) };
+    ghost invariant = { λ c. IsListed c.awaits × (length c.channels.items ≤ most_channels) × AreApart c.rising c.channels.items };
 }
 
 impl GuestControl {
@@ -64,6 +69,7 @@ impl GuestControl {
             awaits: GuestWait::Nothing,
             version: None,
             channels: Vec::new(alloc),
+            rising: Some(0),
             posted: Vec::new(alloc),
             fed: Vec::new(alloc),
         })
@@ -176,8 +182,8 @@ impl GuestControl {
         self.posted.reserve(sent.len())?;
         self.fed.reserve(1)?;
         self.channels.reserve(2)?;
-        change(&mut self.channels, turn.heard);
-        change(&mut self.channels, turn.wished);
+        change(&mut self.channels, &mut self.rising, turn.heard);
+        change(&mut self.channels, &mut self.rising, turn.wished);
         if let Some(m) = fed {
             self.fed.push_reserved(m);
         }
@@ -190,26 +196,50 @@ impl GuestControl {
 }
 
 // What becomes of the channels.
-fn change(channels: &mut Vec<Channel>, change: Change)
+fn change(channels: &mut Vec<Channel>, rising: &mut Option<u64>, change: Change)
     requires { vec_len channels.old < vec_capacity channels.old }
     ensures changed { channels.new.items ≡ changed channels.old.items change }
+    ensures apart { AreApart rising.old channels.old.items → AreApart rising.new channels.new.items }
     ensures len { vec_len channels.new ≤ vec_len channels.old + 1 }
     ensures capacity { vec_capacity channels.new ≡ vec_capacity channels.old }
 {
     match change {
         Change::Same => (),
-        Change::Offered(channel) => channels.push_reserved(channel),
-        Change::Now { relid, channel } => put(channels, relid, channel),
+        Change::Offered(channel) => {
+            if channel.gpadl.is_some() {
+                *rising = None;
+            }
+            channels.push_reserved(channel);
+        }
+        Change::Now { relid, channel } => put(channels, rising, relid, channel),
     }
 }
 
 // Puts a channel at its place.
-fn put(channels: &mut [Channel], relid: u32, channel: Channel)
-    ensures { channels.new ≡ slice_set channels.old (relid - 1) channel }
+fn put(channels: &mut [Channel], rising: &mut Option<u64>, relid: u32, channel: Channel)
+    ensures put { channels.new ≡ slice_set channels.old (relid - 1) channel }
+    ensures apart { AreApart rising.old channels.old → AreApart rising.new channels.new }
 {
     let place = relid.saturating_sub(1) as usize;
     if place < channels.len() {
+        *rising = next_handle(*rising, channels[place].gpadl, channel.gpadl);
         channels[place] = channel;
+    }
+}
+
+// The number from which on no channel has a handle, where one has this handle in place of another.
+fn next_handle(rising: Option<u64>, before: Option<u32>, now: Option<u32>) -> Option<u64>
+    ensures { result ≡ next_handle rising before now }
+{
+    let Some(handle) = now else {
+        return rising;
+    };
+    if before == Some(handle) {
+        return rising;
+    }
+    match rising {
+        Some(next) if next <= handle as u64 => Some(handle as u64 + 1),
+        _ => None,
     }
 }
 

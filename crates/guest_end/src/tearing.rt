@@ -1,5 +1,5 @@
 //! A channel is closed, and its page list let go; and what comes after a channel that is done with.
-ghost use Rattle.std.specs.Prelude.{◌≡◌, slice_get, IfOk};
+ghost use Rattle.std.specs.Prelude.{◌≡◌, slice_get, Some, IfOk, IsTrue};
 ghost use Rattle.control_model.specs.Plan.{opening_in};
 ghost use Rattle.control_model.specs.Channels.{by_relid, lived, place_of_list};
 ghost use Rattle.control_model.specs.Guest.{IsFit, and_close, closes, closes_next, on_torndown, torn_at, torn_for, ended_for, torn_while};
@@ -121,11 +121,35 @@ impl GuestControl {
         }
     }
 
-    // The place of the channel that set up the page list with this handle.
+    // The place of the channel that set up the page list with this handle. The channel that is being
+    // closed is looked at first, since all others are as many as were ever offered.
     fn place_of_list(&self, gpadl: u32) -> Option<usize>
         ensures { result ≡ place_of_list self.now.channels gpadl }
     {
-        self.channels.iter().position(|c| c.gpadl == Some(gpadl))
+        match self.place_torn() {
+            Some(place) if self.has_alone(place, gpadl) => Some(place),
+            _ => self.channels.iter().position(|c| c.gpadl == Some(gpadl)),
+        }
+    }
+
+    // The place of the channel that is being closed, if one is.
+    fn place_torn(&self) -> Option<usize> {
+        let GuestWait::Torn(place) = self.awaits else {
+            return None;
+        };
+        let o = self.plan.opening(self.part, place)?;
+        Some((o.relid as usize).saturating_sub(1))
+    }
+
+    // Whether the channel at a place set up the page list with this handle, and no other one did, since
+    // handles rose.
+    fn has_alone(&self, place: usize, gpadl: u32) -> bool
+        ensures { IsTrue result → place_of_list self.now.channels gpadl ≡ Some place }
+    {
+        match self.channels.get(place) {
+            Some(channel) => self.rising.is_some() && channel.gpadl == Some(gpadl),
+            None => false,
+        }
     }
 }
 

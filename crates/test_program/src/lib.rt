@@ -6,6 +6,8 @@ mod call;
 #[cfg(test)]
 mod check;
 #[cfg(test)]
+mod fault_tests;
+#[cfg(test)]
 mod hold;
 #[cfg(test)]
 mod load_tests;

@@ -1,8 +1,9 @@
 //! The top call on worked inputs.
-use crate::call::{answers, call, outcome_of, refusal, sink_of, source_of};
+use crate::call::{answers, call, outcome_of, refusal, sink_of};
 use crate::check::check;
+use crate::fault_tests::failing_source;
 use bus_script::{ScriptFault, Why6};
-use io_edge::{MemSink, MemSource, NoGate};
+use io_edge::NoGate;
 use std::alloc::AllocGlobal;
 use std::process::Abort;
 use std::sync::Wait;
@@ -210,46 +211,10 @@ fn a_run_shows_what_went_across(rt: HostRuntime) {
     check(&rt, run.settled.host_got().len() == 2);
 }
 
-// A source of these bytes that gives one at a time, and fails at one call.
-fn failing_source(rt: &(impl Abort + AllocGlobal), bytes: Vec<u8>, fails: u32) -> MemSource {
-    MemSource::make(bytes, 1, [fails].to_vec(rt.alloc()).expect(rt, "memory"))
-}
-
-// A sink that takes eight bytes at a time, and fails at one call.
-fn failing_sink(rt: &(impl Abort + AllocGlobal), fails: u32) -> MemSink {
-    let alloc = rt.alloc();
-    let fails = [fails].to_vec(alloc).expect(rt, "memory");
-    MemSink::make(alloc, 1000, 8, fails).expect(rt, "memory")
-}
-
-#[test]
-fn a_sink_fails(rt: HostRuntime) {
-    let mut sink = failing_sink(&rt, 2);
-    let outcome = call(
-        &rt,
-        b"run",
-        &mut source_of(&rt, ONE_BEAT),
-        &mut sink,
-        &NoGate,
-    );
-    check(&rt, outcome.status == 4);
-    check(&rt, sink.bytes() == b"2 done @".as_slice());
-}
-
-#[test]
-fn a_source_fails(rt: HostRuntime) {
-    let bytes = ONE_BEAT.to_vec(rt.alloc()).expect(&rt, "memory");
-    let mut source = failing_source(&rt, bytes, 1);
-    let mut sink = sink_of(&rt);
-    let outcome = call(&rt, b"run", &mut source, &mut sink, &NoGate);
-    check(&rt, outcome.status == 3);
-    check(&rt, sink.bytes().is_empty());
-}
-
 #[test]
 fn a_byte_too_many(rt: HostRuntime) {
     let bytes = vec![in rt.alloc(); 35u8; 1_048_577].expect(&rt, "memory");
-    let mut source = failing_source(&rt, bytes, 1_048_578);
+    let mut source = failing_source(&rt, &bytes, 1_048_578);
     let outcome = call(&rt, b"run", &mut source, &mut sink_of(&rt), &NoGate);
     check(&rt, outcome.status == 2);
     let fault = ScriptFault {

@@ -16,4 +16,6 @@ mod only_seat;
 #[cfg(test)]
 mod pump_tests;
 #[cfg(test)]
+mod short_plan_tests;
+#[cfg(test)]
 mod worker_pair_tests;

@@ -13,7 +13,7 @@ use Rattle.control_model.specs.Openings.{plan_of}
 use Rattle.control_model.proofs.ScriptLaws.{phases_are}
 use Rattle.control_model.specs.Guest.{new_guest}
 use Rattle.control_run.specs.declared.path.ControlPath.{ControlPath}
-use Rattle.control_run.specs.Path.{Rests, RanPart}
+use Rattle.control_run.specs.Path.{Rests, RanPart, IsSamePath}
 use Rattle.vmbus_main.specs.Between.{part_at, IsBetween}
 
 some_of : {A : Type 0} (b : Bool) (x y : A) → (if b then Some x else Some y) ≡ Some (if b then x else y)
@@ -26,14 +26,18 @@ lt_true a b below = grind (arith, nat_tests)
 lt_false : (a b : ℕ) → b ≤ a → nat_lt a b ≡ false
 lt_false a b above = grind (arith, nat_tests)
 
+-- a path stays one path
+pub same_on : (p q t : ControlPath) → IsSamePath p q → IsSamePath q t → IsSamePath p t
+same_on p q t x y = record { to_host = y.to_host ∙ x.to_host; to_guest = y.to_guest ∙ x.to_guest }
+
 -- before the first phase
-pub first_between : (lines : List Line) (r : Runner) (old new : ControlPath) → RunsSoFar lines r → r.phase ≡ 0 → Rests old → old.guest ≡ new_guest (plan_of lines) → RanPart old new Contact → IsBetween lines r new
-first_between lines r old new so_far none rests fresh ran =
+pub first_between : (lines : List Line) (r : Runner) (old new : ControlPath) → RunsSoFar lines r → r.phase ≡ 0 → Rests old → old.guest ≡ new_guest (plan_of lines) → r.path.value ≡ old → RanPart old new Contact → IsBetween lines r new
+first_between lines r old new so_far none rests fresh is ran =
     let plan : old.guest.plan ≡ plan_of lines = ap (λ g. g.plan) fresh in
     let planned : IsPlan (plan_of lines) = subst IsPlan plan rests.guest.planned in
     let some : nat_lt 0 (length (plan_of lines).phases) ≡ true = lt_true 0 (length (plan_of lines).phases) (omega (arith, planned.some)) in
     let at : part_at (plan_of lines) r.phase ≡ PhaseStart 0 = rw (none, some) refl in
-    record { ran = so_far; rests = ran.rests; plan = ran.plan ∙ plan; next = rw (ran.guest_part, at) refl }
+    record { ran = so_far; rests = ran.rests; same = subst (λ (p : ControlPath). IsSamePath p new) (sym is) ran.same; plan = ran.plan ∙ plan; next = rw (ran.guest_part, at) refl }
 
 -- the next phase starts
 pub starts : (lines : List Line) (r : Runner) (p : ControlPath) → IsBetween lines r p → r.phase < length (parts lines) → part_after p.guest.plan p.guest.part ≡ Some (PhaseStart r.phase)
@@ -56,20 +60,30 @@ opens lines r p q phase between is start =
       host_done = ran.host_done;
     }
 
+-- over the same queues
+pub still : (lines : List Line) (r : Runner) (p q : ControlPath) (phase : ℕ) → IsBetween lines r p → RanPart p q (PhaseStart phase) → IsSamePath r.path.value q
+still lines r p q phase between start = same_on r.path.value p q between.same start.same
+
 -- it ends
 pub ends : (old new : ControlPath) (phase : ℕ) → RanPart old new (PhaseStart phase) → part_after new.guest.plan new.guest.part ≡ Some (PhaseEnd phase)
 ends old new phase ran = rw ran.guest_part refl
 
 -- and then one phase more has run
-pub next_between : (lines : List Line) (r s : Runner) (p q t : ControlPath) → IsBetween lines r p → RanPart p q (PhaseStart r.phase) → RanPart q t (PhaseEnd r.phase) → RunsSoFar lines s → s.phase ≡ r.phase + 1 → IsBetween lines s t
-next_between lines r s p q t between start end so_far more =
+pub next_between : (lines : List Line) (r s : Runner) (p q t : ControlPath) → IsBetween lines r p → RanPart p q (PhaseStart r.phase) → RanPart q t (PhaseEnd r.phase) → RunsSoFar lines s → s.phase ≡ r.phase + 1 → s.path.value ≡ r.path.value → IsBetween lines s t
+next_between lines r s p q t between start end so_far more one =
     let plan : t.guest.plan ≡ plan_of lines = end.plan ∙ start.plan ∙ between.plan in
     let at : part_after (plan_of lines) (Some (PhaseEnd r.phase)) ≡ Some (part_at (plan_of lines) (r.phase + 1)) = some_of (nat_lt (r.phase + 1) (length (plan_of lines).phases)) (PhaseStart (r.phase + 1)) Unload in
-    record { ran = so_far; rests = end.rests; plan = plan; next = rw (end.guest_part, more) at }
+    record {
+      ran = so_far;
+      rests = end.rests;
+      same = subst (λ (x : ControlPath). IsSamePath x t) (sym one) (same_on r.path.value q t (same_on r.path.value p q between.same start.same) end.same);
+      plan = plan;
+      next = rw (end.guest_part, more) at;
+    }
 
-pub then_between : (lines : List Line) (r s : Runner) (p q t : ControlPath) (phase : ℕ) → IsBetween lines r p → phase ≡ r.phase → RanPart p q (PhaseStart phase) → RunsSoFar lines s → s.phase ≡ r.phase + 1 → RanPart q t (PhaseEnd phase) → IsBetween lines s t
-then_between lines r s p q t phase between is start so_far more end =
-    next_between lines r s p q t between (subst (λ (k : ℕ). RanPart p q (PhaseStart k)) is start) (subst (λ (k : ℕ). RanPart q t (PhaseEnd k)) is end) so_far more
+pub then_between : (lines : List Line) (r s : Runner) (p q t : ControlPath) (phase : ℕ) → IsBetween lines r p → phase ≡ r.phase → RanPart p q (PhaseStart phase) → RunsSoFar lines s → s.phase ≡ r.phase + 1 → s.path.value ≡ r.path.value → RanPart q t (PhaseEnd phase) → IsBetween lines s t
+then_between lines r s p q t phase between is start so_far more one end =
+    next_between lines r s p q t between (subst (λ (k : ℕ). RanPart p q (PhaseStart k)) is start) (subst (λ (k : ℕ). RanPart q t (PhaseEnd k)) is end) so_far more one
 
 -- behind the last phase it is the farewell
 pub farewell : (lines : List Line) (r : Runner) (p : ControlPath) → IsBetween lines r p → r.phase ≡ length (parts lines) → part_after p.guest.plan p.guest.part ≡ Some Unload

@@ -6,3 +6,4 @@ pub mod Answer
 pub mod Answered
 pub mod Call
 pub mod Opened
+pub mod Round

@@ -54,23 +54,18 @@ fn run_input<R: Threads + Wait + Sync, G: Gate>(
     ensures { IsAnswered Run input.now result }
 {
     let script = parse(alloc, input)?;
-    match run_script(rt, gate, alloc, &script) {
-        Ok(
-            BusRan {
-                controls,
-                settled,
-                histories,
-                results,
-            },
-        ) => match report(alloc, &script, &results) {
-            Ok(text) => Ok(Answer {
-                controls: Some(controls),
-                settled,
-                histories,
-                text,
-            }),
-            Err(_) => Err(ParseFault::Memory),
-        },
+    let Ok(ran) = run_script(rt, gate, alloc, &script) else {
+        return Err(ParseFault::Memory);
+    };
+    let BusRan { controls, run, .. } = ran;
+    let (settled, histories, results) = run.into_lists();
+    match report(alloc, &script, &results) {
+        Ok(text) => Ok(Answer {
+            controls: Some(controls),
+            settled,
+            histories,
+            text,
+        }),
         Err(_) => Err(ParseFault::Memory),
     }
 }
@@ -91,13 +86,9 @@ pub fn answer_load<R: Threads + Wait + Sync, G: Gate>(
 {
     let script = load_script(alloc, seed, count)?;
     let ran = run_script(rt, gate, alloc, &script)?;
-    let text = load_line(alloc, count, &ran.results)?;
-    let BusRan {
-        controls,
-        settled,
-        histories,
-        results: _,
-    } = ran;
+    let BusRan { controls, run, .. } = ran;
+    let (settled, histories, results) = run.into_lists();
+    let text = load_line(alloc, count, &results)?;
     Ok(Answer {
         controls: Some(controls),
         settled,

@@ -5,29 +5,34 @@ ghost use Rattle.script_lines.specs.Parts.{parts};
 ghost use Rattle.bus_script.specs.Report.{prints};
 ghost use Rattle.bus_run.specs.Whole.{RunsSoFar};
 ghost use Rattle.vmbus_main.specs.Between.{IsBetween};
+ghost use Rattle.control_model.specs.Guest.{new_guest};
+ghost use Rattle.control_model.specs.Openings.{plan_of};
+ghost use Rattle.control_run.specs.Path.{Rests};
 ghost use Rattle.vmbus_main.specs.Controls.{AreControls};
+ghost use Rattle.vmbus_main.specs.Round.{StoodRound};
 
 use crate::outcome::Controls;
-use bus_model::{ChannelRun, DeviceHistory};
 use bus_run::{Runner, ScriptRun};
-use bus_script::{LineResult, Script};
+use bus_script::Script;
 use contact::Part;
 use control_run::ControlPath;
 use io_edge::Gate;
+use mail_box::ClosedQueue;
 use std::alloc::{AllocError, Global};
 use std::sync::Wait;
 use std::thread::Threads;
 
-/// What a run of a script gives: both controls, what each channel carried, what each device served, and the outcome of each line that prints.
+/// What a run of a script gives: both controls, what passed through the queues between them, and what ran between their parts.
 #[derive(Drop)]
 pub struct BusRan {
     pub controls: Controls,
-    pub settled: Vec<ChannelRun>,
-    pub histories: Vec<DeviceHistory>,
-    pub results: Vec<LineResult>,
+    pub to_host: ClosedQueue,
+    pub to_guest: ClosedQueue,
+    pub run: ScriptRun,
 }
 
-/// Runs a script: version and offers, each phase with its channels opened before it and closed behind it, and the farewell.
+/// Runs a script: version and offers, each phase with its channels opened before it and closed behind it, and the farewell. The queues that were ended with the
+/// farewell are those of the control path whose parts stood round the phases that ran (`StoodRound`).
 pub fn run_script<R: Threads + Wait + Sync, G: Gate>(
     rt: &R,
     gate: &G,
@@ -35,43 +40,42 @@ pub fn run_script<R: Threads + Wait + Sync, G: Gate>(
     script: &Script,
 ) -> Result<BusRan, AllocError>
     ensures controls { IfOk result (λ ran. AreControls script.now ran.controls) }
-    ensures run { IfOk result (λ ran. IsBusRun script.now ran.settled.items ran.histories.items ran.results.items) }
-    ensures each { IfOk result (λ ran. length ran.results.items ≡ count_by prints script.now) }
+    ensures run { IfOk result (λ ran. IsBusRun script.now ran.run.settled.items ran.run.histories.items ran.run.results.items) }
+    ensures each { IfOk result (λ ran. length ran.run.results.items ≡ count_by prints script.now) }
+    ensures round { IfOk result (λ ran. StoodRound ran) }
 {
-    let mut runner = Runner::make(alloc, script)?;
-    let path = contacted(rt, alloc, script, &runner)?;
+    let path = ControlPath::make(alloc, script)?;
+    let mut runner = Runner::make(alloc, script, &path)?;
+    let path = contacted(rt, script, path, &runner)?;
     let path = run_phases(rt, gate, alloc, script, path, &mut runner)?;
     let path = path.run(rt, Part::Unload)?;
-    let ran = runner.end(alloc)?;
+    let run = runner.end(alloc)?;
     let over = path.end(rt);
-    let ScriptRun {
-        settled,
-        histories,
-        results,
-    } = ran;
     Ok(BusRan {
         controls: Controls {
             guest: over.guest,
             host: over.host,
         },
-        settled,
-        histories,
-        results,
+        to_host: over.to_host,
+        to_guest: over.to_guest,
+        run,
     })
 }
 
 /// The control path of a script whose guest and host agreed on a version, and whose devices were offered.
 fn contacted<R: Threads + Wait + Sync>(
     rt: &R,
-    alloc: Global,
     script: &Script,
+    path: ControlPath,
     runner: &Runner,
 ) -> Result<ControlPath, AllocError>
     requires so_far { RunsSoFar script.now runner.now }
     requires none { runner.now.phase ≡ 0 }
-    ensures { IfOk result (λ path. IsBetween script.now runner.now path) }
+    requires rests { Rests path }
+    requires guest { path.guest ≡ new_guest (plan_of script.now) }
+    requires path { runner.now.path.value ≡ path }
+    ensures between { IfOk result (λ after. IsBetween script.now runner.now after) }
 {
-    let path = ControlPath::make(alloc, script)?;
     Ok(path.run(rt, Part::Contact)?)
 }
 

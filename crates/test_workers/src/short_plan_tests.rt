@@ -1,0 +1,126 @@
+//! A host's worker of a disk whose plan and seat are for one request fewer than its guest asks.
+ghost use Rattle.std.specs.Prelude.{◌≡◌, None};
+ghost use Rattle.worker_pair.specs.Workers.{IsLive};
+ghost use Rattle.io_edge.specs.declared.side.Side.TheVariants.{Guest as GuestSide, Host as HostSide};
+ghost use Rattle.ring_seat.specs.Seats.{new_end};
+ghost use Rattle.script_lines.specs.Requests.{CanBeCarried};
+
+use crate::check::check;
+use crate::only_seat::only_seat;
+use contact::Kind;
+use io_edge::NoGate;
+use ring_seat::{ChannelMem, GuestEnd, HostEnd};
+use scsi_disk::{Chunk, Disk, DiskRequest};
+use std::alloc::AllocGlobal;
+use std::process::Abort;
+use std::sync::Wait;
+use worker_pair::{GuestPlan, GuestSeat, GuestWorker, HostPlan, HostSeat, HostWorker};
+use worker_port::{Ended, Turn};
+
+// More turns than both workers take.
+const MOST_TURNS: u32 = 1_000;
+
+// Whether the disk is ready.
+#[tactic(auto, unfolding(scsi_disk::specs::Commands::command_of))]
+fn ready() -> DiskRequest
+    ensures { CanBeCarried result }
+{
+    DiskRequest {
+        cdb: [0; 16],
+        out: Chunk::of(&[]),
+    }
+}
+
+// A guest that asks three times.
+fn guest_of(rt: &(impl Abort + AllocGlobal), end: GuestEnd) -> GuestWorker
+    requires { end.state ≡ new_end 512 GuestSide }
+    ensures { IsLive result }
+{
+    let alloc = rt.alloc();
+    let asks = [ready(), ready(), ready()];
+    let plan = GuestPlan {
+        relid: 1,
+        kind: Kind::Disk,
+        sub: 0,
+        subs: 0,
+        window: 4,
+        count: 3,
+        disk: Vec::from_array(alloc, asks).expect(rt, "memory"),
+        net: Vec::new(alloc),
+    };
+    GuestWorker::make(alloc, end, GuestSeat::None, plan).expect(rt, "memory")
+}
+
+// A host that serves two requests.
+fn host_of(rt: &(impl Abort + AllocGlobal), end: HostEnd) -> HostWorker
+    requires { end.state ≡ new_end 512 HostSide }
+    ensures { IsLive result }
+{
+    let alloc = rt.alloc();
+    let disk = Disk::make(alloc, 64, &[]).expect(rt, "memory");
+    let seat = only_seat(alloc, disk, 2).expect(rt, "memory");
+    let plan = HostPlan {
+        relid: 1,
+        kind: Kind::Disk,
+        sub: 0,
+        subs: 0,
+        window: 4,
+        count: 2,
+        stop: None,
+        asks: Vec::new(alloc),
+    };
+    HostWorker::make(alloc, end, HostSeat::Disk(seat), plan).expect(rt, "memory")
+}
+
+// How the guest's worker ends, where this turn is its last one.
+#[tactic(auto, using(crate::proofs::Live::moved_live, crate::proofs::Live::idle_live))]
+fn turn_guest(rt: &impl Wait, guest: &mut GuestWorker) -> Option<Ended>
+    requires { IsLive guest.old }
+    ensures { result ≡ None → IsLive guest.new }
+{
+    match guest.turn(rt, &NoGate) {
+        Turn::Moved => None,
+        Turn::Idle => None,
+        Turn::Ended(how) => Some(how),
+    }
+}
+
+// And the host's.
+#[tactic(auto, using(crate::proofs::Live::moved_live, crate::proofs::Live::idle_live))]
+fn turn_host(rt: &impl Wait, host: &mut HostWorker) -> Option<Ended>
+    requires { IsLive host.old }
+    ensures { result ≡ None → IsLive host.new }
+{
+    match host.turn(rt, &NoGate) {
+        Turn::Moved => None,
+        Turn::Idle => None,
+        Turn::Ended(how) => Some(how),
+    }
+}
+
+// How the host's worker ends while the guest's goes on.
+fn host_ends(rt: &impl Wait, guest: &mut GuestWorker, host: &mut HostWorker) -> Option<Ended>
+    requires guest { IsLive guest.old }
+    requires host { IsLive host.old }
+{
+    for _ in 0..MOST_TURNS {
+        if turn_guest(rt, guest).is_some() {
+            return None;
+        }
+        let ended = turn_host(rt, host);
+        if ended.is_some() {
+            return ended;
+        }
+    }
+    None
+}
+
+#[test]
+fn a_short_plan_ends_for_want_of_room(rt: HostRuntime) {
+    let (guest_end, host_end) = ChannelMem::make(rt.alloc(), 1, 0).expect(&rt, "memory");
+    let mut guest = guest_of(&rt, guest_end);
+    let mut host = host_of(&rt, host_end);
+    // Both calls of its seat are made, and the third request is still to be served.
+    let ended = host_ends(&rt, &mut guest, &mut host);
+    check(&rt, matches!(ended, Some(Ended::Room { left: 0, .. })));
+}
