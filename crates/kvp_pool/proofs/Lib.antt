@@ -1,0 +1,4 @@
+pub mod KeyLaws
+pub mod MapLaws
+pub mod TextLaws
+pub mod KeptLaws
