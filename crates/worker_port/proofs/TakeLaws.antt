@@ -27,6 +27,7 @@ use Rattle.ring_core.specs.Seen.{Kept, Seen}
 use Rattle.ring_core.specs.Taking.{Takes, TakesIdle, is_honest_take}
 use Rattle.ring_core.specs.Told.{Memory}
 use Rattle.ring_sleep.proofs.Telling.{tells_on, told_of}
+use Rattle.worker_port.specs.Tries.{FoundNone}
 use Rattle.worker_port.specs.Line.{Finds, IsLine, Line, LineState, TookOne, found_of, has_packet, line_of}
 use Rattle.worker_port.proofs.ItemLaws.{found_past, got_same_as, past_finds}
 
@@ -56,6 +57,21 @@ refused_stage BadIndex m r call none is = ap (λ x. found_stage (found_of (Some 
 refused_stage BadLength m r call none is = ap (λ x. found_stage (found_of (Some x))) (sym is)
 refused_stage BadOffset m r call none is = ap (λ x. found_stage (found_of (Some x))) (sym is)
 refused_stage _ m r call none is = absurd (cc)
+
+-- a take that found nothing ended so
+empty_how : (how : Ending) (m : EndMachine) (r : TakeRefusal) → call_by how ≡ Take → is_took how ≡ false → r ≡ take_refusal how m → found_of (Some r) ≡ FoundNothing → how ≡ EndedEmpty
+empty_how EndedEmpty m r call none is nothing = refl
+empty_how BadIndex m r call none is nothing = let bad : found_stage FoundBroken ≡ found_stage FoundNothing = ap (λ x. found_stage (found_of (Some x))) (sym is) ∙ ap found_stage nothing in absurd (cc)
+empty_how BadLength m r call none is nothing = let bad : found_stage FoundBroken ≡ found_stage FoundNothing = ap (λ x. found_stage (found_of (Some x))) (sym is) ∙ ap found_stage nothing in absurd (cc)
+empty_how BadOffset m r call none is nothing = let bad : found_stage FoundBroken ≡ found_stage FoundNothing = ap (λ x. found_stage (found_of (Some x))) (sym is) ∙ ap found_stage nothing in absurd (cc)
+empty_how _ m r call none is nothing = absurd (cc)
+
+pub found_none : {S : Type 0} (told : S → Option Told) (memory : S → Option Memory) (old new : Seen S) (o : Option TakeRefusal) → TakesIdle S told memory old new o → found_of o ≡ FoundNothing → FoundNone told memory old new
+found_none told memory old new None takes nothing = absurd (cc)
+found_none told memory old new (Some r) takes nothing =
+    let m : EndMachine = new.state.machine in
+    let none = untook (is_took m.ended) r (take_refusal m.ended m) takes.answer in
+    record { looked = takes.ran; none = empty_how m.ended m r takes.call none (refusal_is (is_took m.ended) r (take_refusal m.ended m) takes.answer) nothing }
 
 found_got : (f : Found) (past : List (Event (List ℕ))) → got_of (found_past f past) ≡ got_of past
 found_got FoundPacket past = refl

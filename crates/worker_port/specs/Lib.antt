@@ -1,4 +1,5 @@
 pub mod Rooms
 pub mod Line
+pub mod Tries
 pub mod Owed
 pub mod Causes

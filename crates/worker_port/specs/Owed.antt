@@ -58,7 +58,8 @@ pub record LacksSend {S : Type 0} (packets words : ℕ) (owed : List Item) (e : 
 abbrev pub HasSendRoom : {S : Type 0} → List ℕ → Line S → Type 0
 HasSendRoom p e = (0 < e.spare_sent.packets) × (length p ≤ e.spare_sent.words)
 
--- the first of these packets found too little room in the ring: no more free cells than its words and its trailer take
+-- the end's machine keeps no more room than the first of these packets and its trailer take, and the length of that packet. A take keeps a length too: that this very packet was
+-- tried is said by `TriedLast`
 pub record MetFull {S : Type 0} (owed : List Item) (e : Line S) : Type 0 where
   pub packet : Item
   pub rest : List Item

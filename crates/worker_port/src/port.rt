@@ -5,7 +5,8 @@ ghost use Rattle.channel_trace.specs.Runs.{got_of, has_marked};
 ghost use Rattle.ring_machine.specs.Endings.{want_of};
 ghost use Rattle.ring_machine.specs.declared.machine.Stage.TheVariants.{Idle};
 ghost use Rattle.worker_port.specs.declared.found.Tried.TheVariants.{Sent as SentTry, Full as FullTry, Broken as BrokenTry};
-ghost use Rattle.worker_port.specs.declared.found.Found.TheVariants.{Packet as PacketFind, Broken as BrokenFind};
+ghost use Rattle.worker_port.specs.declared.found.Found.TheVariants.{Packet as PacketFind, Nothing as NothingFind, Broken as BrokenFind};
+ghost use Rattle.ring_machine.specs.declared.machine.Ending.TheVariants.{Full as EndedFull};
 ghost use Rattle.ring_machine.specs.States.{IsPacket};
 ghost use Rattle.worker_port.specs.Owed.{HasSendRoom, IsNeed, LacksSendOf};
 ghost use Rattle.worker_port.specs.Rooms.{GotInto, KeepsRoom, SentInto};
@@ -13,6 +14,7 @@ ghost use Rattle.page_kept.specs.declared.item.Item.{Item};
 ghost use Rattle.page_kept.specs.Items.{item_of};
 ghost use Rattle.channel_protocol.specs.Paged.{Lays};
 ghost use Rattle.worker_port.specs.Line.{new_end, IsLine, line_of, item_sent, past_as, IsBroken, IsReady, Tries, Finds, past_tried, Stays, TookOne, looked, look_of, is_asleep, armed_by, polled_by, PolledOnce, HasTakeRoom, LacksTake};
+ghost use Rattle.worker_port.specs.Tries.{FoundNone, MarkedOnce, TriedOnce};
 
 use crate::found::{Found, Tried, found_by, has_packet, tried_by};
 use channel_protocol::Protocol;
@@ -204,6 +206,8 @@ impl<T: Protocol, S: Parks + Drop> Port<T, S> {
         ensures unmarked { has_marked self.old.state.past ≡ false }
         ensures unsent { result ≢ SentTry → self.new.spare_sent ≡ self.old.spare_sent }
         ensures found { result ≡ FullTry → (self.new.state.machine.room ≤ length packet.now + 1) × (self.new.state.machine.words ≡ length packet.now) }
+        ensures tried { TriedOnce S.told S.memory packet.now self.old.end self.new.end }
+        ensures full { result ≡ FullTry → self.new.end.state.machine.ended ≡ EndedFull }
         ensures into { SentInto (length packet.now) self.old self.new }
     {
         let _none = words;
@@ -222,6 +226,7 @@ impl<T: Protocol, S: Parks + Drop> Port<T, S> {
         ensures stays { Stays S.channel S.told self.old self.new }
         ensures sent { self.new.spare_sent ≡ self.old.spare_sent }
         ensures none { result ≢ PacketFind → (self.new.state.got ≡ self.old.state.got) × (self.new.spare_got ≡ self.old.spare_got) }
+        ensures looked { result ≡ NothingFind → FoundNone S.told S.memory self.old.end self.new.end }
         ensures into { GotInto self.old self.new }
     {
         let found = found_by(self.end.take_in());
@@ -287,6 +292,7 @@ impl<T: Protocol, S: Parks + Drop> Port<T, S> {
         ensures past { self.new.state.past ≡ Marked ∷ self.old.state.past }
         ensures marked { self.new.state.machine.marked ≡ true }
         ensures awake { self.new.state.machine.asleep ≡ false }
+        ensures once { MarkedOnce S.told S.memory self.old.end self.new.end }
         ensures first { has_marked self.old.state.past ≡ false }
         ensures found { (self.new.state.machine.room ≡ self.old.state.machine.room) × (self.new.state.machine.words ≡ self.old.state.machine.words) }
         ensures got { got_of self.new.state.past ≡ self.new.state.got }

@@ -15,6 +15,8 @@ use Rattle.channel_trace.specs.Laws.{Follows}
 use Rattle.channel_trace.proofs.Pasts.{drained_seen, follows_unmarked}
 use Rattle.hist_lock.specs.Seat.{Call}
 use Rattle.ring_core.specs.declared.told.Told.{Told}
+use Rattle.ring_core.specs.Seen.{Seen}
+use Rattle.ring_core.specs.Told.{Memory}
 use Rattle.channel_model.specs.WireFormat.{WireFormat, Keeps}
 use Rattle.channel_model.specs.Acks.{is_in, own_open, OwnFrom, AllOwnOpen}
 use Rattle.channel_model.specs.Amounts.{MayHaveMessages}
@@ -29,9 +31,10 @@ use Rattle.channel_model.proofs.Serving.{server_took, server_served, server_pass
 use Rattle.worker_port.specs.Line.{Line, SleepsFor}
 use Rattle.ring_core.specs.declared.room.Room.{Room as Spare}
 use Rattle.worker_port.specs.Owed.{is_nil, need_of, MetFull}
+use Rattle.worker_port.specs.Tries.{FoundFull, FoundNone, MarkedOnce}
 use Rattle.worker_port.specs.Rooms.{ServedWithin, AskedOver, ServeLacksFor, OnlyWith, is_asked}
 use Rattle.txn_table.specs.Open.{HasNone}
-use Rattle.worker_server.specs.Serving.{Responder, Serving, IsServing, Rests, HasRoomFor, HasServed, HasToWait, Closes, ServesPacket, Orders, EndsAll, BreaksOff, CallsEach, AnswersAll, LetsGo, LacksPlace, LeftOff, EndsBy, LeavesOff, LacksRoom, ServesOn, IsFull, own_in, has_done, has_served, lacks_call, marked_by}
+use Rattle.worker_server.specs.Serving.{Responder, Serving, IsServing, Rests, HasRoomFor, HasServed, HasToWait, Closes, ServesPacket, Orders, EndsAll, BreaksOff, CallsEach, AnswersAll, FirstFull, LetsGo, LetsGoTried, LacksPlace, LeavesTried, LeftOff, EndsBy, LeavesOff, LacksRoom, ServesOn, IsFull, own_in, has_done, has_served, lacks_call, marked_by}
 use Rattle.worker_server.proofs.OwnLaws.{own_within, full_open, none_full, table_empty}
 use Rattle.worker_port.specs.declared.ended.Ended.{Ended}
 use Rattle.worker_port.specs.declared.ended.Ended.TheVariants.{Marked as EndedMarked, PeerMarked, Room, Broken as EndedBroken}
@@ -50,6 +53,11 @@ only_on false f x = x
 -- the end that met Full has done nothing since of which the room that it found tells
 pub full_still : {E : Type 0} → (owed : List Item) (old new : Line E) → (new.state.machine.room ≡ old.state.machine.room) × (new.state.machine.words ≡ old.state.machine.words) → MetFull owed old → MetFull owed new
 full_still owed old new same full = record { packet = full.packet; rest = full.rest; first = full.first; room = omega (arith, full.room, same.0); words = same.1 ∙ full.words }
+
+-- the words of the first of these packets
+abbrev first_words : List Item → List ℕ
+first_words [] = []
+first_words (p ∷ ps) = p.packet
 
 -- the list of what was sent has room for what is owed as long as neither changes
 pub room_still : {E : Type 0} (owed : List Item) (old new : Line E) → new.spare_sent ≡ old.spare_sent → HasRoomFor owed old → HasRoomFor owed new
@@ -427,6 +435,23 @@ module _ {T S E A Q R : Type 0} (s : WireFormat Item A Q R) (keeps : Keeps s) (b
       → MetFull w.responder.owed end' → IsServing s besides w → LetsGo s (record w { end = end'; responder = gone }) end' w.responder.calls
   marks_gone end' is got awake marked full h = lets_go s keeps besides (record w { end = end'; responder = gone }) full (marked_kept end' is got awake marked h)
 
+  -- and it was tried since an earlier end
+  pub gone_tried : (told : E → Option Told) (memory : E → Option Memory) (end' : Line E) (before looked : Seen E) → end'.state.past ≡ Marked ∷ w.end.state.past → end'.state.got ≡ w.end.state.got → end'.state.machine.asleep ≡ false → end'.state.machine.marked ≡ true
+      → MetFull w.responder.owed end' → FoundNone told memory before looked → FirstFull told memory w.responder.owed looked w.end.end → MarkedOnce told memory w.end.end end'.end → IsServing s besides w
+      → LetsGoTried told memory s (record w { end = end'; responder = gone }) before end' w.responder.calls
+  gone_tried told memory end' before looked is got awake marked full none first once h =
+      let k : IsServing s besides (record w { end = end'; responder = gone }) = marked_kept end' is got awake marked h in
+      record {
+        goes = record { served = k.kept.served; first = (drop w.served end'.state.got, k.kept.got_is); missing = w.responder.owed; serves = k.kept.serves; few = k.few; full = full };
+        tried = record {
+          looked = looked;
+          tried = w.end.end;
+          none = none;
+          full = subst (λ p. FoundFull told memory p looked w.end.end) (ap first_words (sym first.first ∙ full.first)) first.full;
+          marked = once;
+        };
+      }
+
   pub marks_drained : (end' : Line E) → end'.state.past ≡ Marked ∷ w.end.state.past → end'.state.got ≡ w.end.state.got → end'.state.machine.asleep ≡ false → end'.state.machine.marked ≡ true
       → is_drained w.end.state.past ≡ true → has_marked w.end.state.past ≡ false → IsServing s besides w → EndsAll s (record w { end = end'; responder = gone }) end'.state.past w.responder.calls
   marks_drained end' is got awake marked drained unmarked h =
@@ -455,6 +480,16 @@ module _ {T S E A Q R : Type 0} (s : WireFormat Item A Q R) (keeps : Keeps s) (b
       by true f = let lacks = marks_lacking end' is none f h in (inr lacks, inr (none, lacks.full))
       by false f = absurd f
 
+  pub follows_tried : (told : E → Option Told) (memory : E → Option Memory) (before : Seen E) (end' : Line E) → end'.state.past ≡ Marked ∷ w.end.state.past → end'.state.got ≡ w.end.state.got → end'.state.machine.asleep ≡ false → end'.state.machine.marked ≡ true
+      → got_of end'.state.past ≡ end'.state.got → w.responder.owed ≡ [] → HasServed s besides w → IsServing s besides w
+      → LeavesTried told memory s besides PeerMarked (record w { end = end'; responder = gone }) before end' w.responder.calls
+  follows_tried told memory before end' is got awake marked list none (inl all) h = inl (inl (marks_answered end' is got awake marked list none all h))
+  follows_tried told memory before end' is got awake marked list none (inr full) h = by besides full
+    where
+      by : (b : Bool) → OnlyWith b (AllOwnOpen s 64 w.end.state.past) → LeavesTried told memory s b PeerMarked (record w { end = end'; responder = gone }) before end' w.responder.calls
+      by true f = inr (marks_lacking end' is none f h)
+      by false f = absurd f
+
   -- none waited after the mark was seen
   pub drains : (end' : Line E) → end'.state.past ≡ Empty ∷ w.end.state.past → IsServing s besides w → w.seen ≡ true → is_drained end'.state.past ≡ true
   drains end' is h seen = ap is_drained is ∙ ap (λ b. b || is_drained w.end.state.past) (h.saw ∙ seen)
@@ -471,6 +506,10 @@ module _ {T S E A Q R : Type 0} (s : WireFormat Item A Q R) (keeps : Keeps s) (b
   pub ends_by : (seen : Bool) → EndsAll s w w.end.state.past w.responder.calls → AnswersAll s w w.end.state.past w.responder.calls → OwnFrom s 64 w.end.state.past → has_marked w.end.state.past ≡ true → has_seen w.end.state.past ≡ seen → EndsBy s besides (marked_by seen) w w.end w.responder.calls
   ends_by true all answers from marked saw = (all, inl (inl answers), from, marked, saw)
   ends_by false all answers from marked saw = (all, answers, from, marked, saw)
+
+  pub tried_by : (told : E → Option Told) (memory : E → Option Memory) (seen : Bool) (before : Seen E) → AnswersAll s w w.end.state.past w.responder.calls → LeavesTried told memory s besides (marked_by seen) w before w.end w.responder.calls
+  tried_by told memory true before answers = inl (inl answers)
+  tried_by told memory false before answers = tt
 
   pub lacks_none : (left_at : S → ℕ) (seen : Bool) → HasNone w.responder.table → ServedWithin s besides w.end.state.past → LeavesOff s besides w → LacksRoom left_at s besides (marked_by seen) w
   lacks_none left_at true none sent leaves = (none, sent, leaves)
@@ -517,6 +556,12 @@ module _ {T S E A Q R : Type 0} (sp : T → WireFormat Item A Q R) (keeps : (t :
       → LacksRoom left_at (sp w.responder.protocol) (besides w.responder.protocol) how (record w { end = end'; responder = record w.responder { table = replicate 64 None } })
       → LacksRoom left_at (sp responder'.protocol) (besides responder'.protocol) how (record w { end = end'; responder = responder' })
   room_gone left_at how end' responder' responder h = subst (λ d. LacksRoom left_at (sp d.protocol) (besides d.protocol) how (record w { end = end'; responder = d })) (sym responder) h
+
+  pub tried_gone : (told : E → Option Told) (memory : E → Option Memory) (how : Ended) (before : Seen E) (end' : Line E) (responder' : Responder T S Q R) → responder' ≡ record w.responder { table = replicate 64 None }
+      → LeavesTried told memory (sp w.responder.protocol) (besides w.responder.protocol) how (record w { end = end'; responder = record w.responder { table = replicate 64 None } }) before end' w.responder.calls
+      → LeavesTried told memory (sp responder'.protocol) (besides responder'.protocol) how (record w { end = end'; responder = responder' }) before end' responder'.calls
+  tried_gone told memory how before end' responder' responder h =
+      subst (λ d. LeavesTried told memory (sp d.protocol) (besides d.protocol) how (record w { end = end'; responder = d }) before end' d.calls) (sym responder) h
 
   pub gave_by : (end' : Line E) (responder' : Responder T S Q R) (p : Item) → end'.state.past ≡ Sent p ∷ w.end.state.past → w.responder.owed ≡ p ∷ drop 1 w.responder.owed
       → responder' ≡ record w.responder { owed = drop 1 w.responder.owed } → end'.state.got ≡ w.end.state.got → end'.state.machine.asleep ≡ false → w.end.state.machine.marked ≡ false

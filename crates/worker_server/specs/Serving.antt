@@ -8,6 +8,8 @@ use Rattle.channel_trace.specs.Runs.{IsFront, sent_of, got_of, has_marked, has_s
 use Rattle.hist_lock.specs.Seat.{Call}
 use Rattle.io_edge.specs.declared.side.Side.{Side}
 use Rattle.ring_core.specs.declared.told.Told.{Told}
+use Rattle.ring_core.specs.Seen.{Seen}
+use Rattle.ring_core.specs.Told.{Memory}
 use Rattle.txn_table.specs.Open.{HasNone, request_of}
 use Rattle.channel_model.specs.WireFormat.{WireFormat}
 use Rattle.channel_model.specs.Acks.{is_in, OwnFrom, AllOwnOpen}
@@ -17,6 +19,7 @@ use Rattle.channel_model.specs.Channel.{RequestPlan, count_of, held_of, ServerEn
 use Rattle.channel_model.specs.Workers.{left_after, ServerKept, OwnKept}
 use Rattle.worker_port.specs.Line.{IsBroken, IsReady, IsSameEnd, LacksTake, Line, SleepsFor}
 use Rattle.worker_port.specs.Owed.{is_nil, need_of, HasSendRoom, LacksSend, MetFull}
+use Rattle.worker_port.specs.Tries.{FoundFull, TriedLast}
 use Rattle.worker_port.specs.Rooms.{ServedWithin, ServeLacksFor, KeepsRoom, OnlyWith, is_asked}
 use Rattle.worker_port.specs.declared.ended.Ended.{Ended}
 use Rattle.worker_port.specs.declared.ended.Ended.TheVariants.{Marked, PeerMarked, Room, Broken as EndedBroken}
@@ -164,7 +167,8 @@ pub record AnswersAll {T S E A Q R : Type 0} (s : WireFormat Item A Q R) (w : Se
   pub serves : Serves s w.responder.held (got_of past) w.serve calls (sent_of past)
   pub each : CallsEach s w past calls
 
--- the first packets that came were served, and of what goes back for them the last packets are missing, at most two: the first of these found no room
+-- the first packets that came were served, and of what goes back for them the last packets are missing, at most two: for the first of these the end's machine keeps too
+-- little room
 pub record LetsGo {T S E A Q R : Type 0} (s : WireFormat Item A Q R) (w : Serving T S E Q R) (e : Line E) (calls : List (Call Q R)) : Type 0 where
   pub served : List Item
   pub first : IsFront served (got_of e.state.past)
@@ -180,6 +184,12 @@ pub record LacksPlace {T S E A Q R : Type 0} (s : WireFormat Item A Q R) (w : Se
   pub serves : Serves s w.responder.held served w.serve calls (sent_of past)
   pub full : AllOwnOpen s 64 past
 
+-- and from an earlier end on it did this alone: it looked for a packet and found none, tried the first packet that is missing and found too little room for it, and
+-- marked its end
+pub record LetsGoTried {T S E A Q R : Type 0} (told : E → Option Told) (memory : E → Option Memory) (s : WireFormat Item A Q R) (w : Serving T S E Q R) (old : Seen E) (e : Line E) (calls : List (Call Q R)) : Type 0 where
+  pub goes : LetsGo s w e calls
+  pub tried : TriedLast told memory goes.full.packet.packet old e.end
+
 -- how it left off that ended after the other end's mark: all is answered, or the first packet that is missing found no room, which the other end makes no more;
 -- or a place of the table is missing, which it makes no more either
 abbrev pub LeftOff : {T S E A Q R : Type 0} → WireFormat Item A Q R → Bool → Serving T S E Q R → Line E → List (Call Q R) → Type 0
@@ -194,6 +204,13 @@ EndsBy s besides PeerMarked w e calls =
     EndsAll s w e.state.past calls × LeftOff s besides w e calls × OwnFrom s 64 e.state.past × (has_marked e.state.past ≡ true) × (has_seen e.state.past ≡ true)
 EndsBy s besides (Room packets words left) w e calls = BreaksOff s w e.state.past calls × OwnFrom s 64 e.state.past
 EndsBy s besides EndedBroken w e calls = BreaksOff s w e.state.past calls × OwnFrom s 64 e.state.past
+
+-- how it left off from an earlier end on, where it ended after the other end's mark: what is missing was tried since
+abbrev pub LeavesTried : {T S E A Q R : Type 0} → (E → Option Told) → (E → Option Memory) → WireFormat Item A Q R → Bool → Ended → Serving T S E Q R → Seen E → Line E → List (Call Q R) → Type 0
+LeavesTried told memory s besides Marked w old e calls = Unit {0}
+LeavesTried told memory s besides PeerMarked w old e calls = (AnswersAll s w e.state.past calls ⊎ LetsGoTried told memory s w old e calls) ⊎ OnlyWith besides (LacksPlace s w e.state.past calls)
+LeavesTried told memory s besides (Room packets words left) w old e calls = Unit {0}
+LeavesTried told memory s besides EndedBroken w old e calls = Unit {0}
 
 -- how a worker has ended that marked its end, by whether it had seen the other end's mark
 abbrev pub marked_by : Bool → Ended
@@ -239,6 +256,19 @@ abbrev pub Turns : {T S E A Q R : Type 0} → (S → ℕ) → WireFormat Item A 
 Turns left_at s besides Moved w = w.end.state.machine.marked ≡ false
 Turns left_at s besides Idle w = (w.end.state.machine.marked ≡ false) × (w.end.state.machine.asleep ≡ true) × Rests s besides w
 Turns left_at s besides (TurnEnded how) w = EndsBy s besides how w w.end w.responder.calls × LacksRoom left_at s besides how w
+
+-- of a turn from this end on: where it ended after the other end's mark, what is missing was tried in it
+abbrev pub TurnTried : {T S E A Q R : Type 0} → (E → Option Told) → (E → Option Memory) → WireFormat Item A Q R → Bool → Turn → Seen E → Serving T S E Q R → Type 0
+TurnTried told memory s besides Moved old w = Unit {0}
+TurnTried told memory s besides Idle old w = Unit {0}
+TurnTried told memory s besides (TurnEnded how) old w = LeavesTried told memory s besides how w old w.end w.responder.calls
+
+-- the first of these packets was tried once, and found too little room
+pub record FirstFull {S : Type 0} (told : S → Option Told) (memory : S → Option Memory) (owed : List Item) (old new : Seen S) : Type 0 where
+  pub packet : Item
+  pub rest : List Item
+  pub first : owed ≡ packet ∷ rest
+  pub full : FoundFull told memory packet.packet old new
 
 -- a packet that is owed was sent, or nothing changed
 abbrev pub GaveOne : {T S E Q R : Type 0} → Given → Serving T S E Q R → Serving T S E Q R → Type 0

@@ -6,10 +6,12 @@ ghost use Rattle.worker_server.specs.Causes.{GivesLast, GivesOne, GivesOrTakes, 
 ghost use Rattle.worker_port.specs.Line.{new_end, IsLine, line_of, past_as, Finds, IsBroken, IsReady, IsSameEnd, HasTakeRoom, LacksTake, TookOne};
 ghost use Rattle.worker_port.specs.Owed.{is_nil, LacksSend, MetFull};
 ghost use Rattle.worker_port.specs.Rooms.{KeepsRoom, OnlyWith, ServeLacksFor, ServedWithin, broke, is_broken};
-ghost use Rattle.worker_server.specs.Serving.{Closes, EndsBy, HasRoomFor, HasServed, HasToWait, Lacks, LacksRoom, Turns, GaveOne, ServeEnds, ServesOn, BreaksOff, StandsGiven, calls_behind, has_done, lacks_call, marked_by};
+ghost use Rattle.worker_server.specs.Serving.{Closes, EndsBy, FirstFull, HasRoomFor, HasServed, HasToWait, Lacks, LacksRoom, LeavesTried, Turns, TurnTried, GaveOne, ServeEnds, ServesOn, BreaksOff, StandsGiven, calls_behind, has_done, lacks_call, marked_by};
+ghost use Rattle.worker_port.specs.Tries.{FoundNone};
+ghost use Rattle.ring_core.specs.Seen.{Seen};
 ghost use Rattle.channel_model.specs.Acks.{AllOwnOpen, OwnFrom};
 ghost use Rattle.worker_port.specs.declared.found.Found.TheVariants.{Nothing as NothingFound, Broken as BrokenFound};
-ghost use Rattle.worker_server.specs.declared.put.Given.TheVariants.{Broken as BrokenGiven};
+ghost use Rattle.worker_server.specs.declared.put.Given.TheVariants.{Broken as BrokenGiven, Full as FullGiven};
 ghost use Rattle.channel_model.specs.Amounts.{room_of};
 ghost use Rattle.worker_port.specs.declared.ended.Ended.TheVariants.{PeerMarked as PeerMarkedEnd, Room as RoomEnd, Broken as BrokenEnd};
 
@@ -70,6 +72,7 @@ impl<T: Protocol, S: Device<T>, E: Parks + Drop> Server<T, S, E> {
         requires owed { is_nil self.old.responder.owed ≡ false }
         ensures gave { GaveOne result self.old self.new }
         ensures cause { GivesOne result self.old.end.state.past self.new.end }
+        ensures tried { result ≡ FullGiven → FirstFull E.told E.memory self.new.responder.owed self.old.end.end self.new.end.end }
         ensures stands { StandsGiven result self.new.end }
         ensures honest { is_some (E.told self.old.end.seat) ≡ true → result ≢ BrokenGiven }
         ensures on { ServesOn S.same E.channel E.told self.old self.new }
@@ -119,6 +122,7 @@ impl<T: Protocol, S: Device<T>, E: Parks + Drop> Server<T, S, E> {
         ensures none { result ≡ NothingFound → self.new.responder ≡ self.old.responder }
         ensures missing { result ≡ NothingFound → self.new.missing ≡ self.old.missing }
         ensures finds { Finds result self.new.end }
+        ensures looked { result ≡ NothingFound → FoundNone E.told E.memory self.old.end.end self.new.end.end }
         ensures honest { is_some (E.told self.old.end.seat) ≡ true → result ≢ BrokenFound }
         ensures on { ServesOn S.same E.channel E.told self.old self.new }
     {
@@ -141,6 +145,7 @@ impl<T: Protocol, S: Device<T>, E: Parks + Drop> Server<T, S, E> {
         requires served { self.old.served ≡ length self.old.end.state.got }
         ensures ends { EndsBy (T.format self.new.responder.protocol) (T.besides self.new.responder.protocol) result self.new self.new.end self.new.responder.calls }
         ensures room { LacksRoom S.left (T.format self.new.responder.protocol) (T.besides self.new.responder.protocol) result self.new }
+        ensures tried { (before : Seen E) → LeavesTried E.told E.memory (T.format self.new.responder.protocol) (T.besides self.new.responder.protocol) result self.new before self.new.end self.new.responder.calls }
         ensures honest { is_broken result ≡ false }
         ensures on { ServesOn S.same E.channel E.told self.old self.new }
     {
@@ -157,6 +162,7 @@ impl<T: Protocol, S: Device<T>, E: Parks + Drop> Server<T, S, E> {
         requires drained { is_drained self.old.end.state.past ≡ true }
         ensures ends { EndsBy (T.format self.new.responder.protocol) (T.besides self.new.responder.protocol) PeerMarkedEnd self.new self.new.end self.new.responder.calls }
         ensures room { LacksRoom S.left (T.format self.new.responder.protocol) (T.besides self.new.responder.protocol) PeerMarkedEnd self.new }
+        ensures tried { (before : Seen E) → LeavesTried E.told E.memory (T.format self.new.responder.protocol) (T.besides self.new.responder.protocol) PeerMarkedEnd self.new before self.new.end self.new.responder.calls }
         ensures on { ServesOn S.same E.channel E.told self.old self.new }
     {
         self.responder.rescind_all();
@@ -170,6 +176,7 @@ impl<T: Protocol, S: Device<T>, E: Parks + Drop> Server<T, S, E> {
         requires drained { is_drained self.old.end.state.past ≡ true }
         ensures ends { EndsBy (T.format self.new.responder.protocol) (T.besides self.new.responder.protocol) PeerMarkedEnd self.new self.new.end self.new.responder.calls }
         ensures room { LacksRoom S.left (T.format self.new.responder.protocol) (T.besides self.new.responder.protocol) PeerMarkedEnd self.new }
+        ensures tried { (before looked : Seen E) → FoundNone E.told E.memory before looked → FirstFull E.told E.memory self.old.responder.owed looked self.old.end.end → LeavesTried E.told E.memory (T.format self.new.responder.protocol) (T.besides self.new.responder.protocol) PeerMarkedEnd self.new before self.new.end self.new.responder.calls }
         ensures on { ServesOn S.same E.channel E.told self.old self.new }
     {
         self.responder.rescind_all();
@@ -184,6 +191,7 @@ impl<T: Protocol, S: Device<T>, E: Parks + Drop> Server<T, S, E> {
         requires unseen { self.old.seen ≡ false }
         ensures turns { Turns S.left (T.format self.new.responder.protocol) (T.besides self.new.responder.protocol) result self.new }
         ensures cause { Arms result self.old.end.state.past self.new.end }
+        ensures tried { (before : Seen E) → TurnTried E.told E.memory (T.format self.new.responder.protocol) (T.besides self.new.responder.protocol) result before self.new }
         ensures honest { broke result ≡ false }
         ensures on { ServesOn S.same E.channel E.told self.old self.new }
     {
@@ -264,6 +272,7 @@ impl<T: Protocol, S: Device<T>, E: Parks + Drop> Server<T, S, E> {
         requires unseen { is_nil self.old.responder.owed ≡ false → self.old.seen ≡ false }
         ensures turns { Turns S.left (T.format self.new.responder.protocol) (T.besides self.new.responder.protocol) result self.new }
         ensures cause { TakesOrArms result self.old.end.state.past self.new.end }
+        ensures tried { (before : Seen E) → TurnTried E.told E.memory (T.format self.new.responder.protocol) (T.besides self.new.responder.protocol) result before self.new }
         ensures honest { is_some (E.told self.old.end.seat) ≡ true → broke result ≡ false }
         ensures on { ServesOn S.same E.channel E.told self.old self.new }
     {
@@ -291,6 +300,7 @@ impl<T: Protocol, S: Device<T>, E: Parks + Drop> Server<T, S, E> {
         requires seen { self.old.seen ≡ true }
         ensures turns { Turns S.left (T.format self.new.responder.protocol) (T.besides self.new.responder.protocol) result self.new }
         ensures cause { GivesOrTakes result self.old.end.state.past self.new.end }
+        ensures tried { TurnTried E.told E.memory (T.format self.new.responder.protocol) (T.besides self.new.responder.protocol) result self.old.end.end self.new }
         ensures honest { is_some (E.told self.old.end.seat) ≡ true → broke result ≡ false }
         ensures on { ServesOn S.same E.channel E.told self.old self.new }
     {
@@ -311,6 +321,7 @@ impl<T: Protocol, S: Device<T>, E: Parks + Drop> Server<T, S, E> {
         requires drained { is_drained self.old.end.state.past ≡ true }
         ensures turns { Turns S.left (T.format self.new.responder.protocol) (T.besides self.new.responder.protocol) result self.new }
         ensures cause { GivesLast result self.old.end.state.past self.new.end }
+        ensures tried { (before : Seen E) → FoundNone E.told E.memory before self.old.end.end → TurnTried E.told E.memory (T.format self.new.responder.protocol) (T.besides self.new.responder.protocol) result before self.new }
         ensures honest { is_some (E.told self.old.end.seat) ≡ true → broke result ≡ false }
         ensures on { ServesOn S.same E.channel E.told self.old self.new }
     {
@@ -331,6 +342,7 @@ impl<T: Protocol, S: Device<T>, E: Parks + Drop> Server<T, S, E> {
         requires owed { is_nil self.old.responder.owed ≡ false }
         ensures turns { Turns S.left (T.format self.new.responder.protocol) (T.besides self.new.responder.protocol) result self.new }
         ensures cause { GivesOrTakes result self.old.end.state.past self.new.end }
+        ensures tried { TurnTried E.told E.memory (T.format self.new.responder.protocol) (T.besides self.new.responder.protocol) result self.old.end.end self.new }
         ensures honest { is_some (E.told self.old.end.seat) ≡ true → broke result ≡ false }
         ensures on { ServesOn S.same E.channel E.told self.old self.new }
     {
@@ -353,6 +365,7 @@ impl<T: Protocol, S: Device<T>, E: Parks + Drop> Server<T, S, E> {
         requires served { HasServed (T.format self.old.responder.protocol) (T.besides self.old.responder.protocol) self.old }
         ensures turns { Turns S.left (T.format self.new.responder.protocol) (T.besides self.new.responder.protocol) result self.new }
         ensures cause { TakesOrArms result self.old.end.state.past self.new.end }
+        ensures tried { TurnTried E.told E.memory (T.format self.new.responder.protocol) (T.besides self.new.responder.protocol) result self.old.end.end self.new }
         ensures honest { is_some (E.told self.old.end.seat) ≡ true → broke result ≡ false }
         ensures on { ServesOn S.same E.channel E.told self.old self.new }
     {
@@ -396,6 +409,7 @@ impl<T: Protocol, S: Device<T>, E: Parks + Drop> Server<T, S, E> {
         requires ready { IsReady self.old.end }
         ensures turns { Turns S.left (T.format self.new.responder.protocol) (T.besides self.new.responder.protocol) result self.new }
         ensures cause { GivesOrTakes result self.old.end.state.past self.new.end }
+        ensures tried { TurnTried E.told E.memory (T.format self.new.responder.protocol) (T.besides self.new.responder.protocol) result self.old.end.end self.new }
         ensures honest { is_some (E.told self.old.end.seat) ≡ true → broke result ≡ false }
         ensures on { ServesOn S.same E.channel E.told self.old self.new }
     {
@@ -419,6 +433,7 @@ impl<T: Protocol, S: Device<T>, E: Parks + Drop> Server<T, S, E> {
         requires unmarked { self.old.end.state.machine.marked ≡ false }
         ensures turns { Turns S.left (T.format self.new.responder.protocol) (T.besides self.new.responder.protocol) result self.new }
         ensures cause { Polls E.told E.memory result self.old.end self.new.end }
+        ensures tried { TurnTried E.told E.memory (T.format self.new.responder.protocol) (T.besides self.new.responder.protocol) result self.old.end.end self.new }
         ensures honest { broke result ≡ false }
         ensures on { ServesOn S.same E.channel E.told self.old self.new }
     {
@@ -490,6 +505,7 @@ impl<T: Protocol, S: Device<T>, E: Parks + Drop> Server<T, S, E> {
         requires unmarked { self.old.end.state.machine.marked ≡ false }
         ensures turns { Turns S.left (T.format self.new.responder.protocol) (T.besides self.new.responder.protocol) result self.new }
         ensures cause { ServeCause E.told E.memory result self.old.end self.new.end }
+        ensures tried { TurnTried E.told E.memory (T.format self.new.responder.protocol) (T.besides self.new.responder.protocol) result self.old.end.end self.new }
         ensures room { ServeEnds (T.format self.new.responder.protocol) (T.besides self.new.responder.protocol) result self.new }
         ensures honest { is_some (E.told self.old.end.seat) ≡ true → broke result ≡ false }
         ensures on { ServesOn S.same E.channel E.told self.old self.new }

@@ -9,9 +9,10 @@ use Rattle.ring_sleep.proofs.Telling.{tells_on}
 use Rattle.worker_port.specs.declared.found.Found.TheVariants.{Packet as FoundPacket}
 use Rattle.worker_port.specs.Line.{Line, TookOne, line_of}
 use Rattle.worker_port.specs.Rooms.{GotInto}
+use Rattle.worker_port.specs.Tries.{FoundNone}
 use Rattle.worker_port.proofs.ItemLaws.{got_more, got_same_as, line_got, past_got}
 use Rattle.worker_port.proofs.RoomLaws.{got_one, got_same}
-use Rattle.worker_port.proofs.TakeLaws.{a_packet, commit_past, no_packet, no_pages_took, no_refusal, one_taken, refused_line, refused_room, refused_took}
+use Rattle.worker_port.proofs.TakeLaws.{a_packet, commit_past, found_none, no_packet, no_pages_took, no_refusal, one_taken, refused_line, refused_room, refused_took}
 use Rattle.worker_port.proofs.port.Port.take.Goals as goal
 
 pub invariant_of-self : goal.invariant_of-self
@@ -129,3 +130,11 @@ returns-clause-into g c =
     subst (λ (x : Line _). GotInto x (line_of said c.commit.new.self)) v
     (got_one (line_of said old) (line_of said mid) (line_of said c.commit.new.self) (said (item_of gets.words [])) mid.state.machine.len (got_more said old mid gets.words c.self.invariant gets.list pages)
     (ap length (g.T.Protocol.said_packet (item_of gets.words [])) ∙ gets.size) room.0 room.1 (got_same_as said mid.state c.commit.new.self.state k.got k.pages) k.spare_got)
+
+pub returns-then-not-has_packet-clause-looked : goal.returns-then-not-has_packet-clause-looked
+returns-then-not-has_packet-clause-looked g c = λ nothing.
+    let v = c.self.view_is in
+    let old = c.self.inside.end in
+    let idle = ap (λ (x : Line _). x.state.machine.stage) v ∙ c.requires.ready.idle in
+    let none = found_none g.S.Seatlike.told g.S.Seatlike.memory old c.take_in.new.self (refused c.take_in.result) (c.take_in.ensures.takes.idle idle) (sym c.found_by-found.ensures ∙ nothing) in
+    subst (λ (x : Line _). FoundNone g.S.Seatlike.told g.S.Seatlike.memory x.end c.take_in.new.self) v none

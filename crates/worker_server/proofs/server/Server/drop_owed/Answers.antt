@@ -7,7 +7,8 @@ use Rattle.worker_port.specs.Owed.{MetFull}
 use Rattle.channel_model.specs.Acks.{OwnFrom}
 use Rattle.worker_port.specs.declared.ended.Ended.TheVariants.{PeerMarked}
 use Rattle.worker_server.proofs.OwnLaws.{none_requested}
-use Rattle.worker_server.proofs.ServeSteps.{marked_by_protocol, ends_gone, room_gone, marks_drained, marks_gone, full_still}
+use Rattle.worker_server.specs.Serving.{FirstFull}
+use Rattle.worker_server.proofs.ServeSteps.{marked_by_protocol, ends_gone, room_gone, marks_drained, marks_gone, full_still, gone_tried, tried_gone}
 use Rattle.worker_port.proofs.RoomLaws.{room_quiet, got_same, served_marked, served_so_far}
 use Rattle.worker_server.proofs.server.Server.drop_owed.Goals as goal
 
@@ -64,3 +65,23 @@ returns-clause-room g c =
           (g.T.Protocol.may c.self.inside.responder.protocol) c.self.invariant.live.kept c.self.invariant.room)),
       inl (inr (full_still c.self.inside.responder.owed _ _ c.mark.ensures.found full, c.self.invariant.live.few)),
     )
+
+pub returns-clause-tried : goal.returns-clause-tried
+returns-clause-tried g c = λ before looked none first.
+    let told = g.E.Seatlike.told in
+    let memory = g.E.Seatlike.memory in
+    let full = subst (λ w. MetFull w.responder.owed w.end) (sym c.self.view_is) c.requires.full in
+    let first' = subst (λ w. FirstFull told memory w.responder.owed looked w.end.end) (sym c.self.view_is) first in
+    tried_gone g.T.Protocol.format g.T.Protocol.keeps g.T.Protocol.besides (record {
+      responder = c.self.inside.responder;
+      end = c.self.inside.port;
+      serve = c.self.inside.serve;
+      stops = c.self.inside.stops;
+      starts = c.self.inside.starts;
+      come = c.self.inside.come;
+      missing = c.self.inside.missing;
+      served = c.self.inside.served;
+      seen = c.self.inside.seen;
+      want = c.self.inside.want;
+    }) told memory PeerMarked before c.mark.new.self c.rescind_all.new.self c.rescind_all.ensures.same
+    (inl (inr (gone_tried (g.T.Protocol.format c.self.inside.responder.protocol) (g.T.Protocol.keeps c.self.inside.responder.protocol) (g.T.Protocol.besides c.self.inside.responder.protocol) _ told memory _ before looked c.mark.ensures.past c.mark.ensures.lists.0 c.mark.ensures.awake c.mark.ensures.marked (full_still c.self.inside.responder.owed _ _ c.mark.ensures.found full) none first' c.mark.ensures.once c.self.invariant.live)))

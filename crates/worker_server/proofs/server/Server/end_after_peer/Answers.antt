@@ -7,7 +7,7 @@ use Rattle.channel_model.specs.Acks.{OwnFrom}
 use Rattle.worker_server.specs.Serving.{HasServed}
 use Rattle.worker_port.specs.declared.ended.Ended.TheVariants.{PeerMarked}
 use Rattle.worker_server.proofs.OwnLaws.{none_requested}
-use Rattle.worker_server.proofs.ServeSteps.{marked_by_protocol, ends_gone, room_gone, follows_off, marks_drained}
+use Rattle.worker_server.proofs.ServeSteps.{marked_by_protocol, ends_gone, room_gone, follows_off, follows_tried, marks_drained, tried_gone}
 use Rattle.worker_port.proofs.RoomLaws.{room_quiet, got_same, served_marked, served_so_far}
 use Rattle.worker_server.proofs.server.Server.end_after_peer.Goals as goal
 
@@ -68,3 +68,23 @@ returns-clause-room g c =
           (g.T.Protocol.may c.self.inside.responder.protocol) c.self.invariant.live.kept c.self.invariant.room)),
       left.1,
     )
+
+pub returns-clause-tried : goal.returns-clause-tried
+returns-clause-tried g c = λ before.
+    let v = c.self.view_is in
+    let told = g.E.Seatlike.told in
+    let memory = g.E.Seatlike.memory in
+    tried_gone g.T.Protocol.format g.T.Protocol.keeps g.T.Protocol.besides (record {
+      responder = c.self.inside.responder;
+      end = c.self.inside.port;
+      serve = c.self.inside.serve;
+      stops = c.self.inside.stops;
+      starts = c.self.inside.starts;
+      come = c.self.inside.come;
+      missing = c.self.inside.missing;
+      served = c.self.inside.served;
+      seen = c.self.inside.seen;
+      want = c.self.inside.want;
+    }) told memory PeerMarked before c.mark.new.self c.rescind_all.new.self c.rescind_all.ensures.same
+    (follows_tried (g.T.Protocol.format c.self.inside.responder.protocol) (g.T.Protocol.keeps c.self.inside.responder.protocol) (g.T.Protocol.besides c.self.inside.responder.protocol) _ told memory before _ c.mark.ensures.past c.mark.ensures.lists.0 c.mark.ensures.awake c.mark.ensures.marked c.mark.ensures.got (ap (λ w. w.responder.owed) v ∙ c.requires.owed)
+    (subst (λ w. HasServed (g.T.Protocol.format w.responder.protocol) (g.T.Protocol.besides w.responder.protocol) w) (sym v) c.requires.served) c.self.invariant.live)

@@ -1,5 +1,6 @@
-use Rattle.std.proofs.Common.{[], ap, subst, ◌+◌, sym, ◌∙◌, refl}
+use Rattle.std.proofs.Common.{[], ap, drop, subst, ◌+◌, sym, ◌∙◌, refl}
 use Rattle.page_kept.specs.Items.{item_of}
+use Rattle.worker_server.specs.Serving.{FirstFull}
 use Rattle.worker_server.proofs.ServeSteps.{gave_by}
 use Rattle.worker_port.specs.Rooms.{KeepsRoom}
 use Rattle.channel_model.specs.Amounts.{room_of}
@@ -19,3 +20,12 @@ invariant_of-self g c =
           (room_item _ (item_of p []) p _ _ refl c.first-packet.ensures.most (got_same _ _ c.send.ensures.got.0 c.send.ensures.got.1) c.send.ensures.stays.cells c.send.ensures.into past c.self.invariant.room);
       side = ap (λ d. d.side) c.pop.ensures ∙ (c.self.invariant.side ∙ sym c.send.ensures.stays.side);
     }
+
+pub returns-in-Full-clause-tried : goal.returns-in-Full-clause-tried
+returns-in-Full-clause-tried g c = λ _.
+    let told = g.E.Seatlike.told in
+    let memory = g.E.Seatlike.memory in
+    let owed = c.self.inside.responder.owed in
+    let first : FirstFull told memory owed c.self.inside.port.end c.send.new.self.end =
+        record { packet = item_of c.first-packet.result.now []; rest = drop 1 owed; first = c.first-packet.ensures.value; full = record { tried = c.send.ensures.tried; full = c.in-Full.ensures.full refl } } in
+    subst (λ w. FirstFull told memory owed w.end.end c.send.new.self.end) c.self.view_is first

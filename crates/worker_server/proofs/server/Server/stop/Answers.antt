@@ -5,7 +5,7 @@ use Rattle.channel_model.specs.Amounts.{room_of}
 use Rattle.channel_model.specs.Acks.{OwnFrom}
 use Rattle.worker_server.specs.Serving.{has_done}
 use Rattle.worker_server.proofs.OwnLaws.{none_requested}
-use Rattle.worker_server.proofs.ServeSteps.{done_parts, marked_by_protocol, ends_gone, room_gone, calls_each, marks_stopped, marks_answered, ends_by, lacks_none}
+use Rattle.worker_server.proofs.ServeSteps.{done_parts, marked_by_protocol, ends_gone, room_gone, calls_each, marks_stopped, marks_answered, ends_by, lacks_none, tried_by, tried_gone}
 use Rattle.worker_port.proofs.RoomLaws.{room_quiet, got_same, served_marked, served_so_far}
 use Rattle.worker_server.proofs.server.Server.stop.Goals as goal
 
@@ -74,3 +74,25 @@ returns-clause-room g c =
     (g.T.Protocol.may c.self.inside.responder.protocol) c.self.invariant.live.kept c.self.invariant.room))
     (inl (inl
     (ap (λ w. w.responder.owed) v ∙ c.requires.owed, all ∙ ap length (sym c.mark.ensures.lists.0), calls_each (g.T.Protocol.format c.self.inside.responder.protocol) (g.T.Protocol.keeps c.self.inside.responder.protocol) (g.T.Protocol.besides c.self.inside.responder.protocol) _ c.mark.new.self.state.past (c.mark.ensures.got ∙ c.mark.ensures.lists.0) all c.self.invariant.live)))))
+
+pub returns-clause-tried : goal.returns-clause-tried
+returns-clause-tried g c = λ before.
+    let v = c.self.view_is in
+    let told = g.E.Seatlike.told in
+    let memory = g.E.Seatlike.memory in
+    let none = ap (λ w. w.responder.owed) v ∙ c.requires.owed in
+    let all = ap (λ w. w.served) v ∙ (c.requires.served ∙ ap (λ w. length w.end.state.got) (sym v)) in
+    rw c.marked_by.ensures (tried_gone g.T.Protocol.format g.T.Protocol.keeps g.T.Protocol.besides (record {
+      responder = c.self.inside.responder;
+      end = c.self.inside.port;
+      serve = c.self.inside.serve;
+      stops = c.self.inside.stops;
+      starts = c.self.inside.starts;
+      come = c.self.inside.come;
+      missing = c.self.inside.missing;
+      served = c.self.inside.served;
+      seen = c.self.inside.seen;
+      want = c.self.inside.want;
+    }) told memory _ before c.mark.new.self c.rescind_all.new.self c.rescind_all.ensures.same
+    (tried_by (g.T.Protocol.format c.self.inside.responder.protocol) (g.T.Protocol.keeps c.self.inside.responder.protocol) (g.T.Protocol.besides c.self.inside.responder.protocol) _ told memory c.self.inside.seen before
+    (marks_answered (g.T.Protocol.format c.self.inside.responder.protocol) (g.T.Protocol.keeps c.self.inside.responder.protocol) (g.T.Protocol.besides c.self.inside.responder.protocol) _ _ c.mark.ensures.past c.mark.ensures.lists.0 c.mark.ensures.awake c.mark.ensures.marked c.mark.ensures.got none all c.self.invariant.live)))

@@ -1,0 +1,37 @@
+-- One call of an end, from what a contract sees of it before to what it sees after; and an end's last three calls where it let a packet go.
+use Rattle.std.specs.Prelude.{ℕ, ◌≡◌, List, [], length, Option}
+use Rattle.ring_machine.specs.declared.machine.Ending.TheVariants.{Empty, Full}
+use Rattle.ring_machine.specs.Steps.{mark_begun, send_begun, take_begun}
+use Rattle.ring_core.specs.Seen.{Seen}
+use Rattle.ring_core.specs.declared.told.Told.{Told}
+use Rattle.ring_core.specs.Told.{Memory, MakesSteps}
+
+-- it looked once for a packet
+abbrev pub LookedOnce : {S : Type 0} → (S → Option Told) → (S → Option Memory) → Seen S → Seen S → Type 0
+LookedOnce told memory old new = MakesSteps told memory (take_begun old.state.machine) [] old new
+
+-- it tried once to send this packet
+abbrev pub TriedOnce : {S : Type 0} → (S → Option Told) → (S → Option Memory) → List ℕ → Seen S → Seen S → Type 0
+TriedOnce told memory p old new = MakesSteps told memory (send_begun old.state.machine (length p)) p old new
+
+-- it marked itself
+abbrev pub MarkedOnce : {S : Type 0} → (S → Option Told) → (S → Option Memory) → Seen S → Seen S → Type 0
+MarkedOnce told memory old new = MakesSteps told memory (mark_begun old.state.machine) [] old new
+
+-- it looked once for a packet, and none waited
+pub record FoundNone {S : Type 0} (told : S → Option Told) (memory : S → Option Memory) (old new : Seen S) : Type 0 where
+  pub looked : LookedOnce told memory old new
+  pub none : new.state.machine.ended ≡ Empty
+
+-- it tried once to send this packet, for which the ring had too little room
+pub record FoundFull {S : Type 0} (told : S → Option Told) (memory : S → Option Memory) (p : List ℕ) (old new : Seen S) : Type 0 where
+  pub tried : TriedOnce told memory p old new
+  pub full : new.state.machine.ended ≡ Full
+
+-- its look for a packet found none, its try to send this packet found too little room, and then it marked itself: these three calls and no others
+pub record TriedLast {S : Type 0} (told : S → Option Told) (memory : S → Option Memory) (p : List ℕ) (old new : Seen S) : Type 0 where
+  pub looked : Seen S
+  pub tried : Seen S
+  pub none : FoundNone told memory old looked
+  pub full : FoundFull told memory p looked tried
+  pub marked : MarkedOnce told memory tried new
