@@ -67,10 +67,16 @@ fn goes_and_returns(
 fn pages_of_both_buffers_go_out_and_come_back(rt: HostRuntime) {
     let mut g = end(&rt, Side::Guest);
     let mut h = end(&rt, Side::Host);
-    check(&rt, g.owns(63) && !g.owns(HOSTS) && h.owns(HOSTS) && h.owns(127));
+    check(
+        &rt,
+        g.owns(63) && !g.owns(HOSTS) && h.owns(HOSTS) && h.owns(127),
+    );
     check(&rt, goes_and_returns(&mut g, &mut h, 1, &section(1, 16), 9));
     check(&rt, hands(&mut g, &mut h));
-    check(&rt, goes_and_returns(&mut h, &mut g, 66, &buffer(2, 16), 11));
+    check(
+        &rt,
+        goes_and_returns(&mut h, &mut g, 66, &buffer(2, 16), 11),
+    );
 }
 
 // Neither end can lend a page of the other one's buffer.
@@ -79,5 +85,8 @@ fn an_end_lends_its_own_buffer_alone(rt: HostRuntime) {
     let mut g = end(&rt, Side::Guest);
     let mut h = end(&rt, Side::Host);
     check(&rt, !sends(&mut g, &buffer(2, 16)));
-    check(&rt, hands(&mut g, &mut h) && !sends(&mut h, &section(1, 16)));
+    check(
+        &rt,
+        hands(&mut g, &mut h) && !sends(&mut h, &section(1, 16)),
+    );
 }

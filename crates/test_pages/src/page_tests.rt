@@ -183,6 +183,9 @@ fn a_take_lends_a_packet_whose_page_words_are_due(rt: HostRuntime) {
     let mut g = end(&rt, Side::Guest);
     let mut h = end(&rt, Side::Host);
     let p = request(0, 2);
-    check(&rt, stores(&mut g, 0, 1, 5) && sends(&mut g, &p) && hands(&mut g, &mut h));
+    check(
+        &rt,
+        stores(&mut g, 0, 1, 5) && sends(&mut g, &p) && hands(&mut g, &mut h),
+    );
     check(&rt, takes_both(&mut h, &p, &[0, 5]) && h.owns(0));
 }

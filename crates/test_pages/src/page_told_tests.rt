@@ -119,12 +119,7 @@ fn only_its_completion_brings_a_page_back(rt: HostRuntime) {
 }
 
 // The host, to which a request for the first three words of a page came, 1, 2 and 3. A word changes just before a step.
-fn host_beside(
-    rt: &(impl Abort + AllocGlobal),
-    step: u64,
-    place: Place,
-    value: u64,
-) -> End<ToldMem>
+fn host_beside(rt: &(impl Abort + AllocGlobal), step: u64, place: Place, value: u64) -> End<ToldMem>
     requires { IsPlaceOf 512 2 place }
 {
     let mut changes = Vec::new(rt.alloc());
@@ -149,7 +144,16 @@ fn loads(mut h: End<ToldMem>, words: &[u64]) -> bool {
 // behind it isn't seen.
 #[test]
 fn a_page_word_is_loaded_once(rt: HostRuntime) {
-    check(&rt, loads(host_beside(&rt, 9, Place::Page(0, 2), 70), &[1, 2, 70]));
-    check(&rt, loads(host_beside(&rt, 8, Place::Page(0, 0), 70), &[1, 2, 3]));
-    check(&rt, loads(host_beside(&rt, 7, Place::Page(0, 0), 70), &[70, 2, 3]));
+    check(
+        &rt,
+        loads(host_beside(&rt, 9, Place::Page(0, 2), 70), &[1, 2, 70]),
+    );
+    check(
+        &rt,
+        loads(host_beside(&rt, 8, Place::Page(0, 0), 70), &[1, 2, 3]),
+    );
+    check(
+        &rt,
+        loads(host_beside(&rt, 7, Place::Page(0, 0), 70), &[70, 2, 3]),
+    );
 }

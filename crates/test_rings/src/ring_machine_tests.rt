@@ -42,5 +42,8 @@ fn an_end_tells_its_mode_and_indices(rt: HostRuntime) {
     let mut core = EndCore::make(Side::Host, 4096, 0);
     check(&rt, is_awake_at(&core, 0, 0, 0));
     core.begin_take();
-    check(&rt, feed_all(&mut core, &[32, 0x3_0002_0006, 7, 8]) == 4 && is_awake_at(&core, 0, 32, 0));
+    check(
+        &rt,
+        feed_all(&mut core, &[32, 0x3_0002_0006, 7, 8]) == 4 && is_awake_at(&core, 0, 32, 0),
+    );
 }

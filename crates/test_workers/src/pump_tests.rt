@@ -59,7 +59,16 @@ fn has_seq(reply: &Reply, seq: u64) -> bool {
 fn a_pair_is_pumped_until_both_have_ended(rt: HostRuntime) {
     let (guest, host) = workers(&rt);
     let (guest, host) = pump(&rt, guest, host, &NoGate);
-    check(&rt, guest.ended == Ended::PeerMarked && host.ended == Ended::Marked);
-    check(&rt, guest.serials.as_slice() == [0, 1].as_slice() && host.replies.len() == 2);
-    check(&rt, has_seq(&host.replies[0], 8) && has_seq(&host.replies[1], 9));
+    check(
+        &rt,
+        guest.ended == Ended::PeerMarked && host.ended == Ended::Marked,
+    );
+    check(
+        &rt,
+        guest.serials.as_slice() == [0, 1].as_slice() && host.replies.len() == 2,
+    );
+    check(
+        &rt,
+        has_seq(&host.replies[0], 8) && has_seq(&host.replies[1], 9),
+    );
 }

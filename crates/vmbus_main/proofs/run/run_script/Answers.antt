@@ -9,7 +9,7 @@ run-requires-clause-part g c =
 
 pub returns-clause-each : goal.returns-clause-each
 returns-clause-each g c =
-    one_each_lem c.args.script.now c.in_ok-run.run.settled.items c.in_ok-run.run.histories.items c.in_ok-run.run.results.items
+    one_each_lem c.args.script.now c.in_ok-run.run'.settled.items c.in_ok-run.run'.histories.items c.in_ok-run.run'.results.items
     (c.in_ok-run.ensures.run c.args.script.now c.in_ok-path-3.ensures.between.ran c.in_ok-path-3.ensures.all)
 
 pub returns-clause-round : goal.returns-clause-round

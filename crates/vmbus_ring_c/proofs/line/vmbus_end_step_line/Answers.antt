@@ -20,7 +20,7 @@ returns-clause-writes c some =
       op = c.in-Some-next.op;
       is_end = is.0;
       next = ap (λ (m : EndMachine). next_of m c.args.packet.now) (sym is.1) ∙ sym (or_none (next_of c.in-Some.core.machine c.args.packet.now))
-        ∙ sym (ap (λ (k : PageCore). next_in c.in-Some.core.machine k.call c.args.packet.now) is.2) ∙ sym c.in-Some-next.ensures.whole;
+          ∙ sym (ap (λ (k : PageCore). next_in c.in-Some.core.machine k.call c.args.packet.now) is.2) ∙ sym c.in-Some-next.ensures.whole;
       line = ap (λ (l : List ℕ). l ++ drop (length c.bytes-bytes.result.now) c.args.line.now) (c.copy_from_slice.ensures.after ∙ text);
       is_len = ap length text;
     }

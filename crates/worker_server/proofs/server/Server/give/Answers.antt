@@ -27,5 +27,5 @@ returns-in-Full-clause-tried g c = λ _.
     let memory = g.E.Seatlike.memory in
     let owed = c.self.inside.responder.owed in
     let first : FirstFull told memory owed c.self.inside.port.end c.send.new.self.end =
-        record { packet = item_of c.first-packet.result.now []; rest = drop 1 owed; first = c.first-packet.ensures.value; full = record { tried = c.send.ensures.tried; full = c.in-Full.ensures.full refl } } in
+    record { packet = item_of c.first-packet.result.now []; rest = drop 1 owed; first = c.first-packet.ensures.value; full = record { tried = c.send.ensures.tried; full = c.in-Full.ensures.full refl } } in
     subst (λ w. FirstFull told memory owed w.end.end c.send.new.self.end) c.self.view_is first
