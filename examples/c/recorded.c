@@ -2,10 +2,11 @@
 
        ./recorded | ../../vmbus trace
 
-   A step and its line are made under one lock, so that the lines come in the order of the steps. With a word as its argument it is a guest with a fault: it raises no signal, and its lines say
-   what it did. */
+   A step and its line are made under one lock, so that the lines come in the order of the steps. With a word as its argument it is a guest with a fault: it raises no signal, though its
+   lines say so, and the record is no run once its peer looks for that signal. */
 #include <inttypes.h>
 #include <pthread.h>
+#include <sched.h>
 #include <stdio.h>
 #include <string.h>
 #include "vmbus.h"
@@ -26,6 +27,14 @@ static size_t place_of(const struct vmbus_step *step)
     if (step->place == 6)
         return ring + 5 + step->at / 8;
     return 2 * (CELLS + 5) + (step->place - 7) * 2 + step->which;
+}
+
+/* Lets the other thread make a step. */
+static void give_way(void)
+{
+    pthread_mutex_unlock(&turn);
+    sched_yield();
+    pthread_mutex_lock(&turn);
 }
 
 static void say(const struct vmbus_end *end, const char *call, const uint64_t *packet, size_t len)
@@ -53,12 +62,11 @@ static void run(struct vmbus_end *end, const uint64_t *packet, size_t len, uint6
         if (step.op == 1 && step.place == 6)
             taken[end->done] = value;
         vmbus_end_feed(end, value);
-        pthread_mutex_unlock(&turn);
-        pthread_mutex_lock(&turn);
+        give_way();
     }
 }
 
-/* Sleeps until there is a packet, or room for one of these words. False where the signal doesn't come. */
+/* Sleeps until there is a packet, or room for one of these words. False where the signal of a faulty guest doesn't come. */
 static int rest(struct vmbus_end *end, size_t len)
 {
     uint64_t none[CELLS];
@@ -68,15 +76,14 @@ static int rest(struct vmbus_end *end, size_t len)
     say(end, arm, NULL, 0);
     vmbus_end_begin_arm(end, len ? 8 * len + 8 : 0);
     run(end, NULL, 0, none);
-    for (int polls = 0; end->asleep && polls < 100000; polls++) {
-        /* A look that finds the signal down says nothing of the run: only every hundredth is made a poll. */
-        if (polls % 100 == 99 || words[2 * (CELLS + 5) + end->side]) {
+    for (int polls = 0; end->asleep && (!faulty || polls < 100000); polls++) {
+        /* A look that finds the signal down says nothing of the run: only every thousandth is made a poll. */
+        if (polls % 1000 == 999 || words[2 * (CELLS + 5) + end->side]) {
             say(end, "poll", NULL, 0);
             vmbus_end_begin_poll(end);
             run(end, NULL, 0, none);
         }
-        pthread_mutex_unlock(&turn);
-        pthread_mutex_lock(&turn);
+        give_way();
     }
     return !end->asleep;
 }
@@ -97,9 +104,11 @@ static void *guest(void *unused)
         else if (!rest(&end, 60))
             break;
     }
-    say(&end, "mark", NULL, 0);
-    vmbus_end_begin_mark(&end);
-    run(&end, NULL, 0, none);
+    if (!end.asleep) {
+        say(&end, "mark", NULL, 0);
+        vmbus_end_begin_mark(&end);
+        run(&end, NULL, 0, none);
+    }
     pthread_mutex_unlock(&turn);
     return unused;
 }

@@ -1,5 +1,5 @@
 #!/bin/sh
-# Proves the static libraries, and builds and runs the examples with cc.
+# Proves the static libraries, and builds and runs the examples with cc. What recorded.c records has to be a run of both ends; a guest that raises no signal shows in its record once its peer looks for one.
 cd "$(dirname "$0")/../../crates" || exit 2
 for name in vmbus_c vmbus_ring_c ring_plan_c; do
     (cd $name && rt lib) || exit 1
@@ -7,4 +7,6 @@ done
 cd ../examples/c || exit 2
 libraries="../../crates/vmbus_c/out/libvmbus_c.a ../../crates/vmbus_ring_c/out/libvmbus_ring_c.a ../../crates/ring_plan_c/out/libring_plan_c.a"
 cc -O2 -Wall -Wextra -o example example.c $libraries && ./example || exit 1
-cc -O2 -Wall -Wextra -o two_processes two_processes.c $libraries && ./two_processes
+cc -O2 -Wall -Wextra -o two_processes two_processes.c $libraries && ./two_processes || exit 1
+cc -O2 -Wall -Wextra -pthread -o recorded recorded.c $libraries && ./recorded | ../../vmbus trace | grep '^run steps' || exit 1
+./recorded faulty | ../../vmbus trace

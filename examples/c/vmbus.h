@@ -239,7 +239,7 @@ bool vmbus_end_next(const struct vmbus_end *end, const uint64_t *packet, size_t 
 bool vmbus_end_feed(struct vmbus_end *end, uint64_t value);
 
 /* The line of that step, where it gave this value, as `vmbus trace` reads it: it ends with LF and has at most VMBUS_LINE bytes, and no 0 behind it. Its length; 0, and then nothing is written,
-   where no call is under way or the line doesn't fit into so many bytes. Call it before the end takes the value. The line of a call is `call guest take` and so on (README.md). */
+   where no call is under way or the line doesn't fit into so many bytes. Call it before the end takes the value. The line of a call is `call guest take` and so on (docs/SCRIPT.md). */
 #define VMBUS_LINE 96
 size_t vmbus_end_step_line(const struct vmbus_end *end, const uint64_t *packet, size_t len, uint64_t value, uint8_t *line, size_t room);
 
