@@ -60,15 +60,15 @@ fn starts(
     check(rt, protocol.count() == protocol.starts());
     check(rt, k < protocol.starts());
     let mut words = [0; 384];
-    let len = protocol.encode(k, 40, &mut words);
+    let len = protocol.encode(k, 40, &mut words, &mut [0; 512]).packet;
     let packet = &words[..len];
     is_packet(rt, packet, ASKS, 40, &asked);
     check(
         rt,
-        protocol.is_waiting(packet) && protocol.head(packet).is_none(),
+        protocol.is_waiting(packet) && protocol.head(packet, &[]).is_none(),
     );
     let mut out = [0; 384];
-    let len = protocol.write_fixed(packet, &mut out);
+    let len = protocol.write_fixed(packet, &[], &mut out);
     check(rt, len > 0);
     is_packet(rt, &out[..len], DONE, 40, back);
     check(rt, said(rt, alloc, protocol, k, &[], &out[..len]).is_none());
@@ -158,21 +158,22 @@ fn disk_round(
 {
     check(rt, (protocol.count(), protocol.starts()) == (5, 4));
     check(rt, protocol.has_answer(4));
-    let len = protocol.encode(4, 77, words);
+    let len = protocol.encode(4, 77, words, &mut [0; 512]).packet;
     let packet = &words[..len];
     check(rt, protocol.id(packet) == 77);
     check(rt, protocol.is_waiting(packet));
-    let Some(head) = protocol.head(packet) else {
+    let Some(head) = protocol.head(packet, &[]) else {
         panic!(rt; "nothing is asked")
     };
-    let asked = protocol.read(packet, &head);
+    let asked = protocol.read(packet, &[], &head);
     let Ask::Disk(request) = asked else {
         panic!(rt; "no disk is asked")
     };
     let reply = Reply::Disk(disk.apply(&request));
     let mut out = [0; 384];
-    check(rt, protocol.write_fixed(packet, &mut out) == 0);
-    let back = protocol.write_answer(packet, &head, &reply, &mut out);
+    check(rt, protocol.write_fixed(packet, &[], &mut out) == 0);
+    let back = protocol.write_answer(packet, &[], &head, &reply, &mut out, &mut [0; 512]);
+    let back = back.packet;
     check(rt, back > 0);
     check(rt, protocol.id(&out[..back]) == 77);
     said(rt, alloc, protocol, 4, &[], &out[..back])
@@ -294,14 +295,14 @@ fn some_commands_are_not_asked(rt: HostRuntime) {
 fn negotiates(rt: &impl Abort, alloc: Global, protocol: &DeviceProtocol) {
     check(rt, (protocol.count(), protocol.starts()) == (2, 1));
     let mut words = [0; 384];
-    let len = protocol.encode(0, 4, &mut words);
+    let len = protocol.encode(0, 4, &mut words, &mut [0; 512]).packet;
     let packet = &words[..len];
     check(
         rt,
-        protocol.is_waiting(packet) && protocol.head(packet).is_none(),
+        protocol.is_waiting(packet) && protocol.head(packet, &[]).is_none(),
     );
     let mut out = [0; 384];
-    let back = protocol.write_fixed(packet, &mut out);
+    let back = protocol.write_fixed(packet, &[], &mut out);
     check(rt, back > 0);
     check(rt, protocol.id(&out[..back]) == 4);
     check(
@@ -333,18 +334,19 @@ fn beat_round(rt: &impl Abort, alloc: Global, protocol: &DeviceProtocol) -> Opti
 {
     let mut words = [0; 384];
     check(rt, protocol.count() == 2);
-    let len = protocol.encode(1, 5, &mut words);
+    let len = protocol.encode(1, 5, &mut words, &mut [0; 512]).packet;
     let packet = &words[..len];
-    let Some(head) = protocol.head(packet) else {
+    let Some(head) = protocol.head(packet, &[]) else {
         panic!(rt; "nothing is asked")
     };
-    let asked = protocol.read(packet, &head);
+    let asked = protocol.read(packet, &[], &head);
     let Ask::Ic(ask) = asked else {
         panic!(rt; "a disk is asked")
     };
     let reply = Reply::Ic(BeatMachine::make().apply(&ask));
     let mut out = [0; 384];
-    let back = protocol.write_answer(packet, &head, &reply, &mut out);
+    let back = protocol.write_answer(packet, &[], &head, &reply, &mut out, &mut [0; 512]);
+    let back = back.packet;
     check(rt, back > 0);
     check(rt, protocol.id(&out[..back]) == 5);
     said(rt, alloc, protocol, 1, &[], &out[..back])
@@ -373,18 +375,19 @@ fn down_round(rt: &impl Abort, alloc: Global, protocol: &DeviceProtocol) -> Opti
 {
     let mut words = [0; 384];
     check(rt, protocol.count() == 2);
-    let len = protocol.encode(1, 5, &mut words);
+    let len = protocol.encode(1, 5, &mut words, &mut [0; 512]).packet;
     let packet = &words[..len];
-    let Some(head) = protocol.head(packet) else {
+    let Some(head) = protocol.head(packet, &[]) else {
         panic!(rt; "nothing is asked")
     };
-    let asked = protocol.read(packet, &head);
+    let asked = protocol.read(packet, &[], &head);
     let Ask::Ic(ask) = asked else {
         panic!(rt; "a disk is asked")
     };
     let reply = Reply::Ic(DownMachine::make().apply(&ask));
     let mut out = [0; 384];
-    let back = protocol.write_answer(packet, &head, &reply, &mut out);
+    let back = protocol.write_answer(packet, &[], &head, &reply, &mut out, &mut [0; 512]);
+    let back = back.packet;
     check(rt, back > 0);
     said(rt, alloc, protocol, 1, &[], &out[..back])
 }

@@ -102,19 +102,21 @@ fn starts(
     check(rt, protocol.starts() == 3 && k < protocol.count());
     check(rt, protocol.has_answer(k) == !answer.is_empty());
     let mut words = [0; 384];
-    let len = protocol.encode(k, 40, &mut words);
+    let len = protocol.encode(k, 40, &mut words, &mut [0; 512]).packet;
     let packet = &words[..len];
     check(rt, packet == want);
     check(rt, protocol.is_waiting(packet) == !answer.is_empty());
-    check(rt, protocol.head(packet).is_none());
+    check(rt, protocol.head(packet, &[]).is_none());
     check(
         rt,
-        protocol.has_fixed_message(packet) == !message.is_empty(),
+        protocol.has_fixed_message(packet, &[]) == !message.is_empty(),
     );
     let mut out = [0; 384];
-    let len = protocol.write_fixed_message(packet, 3, &mut out);
+    let len = protocol
+        .write_fixed_message(packet, &[], 3, &mut out, &mut [0; 512])
+        .packet;
     check(rt, &out[..len] == message);
-    let len = protocol.write_fixed(packet, &mut out);
+    let len = protocol.write_fixed(packet, &[], &mut out);
     check(rt, &out[..len] == answer);
 }
 
@@ -152,13 +154,13 @@ fn net_round(
 {
     check(rt, (protocol.count(), protocol.starts()) == (4, 3));
     let mut words = [0; 384];
-    let len = protocol.encode(3, 77, &mut words);
+    let len = protocol.encode(3, 77, &mut words, &mut [0; 512]).packet;
     let packet = &words[..len];
     check(rt, packet == QUERY.as_slice());
-    let Some(head) = protocol.head(packet) else {
+    let Some(head) = protocol.head(packet, &[]) else {
         panic!(rt; "nothing is asked")
     };
-    let asked = protocol.read(packet, &head);
+    let asked = protocol.read(packet, &[], &head);
     let Ask::Net(message) = asked else {
         panic!(rt; "no adapter is asked")
     };
@@ -168,11 +170,13 @@ fn net_round(
         back: answered.back,
     };
     let mut before = [0; 384];
-    let len = protocol.write_message(packet, &reply, 3, &mut before);
+    let len = protocol.write_message(packet, &[], &reply, 3, &mut before, &mut [0; 512]);
+    let len = len.packet;
     check(rt, len > 0);
     acknowledged(rt, protocol, &before[..len]);
     let mut out = [0; 384];
-    let back = protocol.write_answer(packet, &head, &reply, &mut out);
+    let back = protocol.write_answer(packet, &[], &head, &reply, &mut out, &mut [0; 512]);
+    let back = back.packet;
     check(rt, &out[..back] == done(77).as_slice());
     said(rt, alloc, protocol, 3, &before[..len], &out[..back])
 }

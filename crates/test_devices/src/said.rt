@@ -25,6 +25,6 @@ pub(crate) fn said(
     let Ok(mut replies) = Vec::with_capacity(alloc, 1) else {
         panic!(rt; "no memory")
     };
-    protocol.keep_result(k, before, packet, &mut replies);
+    protocol.keep_result(k, before, &[], packet, &[], &mut replies);
     replies.pop()
 }

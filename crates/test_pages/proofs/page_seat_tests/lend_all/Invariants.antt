@@ -1,5 +1,5 @@
 use Rattle.ring_seat.specs.Settling.{IsSameEnd}
-use Rattle.test_rings.proofs.page_seat_tests.lend_all.Given as goal
+use Rattle.test_pages.proofs.page_seat_tests.lend_all.Given as goal
 
 abbrev pub invariant-loop : goal.invariant-loop
 invariant-loop g l = IsSameEnd l.fn.e l.e
