@@ -57,7 +57,8 @@ pub fn may_lend<S: Seatlike>(e: &mut End<S>, p: &[u64]) -> bool
     ensures awake { IsTrue result → (e.old.state.machine.asleep ≡ false) × (e.old.state.machine.marked ≡ false) }
     ensures packet { IsTrue result → IsPacket p.now × (length p.now + 1 < e.old.state.machine.cells) }
     ensures lends { IsTrue result → MayLend e.old.state p.now }
-    ensures room { IsTrue result → (0 < e.old.spare_sent.packets) × (length p.now + along e.old.state.pages p.now ≤ e.old.spare_sent.words) }
+    ensures room { IsTrue result → (0 < e.old.spare_sent.packets) × (length p.now + 512 ≤ e.old.spare_sent.words) }
+    ensures along { IsTrue result → length p.now + along e.old.state.pages p.now ≤ e.old.spare_sent.words }
     ensures whole { e.old.state.machine.asleep ≡ false → e.old.state.machine.marked ≡ false → IsPacket p.now → length p.now + 1 < e.old.state.machine.cells → MayLend e.old.state p.now → 0 < e.old.spare_sent.packets → length p.now + 512 ≤ e.old.spare_sent.words → IsTrue result }
     ensures same { e.new ≡ e.old }
 {
