@@ -1,5 +1,5 @@
 //! The end under test.
-ghost use Rattle.std.specs.Prelude.{◌≡◌, ◌≤◌, ◌<◌, ◌+◌, ◌*◌, ◌/◌, ◌%◌, ◌++◌, ◌&&◌, not, OnOk, IfOk, true, false, slice_index};
+ghost use Rattle.std.specs.Prelude.{◌≡◌, ◌≤◌, ◌<◌, ◌+◌, ◌*◌, ◌/◌, ◌%◌, ◌++◌, ◌&&◌, not, OnOk, IfOk, vec_len, true, false, slice_index};
 ghost use Rattle.ring_machine.specs.Places.{IsRingSize, index_of};
 ghost use Rattle.ring_machine.specs.PageCalls.{newest};
 ghost use Rattle.ring_machine.specs.declared.place.Place.TheVariants.{Cell as CellAt};
@@ -78,6 +78,7 @@ impl TestedEnd {
         ensures leads { OnOk result (Leads (comes_of (SendCall len) self.old.state.machine) self.old self.new) }
         ensures says { OnOk result (text.new.items ≡ text.old.items ++ said_of (comes_of (SendCall len) self.old.state.machine) self.new) }
         ensures cells { self.new.state.machine.cells ≡ self.old.state.machine.cells }
+        ensures short { OnOk result (vec_len text.new ≤ vec_len text.old + 140000) }
     {
         if self.end.is_asleep() {
             return push(text, b"refused");
@@ -98,6 +99,7 @@ impl TestedEnd {
         ensures leads { OnOk result (Leads (comes_of TakeCall self.old.state.machine) self.old self.new) }
         ensures says { OnOk result (text.new.items ≡ text.old.items ++ said_of (comes_of TakeCall self.old.state.machine) self.new) }
         ensures cells { self.new.state.machine.cells ≡ self.old.state.machine.cells }
+        ensures short { OnOk result (vec_len text.new ≤ vec_len text.old + 140000) }
     {
         if self.end.is_asleep() {
             return push(text, b"refused");
@@ -111,6 +113,7 @@ impl TestedEnd {
         };
         self.end.reserve(NOTHING, room)?;
         let answer = self.end.take_in();
+        self.end.stands_inside();
         push_took(text, answer, last(&self.end))
     }
 
@@ -119,6 +122,7 @@ impl TestedEnd {
         ensures leads { OnOk result (Leads (comes_of CommitCall self.old.state.machine) self.old self.new) }
         ensures says { OnOk result (text.new.items ≡ text.old.items ++ said_of (comes_of CommitCall self.old.state.machine) self.new) }
         ensures cells { self.new.state.machine.cells ≡ self.old.state.machine.cells }
+        ensures short { OnOk result (vec_len text.new ≤ vec_len text.old + 140000) }
     {
         if !self.is_awake() {
             return push(text, b"refused");
@@ -132,6 +136,7 @@ impl TestedEnd {
         ensures leads { OnOk result (Leads (comes_of (ArmCall want) self.old.state.machine) self.old self.new) }
         ensures says { OnOk result (text.new.items ≡ text.old.items ++ said_of (comes_of (ArmCall want) self.old.state.machine) self.new) }
         ensures cells { self.new.state.machine.cells ≡ self.old.state.machine.cells }
+        ensures short { OnOk result (vec_len text.new ≤ vec_len text.old + 140000) }
     {
         if !self.is_awake() || !self.end.has_committed() {
             return push(text, b"refused");
@@ -144,6 +149,7 @@ impl TestedEnd {
         ensures leads { OnOk result (Leads (comes_of PollCall self.old.state.machine) self.old self.new) }
         ensures says { OnOk result (text.new.items ≡ text.old.items ++ said_of (comes_of PollCall self.old.state.machine) self.new) }
         ensures cells { self.new.state.machine.cells ≡ self.old.state.machine.cells }
+        ensures short { OnOk result (vec_len text.new ≤ vec_len text.old + 140000) }
     {
         if !self.end.is_asleep() {
             return push(text, b"refused");
@@ -159,6 +165,7 @@ impl TestedEnd {
         ensures leads { OnOk result (Leads (comes_of call self.old.state.machine) self.old self.new) }
         ensures says { OnOk result (text.new.items ≡ text.old.items ++ said_of (comes_of call self.old.state.machine) self.new) }
         ensures cells { self.new.state.machine.cells ≡ self.old.state.machine.cells }
+        ensures short { OnOk result (vec_len text.new ≤ vec_len text.old + 140000) }
     {
         match call {
             EndCall::Send(len) => self.send(alloc, len, text),

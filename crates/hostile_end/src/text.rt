@@ -1,5 +1,6 @@
 //! The text of what a call comes to.
-ghost use Rattle.std.specs.Prelude.{◌≡◌, ◌++◌, OnOk, codes};
+ghost use Rattle.std.specs.Prelude.{◌≡◌, ◌≤◌, ◌+◌, ◌*◌, ◌++◌, cond, OnOk, codes, vec_len, length};
+ghost use Rattle.std.specs.Result.{is_ok};
 ghost use Rattle.line_words.specs.Values.{hex_16};
 ghost use Rattle.std.specs.Fmt.{decimal};
 ghost use Rattle.hostile_end.specs.Text.{bad_text, words_text, sent_text, took_text, committed_text, armed_text, polled_text};
@@ -12,6 +13,7 @@ use std::alloc::AllocError;
 /// Puts these bytes behind the text.
 pub(crate) fn push(text: &mut Vec<u8>, bytes: &[u8]) -> Result<(), AllocError>
     ensures text { OnOk result (text.new.items ≡ text.old.items ++ bytes.now) }
+    ensures short { OnOk result (vec_len text.new ≤ vec_len text.old + length bytes.now) }
 {
     text.extend_from_slice(bytes)?;
     Ok(())
@@ -20,6 +22,7 @@ pub(crate) fn push(text: &mut Vec<u8>, bytes: &[u8]) -> Result<(), AllocError>
 // A text before a number.
 fn push_named(text: &mut Vec<u8>, name: &[u8], number: u32) -> Result<(), AllocError>
     ensures text { OnOk result (text.new.items ≡ text.old.items ++ (name.now ++ decimal number)) }
+    ensures short { OnOk result (vec_len text.new ≤ vec_len text.old + length name.now + 20) }
 {
     text.extend_from_slice(name)?;
     push_decimal(text, u64::from(number))
@@ -27,6 +30,7 @@ fn push_named(text: &mut Vec<u8>, name: &[u8], number: u32) -> Result<(), AllocE
 
 fn push_bad(text: &mut Vec<u8>, bad: Bad) -> Result<(), AllocError>
     ensures text { OnOk result (text.new.items ≡ text.old.items ++ bad_text bad) }
+    ensures short { OnOk result (vec_len text.new ≤ vec_len text.old + 80) }
 {
     match bad {
         Bad::Index { value } => push_named(text, b"malformed index ", value),
@@ -47,6 +51,7 @@ pub(crate) fn push_sent(
     answer: Result<Signalled, SendRefusal>,
 ) -> Result<(), AllocError>
     ensures text { OnOk result (text.new.items ≡ text.old.items ++ sent_text answer) }
+    ensures short { OnOk result (vec_len text.new ≤ vec_len text.old + 80) }
 {
     match answer {
         Ok(Signalled::Raised) => push(text, b"sent raised"),
@@ -62,6 +67,7 @@ pub(crate) fn push_sent(
 
 fn push_word(text: &mut Vec<u8>, word: u64) -> Result<(), AllocError>
     ensures text { OnOk result (text.new.items ≡ text.old.items ++ (codes " " ++ hex_16 word)) }
+    ensures short { OnOk result (vec_len text.new ≤ vec_len text.old + 17) }
 {
     text.extend_from_slice(b" ")?;
     text.extend_from_slice(&hex_16(word))?;
@@ -71,6 +77,7 @@ fn push_word(text: &mut Vec<u8>, word: u64) -> Result<(), AllocError>
 // The words of a packet that was taken.
 fn push_words(text: &mut Vec<u8>, words: &[u64]) -> Result<(), AllocError>
     ensures text { OnOk result (text.new.items ≡ text.old.items ++ words_text words.now) }
+    ensures short { OnOk result (vec_len text.new ≤ vec_len text.old + 17 * length words.now) }
 {
     let mut rest = words;
     while let [word, after @ ..] = rest {
@@ -87,6 +94,7 @@ pub(crate) fn push_took(
     words: &[u64],
 ) -> Result<(), AllocError>
     ensures text { OnOk result (text.new.items ≡ text.old.items ++ took_text answer words.now) }
+    ensures short { OnOk result (vec_len text.new ≤ vec_len text.old + (80 + cond (is_ok answer) (17 * length words.now) 0)) }
 {
     match answer {
         Ok(()) => {
@@ -102,6 +110,7 @@ pub(crate) fn push_took(
 /// Whether a commit raised the peer's signal.
 pub(crate) fn push_committed(text: &mut Vec<u8>, answer: Signalled) -> Result<(), AllocError>
     ensures text { OnOk result (text.new.items ≡ text.old.items ++ committed_text answer) }
+    ensures short { OnOk result (vec_len text.new ≤ vec_len text.old + 80) }
 {
     match answer {
         Signalled::Raised => push(text, b"committed raised"),
@@ -112,6 +121,7 @@ pub(crate) fn push_committed(text: &mut Vec<u8>, answer: Signalled) -> Result<()
 /// Whether an arm found work.
 pub(crate) fn push_armed(text: &mut Vec<u8>, answer: Armed) -> Result<(), AllocError>
     ensures text { OnOk result (text.new.items ≡ text.old.items ++ armed_text answer) }
+    ensures short { OnOk result (vec_len text.new ≤ vec_len text.old + 80) }
 {
     match answer {
         Armed::Asleep => push(text, b"asleep"),
@@ -122,6 +132,7 @@ pub(crate) fn push_armed(text: &mut Vec<u8>, answer: Armed) -> Result<(), AllocE
 /// Whether the signal was up.
 pub(crate) fn push_polled(text: &mut Vec<u8>, answer: bool) -> Result<(), AllocError>
     ensures text { OnOk result (text.new.items ≡ text.old.items ++ polled_text answer) }
+    ensures short { OnOk result (vec_len text.new ≤ vec_len text.old + 80) }
 {
     if answer {
         push(text, b"signal 1")

@@ -1,5 +1,5 @@
 -- What an input read so far keeps to.
-use Rattle.std.specs.Prelude.{◌≡◌, ℕ, List, Some, Result, Ok, Err}
+use Rattle.std.specs.Prelude.{◌≡◌, ◌≤◌, ℕ, List, length, Some, Result, Ok, Err}
 use Rattle.std.specs.List.{All}
 use Rattle.script_text.specs.declared.fault.ScriptFault.{ScriptFault}
 use Rattle.script_text.specs.declared.fault.ParseFault.{ParseFault}
@@ -7,12 +7,13 @@ use Rattle.script_text.specs.declared.fault.ParseFault.TheVariants.{Script as Is
 use Rattle.hostile_lines.specs.Inputs.{Input, size_of, fault_at}
 use Rattle.hostile_lines.specs.Ranges.{IsPages, IsPutIn, IsChangeIn, IsLineIn}
 
--- its words are of its channel, and what is asked is in range
+-- its words are of its channel, and what is asked is in range, 256 lines at most
 pub record IsRanged (i : Input) : Type 0 where
   pub pages : IsPages i.ring
   pub puts : All (IsPutIn (size_of i)) i.puts
   pub changes : All (IsChangeIn (size_of i)) i.changes
   pub asked : All (IsLineIn (size_of i)) i.asked
+  pub few : length i.asked ≤ 256
 
 -- this is the reason against the line; or memory was short
 abbrev pub IsWrongAt : ℕ → Input → List ℕ → ParseFault → Type 0

@@ -70,6 +70,7 @@ impl Hostile {
     pub fn asked(&self) -> &[CommandLine]
         ensures value { result.now ≡ self.now.asked }
         ensures range { All (IsLineIn (size_of self.now)) self.now.asked }
+        ensures few { length self.now.asked ≤ 256 }
     {
         &self.asked
     }

@@ -9,3 +9,4 @@ mod push;
 mod shown;
 
 pub use input::decode_text;
+pub use message::push_fault;

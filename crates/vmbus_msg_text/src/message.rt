@@ -219,8 +219,8 @@ fn checked_name(name: FieldName) -> &'static str
     }
 }
 
-// A fault: its kind, and its numbers in the order of its fields.
-fn push_fault(text: &mut Vec<u8>, fault: &MsgFault) -> Result<(), AllocError>
+/// A fault: its kind, and its numbers in the order of its fields.
+pub fn push_fault(text: &mut Vec<u8>, fault: &MsgFault) -> Result<(), AllocError>
     ensures text { OnOk result (text.new.items ≡ text.old.items ++ fault_text fault.now) }
     ensures short { OnOk result (vec_len text.new ≤ vec_len text.old + 3300) }
 {

@@ -1,0 +1,4 @@
+pub mod Packets
+pub mod Storage
+pub mod Lists
+pub mod Parts

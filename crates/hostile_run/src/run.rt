@@ -1,0 +1,66 @@
+//! The run of an input.
+ghost use Rattle.std.specs.Prelude.{◌≡◌, ◌≤◌, ◌+◌, ◌*◌, ◌++◌, ℕ, List, IfOk, OnOk, vec_len, length};
+ghost use Rattle.std.specs.List.{All};
+ghost use Rattle.hostile_lines.specs.Ranges.{IsLineIn};
+ghost use Rattle.hostile_run.specs.Run.{SaysLines, end_text, Outputs};
+
+use crate::bench::Bench;
+use crate::puts::put_all;
+use hostile_end::TestedEnd;
+use hostile_lines::{CommandLine, in_step_order, parse_hostile};
+use hostile_parts::Parts;
+use ring_core::ToldMem;
+use script_text::{ParseFault, push_decimal};
+use std::alloc::{AllocError, Global};
+
+// Does what each line asks, in order.
+fn push_lines(
+    alloc: Global,
+    bench: &mut Bench,
+    lines: &[CommandLine],
+    text: &mut Vec<u8>,
+) -> Result<(), AllocError>
+    requires range { All (IsLineIn (8 * bench.old.at.state.machine.cells)) lines.now }
+    ensures says { OnOk result ((said : List ℕ) × SaysLines lines.now bench.old bench.new said × (text.new.items ≡ text.old.items ++ said)) }
+    ensures short { OnOk result (vec_len text.new ≤ vec_len text.old + 140022 * length lines.now) }
+{
+    let mut rest = lines;
+    while let [line, after @ ..] = rest {
+        bench.line(alloc, line, text)?;
+        rest = after;
+    }
+    Ok(())
+}
+
+fn push_end(text: &mut Vec<u8>, steps: u64) -> Result<(), AllocError>
+    ensures text { OnOk result (text.new.items ≡ text.old.items ++ end_text steps) }
+    ensures short { OnOk result (vec_len text.new ≤ vec_len text.old + 31) }
+{
+    text.extend_from_slice(b"end steps ")?;
+    push_decimal(text, steps)?;
+    text.extend_from_slice(b"\n")?;
+    Ok(())
+}
+
+/// Runs a guest's end, and the parts beside it, by the lines of an input, beside a peer that writes what the lines say. Its text has a line for each line that asks
+/// something, and one with how many steps were made.
+///
+/// Errors: the first wrong line of the input, with the first reason against it; `Memory` for want of memory.
+pub fn run_hostile(alloc: Global, bytes: &[u8]) -> Result<Vec<u8>, ParseFault>
+    ensures outputs { Outputs bytes.now result }
+    ensures short { IfOk result (λ text. length text.items ≤ 36000000) }
+{
+    let mut hostile = parse_hostile(alloc, bytes)?;
+    let d = 4096 * hostile.pages();
+    let changes = in_step_order(hostile.take_changes(alloc))?;
+    let mut mem = ToldMem::make(alloc, d, changes, 0)?;
+    put_all(&mut mem, d, hostile.puts());
+    let mut bench = Bench {
+        end: TestedEnd::make(alloc, d, mem)?,
+        parts: Parts::make(alloc)?,
+    };
+    let mut text = Vec::new(alloc);
+    push_lines(alloc, &mut bench, hostile.asked(), &mut text)?;
+    push_end(&mut text, bench.end.steps())?;
+    Ok(text)
+}
