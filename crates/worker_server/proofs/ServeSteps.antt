@@ -31,10 +31,10 @@ use Rattle.channel_model.proofs.Serving.{server_took, server_served, server_pass
 use Rattle.worker_port.specs.Line.{Line, SleepsFor}
 use Rattle.ring_core.specs.declared.room.Room.{Room as Spare}
 use Rattle.worker_port.specs.Owed.{is_nil, need_of, MetFull}
-use Rattle.worker_port.specs.Tries.{FoundFull, FoundNone, MarkedOnce}
+use Rattle.worker_port.specs.Tries.{FoundFull, FoundNone, FoundNothing, MarkedOnce}
 use Rattle.worker_port.specs.Rooms.{ServedWithin, AskedOver, ServeLacksFor, OnlyWith, is_asked}
 use Rattle.txn_table.specs.Open.{HasNone}
-use Rattle.worker_server.specs.Serving.{Responder, Serving, IsServing, Rests, HasRoomFor, HasServed, HasToWait, Closes, ServesPacket, Orders, EndsAll, BreaksOff, CallsEach, AnswersAll, FirstFull, LetsGo, LetsGoTried, LacksPlace, LeavesTried, LeftOff, EndsBy, LeavesOff, LacksRoom, ServesOn, IsFull, own_in, has_done, has_served, lacks_call, marked_by}
+use Rattle.worker_server.specs.Serving.{Responder, Serving, IsServing, Rests, HasRoomFor, HasServed, HasToWait, Closes, ServesPacket, Orders, EndsAll, BreaksOff, CallsEach, AnswersAll, FirstFull, LetsGo, LetsGoTried, LacksPlace, LeavesTried, LeftOff, OwedTried, RestsTried, EndsBy, LeavesOff, LacksRoom, ServesOn, IsFull, own_in, has_done, has_served, lacks_call, marked_by}
 use Rattle.worker_server.proofs.OwnLaws.{own_within, full_open, none_full, table_empty}
 use Rattle.worker_port.specs.declared.ended.Ended.{Ended}
 use Rattle.worker_port.specs.declared.ended.Ended.TheVariants.{Marked as EndedMarked, PeerMarked, Room, Broken as EndedBroken}
@@ -66,6 +66,19 @@ room_still (p ∷ ps) old new same room = subst (λ (r : Spare). (0 < r.packets)
 
 pub room_on : {T S E Q R : Type 0} (old new : Serving T S E Q R) → new.responder ≡ old.responder → new.end.spare_sent ≡ old.end.spare_sent → HasRoomFor old.responder.owed old.end → HasRoomFor new.responder.owed new.end
 room_on old new responder same room = subst (λ d. HasRoomFor d.owed new.end) (sym responder) (room_still old.responder.owed old.end new.end same room)
+
+module _ {S : Type 0} (told : S → Option Told) (memory : S → Option Memory) where
+  -- nothing that is owed is tried by no call
+  pub owes_none : (owed : List Item) (e : Seen S) → owed ≡ [] → OwedTried told memory owed e e
+  owes_none owed e none = subst (λ l. OwedTried told memory l e e) (sym none) refl
+
+  pub first_tried : (owed : List Item) (old new : Seen S) → FirstFull told memory owed old new → OwedTried told memory owed old new
+  first_tried owed old new f = subst (λ l. OwedTried told memory l old new) (sym f.first) f.full
+
+  -- a worker that rests tried what is owed first
+  pub rests_tried : (owed : List Item) (want : Option ℕ) (before met looked new : Seen S) → OwedTried told memory owed before met → FoundNone told memory met looked → FoundNothing told memory want looked new → RestsTried told memory owed want before new
+  rests_tried [] want before met looked new h none rested = record { looked = looked; none = subst (λ x. FoundNone told memory x looked) h none; rested = rested }
+  rests_tried (p ∷ ps) want before met looked new h none rested = record { tried = met; looked = looked; full = h; none = none; rested = rested }
 
 -- nothing that is owed needs none
 pub room_none : {E : Type 0} (owed : List Item) (e : Line E) → owed ≡ [] → HasRoomFor owed e

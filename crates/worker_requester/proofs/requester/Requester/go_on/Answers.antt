@@ -1,4 +1,4 @@
-use Rattle.std.proofs.Common.{sym, ap, subst}
+use Rattle.std.proofs.Common.{sym, subst}
 use Rattle.worker_requester.specs.Asking.{LeavesTried}
 use Rattle.worker_requester.proofs.AskSteps.{all_marked}
 use Rattle.worker_requester.proofs.requester.Requester.go_on.Goals as goal
