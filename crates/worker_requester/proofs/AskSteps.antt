@@ -27,7 +27,7 @@ use Rattle.channel_model.proofs.Amounts.{asks_at_most, kinds_asked, kinds_acked}
 use Rattle.channel_model.proofs.Opens.{by_test}
 use Rattle.channel_model.proofs.Asking.{since_more, under_more, asker_accepted, asker_sent, asker_told, asker_answered, asker_stray, asker_came, asker_acked, asker_breaks, asker_open, asker_empty, asker_marked, asker_saw, asker_settled, asker_stopped}
 use Rattle.worker_port.specs.Line.{Line, SleepsFor}
-use Rattle.worker_requester.specs.Asking.{AckFull, Asking, AskLacks, AskedFrom, EndsAcked, GoesFree, IsAsking, IsPaced, LeavesAcks, LeavesTried, AsksAll, Holds, HoldTried, RestsTried, HasSettled, AskerLacks, LacksNext, id_in, answer_of, ask_at, asked_in, waits_in, waits_under, want_by, pending, AsksOn, AsksBy}
+use Rattle.worker_requester.specs.Asking.{AckFull, Asking, AskLacks, AskedFrom, EndTried, EndsAcked, EverTried, GoesFree, IsAsking, IsPaced, LeavesAcks, LeavesTried, AsksAll, Holds, HoldTried, RestsTried, HasSettled, AskerLacks, LacksNext, id_in, answer_of, ask_at, asked_in, waits_in, waits_under, want_by, pending, AsksOn, AsksBy}
 use Rattle.worker_requester.specs.declared.requester.Blocked.{Blocked}
 use Rattle.worker_requester.specs.declared.requester.Blocked.TheVariants.{Done, Place, Answer, Ack, Room}
 use Rattle.worker_port.specs.declared.ended.Ended.{Ended}
@@ -36,6 +36,8 @@ use Rattle.worker_port.specs.Owed.{IsNeed, MetFull}
 use Rattle.worker_port.specs.Tries.{FoundFull, FoundNone, FoundNothing, MarkedOnce}
 use Rattle.worker_port.specs.Rooms.{AreShort, AskedWithin, CameOver, HasReservedSent, KeepsRoom}
 use Rattle.worker_port.proofs.RoomLaws.{asks_over, ask_left, ack_left, takes_over}
+use Rattle.worker_port.specs.declared.ended.Turn.TheVariants.{Ended as TurnEnded}
+use Rattle.worker_requester.specs.Causes.{AskCause}
 use Rattle.worker_requester.specs.Acking.{IsNext}
 use Rattle.worker_requester.proofs.NextLaws.{acks_skipped, first_of}
 use Rattle.worker_requester.proofs.Tables.{set_request, some_within, count_less, none_open, none_in}
@@ -646,6 +648,19 @@ module _ {T S A Q R : Type 0} (s : WireFormat Item A Q R) (besides : Bool) (asks
 
 pub ask_trans : {T S R C : Type 0} (channel : S → C) (told_by : S → Option Told) (u v w : Asking T S R) → AsksOn channel told_by u v → AsksOn channel told_by v w → AsksOn channel told_by u w
 ask_trans channel told_by u v w a b = record { tells = b.tells ∙ a.tells; protocol = b.protocol ∙ a.protocol; relid = b.relid ∙ a.relid; starts = b.starts ∙ a.starts; window = b.window ∙ a.window; end = record { seat = b.end.seat ∙ a.end.seat; side = b.end.side ∙ a.end.side } }
+
+-- a worker that ended in a turn had tried what it let go
+pub ever_tried : {T S A Q R C : Type 0} (channel : S → C) (told : S → Option Told) (memory : S → Option Memory) (sp : T → WireFormat Item A Q R) (how : Ended) (u v w : Asking T S R) → AsksOn channel told u v → AsksOn channel told v w
+    → AskCause told memory (TurnEnded how) v.end w.end → (v.end.state.machine.asleep ≡ false → EndTried told memory (sp w.protocol) how v.end.end w.end) → EverTried channel told memory (sp u.protocol) how u.end.end w.end
+ever_tried channel told memory sp how u v w a b cause tried = record {
+  before = v.end.end;
+  same = a.end;
+  tried = subst (λ t. EndTried told memory (sp t) how v.end.end w.end) (b.protocol ∙ a.protocol) (tried (awake v.end.state.machine.asleep refl));
+}
+  where
+    awake : (b : Bool) → v.end.state.machine.asleep ≡ b → v.end.state.machine.asleep ≡ false
+    awake true e = absurd (cause.asleep e)
+    awake false e = e
 
 -- what it gives at its end is what was asked of it at its beginning
 pub asks_on : {T S A Q R C : Type 0} (channel : S → C) (told_by : S → Option Told) (sp : T → WireFormat Item A Q R) (asks : T → List A) (how : Ended) (u w : Asking T S R) (past : List (Event Item)) (told : List R) → AsksOn channel told_by u w

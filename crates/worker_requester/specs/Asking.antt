@@ -234,15 +234,25 @@ RestsTried told memory s asks (BlockedAck need) old w =
 RestsTried {A = A} told memory s asks (BlockedRoom need) old w =
     (a : A) × (slice_get asks w.next ≡ Some a) × LookedTriedRested told memory (s.encode (id_in w.waiting) a).packet (Some need) old w.end.end
 
+-- of a worker that ended so, from an earlier end on: after the other end's mark what is left to acknowledge was tried
+abbrev pub EndTried : {S A Q R : Type 0} → (S → Option Told) → (S → Option Memory) → WireFormat Item A Q R → Ended → Seen S → Line S → Type 0
+EndTried told memory s Marked old e = Unit {0}
+EndTried told memory s PeerMarked old e = LeavesTried told memory s old e
+EndTried told memory s (Room packets words left) old e = Unit {0}
+EndTried told memory s EndedBroken old e = Unit {0}
+
+-- and that from some moment on of the end that it had first
+pub record EverTried {S C A Q R : Type 0} (channel : S → C) (told : S → Option Told) (memory : S → Option Memory) (s : WireFormat Item A Q R) (how : Ended) (first : Seen S) (e : Line S) : Type 0 where
+  pub before : Seen S
+  pub same : IsSameEnd channel first before
+  pub tried : EndTried told memory s how before e
+
 -- of a turn of an end that was awake, from this end on: where it rests, the packet that waits for room was tried in it; and where it ended after the other end's mark,
 -- what is left to acknowledge was
 abbrev pub TurnTried : {T S A Q R : Type 0} → (S → Option Told) → (S → Option Memory) → WireFormat Item A Q R → List A → Turn → Seen S → Asking T S R → Type 0
 TurnTried told memory s asks Moved old w = Unit {0}
 TurnTried told memory s asks Idle old w = RestsTried told memory s asks w.hold old w
-TurnTried told memory s asks (TurnEnded Marked) old w = Unit {0}
-TurnTried told memory s asks (TurnEnded PeerMarked) old w = LeavesTried told memory s old w.end
-TurnTried told memory s asks (TurnEnded (Room packets words left)) old w = Unit {0}
-TurnTried told memory s asks (TurnEnded EndedBroken) old w = Unit {0}
+TurnTried told memory s asks (TurnEnded how) old w = EndTried told memory s how old w.end
 
 -- the packet that waits for room was tried once, and found too little; where none waits the end made no call
 abbrev pub HoldTried : {T S A Q R : Type 0} → (S → Option Told) → (S → Option Memory) → WireFormat Item A Q R → List A → Blocked → Seen S → Asking T S R → Type 0

@@ -12,7 +12,7 @@ ghost use Rattle.worker_port.specs.declared.found.Found.TheVariants.{Nothing as 
 ghost use Rattle.worker_requester.specs.declared.requester.Asked.TheVariants.{Broken as BrokenAsked};
 ghost use Rattle.worker_requester.specs.Causes.{AskCause, AskerActs, AsksOne, AsksOrArms};
 ghost use Rattle.worker_port.specs.Line.{new_end, line_of, past_as, IsLine, Finds, IsBroken, IsReady, IsSameEnd, HasTakeRoom, TookOne};
-ghost use Rattle.worker_requester.specs.Asking.{AsksBy, AskTurns, AskedFrom, EndsAcked, AckTried, HeldAcks, HeldTried, HoldTried, IsPaced, LeavesAcks, AskLacks, AskerLacks, AsksOn, AskEnds, Holds, HasAcked, HasMessage, HasOpen, HasSettled, StandsAsked, TurnTried, waits_under, want_by, AskedBy};
+ghost use Rattle.worker_requester.specs.Asking.{AsksBy, AskTurns, AskedFrom, EndsAcked, EverTried, AckTried, HeldAcks, HeldTried, HoldTried, IsPaced, LeavesAcks, AskLacks, AskerLacks, AsksOn, AskEnds, Holds, HasAcked, HasMessage, HasOpen, HasSettled, StandsAsked, TurnTried, waits_under, want_by, AskedBy};
 ghost use Rattle.worker_port.specs.Rooms.{AskedWithin, AskLacksFor, KeepsRoom, broke, is_broken};
 ghost use Rattle.txn_table.specs.Open.{HasNone};
 ghost use Rattle.channel_model.specs.Amounts.{room_of};
@@ -732,6 +732,7 @@ impl<T: Protocol, S: Parks + Drop> Requester<T, S> {
         ensures paced { IsPaced (T.format self.protocol) self.starts (T.asks self.protocol) (past_as T.said result.end.state) }
         ensures ids { AskedFrom (T.format self.protocol) (length self.table) (T.asks self.protocol) (past_as T.said result.end.state) }
         ensures acks { EndsAcked (T.format self.protocol) result.ended (line_of T.said result.end) }
+        ensures tried { EverTried S.channel S.told S.memory (T.format self.protocol) result.ended self.end.end (line_of T.said result.end) }
     {
         for _ in rt.forever() {
             match self.turn(rt, gate) {

@@ -212,6 +212,12 @@ LeavesTried told memory s besides PeerMarked w old e calls = (AnswersAll s w e.s
 LeavesTried told memory s besides (Room packets words left) w old e calls = Unit {0}
 LeavesTried told memory s besides EndedBroken w old e calls = Unit {0}
 
+-- and that from some moment on of the end that it had first
+pub record EverTried {T S E C A Q R : Type 0} (channel : E → C) (told : E → Option Told) (memory : E → Option Memory) (s : WireFormat Item A Q R) (besides : Bool) (how : Ended) (w : Serving T S E Q R) (e : Line E) (calls : List (Call Q R)) : Type 0 where
+  pub before : Seen E
+  pub same : IsSameEnd channel w.end.end before
+  pub tried : LeavesTried told memory s besides how w before e calls
+
 -- how a worker has ended that marked its end, by whether it had seen the other end's mark
 abbrev pub marked_by : Bool → Ended
 marked_by true = PeerMarked

@@ -6,7 +6,7 @@ ghost use Rattle.worker_server.specs.Causes.{GivesLast, GivesOne, GivesOrTakes, 
 ghost use Rattle.worker_port.specs.Line.{new_end, IsLine, line_of, past_as, Finds, IsBroken, IsReady, IsSameEnd, HasTakeRoom, LacksTake, TookOne};
 ghost use Rattle.worker_port.specs.Owed.{is_nil, LacksSend, MetFull};
 ghost use Rattle.worker_port.specs.Rooms.{KeepsRoom, OnlyWith, ServeLacksFor, ServedWithin, broke, is_broken};
-ghost use Rattle.worker_server.specs.Serving.{Closes, EndsBy, FirstFull, HasRoomFor, HasServed, HasToWait, Lacks, LacksRoom, LeavesTried, OwedTried, Turns, TurnTried, GaveOne, ServeEnds, ServesOn, BreaksOff, StandsGiven, calls_behind, has_done, lacks_call, marked_by};
+ghost use Rattle.worker_server.specs.Serving.{Closes, EndsBy, EverTried, FirstFull, HasRoomFor, HasServed, HasToWait, Lacks, LacksRoom, LeavesTried, OwedTried, Turns, TurnTried, GaveOne, ServeEnds, ServesOn, BreaksOff, StandsGiven, calls_behind, has_done, lacks_call, marked_by};
 ghost use Rattle.worker_port.specs.Tries.{FoundNone};
 ghost use Rattle.ring_core.specs.Seen.{Seen};
 ghost use Rattle.channel_model.specs.Acks.{AllOwnOpen, OwnFrom};
@@ -564,6 +564,7 @@ impl<T: Protocol, S: Device<T>, E: Parks + Drop> Server<T, S, E> {
     pub fn run<R: Wait, G: Gate>(mut self, rt: &R, gate: &G) -> ServerDone<T, S, E>
         requires unmarked { self.end.state.machine.marked ≡ false }
         ensures ends { EndsBy (T.format self.responder.protocol) (T.besides self.responder.protocol) result.ended self (line_of T.said result.end) (calls_behind self.responder.before (S.calls result.seat)) }
+        ensures tried { EverTried E.channel E.told E.memory (T.format self.responder.protocol) (T.besides self.responder.protocol) result.ended self (line_of T.said result.end) (calls_behind self.responder.before (S.calls result.seat)) }
         ensures before { take (length self.responder.before) (S.calls result.seat) ≡ self.responder.before }
         ensures serials { result.serials.items ≡ map (λ c. c.serial) (calls_behind self.responder.before (S.calls result.seat)) }
         ensures end { IsSameEnd E.channel self.end.end result.end }
