@@ -97,9 +97,7 @@ fn cdb_of(ask: DiskAsk) -> [u8; 16]
         DiskAsk::Capacity => ten(0x25, 0, 0),
         DiskAsk::LongCapacity => long_capacity_cdb(),
         DiskAsk::Flush => ten(0x35, 0, 0),
-        DiskAsk::Read { lba, count } => {
-            moving(0x28, 0x88, lba.unwrap_or(0), count.unwrap_or(0))
-        }
+        DiskAsk::Read { lba, count } => { moving(0x28, 0x88, lba.unwrap_or(0), count.unwrap_or(0)) }
         DiskAsk::Write {
             lba,
             count,

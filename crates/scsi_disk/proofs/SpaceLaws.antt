@@ -110,6 +110,6 @@ first_more ks lba i =
     let test = λ (place : ℕ). not (list_any (nat_eq place) ks) in
     let before = first_written ks lba i in
     let one = filter test ((lba + i) ∷ []) in
-    let all : first_written ks lba (i + 1) ≡ before ++ one = 
+    let all : first_written ks lba (i + 1) ≡ before ++ one =
     (let next : i + 1 ≡ suc i = omega arith in ap (λ n. filter test (range_with_len lba n)) next) ∙ ap (filter test) (range_more i lba) ∙ filter-append test (range_with_len lba i) ((lba + i) ∷ []) in
     ap length all ∙ length-append before one ∙ ap (λ n. length before + n) (last_one (list_any (nat_eq (lba + i)) ks) (lba + i))

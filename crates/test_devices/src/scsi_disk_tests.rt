@@ -174,8 +174,20 @@ fn moves_blocks_far_out(rt: HostRuntime) -> Result<(), Fail> {
     let d = &mut disk;
     gives(&rt, d, wide(0x8a, 0, last, 1), &[0xaa; 512], &[]);
     gives(&rt, d, wide(0x88, 0, last, 1), &[], &[0xaa; 512]);
-    gives(&rt, d, wide(0x88, 0, u64::from(u32::MAX), 1), &[], &[0; 512]);
-    good(&rt, d, [0x28, 0, 255, 255, 255, 255, 0, 0, 1, 0], &[], &[0; 512]);
+    gives(
+        &rt,
+        d,
+        wide(0x88, 0, u64::from(u32::MAX), 1),
+        &[],
+        &[0; 512],
+    );
+    good(
+        &rt,
+        d,
+        [0x28, 0, 255, 255, 255, 255, 0, 0, 1, 0],
+        &[],
+        &[0; 512],
+    );
     // What one form of the command wrote, the other one reads.
     good(&rt, d, [0x2a, 0, 0, 1, 0, 2, 0, 0, 1, 0], &[7; 512], &[]);
     gives(&rt, d, wide(0x88, 0, 0x1_0002, 1), &[], &[7; 512]);

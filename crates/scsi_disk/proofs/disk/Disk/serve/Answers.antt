@@ -1,4 +1,4 @@
-use Rattle.std.proofs.Common.{ℕ, List, length, ap, arith}
+use Rattle.std.proofs.Common.{length, ap, arith}
 use Rattle.scsi_disk.specs.FiniteMap.{stands_for, with_blocks}
 use Rattle.scsi_disk.proofs.RefusalLaws.{read_allowed, write_allowed}
 use Rattle.scsi_disk.proofs.SpaceLaws.{length-with_blocks}

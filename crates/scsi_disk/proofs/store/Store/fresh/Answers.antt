@@ -14,6 +14,6 @@ loop-i-preserved c =
     let found : list_any here ks ≡ c.contains_key.result =
     sym (ap (λ s. list_any here (keys_of s.written)) c.self.view_is) ∙ sym (is_some-lookup here c.self.inside.written.entries) ∙ sym c.contains_key.ensures in
     elim c.if-not-contains_key.branch [
-      then-not-contains_key w ↦ let one = ap {B = ℕ} (λ b. cond b 0 1) (found ∙ w.if-not-contains_key.true) in record { counted = omega (arith, more, one, c.loop-i.invariant.counted, w.fresh-is); few = omega (arith, c.loop-i.invariant.few, w.fresh-is) }
-    | else-not-contains_key w ↦ let none = ap {B = ℕ} (λ b. cond b 0 1) (found ∙ w.if-not-contains_key.false) in record { counted = omega (arith, more, none, c.loop-i.invariant.counted, w.fresh-is); few = omega (arith, c.loop-i.invariant.few, w.fresh-is) }
+      | then-not-contains_key w ↦ let one = ap {B = ℕ} (λ b. cond b 0 1) (found ∙ w.if-not-contains_key.true) in record { counted = omega (arith, more, one, c.loop-i.invariant.counted, w.fresh-is); few = omega (arith, c.loop-i.invariant.few, w.fresh-is) }
+      | else-not-contains_key w ↦ let none = ap {B = ℕ} (λ b. cond b 0 1) (found ∙ w.if-not-contains_key.false) in record { counted = omega (arith, more, none, c.loop-i.invariant.counted, w.fresh-is); few = omega (arith, c.loop-i.invariant.few, w.fresh-is) }
     ]
