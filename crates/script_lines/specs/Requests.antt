@@ -19,7 +19,7 @@ ten code lba count = code ∷ 0 ∷ (to_be_bytes w32 lba ++ (0 ∷ (to_be_bytes 
 abbrev pub sixteen : ℕ → ℕ → ℕ → List ℕ
 sixteen code lba count = code ∷ 0 ∷ (to_be_bytes w64 lba ++ (to_be_bytes w32 count ++ (0 ∷ 0 ∷ [])))
 
--- a command that moves blocks, by its code of 10 and its code of 16 bytes: that of 10 bytes where the first block has a number of 32 bits
+-- a command that moves blocks, by its code in 10 and its code in 16 bytes: it has 10 where the number of the first block fits into 32 bits, and else 16
 abbrev pub moving : ℕ → ℕ → ℕ → ℕ → List ℕ
 moving narrow wide lba count = if nat_lt lba (2 ^ 32) then ten narrow lba count else sixteen wide lba count
 

@@ -32,8 +32,8 @@ fn sixteen(code: u8, lba: u64, count: u32) -> [u8; 16]
     [code, 0, a, b, c, d, e, f, g, h, i, j, k, l, 0, 0]
 }
 
-// A command that moves blocks, by its code of 10 and its code of 16 bytes: the one of 16 bytes where
-// the first block has a number above 32 bits.
+// A command that moves blocks, by its code in 10 and its code in 16 bytes: it has 10 where the number
+// of the first block fits into 32 bits, and else 16.
 fn moving(narrow: u8, wide: u8, lba: u64, count: u32) -> [u8; 16]
     requires { count ≤ 4 }
     ensures { result ≡ moving narrow wide lba count }

@@ -58,8 +58,8 @@ impl Model for Disk {
 }
 
 impl Disk {
-    /// A disk that is all zero, with these bad places. It takes the room of each block that can be
-    /// written now.
+    /// A disk that is all zero, with these bad places. It takes the room of all the blocks that can be
+    /// written now: 65,536, or as many as there are.
     pub fn make(alloc: Global, blocks: u64, bad: &[u64]) -> Result<Disk, AllocError>
         requires some { 1 ≤ blocks }
         requires few { blocks ≤ 2 ^ 40 }

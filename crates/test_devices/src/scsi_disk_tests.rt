@@ -162,7 +162,7 @@ fn tells_the_greatest_capacity(rt: HostRuntime) -> Result<(), Fail> {
     gives(&rt, d, wide(0x9e, 0xf0, 7, 32), &[], &long);
     checks(&rt, d, wide(0x9e, 0, 0, 32), &[], FIELD);
     checks(&rt, d, wide(0x9e, 0x11, 0, 32), &[], FIELD);
-    checks(&rt, d, wide(0x9e, 0x30 + 1, 0, 32), &[], FIELD);
+    checks(&rt, d, wide(0x9e, 0x31, 0, 32), &[], FIELD);
     Ok(())
 }
 
