@@ -1,5 +1,5 @@
 //! One end of a channel: it makes the steps of its calls by its seat, and keeps the lists of what it sent and got.
-ghost use Rattle.std.specs.Prelude.{ℕ, ◌≡◌, ◌≢◌, ◌+◌, ◌*◌, ◌/◌, ◌<◌, ◌≤◌, ◌++◌, ◌∷◌, cond, true, false, not, [], length, Option, Some, None, Result, Ok, Err, IfOk, OnOk, IsTrue, ◌↔◌, take, ◌-◌};
+ghost use Rattle.std.specs.Prelude.{◌==◌, ℕ, ◌≡◌, ◌≢◌, ◌+◌, ◌*◌, ◌/◌, ◌<◌, ◌≤◌, ◌++◌, ◌∷◌, cond, true, false, not, [], length, Option, Some, None, Result, Ok, Err, IfOk, OnOk, IsTrue, ◌↔◌, take, ◌-◌};
 ghost use Rattle.ring_machine.specs.Endings.{Leaves, LeavesBy, why_of, send_answer, commit_answer, is_asleep, peer_mark_answer, is_honest_send, want_of, IsWant};
 ghost use Rattle.ring_machine.specs.EndCalls.{Send, Commit, Arm, Poll, Mark, PeerMark};
 ghost use Rattle.ring_machine.specs.Places.{IsRingSize};
@@ -210,6 +210,13 @@ impl<S: Seatlike> End<S> {
         ensures { result ≡ self.now.state.machine.marked }
     {
         self.parts.core.machine.marked
+    }
+
+    /// Whether it gave back the cells of all packets that it took, as an arm asks.
+    pub fn has_committed(&self) -> bool
+        ensures { result ≡ (self.now.state.machine.start == self.now.state.machine.read) }
+    {
+        self.parts.core.machine.start == self.parts.core.machine.read
     }
 
     /// Whether the last arm saw the peer's mark.
