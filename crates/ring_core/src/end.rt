@@ -19,7 +19,7 @@ ghost use Rattle.ring_core.specs.Seen.{SentRoom, Kept, KeptByPages};
 ghost use Rattle.ring_core.specs.Loading.{Loads};
 ghost use Rattle.ring_machine.specs.PageCalls.{newest};
 ghost use Rattle.ring_machine.specs.States.{IsPacket, Gets, MayLend, resting_with, past_of, sent_by};
-ghost use Rattle.ring_machine.specs.Steps.{machine_new, is_sent, is_took, call_by, send_begun, commit_begun, arm_begun, poll_begun, mark_begun, peer_mark_begun};
+ghost use Rattle.ring_machine.specs.Steps.{IsSound, machine_new, is_sent, is_took, call_by, send_begun, commit_begun, arm_begun, poll_begun, mark_begun, peer_mark_begun};
 ghost use Rattle.ring_core.specs.Taking.{Takes};
 ghost use Rattle.ring_machine.specs.Endings.{refused};
 ghost use Rattle.ring_core.specs.Told.{MakesSteps};
@@ -164,6 +164,13 @@ impl<S: Seatlike> End<S> {
         ensures items { IsClear self.now.state.pages → self.now.state.pages.count ≢ 0 → (packets self.now.state.pages.sent ≡ self.now.state.sent) × (packets self.now.state.pages.got ≡ self.now.state.got) }
         ensures bare { self.now.state.pages.count ≡ 0 → (self.now.state.pages.sent ≡ []) × (self.now.state.pages.got ≡ []) }
         ensures told { (u : Told) → S.told self.now.seat ≡ Some u → u.state ≡ self.now.state }
+    {
+        let _parts = &self.parts;
+    }
+
+    /// Its indices are in their rings, and the packet that it sent or took last fits into one. The call does nothing: its contract is a law.
+    pub fn stands_inside(&self)
+        ensures { IsSound self.now.state.machine }
     {
         let _parts = &self.parts;
     }
