@@ -209,8 +209,9 @@ disk_half key others =
     (half_if n (bytes_eq key (codes "ready")) _ _ (half_map n _ (rows.name_alone others) (λ a. refl))
     (half_if n (bytes_eq key (codes "inquiry")) _ _ (half_map n _ (rows.name_alone others) (λ a. refl))
     (half_if n (bytes_eq key (codes "capacity")) _ _ (half_map n _ (rows.name_alone others) (λ a. refl))
+    (half_if n (bytes_eq key (codes "capacity16")) _ _ (half_map n _ (rows.name_alone others) (λ a. refl))
     (half_if n (bytes_eq key (codes "flush")) _ _ (half_map n _ (rows.name_alone others) (λ a. refl))
-    (half_if n (bytes_eq key (codes "read")) _ _ (half_map n _ (rows.name_and_two others) (λ a. refl)) (half_if n (bytes_eq key (codes "write")) _ _ (write_half n others) (net_half key others)))))))
+    (half_if n (bytes_eq key (codes "read")) _ _ (half_map n _ (rows.name_and_two others) (λ a. refl)) (half_if n (bytes_eq key (codes "write")) _ _ (write_half n others) (net_half key others))))))))
 
 row_half : (key : List ℕ) (others : List (List ℕ)) → Half (total others) (rows.row_of key others)
 row_half key others =

@@ -13,3 +13,4 @@ pub mod Phases
 pub mod ServedLines
 pub mod Assembling
 pub mod PhaseRun
+pub mod OpenedAs

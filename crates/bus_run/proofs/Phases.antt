@@ -29,8 +29,10 @@ use Rattle.bus_run.specs.declared.device_slot.DeviceSlot.{DeviceSlot}
 use Rattle.bus_run.specs.declared.runner.Runner.{Runner}
 use Rattle.scsi_disk.specs.DiskModel.{DiskState}
 use Rattle.bus_run.specs.DeviceSlot.{spec_of, setup_of, setup_for, slot_log, IsFresh, IsReady}
+use Rattle.bus_run.specs.Opened.{AllRanAsSet, HaveWorked}
 use Rattle.bus_run.specs.Settings.{SettingsOf}
 use Rattle.bus_run.specs.Whole.{IsThis, PhaseRan, AreFresh, setups_from, specs_of, parts_left, earlier_lines, NextWithin, behind, next_relid, RunsSoFar}
+use Rattle.bus_run.proofs.OpenedAs.{ran_more}
 
 -- new devices
 
@@ -273,9 +275,9 @@ all_few kinds [] right = tt
 all_few kinds (l ∷ lines) right = each_append (λ s. subs_of s ≤ 3) (offered_by l.what) (offered lines) (few_offered kinds l.what right.0) (all_few kinds lines right.1)
 
 -- no phase ran
-pub start : (lines : List Line) (r : Runner) → AreFresh lines (offered lines) r.slots.items → SettingsOf lines (length r.slots.items) r.settings.items → r.ended.items ≡ replicate (length r.slots.items) None → r.relid ≡ length r.slots.items + 1 → length (offered lines) ≤ 16 → r.phase ≡ 0 → r.next ≡ Some 0 → r.settled.items ≡ [] → r.results.items ≡ []
+pub start : (lines : List Line) (r : Runner) → AreFresh lines (offered lines) r.slots.items → SettingsOf lines (length r.slots.items) r.settings.items → r.ended.items ≡ replicate (length r.slots.items) None → r.relid ≡ length r.slots.items + 1 → length (offered lines) ≤ 16 → r.phase ≡ 0 → r.next ≡ Some 0 → r.settled.items ≡ [] → r.results.items ≡ [] → r.work.items ≡ []
     → RunsSoFar lines r
-start lines r fresh settings none relid sixteen phase next settled results =
+start lines r fresh settings none relid sixteen phase next settled results work =
     let before : List (List Recorded) = map (λ k. []) (offered lines) in
     let many : length r.slots.items ≡ length (offered lines) = sym (length-map r.slots.items spec_of) ∙ ap length fresh.kinds_are in
     let none_opened : length (offered lines) + 1 ≡ next_relid lines 0 = omega arith in
@@ -283,6 +285,8 @@ start lines r fresh settings none relid sixteen phase next settled results =
       runs = subst (λ k. RunsOf (take k (phases lines)) before r.settled.items (map slot_log r.slots.items) r.results.items) (sym phase)
           (subst (λ l. RunsOf [] before r.settled.items l r.results.items) (sym fresh.logs)
           (subst (λ l. RunsOf [] before l before r.results.items) (sym settled) (subst (λ l. RunsOf [] before [] before l) (sym results) over)));
+      worked = subst (λ k. AllRanAsSet lines (take k (phases lines)) r.work.items r.settled.items) (sym phase)
+          (subst (λ l. AllRanAsSet lines [] l r.settled.items) (sym work) (subst (λ l. AllRanAsSet lines [] [] l) (sym settled) (record { each = tt; carried = refl })));
       left = ap (parts_left lines) next ∙ ap (λ p. drop p (parts lines)) (sym phase);
       within = subst (NextWithin lines) (sym next) (omega arith);
       counted = omega (arith, phase);
@@ -306,8 +310,9 @@ pub go_on : (lines part : List Line) (old new : Runner) (at : ℕ) (next : Optio
     → ((p : Phase) → IsThis old.phase part old.ended.items (specs_of old.slots.items) old.relid p → PhaseRan p old.slots.items new.slots.items old.settled.items new.settled.items old.results.items new.results.items)
     → ((p : Phase) → IsThis old.phase part old.ended.items (specs_of old.slots.items) old.relid p → new.relid ≡ old.relid + length (others p.opened)) → new.relid ≤ old.relid + 48
     → ((earlier : List Line) → AreEnded earlier old.ended.items → AreEnded (earlier ++ part) new.ended.items)
-    → length new.ended.items ≡ length old.ended.items → All (IsReady (4096 * (old.phase + 1))) new.slots.items → new.phase ≡ old.phase + 1 → new.next ≡ behind at next → new.settings.items ≡ old.settings.items → RunsSoFar lines new
-go_on lines part old new at next so_far script here split within ran relids few ended count ready phase moved settings =
+    → length new.ended.items ≡ length old.ended.items → All (IsReady (4096 * (old.phase + 1))) new.slots.items → new.phase ≡ old.phase + 1 → new.next ≡ behind at next → new.settings.items ≡ old.settings.items
+    → ((p : Phase) → IsThis old.phase part old.ended.items (specs_of old.slots.items) old.relid p → HaveWorked old.settings.items p old.settled.items new.settled.items old.work.items new.work.items) → RunsSoFar lines new
+go_on lines part old new at next so_far script here split within ran relids few ended count ready phase moved settings worked =
     let cut : parts (drop at lines) ≡ part ∷ parts_left lines (behind at next) = part_next lines part at next split in
     let left : part ∷ parts_left lines (behind at next) ≡ drop old.phase (parts lines) = sym cut ∙ ap (parts_left lines) (sym here) ∙ so_far.left in
     let p = the_phase lines old.phase in
@@ -330,6 +335,8 @@ go_on lines part old new at next so_far script here split within ran relids few 
       runs = subst (λ ps. RunsOf ps before new.settled.items (map slot_log new.slots.items) new.results.items) (sym taken)
           (subst (λ l. RunsOf (take old.phase (phases lines) ++ p ∷ []) before l (map slot_log new.slots.items) new.results.items) (sym one.settled_are)
           (subst (λ l. RunsOf (take old.phase (phases lines) ++ p ∷ []) before (old.settled.items ++ one.runs) (map slot_log new.slots.items) l) (sym one.results_are) whole));
+      worked = subst (λ ps. AllRanAsSet lines ps new.work.items new.settled.items) (sym taken)
+          (ran_more lines (length old.slots.items) old.settings.items (take old.phase (phases lines)) p old.work.items new.work.items old.settled.items new.settled.items so_far.settings so_far.worked (worked p is_this));
       left = ap (parts_left lines) moved ∙ this.2 ∙ ap (λ p. drop p (parts lines)) (sym phase);
       within = subst (NextWithin lines) (sym moved) (within_next lines at next started within);
       counted = omega (arith, phase, this.0);
@@ -361,3 +368,9 @@ finish lines r histories so_far done logs legal =
       phases_run = subst (λ l. RunsOf (phases lines) before r.settled.items l r.results.items) (sym logs) (subst (λ ps. RunsOf ps before r.settled.items (map slot_log r.slots.items) r.results.items) all so_far.runs);
       legal = subst (λ k. EachHistory lines 0 k histories) so_far.kinds (legal lines (so_far.setups ∙ ap (setups_from lines 0) (sym so_far.kinds)));
     }
+
+-- on channels that were opened as the lines say
+pub finish_worked : (lines : List Line) (r : Runner) → RunsSoFar lines r → r.phase ≡ length (parts lines) → AllRanAsSet lines (phases lines) r.work.items r.settled.items
+finish_worked lines r so_far done =
+    let all : take r.phase (phases lines) ≡ phases lines = take_all r.phase (phases lines) (omega (arith, done, phases_long (offered lines) 0 (length (offered lines) + 1) [] (parts lines))) in
+    subst (λ ps. AllRanAsSet lines ps r.work.items r.settled.items) all so_far.worked

@@ -3,6 +3,7 @@ pub mod Settings
 pub mod Seats
 pub mod Opening
 pub mod Closing
+pub mod Opened
 pub mod Channels
 pub mod Whole
 pub mod Due

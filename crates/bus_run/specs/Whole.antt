@@ -17,6 +17,7 @@ use Rattle.bus_plan.specs.declared.ending.Ending.{Ending}
 use Rattle.scsi_disk.specs.DiskModel.{DiskState}
 use Rattle.bus_run.specs.declared.device_slot.DeviceSlot.{DeviceSlot}
 use Rattle.bus_run.specs.declared.runner.Runner.{Runner}
+use Rattle.bus_run.specs.Opened.{AllRanAsSet}
 use Rattle.bus_run.specs.Settings.{SettingsOf}
 use Rattle.bus_run.specs.DeviceSlot.{spec_of, setup_of, setup_for, slot_log, IsReady}
 
@@ -77,9 +78,10 @@ earlier_lines lines phase = flat_map (λ part. part) (take phase (parts lines))
 abbrev pub next_relid : List Line → ℕ → ℕ
 next_relid lines phase = length (offered lines) + 1 + length (flat_map (λ p. others p.opened) (take phase (phases lines)))
 
--- The first phases of a script ran, as many as the runner counts: what it has is a run of them
+-- The first phases of a script ran, as many as the runner counts: what it has is a run of them, on channels that were opened as the script sets
 pub record RunsSoFar (lines : List Line) (r : Runner) : Type 0 where
   pub runs : RunsOf (take r.phase (phases lines)) (map (λ k. []) (offered lines)) r.settled.items (map slot_log r.slots.items) r.results.items
+  pub worked : AllRanAsSet lines (take r.phase (phases lines)) r.work.items r.settled.items
   pub left : parts_left lines r.next ≡ drop r.phase (parts lines)
   pub within : NextWithin lines r.next
   pub counted : r.phase ≤ length (parts lines)

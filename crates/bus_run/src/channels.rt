@@ -3,21 +3,25 @@ ghost use Rattle.std.specs.Prelude.{◌≡◌, ◌+◌, ◌*◌, ◌≤◌, leng
 ghost use Rattle.script_phases.specs.Openings.{Phase};
 ghost use Rattle.bus_run.specs.DeviceSlot.{IsReady};
 ghost use Rattle.bus_run.specs.Channels.{CanRun, ChannelsRan};
+ghost use Rattle.bus_run.specs.Opened.{HaveWorked};
 ghost use Rattle.bus_run.specs.Settings.{HasLimits};
 
 use crate::closing::{close_all, close_slots};
 use crate::device_slot::DeviceSlot;
 use crate::due::all_due;
 use crate::opening::{open_all, reopen_all};
+use crate::phase_work::PhaseWork;
 use crate::settings::Settings;
 use bus_model::ChannelRun;
 use bus_plan::{ChannelOrder, Outcomes};
 use io_edge::Gate;
 use std::alloc::{AllocError, Global};
+use std::snapshot::Snapshot;
 use std::sync::Wait;
 use std::thread::Threads;
 
-/// Runs all channels that a phase opens, and answers the outcomes of their requests. The requests are moved out of the plan to the workers that ask them.
+/// Runs all channels that a phase opens, and answers the outcomes of their requests. The requests are moved out of the plan to the workers that ask them, and
+/// the workers are noted behind those of the phases before.
 pub fn run_channels<R: Threads + Wait + Sync, G: Gate>(
     rt: &R,
     gate: &G,
@@ -27,6 +31,7 @@ pub fn run_channels<R: Threads + Wait + Sync, G: Gate>(
     settings: &[Settings],
     slots: &mut Vec<DeviceSlot>,
     settled: &mut Vec<ChannelRun>,
+    work: &mut Vec<PhaseWork>,
 ) -> Result<Outcomes, AllocError>
     requires can { (p : Phase) × CanRun phase plan.items slots.old.items p }
     requires ready { All (IsReady (4096 * phase)) slots.old.items }
@@ -35,14 +40,18 @@ pub fn run_channels<R: Threads + Wait + Sync, G: Gate>(
     requires phase { phase ≤ 20000 }
     requires few { length slots.old.items ≤ 16 }
     ensures ran { IfOk result (λ outcomes. (p : Phase) → CanRun phase plan.items slots.old.items p → ChannelsRan p slots.old.items slots.new.items settled.old.items settled.new.items outcomes) }
+    ensures worked { OnOk result ((p : Phase) → CanRun phase plan.items slots.old.items p → HaveWorked settings.now p settled.old.items settled.new.items work.old.items work.new.items) }
     ensures ready { OnOk result (All (IsReady (4096 * (phase + 1))) slots.new.items) }
 {
     let mut seats = reopen_all(alloc, phase, &plan, slots)?;
     let dues = all_due(alloc, &plan)?;
     let pairs = open_all(alloc, plan, settings, slots, &mut seats)?;
+    let opened = Snapshot::of(&pairs);
     let mut done = Vec::with_capacity(alloc, pairs.len())?;
     bus_threads::run_phase(rt, pairs, &mut done, gate);
+    let left = Snapshot::of(&done);
     let outcomes = close_all(alloc, phase, &dues, done, &mut seats, settled)?;
     close_slots(slots, seats);
+    work.push(PhaseWork { opened, left })?;
     Ok(outcomes)
 }

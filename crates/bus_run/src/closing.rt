@@ -9,6 +9,7 @@ ghost use Rattle.worker_pair.specs.declared.device_seat.DeviceSeat.{DeviceSeat a
 ghost use Rattle.bus_run.specs.declared.device_slot.DeviceSlot.{DeviceSlot as OneSlot};
 ghost use Rattle.bus_run.specs.DeviceSlot.{GoesOn, slot_at};
 ghost use Rattle.bus_run.specs.Opening.{Given};
+ghost use Rattle.bus_run.specs.Opened.{HaveLeft};
 ghost use Rattle.bus_run.specs.Closing.{AllBack, AllCome, AllClosed, AreWhole, ChannelClosed, ChannelEnded};
 ghost use Rattle.bus_run.specs.Seats.{kind_in, seats_in};
 
@@ -27,7 +28,8 @@ use worker_pair::DeviceSeat;
 /// What a channel carried, its seat, and the outcomes of its requests, of which there are so many: nothing is copied.
 fn end_channel(asked: usize, done: PairDone) -> (Settled, DeviceSeat, ChannelOutcomes)
     requires { (order : OneOrder) × (first : OneSeat) × (length order.asks ≡ asked) × RanPair order first done }
-    ensures { (order : OneOrder) (first : OneSeat) → length order.asks ≡ asked → RanPair order first done → ChannelEnded order first result.0 result.1 result.2 }
+    ensures ended { (order : OneOrder) (first : OneSeat) → length order.asks ≡ asked → RanPair order first done → ChannelEnded order first result.0 result.1 result.2 }
+    ensures settled { result.0 ≡ done.settled }
 {
     let PairDone {
         settled,
@@ -56,6 +58,7 @@ fn close_channel(
     requires { (order : OneOrder) × (first : OneSeat) × (done : OneDone) × (rest : List OneDone) × (length order.asks ≡ due.now.count) × (kind_in seats.old ≡ Some (kind_at first)) × (into_iter_items dones.old ≡ done ∷ rest) × RanPair order first done }
     ensures closed { IfOk result (λ results. (order : OneOrder) (first : OneSeat) (done : OneDone) (rest : List OneDone) → length order.asks ≡ due.now.count → into_iter_items dones.old ≡ done ∷ rest → RanPair order first done
         → ChannelClosed phase due.now.opening order first seats.old seats.new settled.old.items settled.new.items results) }
+    ensures carried { OnOk result ((done : OneDone) (rest : List OneDone) → into_iter_items dones.old ≡ done ∷ rest → settled.new.items ≡ settled.old.items ++ record { phase = phase; relid = due.now.opening.relid; device = due.now.opening.device; settled = done.settled } ∷ []) }
     ensures rest { OnOk result ((done : OneDone) (rest : List OneDone) → into_iter_items dones.old ≡ done ∷ rest → into_iter_items dones.new ≡ rest) }
 {
     let Some(done) = dones.next() else {
@@ -83,7 +86,8 @@ pub fn close_all(
     settled: &mut Vec<ChannelRun>,
 ) -> Result<Outcomes, AllocError>
     requires { (old : List OneSlot) × (given : List Given) × AllCome dues.now old given seats.old.items done.items }
-    ensures { IfOk result (λ outcomes. (old : List OneSlot) (given : List Given) → AllCome dues.now old given seats.old.items done.items → AllClosed phase old given seats.old.items seats.new.items settled.old.items settled.new.items outcomes) }
+    ensures closed { IfOk result (λ outcomes. (old : List OneSlot) (given : List Given) → AllCome dues.now old given seats.old.items done.items → AllClosed phase old given seats.old.items seats.new.items settled.old.items settled.new.items outcomes) }
+    ensures left { OnOk result (HaveLeft settled.old.items settled.new.items done.items) }
 {
     let mut dones = done.into_iter();
     let mut outcomes = Outcomes::make(alloc, seats.len())?;

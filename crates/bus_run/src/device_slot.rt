@@ -1,5 +1,5 @@
 //! A device between phases.
-ghost use Rattle.std.specs.Prelude.{◌≡◌, ◌<◌, ◌≤◌, [], ◌∷◌, ℕ, List, All, map, IfOk};
+ghost use Rattle.std.specs.Prelude.{◌≡◌, ◌<◌, ◌≤◌, ◌^◌, [], ◌∷◌, ℕ, List, All, map, IfOk};
 ghost use Rattle.bus_model.specs.Logs.{log_of, IsHistory};
 ghost use Rattle.script_lines.specs.Parts.{blocks_of, kind_of};
 ghost use Rattle.script_lines.specs.WellFormed.{IsDevice};
@@ -99,7 +99,7 @@ fn new_disk_slot(
     bad: &[u64],
 ) -> Result<DeviceSlot, AllocError>
     requires some { 1 ≤ blocks }
-    requires few { blocks ≤ 65536 }
+    requires few { blocks ≤ 2 ^ 40 }
     requires bad { All (λ place. place < blocks) bad.now }
     ensures { IfOk result (λ slot. IsFresh (OneSpec.Disk blocks subs) bad.now slot) }
 {

@@ -7,11 +7,13 @@ ghost use Rattle.script_lines.specs.WellFormed.{AllRight, AllGo};
 ghost use Rattle.script_phases.specs.Openings.{Phase, others, subs_of};
 ghost use Rattle.bus_plan.specs.Endings.{AreEnded};
 ghost use Rattle.bus_run.specs.DeviceSlot.{IsReady};
+ghost use Rattle.bus_run.specs.Opened.{HaveWorked};
 ghost use Rattle.bus_run.specs.Settings.{HasLimits};
 ghost use Rattle.bus_run.specs.Whole.{IsThis, PhaseRan, specs_of};
 
 use crate::channels::run_channels;
 use crate::device_slot::{DeviceSlot, all_subs};
+use crate::phase_work::PhaseWork;
 use crate::settings::Settings;
 use bus_model::ChannelRun;
 use bus_plan::{Ending, line_results, mark_ended, plan_part};
@@ -35,6 +37,7 @@ pub fn run_script_phase<R: Threads + Wait + Sync, G: Gate>(
     slots: &mut Vec<DeviceSlot>,
     settled: &mut Vec<ChannelRun>,
     results: &mut Vec<LineResult>,
+    work: &mut Vec<PhaseWork>,
 ) -> Result<(), AllocError>
     requires ready { All (IsReady (4096 * phase)) slots.old.items }
     requires right { AllRight (specs_of slots.old.items) part.now }
@@ -50,6 +53,7 @@ pub fn run_script_phase<R: Threads + Wait + Sync, G: Gate>(
     requires channels { sum_by channels_of (specs_of slots.old.items) ≤ 16 }
     requires phase { phase ≤ 20000 }
     ensures ran { OnOk result ((p : Phase) → IsThis phase part.now ended.old (specs_of slots.old.items) relid.old p → PhaseRan p slots.old.items slots.new.items settled.old.items settled.new.items results.old.items results.new.items) }
+    ensures worked { OnOk result ((p : Phase) → IsThis phase part.now ended.old (specs_of slots.old.items) relid.old p → HaveWorked settings.now p settled.old.items settled.new.items work.old.items work.new.items) }
     ensures relid { OnOk result ((p : Phase) → IsThis phase part.now ended.old (specs_of slots.old.items) relid.old p → relid.new ≡ relid.old + length (others p.opened)) }
     ensures few { OnOk result (relid.new ≤ relid.old + 48) }
     ensures ready { OnOk result (All (IsReady (4096 * (phase + 1))) slots.new.items) }
@@ -58,7 +62,7 @@ pub fn run_script_phase<R: Threads + Wait + Sync, G: Gate>(
 {
     let subs = all_subs(alloc, slots)?;
     let plan = plan_part(alloc, ended, &subs, relid, part)?;
-    let outcomes = run_channels(rt, gate, alloc, phase, plan, settings, slots, settled)?;
+    let outcomes = run_channels(rt, gate, alloc, phase, plan, settings, slots, settled, work)?;
     line_results(ended, outcomes, part, results)?;
     mark_ended(ended, part);
     Ok(())

@@ -7,7 +7,9 @@ ghost use Rattle.script_lines.specs.declared.line.Line.{Line as OneLine};
 ghost use Rattle.script_lines.specs.declared.line.DeviceSpec.{DeviceSpec as OneSpec};
 ghost use Rattle.bus_script.specs.Report.{prints};
 ghost use Rattle.script_lines.specs.WellFormed.{AllRight};
+ghost use Rattle.script_phases.specs.Openings.{phases};
 ghost use Rattle.bus_run.specs.DeviceSlot.{IsKept, spec_of, setup_of, slot_log};
+ghost use Rattle.bus_run.specs.Opened.{AllRanAsSet};
 ghost use Rattle.bus_run.specs.Parts.{AreOpen};
 ghost use Rattle.control_run.specs.Path.{IsSamePath};
 ghost use Rattle.bus_run.specs.Whole.{AreFresh, CanMake, RunsSoFar, behind, setups_from};
@@ -15,6 +17,7 @@ ghost use Rattle.bus_run.specs.Whole.{AreFresh, CanMake, RunsSoFar, behind, setu
 use crate::bads::bad_places;
 use crate::device_slot::{DeviceSlot, history_of, new_slot};
 use crate::phase::run_script_phase;
+use crate::phase_work::PhaseWork;
 use crate::settings::{Settings, all_settings};
 use bus_model::{ChannelRun, DeviceHistory};
 use bus_plan::{Ending, first_part};
@@ -28,12 +31,13 @@ use std::sync::Wait;
 use std::thread::Threads;
 
 /// What a run of a script gives: what each channel carried, in order of phase and then of relid; what each device served, in order of offer; and the
-/// outcome of each line that prints. A runner alone makes one. Contracts see the control path whose parts stood round the phases, too.
+/// outcome of each line that prints. A runner alone makes one. Contracts see the workers of each phase and the control path whose parts stood round the phases, too.
 #[derive(Drop)]
 pub struct ScriptRun {
     settled: Vec<ChannelRun>,
     histories: Vec<DeviceHistory>,
     results: Vec<LineResult>,
+    work: Vec<PhaseWork>,
     path: Snapshot<ControlPath>,
 }
 
@@ -48,6 +52,7 @@ impl ScriptRun {
             settled,
             histories,
             results,
+            work: _,
             path: _,
         } = self;
         (settled, histories, results)
@@ -68,6 +73,8 @@ pub struct Runner {
     relid: u32,
     settled: Vec<ChannelRun>,
     results: Vec<LineResult>,
+    // the workers of the phases that ran
+    work: Vec<PhaseWork>,
     // the control path whose parts stand round the phases, as it was at the start
     path: Snapshot<ControlPath>,
 }
@@ -186,6 +193,7 @@ impl Runner {
             relid,
             settled: Vec::new(alloc),
             results,
+            work: Vec::new(alloc),
             path: Snapshot::of(path),
         })
     }
@@ -206,6 +214,7 @@ impl Runner {
 
     /// Runs the next phase: its channels are opened in order of their relids, run all at once, and are closed. `path` shows that the controls opened them:
     /// both are done with the start of this phase, and with nothing behind it. It is the path that the runner was made with, further on: its queues are the same.
+    /// The rings of a channel have as many pages, and as many of its requests can be open, as the script sets for its device.
     pub fn run_next<R: Threads + Wait + Sync, G: Gate>(
         &mut self,
         rt: &R,
@@ -239,6 +248,7 @@ impl Runner {
             &mut self.slots,
             &mut self.settled,
             &mut self.results,
+            &mut self.work,
         )?;
         self.phase += 1;
         self.next = behind(at, next);
@@ -249,12 +259,14 @@ impl Runner {
     pub fn end(self, alloc: Global) -> Result<ScriptRun, AllocError>
         requires { (lines : List OneLine) × RunsSoFar lines self × (self.phase ≡ length (parts lines)) }
         ensures run { IfOk result (λ ran. (lines : List OneLine) → RunsSoFar lines self → self.phase ≡ length (parts lines) → IsBusRun lines ran.settled.items ran.histories.items ran.results.items) }
+        ensures work { IfOk result (λ ran. (lines : List OneLine) → RunsSoFar lines self → self.phase ≡ length (parts lines) → AllRanAsSet lines (phases lines) ran.work.items ran.settled.items) }
         ensures path { IfOk result (λ ran. ran.path.value ≡ self.path.value) }
     {
         let Runner {
             slots,
             settled,
             results,
+            work,
             path,
             ..
         } = self;
@@ -263,6 +275,7 @@ impl Runner {
             settled,
             histories,
             results,
+            work,
             path,
         })
     }

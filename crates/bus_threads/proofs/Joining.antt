@@ -1,6 +1,8 @@
 -- Two workers that ended make a run of their channel.
-use Rattle.std.proofs.Common.{◌≡◌, List, [], ◌∷◌, map, ap, ◌∙◌, subst}
+use Rattle.std.proofs.Common.{◌≡◌, ◌≤◌, ℕ, Bool, true, List, [], ◌∷◌, length, map, Some, ap, ◌∙◌, arith, subst, inl, inr}
+use Rattle.std.specs.Prelude.{◌&&◌, nat_le}
 use Rattle.std.specs.List.{AllByRecursion}
+use Rattle.std.proofs.lemmas.Bool.Decides.{nat_tests}
 use Rattle.std.proofs.lemmas.List.{length-map}
 use Rattle.page_kept.specs.declared.item.Item.{Item}
 use Rattle.page_kept.specs.Items.{packets}
@@ -18,11 +20,13 @@ use Rattle.device_formats.proofs.FormatLaws.{start_is_fixed, script_asks}
 use Rattle.device_formats.proofs.ItemFormatLaws.{keeps_items}
 use Rattle.channel_protocol.proofs.PacketRuns.{packets_run}
 use Rattle.channel_model.specs.Server.{answered}
-use Rattle.channel_model.specs.Channel.{AllAsk, AllFixed, AskerEnds, ServerEnds, count_of, held_of, IsProtocolRun as Runs}
-use Rattle.channel_model.proofs.Ends.{joins}
+use Rattle.channel_model.specs.Channel.{AllAsk, AllFixed, AskerEnds, AskerSettles, IsRequestPlan, ServerEnds, asks_of as channel_asks, count_of, held_of, IsProtocolRun as Runs}
+use Rattle.channel_model.proofs.Ends.{joins, settles_in_order}
 use Rattle.bus_model.specs.Served.{Served}
 use Rattle.bus_model.specs.Orders.{Order, plan_of}
 use Rattle.bus_model.specs.Channel.{replies_to}
+use Rattle.bus_threads.specs.Pairs.{LeavesOne}
+use Rattle.bus_threads.proofs.Stops.{all_called_for, none_held}
 
 -- what is fixed, and what asks the device, in items is so in packets
 pub fixed_items : (kind : Kind) (asks : List Want) → AllFixed (format_of kind) asks → AllFixed (item_format kind) asks
@@ -40,11 +44,40 @@ pub record BothEnd (order : Order) (asker server : List (Event Item)) (calls : L
   pub asker_ends : AskerEnds (item_format order.kind) (plan_of order) asker told
   pub server_ends : ServerEnds (item_format order.kind) (plan_of order) server calls
 
+plan_is : (order : Order) → AllByRecursion (IsAskable order.kind) order.asks → IsRequestPlan (item_format order.kind) (plan_of order)
+plan_is order can = record {
+  fixed = fixed_items order.kind (startup order.kind order.sub order.subs) (start_is_fixed order.kind order.sub order.subs);
+  asks = asks_items order.kind (map Script order.asks) (script_asks order.kind order.asks can);
+}
+
 run_of : (order : Order) (asker server : List (Event Item)) (calls : List Served) (told : List Reply) → BothEnd order asker server calls told
     → Runs (item_format order.kind) (plan_of order) (sent_of asker) (got_of asker) (sent_of server) (got_of server) calls told
 run_of order asker server calls told both =
-    joins (item_format order.kind) (keeps_items order.kind) (plan_of order) (record { fixed = fixed_items order.kind (startup order.kind order.sub order.subs) (start_is_fixed order.kind order.sub order.subs); asks = asks_items order.kind (map Script order.asks) (script_asks order.kind order.asks both.can) }) asker server calls told
-    both.one both.asker_ends both.server_ends
+    joins (item_format order.kind) (keeps_items order.kind) (plan_of order) (plan_is order both.can) asker server calls told both.one both.asker_ends both.server_ends
+
+-- where the service leaves a request without its answer, the end that asks doesn't settle all
+pub never_settles : (order : Order) (asker server : List (Event Item)) (calls : List Served) (told : List Reply) → BothEnd order asker server calls told → (k : ℕ × Bool) → order.stop ≡ Some k → LeavesOne k (length order.asks)
+    → AskerSettles (item_format order.kind) (plan_of order) asker → ⊥
+never_settles order asker server calls told both k stop (inl less) settles =
+    let s = item_format order.kind in
+    let plan = plan_of order in
+    let run = run_of order asker server calls told both in
+    let done = settles_in_order s (channel_asks s plan) asker server both.one both.server_ends.order both.asker_ends.encoded in
+    let count = length-map order.asks Script in
+    let serve = ap (λ o. count_of o (length plan.script)) stop in
+    let called = all_called_for s (keeps_items order.kind) plan asker server calls told told (plan_is order both.can) both.asker_ends done settles run in
+    omega (arith, called, run.count, serve, count, less)
+never_settles order asker server calls told both k stop (inr (is, some, most)) settles =
+    let s = item_format order.kind in
+    let plan = plan_of order in
+    let run = run_of order asker server calls told both in
+    let done = settles_in_order s (channel_asks s plan) asker server both.one both.server_ends.order both.asker_ends.encoded in
+    let count = length-map order.asks Script in
+    let serve = ap (λ o. count_of o (length plan.script)) stop in
+    let within : k.0 ≤ length plan.script = omega (arith, most, count) in
+    let last : nat_le k.0 (length plan.script) ≡ true = grind (arith, nat_tests, within) in
+    let held : held_of plan.stop (length plan.script) ≡ true = ap (λ o. held_of o (length plan.script)) stop ∙ (ap (λ b. b && nat_le k.0 (length plan.script)) is ∙ last) in
+    none_held s (keeps_items order.kind) plan asker server calls told told both.asker_ends done settles run held (omega (arith, serve, some, within))
 
 -- it is one of their packets
 run_packets : (order : Order) (asker server : List (Event Item)) (calls : List Served) (told : List Reply) → BothEnd order asker server calls told

@@ -5,3 +5,4 @@ pub mod Asked
 pub mod Running
 pub mod Each
 pub mod Alone
+pub mod Stops

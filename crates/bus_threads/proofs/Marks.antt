@@ -7,7 +7,7 @@ use Rattle.channel_trace.specs.Laws.{AreOfOneRun, EndsAtMark, Follows, MarksFirs
 use Rattle.channel_trace.specs.Runs.{has_marked, has_seen, is_drained, guest_of, host_of}
 use Rattle.channel_trace.proofs.Pasts.{true_false}
 use Rattle.channel_trace.proofs.RunLaws.{ends_at_mark, has_first_mark}
-use Rattle.channel_model.specs.Channel.{RequestPlan, ServerEnds, ServerStops}
+use Rattle.channel_model.specs.Channel.{RequestPlan, AskerEnds, AskerSettles, ServerEnds, ServerStops}
 use Rattle.channel_model.specs.WireFormat.{WireFormat}
 use Rattle.hist_lock.specs.Seat.{Call}
 use Rattle.worker_requester.specs.Asking.{AsksBy}
@@ -15,7 +15,7 @@ use Rattle.worker_server.specs.Serving.{Serving, EndsBy}
 use Rattle.worker_port.specs.Line.{Line}
 use Rattle.worker_port.specs.declared.ended.Ended.{Ended}
 use Rattle.worker_port.specs.declared.ended.Ended.TheVariants.{Marked, PeerMarked, Room, Broken}
-use Rattle.bus_threads.specs.Pairs.{MarkedFirst, is_whole}
+use Rattle.bus_threads.specs.Pairs.{LeavesOne, MarkedFirst, is_whole}
 
 -- how an end ended is by what it saw before it marked itself
 abbrev pub EndsSo : {P : Type 0} → Ended → List (Event P) → Type 0
@@ -67,15 +67,25 @@ not_both {P} a b one marked saw seen =
     by_first (inl m) g h = true_false (has_seen a) saw (ap has_seen (sym one.guest_is) ∙ first_unseen (guest_of one.turns) (host_of one.turns) g m)
     by_first (inr m) g h = true_false (has_seen b) seen (ap has_seen (sym one.host_is) ∙ first_unseen (host_of one.turns) (guest_of one.turns) h m)
 
-pub marked_first : {P : Type 0} (stop : Option (ℕ × Bool)) (asked served : Ended) (a s : List (Event P)) → AreOfOneRun a s → EndsSo asked a → EndsSo served s → (stop ≡ None → Follows s) → MarkedFirst stop asked served
-marked_first None Marked Marked a s one e f follows = absurd (true_false (has_seen s) (follows_seen s (follows refl) f.0) f.1)
-marked_first None Marked PeerMarked a s one e f follows = (refl, refl)
-marked_first None PeerMarked Marked a s one e f follows = absurd (true_false (has_seen s) (follows_seen s (follows refl) f.0) f.1)
-marked_first None PeerMarked PeerMarked a s one e f follows = absurd (not_both a s one e.0 e.1 f.1)
-marked_first (Some k) Marked served a s one e f follows = inl refl
-marked_first (Some k) PeerMarked Marked a s one e f follows = inr refl
-marked_first (Some k) PeerMarked PeerMarked a s one e f follows = absurd (not_both a s one e.0 e.1 f.1)
-marked_first stop (Room packets words left) served a s one e f follows = absurd e
-marked_first stop Broken served a s one e f follows = absurd e
-marked_first stop asked (Room packets words left) a s one e f follows = absurd f
-marked_first stop asked Broken a s one e f follows = absurd f
+-- one that marked itself first settled all
+pub settled_first : {P A Q R : Type 0} (s : WireFormat P A Q R) (plan : RequestPlan A) (past : List (Event P)) (told : List R) → AskerEnds s plan past told → has_marked past ≡ true → has_seen past ≡ false → AskerSettles s plan past
+settled_first s plan past told ends marked unseen = by_end ends.end
+  where
+    by_end : AskerSettles s plan past ⊎ ((is_drained past ≡ true) × Follows past) → AskerSettles s plan past
+    by_end (inl settles) = settles
+    by_end (inr follows) = absurd (true_false (has_seen past) (follows_seen past follows.1 marked) unseen)
+
+-- where the service leaves a request without its answer, the one that asks doesn't mark itself first
+pub marked_first : {P : Type 0} (stop : Option (ℕ × Bool)) (count : ℕ) (asked served : Ended) (a s : List (Event P)) → AreOfOneRun a s → EndsSo asked a → EndsSo served s → (stop ≡ None → Follows s)
+    → ((k : ℕ × Bool) → stop ≡ Some k → LeavesOne k count → has_marked a ≡ true → has_seen a ≡ false → ⊥) → MarkedFirst stop count asked served
+marked_first None count Marked Marked a s one e f follows before = absurd (true_false (has_seen s) (follows_seen s (follows refl) f.0) f.1)
+marked_first None count Marked PeerMarked a s one e f follows before = (refl, refl)
+marked_first None count PeerMarked Marked a s one e f follows before = absurd (true_false (has_seen s) (follows_seen s (follows refl) f.0) f.1)
+marked_first None count PeerMarked PeerMarked a s one e f follows before = absurd (not_both a s one e.0 e.1 f.1)
+marked_first (Some k) count Marked served a s one e f follows before = (inl refl, λ leaves. absurd (before k refl leaves e.0 e.1))
+marked_first (Some k) count PeerMarked Marked a s one e f follows before = (inr refl, λ leaves. (refl, refl))
+marked_first (Some k) count PeerMarked PeerMarked a s one e f follows before = absurd (not_both a s one e.0 e.1 f.1)
+marked_first stop count (Room packets words left) served a s one e f follows before = absurd e
+marked_first stop count Broken served a s one e f follows before = absurd e
+marked_first stop count asked (Room packets words left) a s one e f follows before = absurd f
+marked_first stop count asked Broken a s one e f follows before = absurd f

@@ -52,8 +52,8 @@ use Rattle.bus_threads.specs.Pairs.{MadeFor, MarkedFirst, RunsPair, ComesBack, e
 use Rattle.bus_threads.specs.declared.pair.PairDone.{PairDone}
 use Rattle.bus_threads.proofs.Alone.{alone}
 use Rattle.bus_threads.proofs.Asked.{few_asked}
-use Rattle.bus_threads.proofs.Joining.{BothEnd, fixed_items, told_is, runs}
-use Rattle.bus_threads.proofs.Marks.{asks_so, serves_so, stops_nowhere, marked_first}
+use Rattle.bus_threads.proofs.Joining.{BothEnd, fixed_items, never_settles, told_is, runs}
+use Rattle.bus_threads.proofs.Marks.{asks_so, serves_so, settled_first, stops_nowhere, marked_first}
 
 -- what the joined ends of a channel tell: their lists, and one run of both
 pub record Joins (asker server : Seen TableSeat) (lists : Lists) (side : Side) : Type 0 where
@@ -136,7 +136,7 @@ pub record RanBy (order : Order) (seat : DeviceSeat) (earlier : List Served) (ba
   pub same : IsSameSeat seat back
   pub serials : served.serials.items ≡ map (λ s. s.serial) (calls_behind earlier (served_at back))
   pub replies : asked.replies.items ≡ map (λ s. s.reply) (replies_to order (calls_behind earlier (served_at back)))
-  pub marks : MarkedFirst order.stop asked.ended served.ended
+  pub marks : MarkedFirst order.stop (length order.asks) asked.ended served.ended
 
 ran : (order : Order) (seat : DeviceSeat) (earlier : List Served) (a : Asking ChannelScript TableSeat Reply) (s : Serving ChannelScript DeviceSeat TableSeat Ask Reply) (asked served : WorkerDone) (lists : Lists) (side : Side) → side_that_asks order.kind ≡ side → MadeFor order seat earlier a s
     → (both : BothLeave a s asked served lists side) → RanBy order seat earlier both.server_leaves.back lists asked served
@@ -163,15 +163,16 @@ ran order seat earlier a s asked served lists side at_side made ended =
       same = same_place seat ended.server_leaves.back (ended.server_leaves.place ∙ ap device_place made.seat_is);
       serials = ended.server_leaves.serials ∙ ap (map (λ c. c.serial)) behind;
       replies = told_is order (items_in asked.end) (items_in served.end) calls told both;
-      marks = marked_first order.stop asked.ended served.ended (items_in asked.end) (items_in served.end) at.one (asks_so _ asked.ended _ _ _ whole.0 ended.asker_leaves.asks) (serves_so _ _ served.ended s (line_of (λ i. i) served.end) _ whole.1 ended.server_leaves.serves)
-          (λ none. stops_nowhere (item_format order.kind) (plan_of order) (items_in served.end) calls none both.server_ends);
+      marks = marked_first order.stop (length order.asks) asked.ended served.ended (items_in asked.end) (items_in served.end) at.one (asks_so _ asked.ended _ _ _ whole.0 ended.asker_leaves.asks) (serves_so _ _ served.ended s (line_of (λ i. i) served.end) _ whole.1 ended.server_leaves.serves)
+          (λ none. stops_nowhere (item_format order.kind) (plan_of order) (items_in served.end) calls none both.server_ends)
+          (λ k stop leaves marked unseen. never_settles order (items_in asked.end) (items_in served.end) calls told both k stop leaves (settled_first (item_format order.kind) (plan_of order) (items_in asked.end) told both.asker_ends marked unseen));
     }
 
 -- the done's ends, by the side that asks
-marks_at : (order : Order) (side : Side) (done : PairDone) (asked served : Ended) → side_that_asks order.kind ≡ side → ended_at side done ≡ asked → ended_at (other side) done ≡ served → MarkedFirst order.stop asked served
-    → MarkedFirst order.stop (ended_at (side_that_asks order.kind) done) (ended_at (other (side_that_asks order.kind)) done)
+marks_at : (order : Order) (side : Side) (done : PairDone) (asked served : Ended) → side_that_asks order.kind ≡ side → ended_at side done ≡ asked → ended_at (other side) done ≡ served → MarkedFirst order.stop (length order.asks) asked served
+    → MarkedFirst order.stop (length order.asks) (ended_at (side_that_asks order.kind) done) (ended_at (other (side_that_asks order.kind)) done)
 marks_at order side done asked served at a s first =
-    subst (λ (x : Side). MarkedFirst order.stop (ended_at x done) (ended_at (other x) done)) (sym at) (subst (λ (p : Ended × Ended). MarkedFirst order.stop p.0 p.1) (λ i. (sym a i, sym s i)) first)
+    subst (λ (x : Side). MarkedFirst order.stop (length order.asks) (ended_at x done) (ended_at (other x) done)) (sym at) (subst (λ (p : Ended × Ended). MarkedFirst order.stop (length order.asks) p.0 p.1) (λ i. (sym a i, sym s i)) first)
 
 -- the seat that comes back
 comes_back : (s : Serving ChannelScript DeviceSeat TableSeat Ask Reply) (served : WorkerDone) (seat : Option DeviceSeat) → seat ≡ served.seat → LeavesServed s served → ComesBack s.responder.seat seat

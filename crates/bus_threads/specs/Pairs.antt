@@ -1,5 +1,5 @@
 -- The two workers of a channel, and what they come to.
-use Rattle.std.specs.Prelude.{ℕ, ◌≡◌, ◌⊎◌, Bool, true, false, List, [], ◌∷◌, length, map, filter, take, Option, Some, None, is_some}
+use Rattle.std.specs.Prelude.{ℕ, ◌≡◌, ◌<◌, ◌≤◌, ◌⊎◌, Bool, true, false, List, [], ◌∷◌, length, map, filter, take, Option, Some, None, is_some}
 use Rattle.ring_seat.specs.declared.table_seat.TableSeat.{TableSeat}
 use Rattle.std.specs.List.{AllByRecursion, filter_map}
 use Rattle.bus_model.specs.Orders.{Order, startup_of}
@@ -87,11 +87,16 @@ abbrev pub ended_at : Side → PairDone → Ended
 ended_at Guest done = done.guest
 ended_at Host done = done.host
 
--- Which of the two marked its end first. Where the order has no stop it is the one that asks, and the one that serves follows. Where it has one either can, but
--- they never both follow the other
-abbrev pub MarkedFirst : Option (ℕ × Bool) → Ended → Ended → Type 0
-MarkedFirst None asked served = (asked ≡ Marked) × (served ≡ PeerMarked)
-MarkedFirst (Some stop) asked served = (asked ≡ Marked) ⊎ (served ≡ Marked)
+-- of so many requests a service that stops so leaves one without its answer: it stops before them all, or holds the answer to the last one that it serves
+abbrev pub LeavesOne : ℕ × Bool → ℕ → Type 0
+LeavesOne stop count = (stop.0 < count) ⊎ ((stop.1 ≡ true) × (1 ≤ stop.0) × (stop.0 ≤ count))
+
+-- Which of the two marked its end first, where so many requests are asked. Where the order has no stop it is the one that asks, and the one that serves follows. Where
+-- the service leaves a request without its answer it is the one that serves, and the one that asks follows. Where it stops behind the last answer either can, but they
+-- never both follow the other
+abbrev pub MarkedFirst : Option (ℕ × Bool) → ℕ → Ended → Ended → Type 0
+MarkedFirst None count asked served = (asked ≡ Marked) × (served ≡ PeerMarked)
+MarkedFirst (Some stop) count asked served = ((asked ≡ Marked) ⊎ (served ≡ Marked)) × (LeavesOne stop count → (asked ≡ PeerMarked) × (served ≡ Marked))
 
 -- A pair with this order and this seat has run, behind the calls that the seat had made, which stand as they were: its channel carried what is ordered, each
 -- request that was served was a call of the seat, these are the serials of the calls, and these the replies that came back: all of them but that of the last
@@ -104,7 +109,7 @@ pub record RanBehind (order : Order) (seat : DeviceSeat) (earlier : List Served)
   pub same : IsSameSeat seat back
   pub serials : done.serials.items ≡ map (λ s. s.serial) (calls_behind earlier (served_at back))
   pub replies : done.replies.items ≡ map (λ s. s.reply) (replies_to order (calls_behind earlier (served_at back)))
-  pub marks : MarkedFirst order.stop (ended_at (side_that_asks order.kind) done) (ended_at (other (side_that_asks order.kind)) done)
+  pub marks : MarkedFirst order.stop (length order.asks) (ended_at (side_that_asks order.kind) done) (ended_at (other (side_that_asks order.kind)) done)
 
 -- where the seat had made none, all calls that it made are those that were served
 abbrev pub RanPair : Order → DeviceSeat → PairDone → Type 0

@@ -7,7 +7,7 @@ use Rattle.pkt_desc.specs.Packets.{inband_packet}
 use Rattle.scsi_disk.specs.Commands.{command_of}
 use Rattle.scsi_disk.specs.DiskModel.{most_back}
 use Rattle.scsi_disk.specs.declared.command.Command.{Command}
-use Rattle.scsi_disk.specs.declared.command.Command.TheVariants.{TestUnitReady, Inquiry, ReadCapacity, Read as ReadBlocks, Write, SynchronizeCache}
+use Rattle.scsi_disk.specs.declared.command.Command.TheVariants.{TestUnitReady, Inquiry, ReadCapacity, Read as ReadBlocks, Write, SynchronizeCache, LongCapacity}
 use Rattle.scsi_disk.specs.declared.request.DiskRequest.{DiskRequest}
 use Rattle.stor_proto.specs.Fields.{with_number}
 use Rattle.stor_proto.specs.Operations.{number_of_operation}
@@ -124,29 +124,20 @@ start_read id k = read_sent id (start_vstor k) [] (in_form (start_vstor k) (star
 
 -- requests of the disk
 
-length_fits : (k : Option Command) → cdb_length k < 256
-length_fits None = omega arith
-length_fits (Some TestUnitReady) = omega arith
-length_fits (Some (Inquiry s a)) = omega arith
-length_fits (Some ReadCapacity) = omega arith
-length_fits (Some (ReadBlocks l k)) = omega arith
-length_fits (Some (Write l k)) = omega arith
-length_fits (Some SynchronizeCache) = omega arith
-
 rest_formed : (k : Option Command) (cdb : List ℕ) (n : ℕ) → length cdb ≡ 16 → IsBytes cdb → (length (ask_rest k cdb n) ≡ 52) × IsBytes (ask_rest k cdb n)
 rest_formed k cdb n len bytes =
     let a0 = replicate {A = ℕ} 52 0 in
     let a1 = with_number 0 2 52 a0 in
-    let a2 = with_number 8 1 (cdb_length k) a1 in
+    let a2 = with_number 8 1 (cdb_length cdb) a1 in
     let a3 = with_number 9 1 20 a2 in
     let a4 = with_number 10 1 (data_in k) a3 in
     let a5 = with_number 12 4 (bytes_moved k n) a4 in
     let l1 = number_put 0 2 52 a0 (lit≤ tt) refl in
-    let l2 = number_put 8 1 (cdb_length k) a1 (lit≤ tt) l1 in
+    let l2 = number_put 8 1 (cdb_length cdb) a1 (lit≤ tt) l1 in
     let l3 = number_put 9 1 20 a2 (lit≤ tt) l2 in
     let l4 = number_put 10 1 (data_in k) a3 (lit≤ tt) l3 in
     let l5 = number_put 12 4 (bytes_moved k n) a4 (lit≤ tt) l4 in
-    let all = with_number_bytes 12 4 (bytes_moved k n) a4 (with_number_bytes 10 1 (data_in k) a3 (with_number_bytes 9 1 20 a2 (with_number_bytes 8 1 (cdb_length k) a1 (with_number_bytes 0 2 52 a0 (zero_bytes 52))))) in
+    let all = with_number_bytes 12 4 (bytes_moved k n) a4 (with_number_bytes 10 1 (data_in k) a3 (with_number_bytes 9 1 20 a2 (with_number_bytes 8 1 (cdb_length cdb) a1 (with_number_bytes 0 2 52 a0 (zero_bytes 52))))) in
     (length-with_bytes 16 cdb a5 (omega (arith, l5, len)) ∙ l5, with_bytes_bytes 16 cdb a5 bytes all)
 
 ask_formed : (q : DiskRequest) → IsDiskAsk q → Formed (ask_of q)
@@ -165,6 +156,7 @@ moves_all (Some ReadCapacity) out own = none_out out own
 moves_all (Some (ReadBlocks l k)) out own = none_out out own
 moves_all (Some (Write l k)) out own = omega arith
 moves_all (Some SynchronizeCache) out own = none_out out own
+moves_all (Some (LongCapacity b a)) out own = none_out out own
 
 few_out : (q : DiskRequest) → IsDiskAsk q → length q.out ≤ 2048
 few_out q can = omega (arith, moves_all (command_of q.cdb) q.out can.own, can.few)
@@ -177,6 +169,7 @@ most_fits (Some ReadCapacity) n le = omega arith
 most_fits (Some (ReadBlocks l k)) n le = le
 most_fits (Some (Write l k)) n le = omega arith
 most_fits (Some SynchronizeCache) n le = omega arith
+most_fits (Some (LongCapacity b a)) n le = omega arith
 
 pub ask_waits : (id : ℕ) (q : DiskRequest) → IsDiskAsk q → disk_waits (disk_ask id q) ≡ true
 unfolding disk_ask

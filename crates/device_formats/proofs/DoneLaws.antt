@@ -8,7 +8,7 @@ use Rattle.pkt_desc.specs.Packets.{id_of, kind_of, completion_packet}
 use Rattle.scsi_disk.specs.Commands.{command_of}
 use Rattle.scsi_disk.specs.DiskModel.{most_back, IsSized}
 use Rattle.scsi_disk.specs.declared.command.Command.{Command}
-use Rattle.scsi_disk.specs.declared.command.Command.TheVariants.{TestUnitReady, Inquiry, ReadCapacity, Read as ReadBlocks, Write, SynchronizeCache}
+use Rattle.scsi_disk.specs.declared.command.Command.TheVariants.{TestUnitReady, Inquiry, ReadCapacity, Read as ReadBlocks, Write, SynchronizeCache, LongCapacity}
 use Rattle.scsi_disk.specs.declared.request.DiskRequest.{DiskRequest}
 use Rattle.scsi_disk.specs.declared.reply.DiskReply.{DiskReply}
 use Rattle.scsi_disk.specs.declared.reply.DiskReply.TheVariants.{Good, Check}
@@ -168,6 +168,7 @@ good_done v len bytes (Some ReadCapacity) is le few = good_read_more v len bytes
 good_done v len bytes (Some (ReadBlocks l k)) is le few = good_read_more v len bytes (zeros_behind (length bytes)) (omega (arith, le, few)) (ap (λ c. moved_by c (length bytes)) is)
 good_done v len bytes (Some (Write l k)) is le few = write_done v len bytes le
 good_done v len bytes (Some SynchronizeCache) is le few = good_read_more v len bytes (zeros_behind (length bytes)) (omega arith) (ap (λ c. moved_by c (length bytes)) is)
+good_done v len bytes (Some (LongCapacity b a)) is le few = good_read_more v len bytes (zeros_behind (length bytes)) (omega arith) (ap (λ c. moved_by c (length bytes)) is)
 
 reply_done : (v : Vstor) (behind : List ℕ) (q : DiskRequest) (r : DiskReply) → length v.rest ≡ 52 → request_of v behind ≡ Ok q → most_back (command_of q.cdb) ≤ 2048 → disk_fits q r ≡ true
     → done_of (reply_of v r) (back_of r ++ zeros_behind (length (back_of r))) ≡ Some r

@@ -5,7 +5,7 @@ use Rattle.std.proofs.lemmas.List.{take_all}
 use Rattle.wire_table.proofs.RowLaws.{IsBytes, all_bytes}
 use Rattle.scsi_disk.specs.Commands.{command_of}
 use Rattle.scsi_disk.specs.declared.command.Command.{Command}
-use Rattle.scsi_disk.specs.declared.command.Command.TheVariants.{TestUnitReady, Inquiry, ReadCapacity, Read, Write, SynchronizeCache}
+use Rattle.scsi_disk.specs.declared.command.Command.TheVariants.{TestUnitReady, Inquiry, ReadCapacity, Read, Write, SynchronizeCache, LongCapacity}
 use Rattle.stor_proto.specs.Srbs.{bytes_moved, data_for}
 use Rattle.rndis_msg.specs.declared.rndis.Rndis.{Rndis}
 use Rattle.rndis_msg.specs.declared.rndis.Rndis.TheVariants.{Packet, Query, Set, Reset, Keepalive}
@@ -23,6 +23,7 @@ takes_none ReadCapacity few = (refl, few, refl)
 takes_none (Read l k) few = (refl, few, refl)
 takes_none (Write l k) few = (refl, few, refl)
 takes_none SynchronizeCache few = (refl, few, refl)
+takes_none (LongCapacity b a) few = (refl, few, refl)
 
 can_from : (cdb out : List ℕ) → length cdb ≡ 16 → IsBytes cdb → IsBytes out → Takes (command_of cdb) out → IsDiskAsk (record { cdb = cdb; out = out })
 can_from cdb out len cdb_bytes out_bytes takes = record { built = takes.0; few = takes.1; own = takes.2; len = len; cdb_bytes = all_bytes cdb cdb_bytes; out_bytes = all_bytes out out_bytes }
@@ -58,6 +59,7 @@ none_taken ReadCapacity out other takes = (sym (ap length takes.2), omega arith)
 none_taken (Read l k) out other takes = (sym (ap length takes.2), takes.1)
 none_taken (Write l k) out other takes = absurd other
 none_taken SynchronizeCache out other takes = (sym (ap length takes.2), omega arith)
+none_taken (LongCapacity b a) out other takes = (sym (ap length takes.2), takes.1)
 
 pub other_few : (cdb out : List ℕ) (c : Command) → IsOther c → Some c ≡ command_of cdb → IsDiskAsk (record { cdb = cdb; out = out }) → (length out ≡ 0) × (bytes_moved (Some c) 0 ≤ 2048)
 other_few cdb out c other is can = none_taken c out other (takes_as cdb out c is can)

@@ -160,7 +160,12 @@ impl TestedEnd {
     /// Makes the call, where its condition holds, and puts behind the text what it came to.
     ///
     /// Errors: there was want of memory.
-    pub fn call(&mut self, alloc: Global, call: EndCall, text: &mut Vec<u8>) -> Result<(), AllocError>
+    pub fn call(
+        &mut self,
+        alloc: Global,
+        call: EndCall,
+        text: &mut Vec<u8>,
+    ) -> Result<(), AllocError>
         requires { IsCallIn (8 * self.old.state.machine.cells) call }
         ensures leads { OnOk result (Leads (comes_of call self.old.state.machine) self.old self.new) }
         ensures says { OnOk result (text.new.items ≡ text.old.items ++ said_of (comes_of call self.old.state.machine) self.new) }

@@ -88,7 +88,10 @@ impl Hostile {
     fn is_bare(&self) -> bool
         ensures { result ≡ starts self.now }
     {
-        self.ring.is_none() && self.puts.is_empty() && self.changes.is_empty() && self.asked.is_empty()
+        self.ring.is_none()
+            && self.puts.is_empty()
+            && self.changes.is_empty()
+            && self.asked.is_empty()
     }
 
     // Goes on by what a line says, against which nothing stands.

@@ -215,10 +215,12 @@ module _ (s : Side) (c : ℕ) (is_open : ℕ → Bool) (x : Keeper) (h : HomeKep
             (h.page t q one most e w)
 
         lent : LentBy shut x.owner
-        lent q t n e =
-            ((h.lent q t n e).0, by_page t (id_of p)
-            (λ same. absurd (let u : is_lent (id_of p) (x.owner q) ≡ true = ap (is_lent (id_of p)) e ∙ (ap (λ (v : ℕ). is_lent v (Lent t n)) (sym same) ∙ lent_is t n) in let v : true ≡ false = sym u ∙ none q in (cc)))
-            (λ other. closed_else is_open (id_of p) t other ∙ (h.lent q t n e).1))
+        lent q t n e = (
+          (h.lent q t n e).0,
+          by_page t (id_of p)
+              (λ same. absurd (let u : is_lent (id_of p) (x.owner q) ≡ true = ap (is_lent (id_of p)) e ∙ (ap (λ (v : ℕ). is_lent v (Lent t n)) (sym same) ∙ lent_is t n) in let v : true ≡ false = sym u ∙ none q in (cc)))
+              (λ other. closed_else is_open (id_of p) t other ∙ (h.lent q t n e).1),
+        )
 
     module _ (g : List Item) (d : Due) (r n : ℕ) (mine : x.owner r ≡ Lent (id_of p) n) where
       abbrev had : ℕ → Owner

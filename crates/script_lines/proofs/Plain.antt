@@ -13,7 +13,7 @@ use Rattle.script_lines.specs.declared.line.Ask.TheVariants.{Ic, Disk as AskDisk
 use Rattle.script_lines.specs.declared.asked.Asked.{Asked}
 use Rattle.script_lines.specs.declared.asked.Asked.TheVariants.{Beat, Down, Command, Message}
 use Rattle.script_lines.specs.declared.disk_ask.DiskAsk.{DiskAsk}
-use Rattle.script_lines.specs.declared.disk_ask.DiskAsk.TheVariants.{Ready, Inquiry, Capacity, Flush, Read, Write}
+use Rattle.script_lines.specs.declared.disk_ask.DiskAsk.TheVariants.{Ready, Inquiry, Capacity, LongCapacity, Flush, Read, Write}
 use Rattle.script_lines.specs.declared.said.Said.{Said}
 use Rattle.script_lines.specs.declared.said.Said.TheVariants.{Nothing, Contact, Offer, Bad, Ring, Window, Request, Rescind, Close, Phase}
 use Rattle.script_lines.specs.Lines.{Says, Asks, Rescinds, Shuts, said}
@@ -50,6 +50,7 @@ request_plain : (ask : DiskAsk) → IsOneByte (request_of ask).out
 request_plain Ready = no_data
 request_plain Inquiry = no_data
 request_plain Capacity = no_data
+request_plain LongCapacity = no_data
 request_plain Flush = no_data
 request_plain (Read lba count) = no_data
 request_plain (Write lba count byte) = one_byte (512 * unwrap_or count 0) byte

@@ -10,7 +10,7 @@ use Rattle.script_lines.specs.declared.line.DeviceSpec.TheVariants.{Beat as IsBe
 use Rattle.script_lines.specs.declared.asked.Asked.{Asked}
 use Rattle.script_lines.specs.declared.asked.Asked.TheVariants.{Beat, Down, Command, Message}
 use Rattle.script_lines.specs.declared.disk_ask.DiskAsk.{DiskAsk}
-use Rattle.script_lines.specs.declared.disk_ask.DiskAsk.TheVariants.{Ready, Inquiry, Capacity, Flush, Read, Write}
+use Rattle.script_lines.specs.declared.disk_ask.DiskAsk.TheVariants.{Ready, Inquiry, Capacity, LongCapacity, Flush, Read, Write}
 use Rattle.script_lines.specs.declared.offering.Offering.{Offering}
 use Rattle.script_lines.specs.declared.offering.Offering.TheVariants.{Beat as OfBeat, Down as OfDown, Disk as OfDisk, Net as OfNet}
 use Rattle.script_lines.specs.declared.said.Said.{Said}
@@ -197,7 +197,7 @@ repeat_fault before device (Rescind name after held) = unless (not (option_map_o
 repeat_fault before device (Close name) = unless (not (option_map_or (is_closed_here before) device false)) Repeat
 repeat_fault before device Phase = None
 
--- a disk has 1 to 65,536 blocks, and at most 3 channels beside its first one
+-- a disk has 1 to 2^40 blocks, and at most 3 channels beside its first one
 abbrev pub offers_in_range : Offering → Bool
 offers_in_range OfBeat = true
 offers_in_range OfDown = true
@@ -212,6 +212,7 @@ abbrev pub asks_in_range : DiskAsk → Bool
 asks_in_range Ready = true
 asks_in_range Inquiry = true
 asks_in_range Capacity = true
+asks_in_range LongCapacity = true
 asks_in_range Flush = true
 asks_in_range (Read lba count) = is_some lba && is_some count
 asks_in_range (Write lba count byte) = is_some lba && is_some count

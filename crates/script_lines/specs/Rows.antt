@@ -7,7 +7,7 @@ use Rattle.rndis_msg.specs.declared.rndis.Rndis.{Rndis}
 use Rattle.rndis_msg.specs.declared.rndis.Rndis.TheVariants.{Packet, Query, Set, Reset, Keepalive}
 use Rattle.script_lines.specs.declared.asked.Asked.TheVariants.{Beat, Down, Command, Message}
 use Rattle.script_lines.specs.declared.disk_ask.DiskAsk.{DiskAsk}
-use Rattle.script_lines.specs.declared.disk_ask.DiskAsk.TheVariants.{Ready, Inquiry, Capacity, Flush, Read, Write}
+use Rattle.script_lines.specs.declared.disk_ask.DiskAsk.TheVariants.{Ready, Inquiry, Capacity, LongCapacity, Flush, Read, Write}
 use Rattle.script_lines.specs.declared.offering.Offering.TheVariants.{Beat as OfBeat, Down as OfDown, Disk as OfDisk, Net as OfNet}
 use Rattle.script_lines.specs.declared.said.Said.{Said}
 use Rattle.script_lines.specs.declared.said.Said.TheVariants.{Nothing, Contact, Offer, Bad, Ring, Window, Request, Rescind, Close, Phase}
@@ -35,9 +35,13 @@ abbrev pub contact_row : List (List ℕ) → Option Said
 contact_row (guest ∷ host ∷ []) = if is_version guest && is_version host then Some (Contact (version_of guest) (version_of host)) else None
 contact_row others = None
 
+-- how many blocks a disk has
+abbrev pub blocks_in : Option ℕ → Option ℕ
+blocks_in number = within 1 (2 ^ 40) number
+
 -- NAME BLOCKS SUBS, behind offer disk
 abbrev pub disk_offer : List (List ℕ) → Option Said
-disk_offer others = option_map (λ p. Offer p.0 (OfDisk (within 1 65536 p.1) p.2)) (name_and_two others)
+disk_offer others = option_map (λ p. Offer p.0 (OfDisk (blocks_in p.1) p.2)) (name_and_two others)
 
 -- NAME MAC STATION, behind offer net
 abbrev pub net_offer : List (List ℕ) → Option Said
@@ -78,22 +82,19 @@ down_row others = option_map (λ p. Request p.0 (Down (within 0 (2 ^ 32 - 1) p.1
 abbrev pub plain_command : DiskAsk → List (List ℕ) → Option Said
 plain_command ask others = option_map (λ name. Request name (Command ask)) (name_alone others)
 
--- the first block of a command, and how many blocks it moves
-abbrev pub lba_in : Option ℕ → Option ℕ
-lba_in number = within 0 (2 ^ 32 - 1) number
-
+-- how many blocks a command moves
 abbrev pub count_in : Option ℕ → Option ℕ
 count_in number = within 0 4 number
 
 -- NAME LBA COUNT, behind read
 abbrev pub read_row : List (List ℕ) → Option Said
-read_row others = option_map (λ p. Request p.0 (Command (Read (lba_in p.1) (count_in p.2)))) (name_and_two others)
+read_row others = option_map (λ p. Request p.0 (Command (Read p.1 (count_in p.2)))) (name_and_two others)
 
 -- NAME LBA COUNT HH, behind write
 abbrev pub write_row : List (List ℕ) → Option Said
 write_row (name ∷ lba ∷ count ∷ byte ∷ []) =
     if is_name name && is_decimal lba && is_decimal count && is_byte byte
-    then Some (Request name (Command (Write (lba_in (in_u64 (number_of lba))) (count_in (in_u64 (number_of count))) (byte_of byte))))
+    then Some (Request name (Command (Write (in_u64 (number_of lba)) (count_in (in_u64 (number_of count))) (byte_of byte))))
     else None
 write_row others = None
 
@@ -146,6 +147,7 @@ disk_row key others =
     if bytes_eq key (codes "ready") then plain_command Ready others else
     if bytes_eq key (codes "inquiry") then plain_command Inquiry others else
     if bytes_eq key (codes "capacity") then plain_command Capacity others else
+    if bytes_eq key (codes "capacity16") then plain_command LongCapacity others else
     if bytes_eq key (codes "flush") then plain_command Flush others else
     if bytes_eq key (codes "read") then read_row others else
     if bytes_eq key (codes "write") then write_row others else net_row key others

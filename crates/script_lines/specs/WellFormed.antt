@@ -1,5 +1,5 @@
 -- What every script has.
-use Rattle.std.specs.Prelude.{ℕ, ◌≡◌, ◌+◌, ◌<◌, ◌≤◌, ◌⊎◌, Option, Bool, true, false, not, Some, None, IfSome, is_some, List, [], ◌∷◌, ◌++◌, length, map, All, count_by, slice_get, if◌then◌else◌}
+use Rattle.std.specs.Prelude.{ℕ, ◌≡◌, ◌+◌, ◌^◌, ◌<◌, ◌≤◌, ◌⊎◌, Option, Bool, true, false, not, Some, None, IfSome, is_some, List, [], ◌∷◌, ◌++◌, length, map, All, count_by, slice_get, if◌then◌else◌}
 use Rattle.std.specs.List.{list_all}
 use Rattle.std.specs.Option.{option_map_or}
 use Rattle.contact.specs.Versions.{IsVersion}
@@ -22,11 +22,11 @@ use Rattle.script_lines.specs.Lines.{Says, Asks, Rescinds, Shuts, said, contact_
 use Rattle.script_lines.specs.Requests.{AskInRange, CanBeCarried, IsSent}
 use Rattle.script_lines.specs.Parts.{parts, this_part, offered, offered_by, named_by, asks_in, is_ask, is_settings, rescinds, shuts, rescinded_in, closed_in, channels, channels_of, device_of, kind_of, kind_asked, blocks_at, has_bad}
 
--- a disk has 1 to 65,536 blocks, and at most 3 channels beside its first one; a network has two addresses of 6 bytes
+-- a disk has 1 to 2^40 blocks, and at most 3 channels beside its first one; a network has two addresses of 6 bytes
 abbrev pub IsDevice : DeviceSpec → Type 0
 IsDevice IsBeat = Unit {0}
 IsDevice IsDown = Unit {0}
-IsDevice (IsDisk blocks subs) = (1 ≤ blocks) × (blocks ≤ 65536) × (subs ≤ 3)
+IsDevice (IsDisk blocks subs) = (1 ≤ blocks) × (blocks ≤ 2 ^ 40) × (subs ≤ 3)
 IsDevice (IsNet mac station) = (length mac ≡ 6) × (length station ≡ 6)
 
 -- the kind of a device that can be rescinded: a disk or a network
@@ -101,7 +101,7 @@ pub record IsScript (lines : List Line) : Type 0 where
 abbrev pub OfferInRange : Offering → Type 0
 OfferInRange OfBeat = Unit {0}
 OfferInRange OfDown = Unit {0}
-OfferInRange (OfDisk blocks subs) = IfSome blocks (λ n. (1 ≤ n) × (n ≤ 65536))
+OfferInRange (OfDisk blocks subs) = IfSome blocks (λ n. (1 ≤ n) × (n ≤ 2 ^ 40))
 OfferInRange (OfNet mac station) = (length mac ≡ 6) × (length station ≡ 6)
 
 -- what a line asks is in its ranges, where its values are

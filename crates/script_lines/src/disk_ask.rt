@@ -7,21 +7,23 @@ pub enum DiskAsk {
     Ready,
     /// What it is.
     Inquiry,
-    /// How many blocks it has.
+    /// How many blocks it has, in 32 bits.
     Capacity,
+    /// How many blocks it has, in 64 bits.
+    LongCapacity,
     /// Nothing is to stay in a cache.
     Flush,
     /// It gives so many blocks from a place on.
     Read {
         /// The first block.
-        lba: Option<u32>,
+        lba: Option<u64>,
         /// How many blocks.
         count: Option<u32>,
     },
     /// It fills so many blocks from a place on with one byte.
     Write {
         /// The first block.
-        lba: Option<u32>,
+        lba: Option<u64>,
         /// How many blocks.
         count: Option<u32>,
         /// The byte.

@@ -10,7 +10,7 @@ pub enum Offering {
     /// A disk.
     Disk {
         /// How many blocks it has.
-        blocks: Option<u32>,
+        blocks: Option<u64>,
         /// How many channels it has beside the first one, where that is a number of 64 bits.
         subs: Option<u64>,
     },

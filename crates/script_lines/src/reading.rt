@@ -110,7 +110,7 @@ fn spec_of(offering: Offering) -> DeviceSpec
         Offering::Beat => DeviceSpec::Beat,
         Offering::Down => DeviceSpec::Down,
         Offering::Disk { blocks, subs } => DeviceSpec::Disk {
-            blocks: u64::from(blocks.unwrap_or(0)),
+            blocks: blocks.unwrap_or(0),
             subs: within(0, 3, subs).unwrap_or(0),
         },
         Offering::Net { mac, station } => DeviceSpec::Net { mac, station },

@@ -280,7 +280,11 @@ fn asks_in_range(ask: DiskAsk) -> bool
     ensures { result ≡ asks_in_range ask }
 {
     match ask {
-        DiskAsk::Ready | DiskAsk::Inquiry | DiskAsk::Capacity | DiskAsk::Flush => true,
+        DiskAsk::Ready
+        | DiskAsk::Inquiry
+        | DiskAsk::Capacity
+        | DiskAsk::LongCapacity
+        | DiskAsk::Flush => true,
         DiskAsk::Read { lba, count } => lba.is_some() && count.is_some(),
         DiskAsk::Write {
             lba,

@@ -1,12 +1,12 @@
 //! The rows of the table of lines.
-ghost use Rattle.std.specs.Prelude.{◌≡◌, ◌<◌, ◌≤◌, true, [], ◌∷◌, List, length, Option, Some, None, IfSome};
+ghost use Rattle.std.specs.Prelude.{◌≡◌, ◌<◌, ◌≤◌, ◌^◌, true, [], ◌∷◌, List, length, Option, Some, None, IfSome};
 ghost use Rattle.std.specs.List.{list_all};
 ghost use Rattle.std.specs.Option.{option_map};
 ghost use Rattle.script_text.specs.Words.{words};
 ghost use Rattle.script_lines.specs.WellFormed.{InRange};
 ghost use Rattle.script_text.specs.Forms.{is_name};
 ghost use Rattle.script_lines.specs.Requests.{AskInRange, IsSent};
-ghost use Rattle.script_lines.specs.Rows.{is_printable, said_in, said_by, begins_comment, row_of, disk_row, net_row, name_alone, name_and_number, name_and_two, contact_row, offer_row, disk_offer, net_offer, bad_row, plain_command, plain_message, query_row, set_row, frame_row, read_row, write_row, ring_row, window_row, beat_row, down_row, held_row, after_in, rescind_row, close_row, phase_row};
+ghost use Rattle.script_lines.specs.Rows.{is_printable, said_in, said_by, begins_comment, row_of, disk_row, net_row, name_alone, name_and_number, name_and_two, contact_row, offer_row, disk_offer, blocks_in, net_offer, bad_row, plain_command, plain_message, query_row, set_row, frame_row, read_row, write_row, ring_row, window_row, beat_row, down_row, held_row, after_in, rescind_row, close_row, phase_row};
 
 use crate::asked::Asked;
 use crate::disk_ask::DiskAsk;
@@ -102,6 +102,8 @@ fn disk_row(key: &[u8], rest: &[u8]) -> Option<Said>
         plain_command(DiskAsk::Inquiry, rest)
     } else if key == b"capacity".as_slice() {
         plain_command(DiskAsk::Capacity, rest)
+    } else if key == b"capacity16".as_slice() {
+        plain_command(DiskAsk::LongCapacity, rest)
     } else if key == b"flush".as_slice() {
         plain_command(DiskAsk::Flush, rest)
     } else if key == b"read".as_slice() {
@@ -220,6 +222,17 @@ fn plain_offer(offering: Offering, rest: &[u8]) -> Option<Said>
     Some(Said::Offer(name, offering))
 }
 
+/// How many blocks a disk has, where it may have so many: 1 to 2^40.
+fn blocks_in(number: Option<u64>) -> Option<u64>
+    ensures blocks { result ≡ blocks_in number }
+    ensures range { IfSome result (λ n. (1 ≤ n) × (n ≤ 2 ^ 40)) }
+{
+    match number {
+        Some(n) if 1 <= n && n <= 1 << 40 => Some(n),
+        _ => None,
+    }
+}
+
 fn disk_offer(rest: &[u8]) -> Option<Said>
     ensures said { result ≡ disk_offer (words rest.now) }
     ensures range { IfSome result InRange }
@@ -228,7 +241,7 @@ fn disk_offer(rest: &[u8]) -> Option<Said>
     Some(Said::Offer(
         name,
         Offering::Disk {
-            blocks: within(1, 65_536, blocks),
+            blocks: blocks_in(blocks),
             subs,
         },
     ))
@@ -317,7 +330,7 @@ fn read_row(rest: &[u8]) -> Option<Said>
 {
     let (name, lba, count) = name_and_two(rest)?;
     let ask = DiskAsk::Read {
-        lba: within(0, u32::MAX, lba),
+        lba,
         count: within(0, 4, count),
     };
     Some(Said::Request(name, Asked::Command(ask)))
@@ -329,7 +342,7 @@ fn write_of(name: &[u8], lba: &[u8], count: &[u8], byte: &[u8]) -> Option<Said>
 {
     if is_name(name) && is_decimal(lba) && is_decimal(count) && is_byte(byte) {
         let ask = DiskAsk::Write {
-            lba: within(0, u32::MAX, number_of(lba)),
+            lba: number_of(lba),
             count: within(0, 4, number_of(count)),
             byte: byte_of(byte),
         };

@@ -87,10 +87,10 @@ settings_of (l ∷ ls) none = by_test (is_settings l.what)
     (λ e. ap (λ (b : Bool). if b then settings_first ls else list_all (λ m. not (is_settings m.what)) ls) e ∙ (sym (ap (λ (b : Bool). not b && list_all (λ m. not (is_settings m.what)) ls) e) ∙ none))
 
 -- a write and a read of a block go through the disk's channel
-writes_go : (seed k : ℕ) → k < 2 ^ 32 → CanBeCarried (request_of (Write (Some k) (Some 1) (fill_of seed k)))
+writes_go : (seed k : ℕ) → k < 2 ^ 64 → CanBeCarried (request_of (Write (Some k) (Some 1) (fill_of seed k)))
 writes_go seed k small = asks_carried (Write (Some k) (Some 1) (fill_of seed k)) refl (small, omega arith)
 
-reads_go : (k : ℕ) → k < 2 ^ 32 → CanBeCarried (request_of (Read (Some k) (Some 1)))
+reads_go : (k : ℕ) → k < 2 ^ 64 → CanBeCarried (request_of (Read (Some k) (Some 1)))
 reads_go k small = asks_carried (Read (Some k) (Some 1)) refl (small, omega arith)
 
 -- so many blocks are written and read

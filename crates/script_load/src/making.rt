@@ -63,7 +63,7 @@ fn write_line(seed: u32, block: u32) -> Line
     ensures { result ≡ write_line seed block }
 {
     let ask = DiskAsk::Write {
-        lba: Some(block),
+        lba: Some(u64::from(block)),
         count: Some(1),
         byte: fill_of(seed, block),
     };
@@ -88,7 +88,7 @@ fn read_line(half: u32, block: u32) -> Line
     ensures { result ≡ read_line half block }
 {
     let ask = DiskAsk::Read {
-        lba: Some(block),
+        lba: Some(u64::from(block)),
         count: Some(1),
     };
     asked(half + 3 + block, ask)

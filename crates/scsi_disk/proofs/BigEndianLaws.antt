@@ -2,7 +2,7 @@
 use Rattle.std.proofs.Common.{◌≡◌, ℕ, ◌+◌, ◌*◌, ◌^◌, ◌<◌, List, length, get_or, take, add-one, lit<, arith}
 use Rattle.std.proofs.lemmas.List.Sums.{fold_more}
 use Rattle.std.proofs.Math.Nat.{pow-suc, pow-le-pow_right}
-use Rattle.std.specs.Int.{to_be_bytes, w16, w32}
+use Rattle.std.specs.Int.{to_be_bytes, w16, w32, w64}
 use Rattle.scsi_disk.specs.BigEndian.{be_number}
 
 -- one more byte
@@ -19,6 +19,10 @@ pub small_more : (n i b : ℕ) → n < 256 ^ i → b < 256 → n * 256 + b < 256
 small_more n i b small byte = rw (add-one i, pow-suc 256 i) (omega (arith, small, byte))
 
 -- reading undoes spelling
+pub be_number-to_be_bytes_8 : (v : ℕ) → v < 2 ^ 64 → be_number (to_be_bytes w64 v) ≡ v
+unfolding be_number
+be_number-to_be_bytes_8 v small = omega arith
+
 pub be_number-to_be_bytes_4 : (v : ℕ) → v < 2 ^ 32 → be_number (to_be_bytes w32 v) ≡ v
 unfolding be_number
 be_number-to_be_bytes_4 v small = omega arith

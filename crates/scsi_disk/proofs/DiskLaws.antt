@@ -4,7 +4,7 @@ use Rattle.std.specs.Prelude.{slice_range}
 use Rattle.std.specs.List.{flat_map, list_any, range_with_len}
 use Rattle.std.proofs.lemmas.List.{drop-drop, take_all}
 use Rattle.std.proofs.Math.Seq.{take-add}
-use Rattle.scsi_disk.specs.DiskModel.{DiskState, refusal_of, command_reply, command_after, overwritten, good_bytes, answer_of}
+use Rattle.scsi_disk.specs.DiskModel.{DiskState, refusal_of, first_written, command_reply, command_after, overwritten, good_bytes, answer_of}
 use Rattle.scsi_disk.specs.declared.command.Command.TheVariants.{Read, Write}
 use Rattle.scsi_disk.specs.declared.reply.DiskReply.TheVariants.{Good}
 use Rattle.scsi_disk.proofs.BlockLaws.{overwritten_inside, overwritten_outside}
@@ -27,15 +27,19 @@ written_part old lba count out (suc n) i few =
 
 module _ (d : DiskState) (lba count : ℕ) (out : List ℕ) (may : refusal_of d (Write lba count) out ≡ None) where
   -- the map after a write that isn't refused
-  after_write : command_after d (Some (Write lba count)) out ≡ record { blocks = d.blocks; bytes_at = overwritten d.bytes_at lba count out; is_bad = d.is_bad }
+  written_so : DiskState
+  written_so = record { blocks = d.blocks; bytes_at = overwritten d.bytes_at lba count out; written = d.written ++ first_written d.written lba count; is_bad = d.is_bad }
+
+  after_write : command_after d (Some (Write lba count)) out ≡ written_so
+  unfolding written_so
   after_write = rw may refl
 
   -- what was written is read back
   pub read_after_write : list_any d.is_bad (range_with_len lba count) ≡ false → command_reply (command_after d (Some (Write lba count)) out) (Some (Read lba count)) [] ≡ Good out
-  unfolding good_bytes
+  unfolding good_bytes written_so
   read_after_write fine =
       let ok = write_allowed d lba count out may in
-      let new : DiskState = record { blocks = d.blocks; bytes_at = overwritten d.bytes_at lba count out; is_bad = d.is_bad } in
+      let new = written_so in
       let start : lba ≡ lba + 0 = omega arith in
       let all : flat_map new.bytes_at (range_with_len lba count) ≡ out =
       ap (λ k. flat_map new.bytes_at (range_with_len k count)) start ∙ written_part d.bytes_at lba count out count 0 (omega arith) ∙ take_all (512 * count) out (omega arith) in
@@ -44,4 +48,5 @@ module _ (d : DiskState) (lba count : ℕ) (out : List ℕ) (may : refusal_of d 
 
   -- and other blocks stay
   pub write_leaves : (place : ℕ) → (lba ≤ place → place < lba + count → ⊥) → (command_after d (Some (Write lba count)) out).bytes_at place ≡ d.bytes_at place
+  unfolding written_so
   write_leaves place apart = ap (λ s. s.bytes_at place) after_write ∙ overwritten_outside d.bytes_at lba count out place apart

@@ -7,3 +7,4 @@ pub mod RangeLaws
 pub mod RefusalLaws
 pub mod RoomLaws
 pub mod SetupLaws
+pub mod SpaceLaws

@@ -1,15 +1,15 @@
 -- Disks whose blocks are each of one byte.
-use Rattle.std.proofs.Common.{◌≡◌, ℕ, ◌+◌, ◌-◌, ◌*◌, ◌≤◌, ◌<◌, cond, ◌&&◌, List, [], length, take, min, nat_le, nat_lt, Option, Some, None, refl, sym, ap, ◌∙◌, subst, arith}
+use Rattle.std.proofs.Common.{◌≡◌, ℕ, ◌+◌, ◌-◌, ◌*◌, ◌≤◌, ◌<◌, cond, ◌&&◌, List, [], ◌++◌, length, take, min, nat_le, nat_lt, Option, Some, None, refl, sym, ap, ◌∙◌, subst, arith}
 use Rattle.std.specs.Prelude.{replicate, is_none, slice_range}
 use Rattle.std.specs.List.{flat_map, range_with_len}
 use Rattle.std.proofs.lemmas.Bool.Decides.{nat_tests}
 use Rattle.std.proofs.lemmas.List.{length-take, length-replicate, take-replicate, drop-replicate}
 use Rattle.scsi_disk.specs.Commands.{command_of}
-use Rattle.scsi_disk.specs.DiskModel.{DiskState, new_disk, inquiry_data, refusal_of, good_bytes, answer_of, command_reply, command_after, overwritten, disk_reply, disk_after}
+use Rattle.scsi_disk.specs.DiskModel.{DiskState, new_disk, inquiry_data, long_capacity, first_written, refusal_of, good_bytes, answer_of, command_reply, command_after, overwritten, disk_reply, disk_after}
 use Rattle.scsi_disk.specs.declared.command.Command.{Command}
-use Rattle.scsi_disk.specs.declared.command.Command.TheVariants.{TestUnitReady, Inquiry, ReadCapacity, Read, Write, SynchronizeCache}
+use Rattle.scsi_disk.specs.declared.command.Command.TheVariants.{TestUnitReady, Inquiry, ReadCapacity, Read, Write, SynchronizeCache, LongCapacity}
 use Rattle.scsi_disk.specs.declared.refusal.Refusal.{Refusal}
-use Rattle.scsi_disk.specs.declared.refusal.Refusal.TheVariants.{InvalidCode, InvalidField, OutOfRange, UnrecoveredRead}
+use Rattle.scsi_disk.specs.declared.refusal.Refusal.TheVariants.{InvalidCode, InvalidField, OutOfRange, UnrecoveredRead, SpaceExhausted}
 use Rattle.scsi_disk.specs.declared.request.DiskRequest.{DiskRequest}
 use Rattle.scsi_disk.specs.declared.reply.DiskReply.{DiskReply}
 use Rattle.scsi_disk.specs.declared.reply.DiskReply.TheVariants.{Good, Check}
@@ -52,7 +52,7 @@ module _ (d : DiskState) (plain : HasPlainBlocks d) (out : List ℕ) (one : IsOn
       (λ outside. subst IsOneByte (sym (overwritten_outside d.bytes_at lba count out place (λ low high. grind (arith, nat_tests, outside, low, high)))) (plain place))
 
   after_write : (lba count : ℕ) (r : Option Refusal) → refusal_of d (Write lba count) out ≡ r
-      → HasPlainBlocks (cond (is_none r) (record { blocks = d.blocks; bytes_at = overwritten d.bytes_at lba count out; is_bad = d.is_bad }) d)
+      → HasPlainBlocks (cond (is_none r) (record { blocks = d.blocks; bytes_at = overwritten d.bytes_at lba count out; written = d.written ++ first_written d.written lba count; is_bad = d.is_bad }) d)
   after_write lba count None is place = let may = write_allowed d lba count out is in written lba count may.1 place
   after_write lba count (Some refusal) is place = plain place
 
@@ -63,6 +63,7 @@ module _ (d : DiskState) (plain : HasPlainBlocks d) (out : List ℕ) (one : IsOn
   after_command (Some ReadCapacity) = plain
   after_command (Some (Read lba count)) = plain
   after_command (Some SynchronizeCache) = plain
+  after_command (Some (LongCapacity built allocation)) = plain
   after_command None = plain
 
 -- a request whose data are all the same byte keeps each block so
@@ -80,9 +81,13 @@ good_answer P (Some InvalidCode) bytes has = tt
 good_answer P (Some InvalidField) bytes has = tt
 good_answer P (Some OutOfRange) bytes has = tt
 good_answer P (Some UnrecoveredRead) bytes has = tt
+good_answer P (Some SpaceExhausted) bytes has = tt
 
 few_inquiry : (allocation : ℕ) → length (take allocation inquiry_data) ≤ 36
 few_inquiry allocation = let is : length (take allocation inquiry_data) ≡ min allocation 36 = length-take allocation inquiry_data in omega (arith, is)
+
+few_capacity : (d : DiskState) (allocation : ℕ) → length (take allocation (long_capacity d)) ≤ 32
+few_capacity d allocation = let is : length (take allocation (long_capacity d)) ≡ min allocation 32 = length-take allocation (long_capacity d) in omega (arith, is)
 
 -- a good reply has at most 36 bytes, or the blocks of a read, at most 8
 module _ (d : DiskState) (P : List ℕ → Type 0) (short : (bytes : List ℕ) → length bytes ≤ 36 → P bytes) (blocks : (lba count : ℕ) → count ≤ 8 → P (flat_map d.bytes_at (range_with_len lba count))) where
@@ -94,6 +99,7 @@ module _ (d : DiskState) (P : List ℕ → Type 0) (short : (bytes : List ℕ) �
   good_has (Read lba count) out may = let allowed = read_allowed d lba count out may in blocks lba count allowed.0
   good_has (Write lba count) out may = short [] (omega arith)
   good_has SynchronizeCache out may = short [] (omega arith)
+  good_has (LongCapacity built allocation) out may = let few = few_capacity d allocation in short (take allocation (long_capacity d)) (omega (arith, few))
 
   command_has : (c : Option Command) (out : List ℕ) → GoodHas P (command_reply d c out)
   command_has (Some c) out = good_answer P (refusal_of d c out) (good_bytes d c) (good_has c out)

@@ -1,4 +1,4 @@
--- A block that was never written has room.
+-- A block that was never written has room, where fewer were written than can be.
 use Rattle.std.proofs.Common.{◌≡◌, ℕ, ◌+◌, ◌<◌, ◌≤◌, List, [], ◌∷◌, length, Bool, true, false, ◌||◌, nat_eq, eqb, None, is_some, refl, sym, ap, ◌∙◌, subst, arith}
 use Rattle.std.specs.List.{AllByRecursion, list_any, IsDistinct}
 use Rattle.std.specs.Map.{keys_of}
@@ -8,6 +8,7 @@ use Rattle.std.proofs.lemmas.Map.Keys.{IsDistinct-cons}
 use Rattle.std.proofs.lemmas.Map.Made.{is_some-lookup}
 use Rattle.std.proofs.lemmas.Map.Steps.{length-le_from_distinct_below}
 use Rattle.indexmap.specs.IndexMap.{spare, get, insert_entry}
+use Rattle.scsi_disk.specs.DiskModel.{most_written}
 use Rattle.scsi_disk.specs.Room.{Written, HasRoom}
 
 -- by either outcome of a test
@@ -34,8 +35,8 @@ fewer n k ks apart all lt absent =
     let more = length-le_from_distinct_below (k ∷ ks) n (IsDistinct-cons nat_eq k ks (none_equal k ks absent) apart) (λ q e. below n q (k ∷ ks) (lt, all) e) in
     omega (arith, more)
 
-pub has_room : (m : Written) (n k : ℕ) → HasRoom n m → k < n → get nat_eq m k ≡ None → 0 < spare m
-has_room m n k h lt none =
+pub has_room : (m : Written) (n k : ℕ) → HasRoom n m → k < n → length m.entries < most_written → get nat_eq m k ≡ None → 0 < spare m
+has_room m n k h lt few none =
     let absent : list_any (nat_eq k) (keys_of m.entries) ≡ false = sym (is_some-lookup (nat_eq k) m.entries) ∙ ap is_some none in
     omega (arith, fewer n k (keys_of m.entries) h.apart h.within lt absent, h.room, length-map m.entries (λ (e : ℕ × List ℕ). e.0))
 

@@ -17,7 +17,7 @@ or_absorbs false true h = sym (h refl)
 or_absorbs false false h = refl
 
 -- one more place at the end
-any_pushed : (q k : ℕ) (ks : List ℕ) → list_any (nat_eq q) (ks ++ k ∷ []) ≡ (list_any (nat_eq q) ks || nat_eq q k)
+pub any_pushed : (q k : ℕ) (ks : List ℕ) → list_any (nat_eq q) (ks ++ k ∷ []) ≡ (list_any (nat_eq q) ks || nat_eq q k)
 any_pushed q k [] = by_test (nat_eq q k) (λ is. rw is refl) (λ is. rw is refl)
 any_pushed q k (x ∷ ks) = ap (λ b. nat_eq q x || b) (any_pushed q k ks) ∙ sym (or_assoc (nat_eq q x) (list_any (nat_eq q) ks) (nat_eq q k))
 
@@ -36,4 +36,4 @@ any_of_all q ks (k ∷ places) =
 
 -- what is kept of a new disk stands for it
 pub stands_for-made : (blocks : ℕ) (bad : List ℕ) → stands_for (made blocks bad) ≡ new_disk blocks bad
-stands_for-made blocks bad = λ i. record { blocks = blocks; bytes_at = λ _. zero_block; is_bad = λ q. any_of_all q [] bad i }
+stands_for-made blocks bad = λ i. record { blocks = blocks; bytes_at = λ _. zero_block; written = []; is_bad = λ q. any_of_all q [] bad i }

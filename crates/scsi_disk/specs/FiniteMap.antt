@@ -1,7 +1,7 @@
 -- What a disk keeps, and the disk for which that stands.
 use Rattle.std.specs.Prelude.{ℕ, Bool, zero, suc, ◌+◌, List, [], take, drop, nat_eq, fold, unwrap_or, Option, Some, is_none, if◌then◌else◌}
 use Rattle.std.specs.List.{list_any}
-use Rattle.std.specs.Map.{lookup}
+use Rattle.std.specs.Map.{keys_of, lookup}
 use Rattle.indexmap.specs.IndexMap.{insert_entry}
 use Rattle.indexmap.specs.IndexSet.{insert_key}
 use Rattle.scsi_disk.specs.Commands.{command_of}
@@ -26,7 +26,7 @@ is_among bad place = list_any (nat_eq place) bad
 
 -- the disk that is kept so
 abbrev pub stands_for : Kept → DiskState
-stands_for k = record { blocks = k.blocks; bytes_at = block_in k.written; is_bad = is_among k.bad }
+stands_for k = record { blocks = k.blocks; bytes_at = block_in k.written; written = keys_of k.written; is_bad = is_among k.bad }
 
 -- each place once
 abbrev pub distinct : List ℕ → List ℕ

@@ -18,14 +18,14 @@ pub enum Command {
     },
     /// Code 25: how many blocks, of which size?
     ReadCapacity,
-    /// Code 28: gives blocks.
+    /// Codes 28 and 88: gives blocks.
     Read {
         /// The first block.
         lba: u64,
         /// How many blocks.
         count: u64,
     },
-    /// Code 2A: replaces blocks.
+    /// Codes 2A and 8A: replaces blocks.
     Write {
         /// The first block.
         lba: u64,
@@ -34,6 +34,13 @@ pub enum Command {
     },
     /// Code 35: nothing is cached, so there is nothing to do.
     SynchronizeCache,
+    /// Code 9E: how many blocks, in 64 bits, and of which size?
+    LongCapacity {
+        /// Its service action is 10, which is READ CAPACITY (16).
+        built: bool,
+        /// How many bytes may come back at most.
+        allocation: u64,
+    },
 }
 
 impl Command {
@@ -58,6 +65,18 @@ impl Command {
                 count: number(&cdb[7..9]),
             }),
             0x35 => Some(Command::SynchronizeCache),
+            0x88 => Some(Command::Read {
+                lba: number(&cdb[2..10]),
+                count: number(&cdb[10..14]),
+            }),
+            0x8a => Some(Command::Write {
+                lba: number(&cdb[2..10]),
+                count: number(&cdb[10..14]),
+            }),
+            0x9e => Some(Command::LongCapacity {
+                built: cdb[1] % 32 == 0x10,
+                allocation: number(&cdb[10..14]),
+            }),
             _ => None,
         }
     }

@@ -1,9 +1,10 @@
 //! The disk as a machine of requests and replies.
-ghost use Rattle.std.specs.Prelude.{◌≡◌, ℕ, ◌+◌, ◌<◌, ◌≤◌, ◌^◌, List, IfOk, All, None, Some, nat_lt, length};
+ghost use Rattle.std.specs.Prelude.{◌≡◌, ℕ, ◌+◌, ◌<◌, ◌≤◌, ◌^◌, List, IfOk, All, None, Some, nat_lt, length, take};
 ghost use Rattle.std.specs.List.{list_any, range_with_len};
-ghost use Rattle.scsi_disk.specs.DiskModel.{new_disk, refusal_of, good_bytes, disk_reply, disk_after, most_back, IsSized};
+ghost use Rattle.scsi_disk.specs.DiskModel.{new_disk, refusal_of, good_bytes, long_capacity, disk_reply, disk_after, most_back, IsSized};
 ghost use Rattle.scsi_disk.specs.FiniteMap.{stands_for, made, distinct, is_among, with_written, written_after, kept_after};
 
+use crate::chunk::first;
 use crate::command::Command;
 use crate::inquiry::inquiry;
 use crate::refusal::Refusal;
@@ -38,7 +39,7 @@ fn distinct(alloc: Global, places: &[u64]) -> Result<IndexSet<u64>, AllocError>
     Ok(set)
 }
 
-/// A disk of blocks of 512 bytes, of which some places may be bad.
+/// A disk of 1 to 2^40 blocks of 512 bytes, of which some may be bad. At most 65,536 of them can be written.
 #[derive(Drop)]
 pub struct Disk {
     store: Store,
@@ -57,10 +58,11 @@ impl Model for Disk {
 }
 
 impl Disk {
-    /// A disk that is all zero, with these bad places. It takes the room of each block now.
+    /// A disk that is all zero, with these bad places. It takes the room of all the blocks that can be
+    /// written now: 65,536, or as many as there are.
     pub fn make(alloc: Global, blocks: u64, bad: &[u64]) -> Result<Disk, AllocError>
         requires some { 1 ≤ blocks }
-        requires few { blocks ≤ 65536 }
+        requires few { blocks ≤ 2 ^ 40 }
         requires within { All (λ place. place < blocks) bad.now }
         ensures kept { IfOk result (λ d. d ≡ made blocks bad.now) }
         ensures model { IfOk result (λ d. stands_for d ≡ new_disk blocks bad.now) }
@@ -72,10 +74,12 @@ impl Disk {
 
     /// Why a command is refused, if it is: the first of these that applies.
     ///
-    /// 1. A field isn't served: an inquiry for other data than the standard one, more than 8 blocks,
-    ///    or a write with other data than 512 bytes for each block.
+    /// 1. A field isn't served: an inquiry for other data than the standard one, a service action
+    ///    other than that for the capacity, more than 8 blocks, or a write with other data than 512
+    ///    bytes for each block.
     /// 2. The blocks end past the disk.
     /// 3. A read touches a bad block.
+    /// 4. After a write more than 65,536 blocks would have been written.
     #[tactic(auto, unfolding(crate::specs::DiskModel::refusal_of))]
     fn refusal(&self, command: &Command, out: &[u8]) -> Option<Refusal>
         ensures { result ≡ refusal_of (stands_for self.now) command.now out.now }
@@ -84,7 +88,8 @@ impl Disk {
             Command::Inquiry {
                 standard: false,
                 ..
-            } => Some(Refusal::InvalidField),
+            }
+            | Command::LongCapacity { built: false, .. } => Some(Refusal::InvalidField),
             Command::Read { lba, count } => self.read_refusal(*lba, *count),
             Command::Write { lba, count } => self.write_refusal(*lba, *count, out.len() as u64),
             _ => None,
@@ -109,8 +114,8 @@ impl Disk {
         }
     }
 
-    // A write of more than 8 blocks, or whose data isn't as long as its blocks, is an invalid field, and one that ends past the
-    // disk is out of range, in this order.
+    // A write of more than 8 blocks, or whose data isn't as long as its blocks, is an invalid field, one that ends past the disk
+    // is out of range, and for one after which too many blocks would have been written there is no space, in this order.
     #[tactic(auto, unfolding(crate::specs::DiskModel::refusal_of))]
     fn write_refusal(&self, lba: u64, count: u64, len: u64) -> Option<Refusal>
         ensures { (out : List ℕ) → length out ≡ len
@@ -120,6 +125,8 @@ impl Disk {
             Some(Refusal::InvalidField)
         } else if self.ends_past(lba, count) {
             Some(Refusal::OutOfRange)
+        } else if self.store.overfills(lba, count) {
+            Some(Refusal::SpaceExhausted)
         } else {
             None
         }
@@ -143,6 +150,19 @@ impl Disk {
         let mut chunk = Chunk::of(&last.to_be_bytes());
         chunk.extend(&512u32.to_be_bytes());
         chunk
+    }
+
+    /// The last place in 8 bytes and the size of a block in 4, and zeros behind them: 32 bytes, or as
+    /// many of them as may come.
+    fn long_capacity(&self, allocation: u64) -> Chunk
+        ensures value { result ≡ take allocation (long_capacity (stands_for self.now)) }
+        ensures most { length result ≤ 32 }
+    {
+        let last = self.store.blocks().saturating_sub(1);
+        let mut all = Chunk::of(&last.to_be_bytes());
+        all.extend(&512u32.to_be_bytes());
+        all.extend(&[0; 20]);
+        first(all.bytes(), allocation)
     }
 
     /// Does a command that isn't refused, and gives what comes back.
@@ -174,6 +194,12 @@ impl Disk {
             Command::Write { lba, count } => {
                 self.store.write(lba, count, out);
                 return Chunk::empty();
+            }
+            Command::LongCapacity {
+                built: _,
+                allocation,
+            } => {
+                return self.long_capacity(allocation);
             }
         }
     }

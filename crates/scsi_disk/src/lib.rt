@@ -1,4 +1,4 @@
-//! A synthetic SCSI disk: blocks of 512 bytes behind 10-byte commands.
+//! A synthetic SCSI disk: blocks of 512 bytes behind commands of 6, 10 and 16 bytes.
 #![tactic(auto)]
 
 mod big_endian;

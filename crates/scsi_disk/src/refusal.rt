@@ -16,6 +16,8 @@ pub(crate) enum Refusal {
     OutOfRange,
     /// A block can't be read.
     UnrecoveredRead,
+    /// As many blocks were written as can be.
+    SpaceExhausted,
 }
 
 impl Refusal {
@@ -24,12 +26,13 @@ impl Refusal {
         ensures value { result ≡ check_of self }
         ensures fits { (q : DiskRequest) → IsSized q result }
     {
-        let (key, asc) = match self {
-            Refusal::InvalidCode => (5, 0x20),
-            Refusal::InvalidField => (5, 0x24),
-            Refusal::OutOfRange => (5, 0x21),
-            Refusal::UnrecoveredRead => (3, 0x11),
+        let (key, asc, ascq) = match self {
+            Refusal::InvalidCode => (5, 0x20, 0),
+            Refusal::InvalidField => (5, 0x24, 0),
+            Refusal::OutOfRange => (5, 0x21, 0),
+            Refusal::UnrecoveredRead => (3, 0x11, 0),
+            Refusal::SpaceExhausted => (7, 0x27, 7),
         };
-        DiskReply::Check { key, asc, ascq: 0 }
+        DiskReply::Check { key, asc, ascq }
     }
 }

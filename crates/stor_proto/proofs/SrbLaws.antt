@@ -1,12 +1,12 @@
 -- The host reads what the guest asked, and the guest what the host answered.
-use Rattle.std.proofs.Common.{◌≡◌, ℕ, ◌+◌, ◌^◌, ◌<◌, ◌≤◌, inl, inr, false, cond, not, ◌&&◌, eqb, List, [], ◌++◌, length, take, slice_range, min, Option, Some, None, Result, Ok, Err, refl, sym, ap, ◌∙◌, lit<, lit≤, arith}
+use Rattle.std.proofs.Common.{◌≡◌, ℕ, ◌+◌, ◌^◌, ◌<◌, ◌≤◌, inl, inr, Bool, true, false, ◌||◌, cond, not, ◌&&◌, eqb, List, [], ◌++◌, length, take, slice_range, min, Option, Some, None, Result, Ok, Err, refl, sym, ap, ◌∙◌, lit<, lit≤, arith}
 use Rattle.std.specs.Prelude.{replicate, nat_lt, slice_index}
 use Rattle.std.proofs.lemmas.Bool.Decides.{nat_tests}
 use Rattle.std.proofs.lemmas.List.{take_all, take_at, append-nil}
 use Rattle.wire_table.specs.Little.{number_of}
 use Rattle.scsi_disk.specs.Commands.{command_of}
 use Rattle.scsi_disk.specs.declared.command.Command.{Command}
-use Rattle.scsi_disk.specs.declared.command.Command.TheVariants.{TestUnitReady, Inquiry, ReadCapacity, Read, Write, SynchronizeCache}
+use Rattle.scsi_disk.specs.declared.command.Command.TheVariants.{TestUnitReady, Inquiry, ReadCapacity, Read, Write, SynchronizeCache, LongCapacity}
 use Rattle.scsi_disk.specs.declared.request.DiskRequest.{DiskRequest}
 use Rattle.scsi_disk.specs.declared.reply.DiskReply.{DiskReply}
 use Rattle.scsi_disk.specs.declared.reply.DiskReply.TheVariants.{Good, Check}
@@ -24,6 +24,7 @@ moved_fits (Some ReadCapacity) n le = omega arith
 moved_fits (Some (Read l k)) n le = omega arith
 moved_fits (Some (Write l k)) n le = omega arith
 moved_fits (Some SynchronizeCache) n le = omega arith
+moved_fits (Some (LongCapacity b a)) n le = omega arith
 
 module _ (p : Vstor) (len : length p.rest ≡ 52) where
   -- the srb of a completion with bytes: its status, and how many bytes moved
@@ -88,14 +89,15 @@ module _ (p : Vstor) (len : length p.rest ≡ 52) where
       ∙ ap {B = Option DiskReply} (λ x. Some (Check key x (slice_index r5 29))) a
       ∙ ap {B = Option DiskReply} (λ x. Some (Check key asc x)) q
 
-short_command : (k : Option Command) → cdb_length k ≤ 16
-short_command None = omega arith
-short_command (Some TestUnitReady) = omega arith
-short_command (Some (Inquiry s a)) = omega arith
-short_command (Some ReadCapacity) = omega arith
-short_command (Some (Read l k)) = omega arith
-short_command (Some (Write l k)) = omega arith
-short_command (Some SynchronizeCache) = omega arith
+one_of_three : (b c : Bool) → cond b 6 (cond c 16 10) ≤ 16
+one_of_three true c = omega arith
+one_of_three false true = omega arith
+one_of_three false false = omega arith
+
+pub short_command : (cdb : List ℕ) → cdb_length cdb ≤ 16
+short_command cdb =
+    let code = slice_index cdb 0 in
+    one_of_three (eqb code 0x00 || eqb code 0x12) (eqb code 0x88 || eqb code 0x8a || eqb code 0x9e)
 
 same_data : (k : Option Command) (n : ℕ) (out : List ℕ) → data_for k (bytes_moved k n) out ≡ data_for k n out
 same_data None n out = refl
@@ -105,6 +107,7 @@ same_data (Some ReadCapacity) n out = refl
 same_data (Some (Read l k)) n out = refl
 same_data (Some (Write l k)) n out = refl
 same_data (Some SynchronizeCache) n out = refl
+same_data (Some (LongCapacity b a)) n out = refl
 
 -- a number below the command in the srb of a request
 module _ (k : Option Command) (cdb : List ℕ) (out : ℕ) (len : length cdb ≡ 16) (few : bytes_moved k out ≤ 4096) where
@@ -112,7 +115,7 @@ module _ (k : Option Command) (cdb : List ℕ) (out : ℕ) (len : length cdb ≡
   a1 = with_number 0 2 52 (replicate 52 0)
 
   a2 : List ℕ
-  a2 = with_number 8 1 (cdb_length k) a1
+  a2 = with_number 8 1 (cdb_length cdb) a1
 
   a3 : List ℕ
   a3 = with_number 9 1 20 a2
@@ -129,7 +132,7 @@ module _ (k : Option Command) (cdb : List ℕ) (out : ℕ) (len : length cdb ≡
 
   l2 : length a2 ≡ 52
   unfolding a2
-  l2 = length-with_number 8 1 (cdb_length k) a1 (omega (arith, l1)) ∙ l1
+  l2 = length-with_number 8 1 (cdb_length cdb) a1 (omega (arith, l1)) ∙ l1
 
   l3 : length a3 ≡ 52
   unfolding a3
@@ -153,17 +156,17 @@ module _ (k : Option Command) (cdb : List ℕ) (out : ℕ) (len : length cdb ≡
       ∙ number_at-other 12 4 (bytes_moved k out) a4 (omega (arith, l4)) i 1 (inl (omega arith))
       ∙ number_at-other 10 1 (data_in k) a3 (omega (arith, l3)) i 1 (inl (omega arith))
       ∙ number_at-other 9 1 20 a2 (omega (arith, l2)) i 1 (inl (omega arith))
-      ∙ number_at-other 8 1 (cdb_length k) a1 (omega (arith, l1)) i 1 (inl (omega arith))
+      ∙ number_at-other 8 1 (cdb_length cdb) a1 (omega (arith, l1)) i 1 (inl (omega arith))
       ∙ number_at-other 0 2 52 (replicate 52 0) (lit≤ tt) i 1 (inr (omega arith))
 
-  command_at : number_at 8 1 (with_bytes 16 cdb a5) ≡ cdb_length k
+  command_at : number_at 8 1 (with_bytes 16 cdb a5) ≡ cdb_length cdb
   unfolding a1 a2 a3 a4 a5
   command_at =
       number_at-before 16 cdb a5 within 8 1 (omega arith)
       ∙ number_at-other 12 4 (bytes_moved k out) a4 (omega (arith, l4)) 8 1 (inl (omega arith))
       ∙ number_at-other 10 1 (data_in k) a3 (omega (arith, l3)) 8 1 (inl (omega arith))
       ∙ number_at-other 9 1 20 a2 (omega (arith, l2)) 8 1 (inl (omega arith))
-      ∙ number_at-same 8 1 (cdb_length k) a1 (omega (arith, l1)) (omega (arith, short_command k))
+      ∙ number_at-same 8 1 (cdb_length cdb) a1 (omega (arith, l1)) (omega (arith, short_command cdb))
 
   transfer_at : number_at 12 4 (with_bytes 16 cdb a5) ≡ bytes_moved k out
   unfolding a5
@@ -184,6 +187,7 @@ own_data (Some ReadCapacity) out more own = own
 own_data (Some (Read l k)) out more own = own
 own_data (Some (Write l k)) out more own = take_at out more (length out) refl
 own_data (Some SynchronizeCache) out more own = own
+own_data (Some (LongCapacity b a)) out more own = own
 
 -- the host reads the request that was asked, whatever follows its data
 pub ask_read_more : (r : DiskRequest) (more : List ℕ) → length r.cdb ≡ 16 → bytes_moved (command_of r.cdb) (length r.out) ≤ 4096 → HasItsData r → request_of (ask_of r) (r.out ++ more) ≡ Ok r
@@ -197,7 +201,7 @@ ask_read_more r more len few own =
     let path : number_at 5 1 rest ≡ 0 = zero_at k r.cdb n len few 5 (lit≤ tt) (lit< tt) in
     let target : number_at 6 1 rest ≡ 0 = zero_at k r.cdb n len few 6 (lit≤ tt) (lit< tt) in
     let lun : number_at 7 1 rest ≡ 0 = zero_at k r.cdb n len few 7 (lit≤ tt) (lit< tt) in
-    let short : nat_lt 16 (number_at 8 1 rest) ≡ false = grind (arith, nat_tests, command_at k r.cdb n len few, short_command k) in
+    let short : nat_lt 16 (number_at 8 1 rest) ≡ false = grind (arith, nat_tests, command_at k r.cdb n len few, short_command r.cdb) in
     let cdb = cdb_at k r.cdb n len few in
     let transfer = transfer_at k r.cdb n len few in
     let F : List ℕ → ℕ → Result DiskRequest SrbStop = λ xs m. Ok (record { cdb = xs; out = data_for (command_of xs) m (r.out ++ more) }) in

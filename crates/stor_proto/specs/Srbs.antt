@@ -2,10 +2,10 @@
 --
 -- Places in an srb of 52 bytes: srb_status 2, scsi_status 3, path 5, target 6, lun 7, cdb_length 8, sense_info_length 9, data_in 10,
 -- data_transfer_length 12 (4 bytes), the command or the sense 16 (20 bytes).
-use Rattle.std.specs.Prelude.{◌≡◌, ◌≤◌, ℕ, ◌*◌, ◌%◌, ◌^◌, Bool, not, ◌==◌, ◌&&◌, nat_lt, min, List, [], ◌∷◌, length, take, replicate, slice_range, slice_index, Option, Some, None, Result, Ok, Err, if◌then◌else◌}
+use Rattle.std.specs.Prelude.{◌≡◌, ◌≤◌, ℕ, ◌*◌, ◌%◌, ◌^◌, Bool, not, ◌==◌, ◌&&◌, ◌||◌, nat_lt, min, List, [], ◌∷◌, length, take, replicate, slice_range, slice_index, Option, Some, None, Result, Ok, Err, if◌then◌else◌}
 use Rattle.scsi_disk.specs.Commands.{command_of}
 use Rattle.scsi_disk.specs.declared.command.Command.{Command}
-use Rattle.scsi_disk.specs.declared.command.Command.TheVariants.{TestUnitReady, Inquiry, ReadCapacity, Read, Write}
+use Rattle.scsi_disk.specs.declared.command.Command.TheVariants.{Inquiry, ReadCapacity, Read, Write, LongCapacity}
 use Rattle.scsi_disk.specs.declared.request.DiskRequest.{DiskRequest}
 use Rattle.scsi_disk.specs.declared.reply.DiskReply.{DiskReply}
 use Rattle.scsi_disk.specs.declared.reply.DiskReply.TheVariants.{Good, Check}
@@ -71,32 +71,36 @@ reply_of p r = completed p (reply_srb p r)
 abbrev pub stop_of : Vstor → ℕ → Vstor
 stop_of p status = completed p (with_number 2 1 status p.rest)
 
--- how many bytes of a command go or may come: inquiry data have 36
+-- how many bytes of a command go or may come: inquiry data have 36, and a capacity in 64 bits has 32
 abbrev pub bytes_moved : Option Command → ℕ → ℕ
 bytes_moved (Some (Inquiry standard allocation)) out = min allocation 36
 bytes_moved (Some ReadCapacity) out = 8
 bytes_moved (Some (Read lba count)) out = 512 * count
 bytes_moved (Some (Write lba count)) out = out
+bytes_moved (Some (LongCapacity built allocation)) out = min allocation 32
 bytes_moved _ out = 0
 
--- how many bytes a command has
-abbrev pub cdb_length : Option Command → ℕ
-cdb_length (Some TestUnitReady) = 6
-cdb_length (Some (Inquiry standard allocation)) = 6
-cdb_length _ = 10
+-- how many bytes a command has, by its code
+abbrev pub cdb_length : List ℕ → ℕ
+cdb_length cdb =
+    let code = slice_index cdb 0 in
+    if (code == 0x00) || (code == 0x12) then 6
+    else (if (code == 0x88) || (code == 0x8a) || (code == 0x9e) then 16
+    else 10)
 
 -- 1 for commands that give bytes
 abbrev pub data_in : Option Command → ℕ
 data_in (Some (Inquiry standard allocation)) = 1
 data_in (Some ReadCapacity) = 1
 data_in (Some (Read lba count)) = 1
+data_in (Some (LongCapacity built allocation)) = 1
 data_in _ = 0
 
 -- the srb of a disk's request, with 0 in all else
 abbrev pub ask_rest : Option Command → List ℕ → ℕ → List ℕ
 ask_rest command cdb out =
     with_bytes 16 cdb (with_number 12 4 (bytes_moved command out) (with_number 10 1 (data_in command)
-    (with_number 9 1 20 (with_number 8 1 (cdb_length command) (with_number 0 2 52 (replicate 52 0))))))
+    (with_number 9 1 20 (with_number 8 1 (cdb_length cdb) (with_number 0 2 52 (replicate 52 0))))))
 
 -- the guest's packet of a disk's request
 abbrev pub ask_of : DiskRequest → Vstor

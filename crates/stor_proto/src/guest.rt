@@ -11,8 +11,8 @@ use crate::{SrbEnd, Vstor};
 use scsi_disk::{Chunk, Command, DiskReply, DiskRequest};
 
 /// The packet of a disk's request: operation 3, flags 1, and 0 where nothing else is said. A command
-/// has 6 bytes for the codes 00 and 12, else 10. data_transfer_length is how many bytes go or may
-/// come.
+/// has 6 bytes for the codes 00 and 12, 16 for 88, 8A and 9E, and else 10. data_transfer_length is
+/// how many bytes go or may come.
 pub fn srb_ask(r: &DiskRequest) -> Vstor
     requires built { IsSome (command_of r.now.cdb) }
     requires few { bytes_moved (command_of r.now.cdb) (length r.now.out) ≤ 4096 }
@@ -36,7 +36,7 @@ fn packet(r: &DiskRequest) -> Vstor
     };
     let mut rest = [0; 52];
     srb::put(&mut rest, LENGTH, 52);
-    srb::put(&mut rest, CDB_LENGTH, command_length(command));
+    srb::put(&mut rest, CDB_LENGTH, command_length(&r.cdb));
     srb::put(&mut rest, SENSE_INFO_LENGTH, 20);
     srb::put(&mut rest, DATA_IN, direction(command));
     srb::put(
@@ -86,13 +86,14 @@ pub fn srb_end(p: &Vstor) -> Option<SrbEnd>
     }
 }
 
-/// How many bytes a command has.
-fn command_length(command: Command) -> u64
-    ensures value { result ≡ cdb_length (Some command) }
+/// How many bytes a command has, by its code.
+fn command_length(cdb: &[u8; 16]) -> u64
+    ensures value { result ≡ cdb_length cdb.now }
     ensures few { result < 256 }
 {
-    match command {
-        Command::TestUnitReady | Command::Inquiry { .. } => 6,
+    match cdb[0] {
+        0x00 | 0x12 => 6,
+        0x88 | 0x8a | 0x9e => 16,
         _ => 10,
     }
 }
@@ -103,7 +104,10 @@ fn direction(command: Command) -> u64
     ensures few { result < 256 }
 {
     match command {
-        Command::Inquiry { .. } | Command::ReadCapacity | Command::Read { .. } => 1,
+        Command::Inquiry { .. }
+        | Command::ReadCapacity
+        | Command::Read { .. }
+        | Command::LongCapacity { .. } => 1,
         _ => 0,
     }
 }
@@ -118,6 +122,7 @@ fn transfer(command: Command, out: u64) -> u64
         Command::ReadCapacity => 8,
         Command::Read { count, .. } => 512 * count,
         Command::Write { .. } => out,
+        Command::LongCapacity { allocation, .. } => allocation.min(32),
         _ => 0,
     }
 }

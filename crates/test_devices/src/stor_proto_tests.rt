@@ -137,15 +137,11 @@ fn srb(rt: &impl Abort, operation: u8, front: &[u8]) -> Vstor
 }
 
 /// The guest's packet of a command.
-fn ask(rt: &impl Abort, cdb: [u8; 10], out: &[u8]) -> Vstor
+fn ask(rt: &impl Abort, cdb: [u8; 16], out: &[u8]) -> Vstor
     requires { length out.now ≤ 4096 }
 {
-    let mut block = [0u8; 16];
-    block[..10].copy_from_slice(&cdb);
-    let request = DiskRequest {
-        cdb: block,
-        out: Chunk::of(out),
-    };
+    let out = Chunk::of(out);
+    let request = DiskRequest { cdb, out };
     match Command::of(&request.cdb) {
         Some(Command::Read { count, .. }) => {
             check(rt, count <= 8);
@@ -176,12 +172,35 @@ const WRITE: [u8; 23] = [
     0, 0, 0, 0, 0, 0, 10, 20, 0, 0, 0, 2, 0, 0, 0x2a, 0, 0, 0, 0, 3, 0, 0, 1,
 ];
 
-/// The guest asks for a command by an srb of these bytes.
+const READ_16: [u8; 28] = [
+    0, 0, 0, 0, 0, 0, 16, 20, 1, 0, 0, 4, 0, 0, 0x88, 0, 1, 2, 3, 4, 5, 6, 7, 8, 0, 0, 0, 2,
+];
+
+const WRITE_16: [u8; 28] = [
+    0, 0, 0, 0, 0, 0, 16, 20, 0, 0, 0, 2, 0, 0, 0x8a, 0, 0, 0, 0, 1, 0, 0, 0, 0, 0, 0, 0, 1,
+];
+
+const CAPACITY_16: [u8; 28] = [
+    0, 0, 0, 0, 0, 0, 16, 20, 1, 0, 32, 0, 0, 0, 0x9e, 0x10, 0, 0, 0, 0, 0, 0, 0, 0, 0, 0, 0, 32,
+];
+
+/// The guest asks for a command of at most 10 bytes by an srb of these bytes.
 fn asks(rt: &impl Abort, cdb: [u8; 10], out: &[u8], want: &[u8])
     requires out { length out.now ≤ 4096 }
     requires want { length want.now ≤ 50 }
 {
-    check(rt, ask(rt, cdb, out) == srb(rt, 3, want));
+    let mut block = [0u8; 16];
+    block[..10].copy_from_slice(&cdb);
+    check(rt, ask(rt, block, out) == srb(rt, 3, want));
+}
+
+/// The guest asks for the command in an srb by that srb.
+fn asks_long(rt: &impl Abort, want: [u8; 28], out: &[u8])
+    requires { length out.now ≤ 4096 }
+{
+    let mut block = [0u8; 16];
+    block[..14].copy_from_slice(&want[14..]);
+    check(rt, ask(rt, block, out) == srb(rt, 3, &want));
 }
 
 #[test]
@@ -191,6 +210,18 @@ fn asks_as_linux_does(rt: HostRuntime) {
     asks(&rt, [0x25, 0, 0, 0, 0, 0, 0, 0, 0, 0], &[], &CAPACITY);
     asks(&rt, [0x28, 0, 0, 0, 0, 63, 0, 0, 1, 0], &[], &READ);
     asks(&rt, [0x2a, 0, 0, 0, 0, 3, 0, 0, 1, 0], &[9; 512], &WRITE);
+    asks_long(&rt, READ_16, &[]);
+    asks_long(&rt, WRITE_16, &[9; 512]);
+    asks_long(&rt, CAPACITY_16, &[]);
+    // The capacity has 32 bytes, whatever may come.
+    let mut most = CAPACITY_16;
+    most[26] = 1;
+    asks_long(&rt, most, &[]);
+    // Fewer may come.
+    let mut few = CAPACITY_16;
+    few[10] = 8;
+    few[27] = 8;
+    asks_long(&rt, few, &[]);
 }
 
 /// The disk's request in an srb with 600 bytes behind it has this data.
@@ -309,6 +340,10 @@ fn replies_as_linux_reads(rt: HostRuntime) {
     let mut good = WRITE;
     good[0] = 1;
     replies(&rt, &WRITE, &DiskReply::Good(Chunk::empty()), &good, &[]);
+    let mut good = WRITE_16;
+    good[0] = 1;
+    let none = DiskReply::Good(Chunk::empty());
+    replies(&rt, &WRITE_16, &none, &good, &[]);
     let reply = DiskReply::Check {
         key: 3,
         asc: 0x11,

@@ -25,10 +25,18 @@ const INQUIRY: [u8; 16] = [0x12, 0, 0, 0, 36, 0, 0, 0, 0, 0, 0, 0, 0, 0, 0, 0];
 
 const CAPACITY: [u8; 16] = [0x25, 0, 0, 0, 0, 0, 0, 0, 0, 0, 0, 0, 0, 0, 0, 0];
 
+const LONG_CAPACITY: [u8; 16] = [0x9e, 0x10, 0, 0, 0, 0, 0, 0, 0, 0, 0, 0, 0, 32, 0, 0];
+
 const FLUSH: [u8; 16] = [0x35, 0, 0, 0, 0, 0, 0, 0, 0, 0, 0, 0, 0, 0, 0, 0];
 
 const READ: [u8; 16] = [
     0x28, 0, 0xff, 0xff, 0xff, 0xff, 0, 0, 4, 0, 0, 0, 0, 0, 0, 0,
+];
+
+const LONG_READ: [u8; 16] = [0x88, 0, 0, 0, 0, 1, 0, 0, 0, 0, 0, 0, 0, 4, 0, 0];
+
+const LONG_WRITE: [u8; 16] = [
+    0x8a, 0, 0xff, 0xff, 0xff, 0xff, 0xff, 0xff, 0xff, 0xff, 0, 0, 0, 1, 0, 0,
 ];
 
 const WRITE: [u8; 16] = [0x2a, 0, 0, 1, 2, 3, 0, 0, 1, 0, 0, 0, 0, 0, 0, 0];
@@ -47,17 +55,17 @@ fn check_ask(rt: &impl Abort, script: &Script, at: usize, number: u32, cdb: [u8;
 fn reads_disk_lines(rt: HostRuntime) {
     let script = script_of(
         &rt,
-        b"offer disk d 65536 3\nbad d 65535\nready d\ninquiry d\ncapacity d\nflush d\nread d 4294967295 4\nwrite d 66051 1 Fe\nwrite d 0 0 00\n",
+        b"offer disk d 1099511627776 3\nbad d 1099511627775\nready d\ninquiry d\ncapacity d\nflush d\nread d 4294967295 4\nwrite d 66051 1 Fe\nwrite d 0 0 00\ncapacity16 d\nread d 4294967296 4\nwrite d 18446744073709551615 1 00\n",
     );
-    check(&rt, script.lines().len() == 9);
+    check(&rt, script.lines().len() == 12);
     let disk = DeviceSpec::Disk {
-        blocks: 65_536,
+        blocks: 1 << 40,
         subs: 3,
     };
     check_offer(&rt, &script, 0, b"d", disk);
     let bad = What::Bad {
         device: 0,
-        lba: 65_535,
+        lba: (1 << 40) - 1,
     };
     check_line(&rt, &script, 1, 2, &bad);
     check_ask(&rt, &script, 2, 3, [0; 16], &[]);
@@ -67,6 +75,9 @@ fn reads_disk_lines(rt: HostRuntime) {
     check_ask(&rt, &script, 6, 7, READ, &[]);
     check_ask(&rt, &script, 7, 8, WRITE, &[0xfe; 512]);
     check_ask(&rt, &script, 8, 9, WRITE_NONE, &[]);
+    check_ask(&rt, &script, 9, 10, LONG_CAPACITY, &[]);
+    check_ask(&rt, &script, 10, 11, LONG_READ, &[]);
+    check_ask(&rt, &script, 11, 12, LONG_WRITE, &[0; 512]);
 }
 
 const ACCEPTED: [(&[u8], usize); 6] = [
@@ -92,7 +103,7 @@ fn accepts_disks(rt: HostRuntime) {
     check_accepted(&rt, &ACCEPTED);
 }
 
-const NO_FORM: [(&[u8], u32); 14] = [
+const NO_FORM: [(&[u8], u32); 17] = [
     (b"offer disk d 64\n", 1),
     (b"offer disk d 64 0 0\n", 1),
     (b"offer disk d 064 0\n", 1),
@@ -107,6 +118,9 @@ const NO_FORM: [(&[u8], u32); 14] = [
     (b"bad d 100000000000000000000\n", 1),
     (b"bad d\n", 1),
     (b"ready d 0\n", 1),
+    (b"capacity16\n", 1),
+    (b"capacity16 d 0\n", 1),
+    (b"capacity17 d\n", 1),
 ];
 
 #[test]
@@ -134,7 +148,7 @@ const REFUSED_OFFERS: [(&[u8], u32, Why6); 14] = [
     ),
     (b"offer disk d 64 4\n", 1, Why6::Range),
     (b"offer disk d 0 0\n", 1, Why6::Range),
-    (b"offer disk d 65537 0\n", 1, Why6::Range),
+    (b"offer disk d 1099511627777 0\n", 1, Why6::Range),
     (b"offer disk d 18446744073709551616 0\n", 1, Why6::Range),
     (b"offer disk d 64 0\nwindow d 65\n", 2, Why6::Range),
 ];
@@ -144,9 +158,11 @@ fn refuses_disk_offers(rt: HostRuntime) {
     check_refused(&rt, &REFUSED_OFFERS);
 }
 
-const REFUSED_LINES: [(&[u8], u32, Why6); 12] = [
+const REFUSED_LINES: [(&[u8], u32, Why6); 14] = [
     (b"read d 0 5\n", 1, Why6::UnknownName),
     (b"offer hb h\nready h\n", 2, Why6::UnknownName),
+    (b"offer hb h\ncapacity h\n", 2, Why6::UnknownName),
+    (b"offer hb h\ncapacity16 h\n", 2, Why6::UnknownName),
     (b"offer hb h\nbad h 0\n", 2, Why6::UnknownName),
     (b"offer disk d 64 0\nbeat d 1\n", 2, Why6::UnknownName),
     (b"offer disk d 64 0\ndown d 1\n", 2, Why6::UnknownName),
@@ -158,7 +174,11 @@ const REFUSED_LINES: [(&[u8], u32, Why6); 12] = [
         2,
         Why6::Range,
     ),
-    (b"offer disk d 64 0\nread d 4294967296 1\n", 2, Why6::Range),
+    (
+        b"offer disk d 64 0\nread d 18446744073709551616 1\n",
+        2,
+        Why6::Range,
+    ),
     (b"offer disk d 64 0\nread d 0 5\n", 2, Why6::Range),
     (
         b"offer disk d 64 0\nwrite d 0 18446744073709551616 00\n",
@@ -206,6 +226,23 @@ fn reports_disks(rt: HostRuntime) {
             condition(2, 3, 0x11, 0),
         ],
         b"3 done @0 good\n4 done @1 good 512x5a\n5 done @2 check 3/11/00\nend requests 3 done 3 rescinded 0\n",
+    );
+}
+
+#[test]
+fn reports_large_disks(rt: HostRuntime) {
+    let mut capacity = [0; 32];
+    capacity[3..12].copy_from_slice(&[255, 255, 255, 255, 255, 0, 0, 2, 0]);
+    reported(
+        &rt,
+        b"offer disk d0 1099511627776 0\ncapacity d0\ncapacity16 d0\nread d0 1099511627775 2\nwrite d0 65536 1 00\n",
+        &[
+            good(0, &[255, 255, 255, 255, 0, 0, 2, 0]),
+            good(1, &capacity),
+            condition(2, 5, 0x21, 0),
+            condition(3, 7, 0x27, 7),
+        ],
+        b"2 done @0 good 4xff+2x00+1x02+1x00\n3 done @1 good 3x00+5xff+2x00+1x02+21x00\n4 done @2 check 5/21/00\n5 done @3 check 7/27/07\nend requests 4 done 4 rescinded 0\n",
     );
 }
 

@@ -2,7 +2,9 @@
 ghost use Rattle.std.specs.Prelude.{◌≡◌, ◌+◌, ◌<◌, true, false, length, count_by, IfOk, OnOk};
 ghost use Rattle.bus_model.specs.Run.{IsBusRun};
 ghost use Rattle.script_lines.specs.Parts.{parts};
+ghost use Rattle.script_phases.specs.Openings.{phases};
 ghost use Rattle.bus_script.specs.Report.{prints};
+ghost use Rattle.bus_run.specs.Opened.{AllRanAsSet};
 ghost use Rattle.bus_run.specs.Whole.{RunsSoFar};
 ghost use Rattle.vmbus_main.specs.Between.{IsBetween};
 ghost use Rattle.control_model.specs.Guest.{new_guest};
@@ -32,7 +34,8 @@ pub struct BusRan {
 }
 
 /// Runs a script: version and offers, each phase with its channels opened before it and closed behind it, and the farewell. The queues that were ended with the
-/// farewell are those of the control path whose parts stood round the phases that ran (`StoodRound`).
+/// farewell are those of the control path whose parts stood round the phases that ran (`StoodRound`). The channels of each phase were opened with the ring pages and
+/// the windows that the script sets, and what was carried is what their workers left (`AllRanAsSet`).
 pub fn run_script<R: Threads + Wait + Sync, G: Gate>(
     rt: &R,
     gate: &G,
@@ -42,6 +45,7 @@ pub fn run_script<R: Threads + Wait + Sync, G: Gate>(
     ensures controls { IfOk result (λ ran. AreControls script.now ran.controls) }
     ensures run { IfOk result (λ ran. IsBusRun script.now ran.run.settled.items ran.run.histories.items ran.run.results.items) }
     ensures each { IfOk result (λ ran. length ran.run.results.items ≡ count_by prints script.now) }
+    ensures work { IfOk result (λ ran. AllRanAsSet script.now (phases script.now) ran.run.work.items ran.run.settled.items) }
     ensures round { IfOk result (λ ran. StoodRound ran) }
 {
     let path = ControlPath::make(alloc, script)?;

@@ -7,7 +7,7 @@ use Rattle.wire_table.proofs.RowLaws.{IsBytes, all_bytes}
 use Rattle.contact.specs.declared.kind.Kind.{Kind}
 use Rattle.contact.specs.declared.kind.Kind.TheVariants.{Beat, Down, Disk, Net}
 use Rattle.scsi_disk.specs.declared.command.Command.{Command}
-use Rattle.scsi_disk.specs.declared.command.Command.TheVariants.{TestUnitReady, Inquiry, ReadCapacity, Read, Write, SynchronizeCache}
+use Rattle.scsi_disk.specs.declared.command.Command.TheVariants.{TestUnitReady, Inquiry, ReadCapacity, Read, Write, SynchronizeCache, LongCapacity}
 use Rattle.scsi_disk.specs.declared.request.DiskRequest.{DiskRequest}
 use Rattle.stor_proto.specs.Srbs.{bytes_moved, data_for}
 use Rattle.script_lines.specs.Parts.{kind_asked}
@@ -32,6 +32,7 @@ moved (Some ReadCapacity) n is = omega arith
 moved (Some (Read l c)) n is = omega arith
 moved (Some (Write l c)) n is = omega (arith, is)
 moved (Some SynchronizeCache) n is = omega arith
+moved (Some (LongCapacity b a)) n is = omega arith
 
 none_is : (out : List ℕ) → length out ≡ 0 → [] ≡ out
 none_is [] is = refl
@@ -46,6 +47,7 @@ own (Some ReadCapacity) out is = none_is out is
 own (Some (Read l c)) out is = none_is out is
 own (Some (Write l c)) out is = take_all (length out) out (omega arith)
 own (Some SynchronizeCache) out is = none_is out is
+own (Some (LongCapacity b a)) out is = none_is out is
 
 pub carried_can : (q : DiskRequest) → CanBeCarried q → IsBytes q.cdb → IsBytes q.out → IsDiskAsk q
 carried_can q carried cdb_bytes out_bytes = record {

@@ -12,9 +12,9 @@ use Rattle.device_formats.specs.Formats.{besides_on}
 use Rattle.device_formats.specs.ItemFormats.{item_format}
 use Rattle.device_formats.specs.ChannelScript.{ChannelScript, asks_of}
 use Rattle.worker_port.specs.Line.{IsLine, IsSameEnd, line_of, past_as}
-use Rattle.worker_requester.specs.Asking.{Asking, AskedFrom, AsksBy, EndsAcked, IsPaced}
+use Rattle.worker_requester.specs.Asking.{Asking, AskedFrom, AsksBy, EndsAcked, IsPaced, EverTried as AskerTried}
 use Rattle.worker_port.specs.Rooms.{AskedWithin, ServedWithin, AskLacksFor, ServeLacksFor, is_broken}
-use Rattle.worker_server.specs.Serving.{Serving, EndsBy, calls_behind}
+use Rattle.worker_server.specs.Serving.{Serving, EndsBy, calls_behind, EverTried as ServerTried}
 use Rattle.worker_port.specs.declared.ended.Ended.{Ended}
 use Rattle.worker_pair.specs.Seats.{served_at, device_place, at_guest, at_host}
 use Rattle.worker_pair.specs.declared.device_seat.DeviceSeat.{DeviceSeat}
@@ -47,6 +47,7 @@ pub record LeavesAsked (w : Asking ChannelScript TableSeat Reply) (d : WorkerDon
   pub paced : IsPaced (item_format w.protocol.kind) w.starts (asks_of w.protocol) (items_in d.end)
   pub ids : AskedFrom (item_format w.protocol.kind) (length w.table) (asks_of w.protocol) (items_in d.end)
   pub acks : EndsAcked (item_format w.protocol.kind) d.ended (line_of (λ i. i) d.end)
+  pub tried : AskerTried (λ (s : TableSeat). s.seat.table_id) told_at (λ (s : TableSeat). None) (item_format w.protocol.kind) d.ended w.end.end (line_of (λ i. i) d.end)
   pub seat : d.seat ≡ None
   pub serials : d.serials.items ≡ []
 
@@ -55,6 +56,7 @@ pub record LeavesServed (w : Serving ChannelScript DeviceSeat TableSeat Ask Repl
   pub back : DeviceSeat
   pub seat : d.seat ≡ Some back
   pub serves : EndsBy (item_format w.responder.protocol.kind) (besides_on w.responder.protocol.kind) d.ended w (line_of (λ i. i) d.end) (calls_behind w.responder.before (served_at back))
+  pub tried : ServerTried (λ (s : TableSeat). s.seat.table_id) told_at (λ (s : TableSeat). None) (item_format w.responder.protocol.kind) (besides_on w.responder.protocol.kind) d.ended w (line_of (λ i. i) d.end) (calls_behind w.responder.before (served_at back))
   pub before : take (length w.responder.before) (served_at back) ≡ w.responder.before
   pub serials : d.serials.items ≡ map (λ c. c.serial) (calls_behind w.responder.before (served_at back))
   pub end : IsSameEnd (λ (s : TableSeat). s.seat.table_id) w.end.end d.end
@@ -84,6 +86,7 @@ StandsAsking (Some how) w =
     × AskLacksFor (item_format w.protocol.kind) (besides_on w.protocol.kind) (length (asks_of w.protocol)) how w.end.state.past
     × IsPaced (item_format w.protocol.kind) w.starts (asks_of w.protocol) w.end.state.past × AskedFrom (item_format w.protocol.kind) (length w.table) (asks_of w.protocol) w.end.state.past
     × EndsAcked (item_format w.protocol.kind) how w.end × (is_broken how ≡ false)
+    × AskerTried (λ (s : TableSeat). s.seat.table_id) told_at (λ (s : TableSeat). None) (item_format w.protocol.kind) how w.end.end w.end
 
 -- and one that serves
 abbrev pub StandsServing : Option Ended → Serving ChannelScript DeviceSeat TableSeat Ask Reply → Type 0
@@ -91,3 +94,4 @@ StandsServing None w = w.end.state.machine.marked ≡ false
 StandsServing (Some how) w =
     EndsBy (item_format w.responder.protocol.kind) (besides_on w.responder.protocol.kind) how w w.end w.responder.calls × ServedWithin (item_format w.responder.protocol.kind) (besides_on w.responder.protocol.kind) w.end.state.past
     × ServeLacksFor (item_format w.responder.protocol.kind) (besides_on w.responder.protocol.kind) (w.starts + w.come) w.serve w.stops how w.end.state.past × (is_broken how ≡ false)
+    × ServerTried (λ (s : TableSeat). s.seat.table_id) told_at (λ (s : TableSeat). None) (item_format w.responder.protocol.kind) (besides_on w.responder.protocol.kind) how w w.end w.responder.calls

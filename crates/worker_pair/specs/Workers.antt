@@ -7,10 +7,10 @@ use Rattle.device_formats.specs.ChannelScript.{asks_of}
 use Rattle.ring_core.specs.Seen.{Seen}
 use Rattle.ring_seat.specs.declared.table_seat.TableSeat.{TableSeat}
 use Rattle.ring_seat.specs.Seats.{told_in}
-use Rattle.worker_requester.specs.Asking.{AskTurns, AskEnds, AsksOn}
+use Rattle.worker_requester.specs.Asking.{AskTurns, AskEnds, AsksOn, TurnTried as AskTried}
 use Rattle.worker_requester.specs.Causes.{AskCause}
 use Rattle.worker_server.specs.Causes.{ServeCause}
-use Rattle.worker_server.specs.Serving.{Turns, ServeEnds, ServesOn}
+use Rattle.worker_server.specs.Serving.{Turns, ServeEnds, ServesOn, TurnTried as ServeTried}
 use Rattle.worker_port.specs.Line.{Line}
 use Rattle.worker_port.specs.declared.ended.Turn.{Turn}
 use Rattle.worker_pair.specs.Seats.{device_place, left_at, IsAt}
@@ -63,6 +63,16 @@ Caused turn (Asks v) (Asks w) = AskCause (λ (s : TableSeat). Some (told_in s.se
 Caused turn (Asks v) (Serves w) = ⊥
 Caused turn (Serves v) (Asks w) = ⊥
 Caused turn (Serves v) (Serves w) = ServeCause (λ (s : TableSeat). Some (told_in s.seat.me.0)) (λ (s : TableSeat). None) turn v.end w.end
+
+-- what a turn of an end that was awake tried: where it rests, the packet that waits for room, in this turn; and where it ended after the other end's mark, the first
+-- packet that it let go
+abbrev pub Tried : Turn → Worker → Worker → Type 0
+Tried turn (Asks v) (Asks w) =
+    v.end.state.machine.asleep ≡ false → AskTried (λ (s : TableSeat). Some (told_in s.seat.me.0)) (λ (s : TableSeat). None) (item_format w.protocol.kind) (asks_of w.protocol) turn v.end.end w
+Tried turn (Asks v) (Serves w) = ⊥
+Tried turn (Serves v) (Asks w) = ⊥
+Tried turn (Serves v) (Serves w) =
+    v.end.state.machine.asleep ≡ false → ServeTried (λ (s : TableSeat). Some (told_in s.seat.me.0)) (λ (s : TableSeat). None) (item_format w.responder.protocol.kind) (besides_on w.responder.protocol.kind) turn v.end.end w
 
 -- the same worker later
 abbrev pub GoesOn : Worker → Worker → Type 0

@@ -6,7 +6,7 @@ ghost use Rattle.ring_seat.specs.Seats.{new_end};
 ghost use Rattle.worker_pair.specs.Leaving.{Leaves, of_guest};
 ghost use Rattle.worker_pair.specs.Plans.{CanPlan, HasSeat, IsMade, guest_planned};
 ghost use Rattle.worker_pair.specs.Seats.{IsAt, at_guest};
-ghost use Rattle.worker_pair.specs.Workers.{Caused, GoesOn, IsLive, IsOfSide, Turned, end_at};
+ghost use Rattle.worker_pair.specs.Workers.{Caused, GoesOn, IsLive, IsOfSide, Tried, Turned, end_at};
 
 use crate::making::{guest_asks, make_worker};
 use crate::{ChannelPlan, GuestDone, GuestPlan, GuestSeat, Worker, WorkerDone};
@@ -71,6 +71,7 @@ impl GuestWorker {
         requires { IsLive self.old }
         ensures turned { Turned result self.new }
         ensures cause { Caused result self.old self.new }
+        ensures tried { Tried result self.old self.new }
         ensures honest { broke result ≡ false }
         ensures on { GoesOn self.old self.new }
     {

@@ -6,7 +6,7 @@ ghost use Rattle.ring_seat.specs.Seats.{new_end};
 ghost use Rattle.worker_pair.specs.Leaving.{Leaves, of_host};
 ghost use Rattle.worker_pair.specs.Plans.{CanPlan, HasSeat, IsMade, host_planned};
 ghost use Rattle.worker_pair.specs.Seats.{IsAt, at_host};
-ghost use Rattle.worker_pair.specs.Workers.{Caused, GoesOn, IsLive, IsOfSide, Turned, end_at};
+ghost use Rattle.worker_pair.specs.Workers.{Caused, GoesOn, IsLive, IsOfSide, Tried, Turned, end_at};
 
 use crate::making::{ic_asks, make_worker};
 use crate::{ChannelPlan, HostDone, HostPlan, HostSeat, Worker, WorkerDone};
@@ -71,6 +71,7 @@ impl HostWorker {
         requires { IsLive self.old }
         ensures turned { Turned result self.new }
         ensures cause { Caused result self.old self.new }
+        ensures tried { Tried result self.old self.new }
         ensures honest { broke result ≡ false }
         ensures on { GoesOn self.old self.new }
     {

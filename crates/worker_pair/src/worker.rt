@@ -2,7 +2,7 @@
 ghost use Rattle.worker_port.specs.Rooms.{broke};
 ghost use Rattle.std.specs.Prelude.{◌≡◌, false, [], None, Some};
 ghost use Rattle.worker_pair.specs.Leaving.{Leaves};
-ghost use Rattle.worker_pair.specs.Workers.{Caused, GoesOn, IsLive, Turned};
+ghost use Rattle.worker_pair.specs.Workers.{Caused, GoesOn, IsLive, Tried, Turned};
 
 use crate::{DeviceSeat, WorkerDone};
 use device_protocols::DeviceProtocol;
@@ -65,6 +65,7 @@ impl Worker {
         requires { IsLive self.old }
         ensures turned { Turned result self.new }
         ensures cause { Caused result self.old self.new }
+        ensures tried { Tried result self.old self.new }
         ensures honest { broke result ≡ false }
         ensures on { GoesOn self.old self.new }
     {

@@ -1,7 +1,9 @@
--- One call of an end, from what a contract sees of it before to what it sees after; and an end's last three calls where it let a packet go.
+-- One call of an end, from what a contract sees of it before to what it sees after; an end's last three calls where it let a packet go; and those of a turn that
+-- left it asleep.
 use Rattle.std.specs.Prelude.{ℕ, ◌≡◌, List, [], length, Option}
-use Rattle.ring_machine.specs.declared.machine.Ending.TheVariants.{Empty, Full}
-use Rattle.ring_machine.specs.Steps.{mark_begun, send_begun, take_begun}
+use Rattle.ring_machine.specs.Endings.{want_of}
+use Rattle.ring_machine.specs.declared.machine.Ending.TheVariants.{Empty, FellAsleep, Full}
+use Rattle.ring_machine.specs.Steps.{arm_begun, mark_begun, send_begun, take_begun}
 use Rattle.ring_core.specs.Seen.{Seen}
 use Rattle.ring_core.specs.declared.told.Told.{Told}
 use Rattle.ring_core.specs.Told.{Memory, MakesSteps}
@@ -17,6 +19,10 @@ TriedOnce told memory p old new = MakesSteps told memory (send_begun old.state.m
 -- it marked itself
 abbrev pub MarkedOnce : {S : Type 0} → (S → Option Told) → (S → Option Memory) → Seen S → Seen S → Type 0
 MarkedOnce told memory old new = MakesSteps told memory (mark_begun old.state.machine) [] old new
+
+-- it armed once, for this room in bytes
+abbrev pub ArmedOnce : {S : Type 0} → (S → Option Told) → (S → Option Memory) → Option ℕ → Seen S → Seen S → Type 0
+ArmedOnce told memory want old new = MakesSteps told memory (arm_begun old.state.machine (want_of want)) [] old new
 
 -- it looked once for a packet, and none waited
 pub record FoundNone {S : Type 0} (told : S → Option Told) (memory : S → Option Memory) (old new : Seen S) : Type 0 where
@@ -35,3 +41,30 @@ pub record TriedLast {S : Type 0} (told : S → Option Told) (memory : S → Opt
   pub none : FoundNone told memory old looked
   pub full : FoundFull told memory p looked tried
   pub marked : MarkedOnce told memory tried new
+
+-- it armed once, for this room, and its looks found nothing: no packet, no more room than that, and no mark
+pub record FoundNothing {S : Type 0} (told : S → Option Told) (memory : S → Option Memory) (want : Option ℕ) (old new : Seen S) : Type 0 where
+  pub armed : ArmedOnce told memory want old new
+  pub asleep : new.state.machine.ended ≡ FellAsleep
+
+-- its look for a packet found none, and then its arm found nothing: these two calls and no others
+pub record LookedRested {S : Type 0} (told : S → Option Told) (memory : S → Option Memory) (want : Option ℕ) (old new : Seen S) : Type 0 where
+  pub looked : Seen S
+  pub none : FoundNone told memory old looked
+  pub rested : FoundNothing told memory want looked new
+
+-- its look for a packet found none, its try to send this packet found too little room, and then its arm found nothing: these three calls and no others
+pub record LookedTriedRested {S : Type 0} (told : S → Option Told) (memory : S → Option Memory) (p : List ℕ) (want : Option ℕ) (old new : Seen S) : Type 0 where
+  pub looked : Seen S
+  pub tried : Seen S
+  pub none : FoundNone told memory old looked
+  pub full : FoundFull told memory p looked tried
+  pub rested : FoundNothing told memory want tried new
+
+-- the same, where it tried the packet before it looked
+pub record TriedLookedRested {S : Type 0} (told : S → Option Told) (memory : S → Option Memory) (p : List ℕ) (want : Option ℕ) (old new : Seen S) : Type 0 where
+  pub tried : Seen S
+  pub looked : Seen S
+  pub full : FoundFull told memory p old tried
+  pub none : FoundNone told memory tried looked
+  pub rested : FoundNothing told memory want looked new

@@ -14,7 +14,7 @@ ghost use Rattle.page_kept.specs.declared.item.Item.{Item};
 ghost use Rattle.page_kept.specs.Items.{item_of};
 ghost use Rattle.channel_protocol.specs.Paged.{Lays};
 ghost use Rattle.worker_port.specs.Line.{new_end, IsLine, line_of, item_sent, past_as, IsBroken, IsReady, Tries, Finds, past_tried, Stays, TookOne, looked, look_of, is_asleep, armed_by, polled_by, PolledOnce, HasTakeRoom, LacksTake};
-ghost use Rattle.worker_port.specs.Tries.{FoundNone, MarkedOnce, TriedOnce};
+ghost use Rattle.worker_port.specs.Tries.{ArmedOnce, FoundNone, MarkedOnce, TriedOnce};
 
 use crate::found::{Found, Tried, found_by, has_packet, tried_by};
 use channel_protocol::Protocol;
@@ -247,6 +247,8 @@ impl<T: Protocol, S: Parks + Drop> Port<T, S> {
         ensures asleep { self.new.state.machine.asleep ≡ is_asleep result }
         ensures idle { self.new.state.machine.stage ≡ Idle }
         ensures ended { self.new.state.machine.ended ≡ armed_by result }
+        ensures found { self.new.end.state.machine.ended ≡ armed_by result }
+        ensures once { ArmedOnce S.told S.memory want self.old.end self.new.end }
         ensures unmarked { self.new.state.machine.marked ≡ false }
         ensures want { self.new.state.machine.asleep ≡ true → self.new.state.machine.want ≡ want_of want }
         ensures stays { Stays S.channel S.told self.old self.new }

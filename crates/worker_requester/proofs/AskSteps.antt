@@ -13,6 +13,8 @@ use Rattle.channel_trace.specs.Runs.{sent_of, got_of, has_marked, has_seen, is_d
 use Rattle.channel_trace.proofs.Pasts.{drained_seen, follows_unmarked}
 use Rattle.ring_core.specs.declared.room.Room.{Room as SpareRoom}
 use Rattle.ring_core.specs.declared.told.Told.{Told}
+use Rattle.ring_core.specs.Seen.{Seen}
+use Rattle.ring_core.specs.Told.{Memory}
 use Rattle.txn_table.specs.Open.{request_of}
 use Rattle.channel_model.specs.WireFormat.{WireFormat, Keeps}
 use Rattle.channel_model.specs.Acks.{acks_for}
@@ -25,14 +27,17 @@ use Rattle.channel_model.proofs.Amounts.{asks_at_most, kinds_asked, kinds_acked}
 use Rattle.channel_model.proofs.Opens.{by_test}
 use Rattle.channel_model.proofs.Asking.{since_more, under_more, asker_accepted, asker_sent, asker_told, asker_answered, asker_stray, asker_came, asker_acked, asker_breaks, asker_open, asker_empty, asker_marked, asker_saw, asker_settled, asker_stopped}
 use Rattle.worker_port.specs.Line.{Line, SleepsFor}
-use Rattle.worker_requester.specs.Asking.{Asking, AskLacks, AskedFrom, EndsAcked, GoesFree, IsAsking, IsPaced, LeavesAcks, AsksAll, Holds, HasSettled, AskerLacks, LacksNext, id_in, answer_of, ask_at, asked_in, waits_in, waits_under, want_by, pending, AsksOn, AsksBy}
+use Rattle.worker_requester.specs.Asking.{AckFull, Asking, AskLacks, AskedFrom, EndTried, EndsAcked, EverTried, GoesFree, IsAsking, IsPaced, LeavesAcks, LeavesTried, AsksAll, Holds, HoldTried, RestsTried, HasSettled, AskerLacks, LacksNext, id_in, answer_of, ask_at, asked_in, waits_in, waits_under, want_by, pending, AsksOn, AsksBy}
 use Rattle.worker_requester.specs.declared.requester.Blocked.{Blocked}
 use Rattle.worker_requester.specs.declared.requester.Blocked.TheVariants.{Done, Place, Answer, Ack, Room}
 use Rattle.worker_port.specs.declared.ended.Ended.{Ended}
 use Rattle.worker_port.specs.declared.ended.Ended.TheVariants.{Marked as EndMarked, PeerMarked as EndPeerMarked, Room as EndRoom, Broken as EndBroken}
 use Rattle.worker_port.specs.Owed.{IsNeed, MetFull}
+use Rattle.worker_port.specs.Tries.{FoundFull, FoundNone, FoundNothing, MarkedOnce}
 use Rattle.worker_port.specs.Rooms.{AreShort, AskedWithin, CameOver, HasReservedSent, KeepsRoom}
 use Rattle.worker_port.proofs.RoomLaws.{asks_over, ask_left, ack_left, takes_over}
+use Rattle.worker_port.specs.declared.ended.Turn.TheVariants.{Ended as TurnEnded}
+use Rattle.worker_requester.specs.Causes.{AskCause}
 use Rattle.worker_requester.specs.Acking.{IsNext}
 use Rattle.worker_requester.proofs.NextLaws.{acks_skipped, first_of}
 use Rattle.worker_requester.proofs.Tables.{set_request, some_within, count_less, none_open, none_in}
@@ -554,12 +559,15 @@ module _ {A Q R : Type 0} (s : WireFormat Item A Q R) where
 
 module _ {T S A Q R : Type 0} (s : WireFormat Item A Q R) (asks : List A) (w : Asking T S R) where
   -- each message that came was acknowledged
-  pub leaves_none : (next count : ℕ) → count ≡ length w.end.state.got → nat_lt next count ≡ false → IsNext s w.end.state.got w.acked next → IsAsking s asks w → LeavesAcks s w.end
-  leaves_none next count is none far h =
+  pub acked_all : (next count : ℕ) → count ≡ length w.end.state.got → nat_lt next count ≡ false → IsNext s w.end.state.got w.acked next → IsAsking s asks w → acks_for s (got_of w.end.state.past) ≡ filter s.is_ack (sent_of w.end.state.past)
+  acked_all next count is none far h =
       let past : List (Event Item) = w.end.state.past in
       let all : count ≤ next = grind (arith, nat_tests, none) in
       let rest : drop next w.end.state.got ≡ [] = drop_all next w.end.state.got (omega (arith, is, all)) in
-      record { left = []; acks = sym (acks_whole s past (subst (AcksKept s past) rest (acks_skipped s w.end.state.got past w.acked next far h.acks))) ∙ sym (append-nil (filter s.is_ack (sent_of past))); full = inl refl }
+      sym (acks_whole s past (subst (AcksKept s past) rest (acks_skipped s w.end.state.got past w.acked next far h.acks)))
+
+  pub leaves_none : (next count : ℕ) → count ≡ length w.end.state.got → nat_lt next count ≡ false → IsNext s w.end.state.got w.acked next → IsAsking s asks w → LeavesAcks s w.end
+  leaves_none next count is none far h = record { left = []; acks = acked_all next count is none far h ∙ sym (append-nil (filter s.is_ack (sent_of w.end.state.past))); full = inl refl }
 
   -- what acknowledges the next one found too little room
   pub leaves_full : (end' : Line S) (m : Item) → slice_get w.end.state.got w.acked ≡ Some m → s.is_message m ≡ true → end'.state.past ≡ w.end.state.past → (end'.state.machine.room ≤ length (s.ack m).packet + 1) × (end'.state.machine.words ≡ length (s.ack m).packet) → IsAsking s asks w
@@ -574,6 +582,49 @@ module _ {T S A Q R : Type 0} (s : WireFormat Item A Q R) (asks : List A) (w : A
         acks = subst (λ (l : List (Event Item)). acks_for s (got_of l) ≡ filter s.is_ack (sent_of l) ++ acks_for s rest) (sym same) (acks_split s past rest h.acks);
         full = inr (record { packet = s.ack m; rest = acks_for s more; first = next; room = found.0; words = found.1 });
       }
+
+  -- and it was tried once
+  pub ack_full : (told : S → Option Told) (memory : S → Option Memory) (end' : Line S) (m : Item) → slice_get w.end.state.got w.acked ≡ Some m → s.is_message m ≡ true → end'.state.past ≡ w.end.state.past → FoundFull told memory (s.ack m).packet w.end.end end'.end → IsAsking s asks w
+      → AckFull told memory s w.end.end end'
+  ack_full told memory end' m at is same full h =
+      let past : List (Event Item) = w.end.state.past in
+      let rest : List Item = drop w.acked w.end.state.got in
+      let more : List Item = drop (w.acked + 1) w.end.state.got in
+      let next : acks_for s rest ≡ s.ack m ∷ acks_for s more = ap (acks_for s) (first_of w.end.state.got w.acked m at) ∙ ap (λ b. map s.ack (cond b (m ∷ filter s.is_message more) (filter s.is_message more))) is in
+      record {
+        packet = s.ack m;
+        rest = acks_for s more;
+        acks = subst (λ (l : List (Event Item)). acks_for s (got_of l) ≡ filter s.is_ack (sent_of l) ++ s.ack m ∷ acks_for s more) (sym same) (acks_split s past rest h.acks ∙ ap (λ l. filter s.is_ack (sent_of past) ++ l) next);
+        full = full;
+      }
+
+module _ {S A Q R : Type 0} (told : S → Option Told) (memory : S → Option Memory) (s : WireFormat Item A Q R) (e e' : Line S) where
+  -- it marked itself behind that
+  pub tried_marked : (before looked : Seen S) → e'.state.past ≡ Marked ∷ e.state.past → FoundNone told memory before looked → AckFull told memory s looked e → MarkedOnce told memory e.end e'.end → LeavesTried told memory s before e'
+  tried_marked before looked past none full once = record {
+    left = full.packet ∷ full.rest;
+    acks = subst (λ (l : List (Event Item)). acks_for s (got_of l) ≡ filter s.is_ack (sent_of l) ++ full.packet ∷ full.rest) (sym past) full.acks;
+    tried = record { looked = looked; tried = e.end; none = none; full = full.full; marked = once };
+  }
+
+  -- or with nothing left
+  pub all_marked : (before : Seen S) → e'.state.past ≡ Marked ∷ e.state.past → acks_for s (got_of e.state.past) ≡ filter s.is_ack (sent_of e.state.past) → LeavesTried told memory s before e'
+  all_marked before past all = record {
+    left = [];
+    acks = subst (λ (l : List (Event Item)). acks_for s (got_of l) ≡ filter s.is_ack (sent_of l) ++ []) (sym past) (all ∙ sym (append-nil (filter s.is_ack (sent_of e.state.past))));
+    tried = tt;
+  }
+
+module _ {T S A Q R : Type 0} (told : S → Option Told) (memory : S → Option Memory) (s : WireFormat Item A Q R) (asks : List A) (w : Asking T S R) where
+  -- a worker that rests tried what waits for room
+  pub rests_tried : (end' : Line S) (hold : Blocked) (before looked : Seen S) → end'.state.got ≡ w.end.state.got → FoundNone told memory before looked → HoldTried told memory s asks hold looked w → FoundNothing told memory (want_by hold) w.end.end end'.end
+      → RestsTried told memory s asks hold before (record w { end = end'; hold = hold })
+  rests_tried end' Done before looked got none h rested = record { looked = looked; none = none; rested = subst (λ x. FoundNothing told memory None x end'.end) h rested }
+  rests_tried end' Place before looked got none h rested = record { looked = looked; none = none; rested = subst (λ x. FoundNothing told memory None x end'.end) h rested }
+  rests_tried end' Answer before looked got none h rested = record { looked = looked; none = none; rested = subst (λ x. FoundNothing told memory None x end'.end) h rested }
+  rests_tried end' (Ack need) before looked got none h rested =
+      (h.0, ap (λ l. slice_get l w.acked) got ∙ h.1, record { looked = looked; tried = w.end.end; none = none; full = h.2; rested = rested })
+  rests_tried end' (Room need) before looked got none h rested = (h.0, h.1, record { looked = looked; tried = w.end.end; none = none; full = h.2; rested = rested })
 
 module _ {S A Q R : Type 0} (s : WireFormat Item A Q R) (e e' : Line S) where
   met_still : (left : List Item) → (e'.state.machine.room ≡ e.state.machine.room) × (e'.state.machine.words ≡ e.state.machine.words) → (left ≡ []) ⊎ MetFull left e → (left ≡ []) ⊎ MetFull left e'
@@ -597,6 +648,19 @@ module _ {T S A Q R : Type 0} (s : WireFormat Item A Q R) (besides : Bool) (asks
 
 pub ask_trans : {T S R C : Type 0} (channel : S → C) (told_by : S → Option Told) (u v w : Asking T S R) → AsksOn channel told_by u v → AsksOn channel told_by v w → AsksOn channel told_by u w
 ask_trans channel told_by u v w a b = record { tells = b.tells ∙ a.tells; protocol = b.protocol ∙ a.protocol; relid = b.relid ∙ a.relid; starts = b.starts ∙ a.starts; window = b.window ∙ a.window; end = record { seat = b.end.seat ∙ a.end.seat; side = b.end.side ∙ a.end.side } }
+
+-- a worker that ended in a turn had tried what it let go
+pub ever_tried : {T S A Q R C : Type 0} (channel : S → C) (told : S → Option Told) (memory : S → Option Memory) (sp : T → WireFormat Item A Q R) (how : Ended) (u v w : Asking T S R) → AsksOn channel told u v → AsksOn channel told v w
+    → AskCause told memory (TurnEnded how) v.end w.end → (v.end.state.machine.asleep ≡ false → EndTried told memory (sp w.protocol) how v.end.end w.end) → EverTried channel told memory (sp u.protocol) how u.end.end w.end
+ever_tried channel told memory sp how u v w a b cause tried = record {
+  before = v.end.end;
+  same = a.end;
+  tried = subst (λ t. EndTried told memory (sp t) how v.end.end w.end) (b.protocol ∙ a.protocol) (tried (awake v.end.state.machine.asleep refl));
+}
+  where
+    awake : (b : Bool) → v.end.state.machine.asleep ≡ b → v.end.state.machine.asleep ≡ false
+    awake true e = absurd (cause.asleep e)
+    awake false e = e
 
 -- what it gives at its end is what was asked of it at its beginning
 pub asks_on : {T S A Q R C : Type 0} (channel : S → C) (told_by : S → Option Told) (sp : T → WireFormat Item A Q R) (asks : T → List A) (how : Ended) (u w : Asking T S R) (past : List (Event Item)) (told : List R) → AsksOn channel told_by u w

@@ -1,6 +1,10 @@
 //! The worker of the end that asks.
-ghost use Rattle.std.specs.Prelude.{◌≡◌, ◌≢◌, ◌<◌, ◌≤◌, ◌+◌, [], ◌∷◌, ℕ, length, replicate, slice_get, All, IsSome, Some, None, true, false, IfOk, count_by, is_some, vec_len, vec_capacity};
-ghost use Rattle.channel_trace.specs.Runs.{got_of, is_drained};
+ghost use Rattle.std.specs.Prelude.{◌≡◌, ◌≢◌, ◌<◌, ◌≤◌, ◌+◌, [], ◌∷◌, ℕ, filter, length, replicate, slice_get, All, IsSome, Some, None, true, false, IfOk, count_by, is_some, vec_len, vec_capacity};
+ghost use Rattle.channel_trace.specs.Runs.{got_of, sent_of, is_drained};
+ghost use Rattle.channel_trace.specs.declared.event.Event.TheVariants.{Marked as MarkedEvent};
+ghost use Rattle.channel_model.specs.Acks.{acks_for};
+ghost use Rattle.ring_core.specs.Seen.{Seen};
+ghost use Rattle.worker_port.specs.Tries.{FoundNone, MarkedOnce};
 ghost use Rattle.channel_model.specs.Channel.{AskerBreaks};
 ghost use Rattle.worker_port.specs.declared.ended.Ended.TheVariants.{Marked as MarkedEnd, PeerMarked as PeerMarkedEnd, Room as RoomEnd, Broken as BrokenEnd};
 ghost use Rattle.worker_port.specs.Causes.{Arms, Polls};
@@ -8,7 +12,7 @@ ghost use Rattle.worker_port.specs.declared.found.Found.TheVariants.{Nothing as 
 ghost use Rattle.worker_requester.specs.declared.requester.Asked.TheVariants.{Broken as BrokenAsked};
 ghost use Rattle.worker_requester.specs.Causes.{AskCause, AskerActs, AsksOne, AsksOrArms};
 ghost use Rattle.worker_port.specs.Line.{new_end, line_of, past_as, IsLine, Finds, IsBroken, IsReady, IsSameEnd, HasTakeRoom, TookOne};
-ghost use Rattle.worker_requester.specs.Asking.{AsksBy, AskTurns, AskedFrom, EndsAcked, HeldAcks, IsPaced, LeavesAcks, AskLacks, AskerLacks, AsksOn, AskEnds, Holds, HasAcked, HasMessage, HasOpen, HasSettled, StandsAsked, waits_under, want_by, AskedBy};
+ghost use Rattle.worker_requester.specs.Asking.{AsksBy, AskTurns, AskedFrom, EndsAcked, EverTried, AckTried, HeldAcks, HeldTried, HoldTried, IsPaced, LeavesAcks, AskLacks, AskerLacks, AsksOn, AskEnds, Holds, HasAcked, HasMessage, HasOpen, HasSettled, StandsAsked, TurnTried, waits_under, want_by, AskedBy};
 ghost use Rattle.worker_port.specs.Rooms.{AskedWithin, AskLacksFor, KeepsRoom, broke, is_broken};
 ghost use Rattle.txn_table.specs.Open.{HasNone};
 ghost use Rattle.channel_model.specs.Amounts.{room_of};
@@ -106,6 +110,7 @@ impl<T: Protocol, S: Parks + Drop> Requester<T, S> {
         ensures drained { result ≡ NothingFound → self.old.seen ≡ true → is_drained self.new.end.state.past ≡ true }
         ensures seen { self.new.seen ≡ self.old.seen }
         ensures finds { Finds result self.new.end }
+        ensures looked { result ≡ NothingFound → FoundNone S.told S.memory self.old.end.end self.new.end.end }
         ensures honest { is_some (S.told self.old.end.seat) ≡ true → result ≢ BrokenFound }
         ensures on { AsksOn S.channel S.told self.old self.new }
     {
@@ -140,6 +145,7 @@ impl<T: Protocol, S: Parks + Drop> Requester<T, S> {
         ensures message { result ≡ true → HasMessage (T.format self.new.protocol) self.new }
         ensures none { result ≡ false → HasAcked self.new }
         ensures left { result ≡ false → LeavesAcks (T.format self.new.protocol) self.new.end }
+        ensures all { result ≡ false → acks_for (T.format self.new.protocol) (got_of self.new.end.state.past) ≡ filter (T.format self.new.protocol).is_ack (sent_of self.new.end.state.past) }
         ensures same { (self.new.end ≡ self.old.end) × (self.new.seen ≡ self.old.seen) }
         ensures on { AsksOn S.channel S.told self.old self.new }
     {
@@ -154,6 +160,8 @@ impl<T: Protocol, S: Parks + Drop> Requester<T, S> {
         ensures asked { AskedBy (T.format self.new.protocol) (T.asks self.new.protocol) result self.new }
         ensures seen { self.new.seen ≡ self.old.seen }
         ensures left { HeldAcks (T.format self.new.protocol) result self.new.end }
+        ensures tried { HeldTried S.told S.memory (T.format self.new.protocol) (T.asks self.new.protocol) result self.old.end.end self.new }
+        ensures full { AckTried S.told S.memory (T.format self.new.protocol) result self.old.end.end self.new.end }
         ensures cause { AsksOne result self.old.end.state.past self.new.end }
         ensures stands { StandsAsked result self.new.end }
         ensures honest { is_some (S.told self.old.end.seat) ≡ true → result ≢ BrokenAsked }
@@ -212,6 +220,7 @@ impl<T: Protocol, S: Parks + Drop> Requester<T, S> {
         requires unseen { self.old.seen ≡ false }
         ensures asked { AskedBy (T.format self.new.protocol) (T.asks self.new.protocol) result self.new }
         ensures unseen { self.new.seen ≡ false }
+        ensures tried { HeldTried S.told S.memory (T.format self.new.protocol) (T.asks self.new.protocol) result self.old.end.end self.new }
         ensures cause { AsksOne result self.old.end.state.past self.new.end }
         ensures stands { StandsAsked result self.new.end }
         ensures honest { is_some (S.told self.old.end.seat) ≡ true → result ≢ BrokenAsked }
@@ -252,6 +261,7 @@ impl<T: Protocol, S: Parks + Drop> Requester<T, S> {
         requires answers { (a : T.Ask) → slice_get (T.asks self.old.protocol) self.old.next ≡ Some a → (T.format self.old.protocol).has_answer a ≡ false }
         ensures asked { AskedBy (T.format self.new.protocol) (T.asks self.new.protocol) result self.new }
         ensures unseen { self.new.seen ≡ false }
+        ensures tried { HeldTried S.told S.memory (T.format self.new.protocol) (T.asks self.new.protocol) result self.old.end.end self.new }
         ensures cause { AsksOne result self.old.end.state.past self.new.end }
         ensures stands { StandsAsked result self.new.end }
         ensures honest { is_some (S.told self.old.end.seat) ≡ true → result ≢ BrokenAsked }
@@ -309,6 +319,7 @@ impl<T: Protocol, S: Parks + Drop> Requester<T, S> {
         requires open { HasOpen (T.asks self.old.protocol) self.old }
         ensures asked { AskedBy (T.format self.new.protocol) (T.asks self.new.protocol) result self.new }
         ensures unseen { self.new.seen ≡ false }
+        ensures tried { HeldTried S.told S.memory (T.format self.new.protocol) (T.asks self.new.protocol) result self.old.end.end self.new }
         ensures cause { AsksOne result self.old.end.state.past self.new.end }
         ensures stands { StandsAsked result self.new.end }
         ensures honest { is_some (S.told self.old.end.seat) ≡ true → result ≢ BrokenAsked }
@@ -344,6 +355,7 @@ impl<T: Protocol, S: Parks + Drop> Requester<T, S> {
         requires holds { Holds (T.format self.old.protocol) (T.asks self.old.protocol) hold self.old }
         ensures turns { AskTurns (T.format self.new.protocol) (T.besides self.new.protocol) (T.asks self.new.protocol) result self.new }
         ensures cause { Arms result self.old.end.state.past self.new.end }
+        ensures tried { (before looked : Seen S) → FoundNone S.told S.memory before looked → HoldTried S.told S.memory (T.format self.old.protocol) (T.asks self.old.protocol) hold looked self.old → TurnTried S.told S.memory (T.format self.new.protocol) (T.asks self.new.protocol) result before self.new }
         ensures honest { broke result ≡ false }
         ensures on { AsksOn S.channel S.told self.old self.new }
     {
@@ -390,6 +402,8 @@ impl<T: Protocol, S: Parks + Drop> Requester<T, S> {
         ensures ends { AsksBy (T.format self.new.protocol) PeerMarkedEnd (T.asks self.new.protocol) self.new.end.state.past self.new.told }
         ensures none { HasNone self.new.table }
         ensures left { LeavesAcks (T.format self.new.protocol) self.new.end }
+        ensures past { self.new.end.state.past ≡ MarkedEvent ∷ self.old.end.state.past }
+        ensures once { MarkedOnce S.told S.memory self.old.end.end self.new.end.end }
         ensures sent { AskedWithin (T.format self.new.protocol) (length (T.asks self.new.protocol)) self.new.end.state.past }
         ensures paced { IsPaced (T.format self.new.protocol) self.new.starts (T.asks self.new.protocol) self.new.end.state.past }
         ensures ids { AskedFrom (T.format self.new.protocol) (length self.new.table) (T.asks self.new.protocol) self.new.end.state.past }
@@ -443,6 +457,7 @@ impl<T: Protocol, S: Parks + Drop> Requester<T, S> {
         requires drained { seen ≡ true → is_drained self.old.end.state.past ≡ true }
         ensures turns { AskTurns (T.format self.new.protocol) (T.besides self.new.protocol) (T.asks self.new.protocol) result self.new }
         ensures cause { AsksOrArms result self.old.end.state.past self.new.end }
+        ensures tried { (before : Seen S) → FoundNone S.told S.memory before self.old.end.end → TurnTried S.told S.memory (T.format self.new.protocol) (T.asks self.new.protocol) result before self.new }
         ensures honest { is_some (S.told self.old.end.seat) ≡ true → broke result ≡ false }
         ensures on { AsksOn S.channel S.told self.old self.new }
     {
@@ -468,6 +483,7 @@ impl<T: Protocol, S: Parks + Drop> Requester<T, S> {
         requires open { HasOpen (T.asks self.old.protocol) self.old }
         ensures turns { AskTurns (T.format self.new.protocol) (T.besides self.new.protocol) (T.asks self.new.protocol) result self.new }
         ensures cause { AsksOrArms result self.old.end.state.past self.new.end }
+        ensures tried { (before : Seen S) → FoundNone S.told S.memory before self.old.end.end → TurnTried S.told S.memory (T.format self.new.protocol) (T.asks self.new.protocol) result before self.new }
         ensures honest { is_some (S.told self.old.end.seat) ≡ true → broke result ≡ false }
         ensures on { AsksOn S.channel S.told self.old self.new }
     {
@@ -485,6 +501,7 @@ impl<T: Protocol, S: Parks + Drop> Requester<T, S> {
         requires ready { IsReady self.old.end }
         ensures turns { AskTurns (T.format self.new.protocol) (T.besides self.new.protocol) (T.asks self.new.protocol) result self.new }
         ensures cause { AskerActs result self.old.end.state.past self.new.end }
+        ensures tried { TurnTried S.told S.memory (T.format self.new.protocol) (T.asks self.new.protocol) result self.old.end.end self.new }
         ensures honest { is_some (S.told self.old.end.seat) ≡ true → broke result ≡ false }
         ensures on { AsksOn S.channel S.told self.old self.new }
     {
@@ -507,6 +524,7 @@ impl<T: Protocol, S: Parks + Drop> Requester<T, S> {
         requires drained { seen ≡ true → is_drained self.old.end.state.past ≡ true }
         ensures turns { AskTurns (T.format self.new.protocol) (T.besides self.new.protocol) (T.asks self.new.protocol) result self.new }
         ensures cause { AsksOrArms result self.old.end.state.past self.new.end }
+        ensures tried { (before : Seen S) → FoundNone S.told S.memory before self.old.end.end → TurnTried S.told S.memory (T.format self.new.protocol) (T.asks self.new.protocol) result before self.new }
         ensures honest { is_some (S.told self.old.end.seat) ≡ true → broke result ≡ false }
         ensures on { AsksOn S.channel S.told self.old self.new }
     {
@@ -630,6 +648,7 @@ impl<T: Protocol, S: Parks + Drop> Requester<T, S> {
         requires unmarked { self.old.end.state.machine.marked ≡ false }
         ensures turns { AskTurns (T.format self.new.protocol) (T.besides self.new.protocol) (T.asks self.new.protocol) result self.new }
         ensures cause { AskCause S.told S.memory result self.old.end self.new.end }
+        ensures tried { self.old.end.state.machine.asleep ≡ false → TurnTried S.told S.memory (T.format self.new.protocol) (T.asks self.new.protocol) result self.old.end.end self.new }
         ensures room { AskEnds (T.format self.new.protocol) (T.besides self.new.protocol) self.new.starts (length self.new.table) (T.asks self.new.protocol) result self.new.end.state.past }
         ensures honest { is_some (S.told self.old.end.seat) ≡ true → broke result ≡ false }
         ensures on { AsksOn S.channel S.told self.old self.new }
@@ -713,6 +732,7 @@ impl<T: Protocol, S: Parks + Drop> Requester<T, S> {
         ensures paced { IsPaced (T.format self.protocol) self.starts (T.asks self.protocol) (past_as T.said result.end.state) }
         ensures ids { AskedFrom (T.format self.protocol) (length self.table) (T.asks self.protocol) (past_as T.said result.end.state) }
         ensures acks { EndsAcked (T.format self.protocol) result.ended (line_of T.said result.end) }
+        ensures tried { EverTried S.channel S.told S.memory (T.format self.protocol) result.ended self.end.end (line_of T.said result.end) }
     {
         for _ in rt.forever() {
             match self.turn(rt, gate) {

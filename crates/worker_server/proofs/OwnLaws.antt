@@ -1,8 +1,7 @@
 -- The table of the serving end's own messages.
 use Rattle.page_kept.specs.declared.item.Item.{Item}
-use Rattle.page_kept.specs.Items.{item_of}
 use Rattle.std.proofs.Common.{◌≡◌, ℕ, zero, suc, ◌≤◌, List, [], ◌∷◌, ◌++◌, length, map, filter, replicate, refl, sym, ap, ◌∙◌, arith, Option, Some, None, is_some, Bool, true, false}
-use Rattle.std.specs.Prelude.{IsSome, All, count_by, cond, ◌==◌, ◌||◌, ◌&&◌}
+use Rattle.std.specs.Prelude.{IsSome, All, count_by, cond, ◌==◌, ◌||◌}
 use Rattle.std.proofs.lemmas.List.{map-append}
 use Rattle.std.proofs.lemmas.List.Elements.{filter-append}
 use Rattle.std.proofs.lemmas.List.Sums.{sum_by-cons}
@@ -10,8 +9,6 @@ use Rattle.txn_table.specs.Open.{request_of}
 use Rattle.worker_port.specs.Owed.{is_nil}
 use Rattle.channel_model.specs.Acks.{is_in}
 use Rattle.channel_model.specs.WireFormat.{WireFormat}
-use Rattle.channel_model.proofs.Opens.{by_test}
-use Rattle.channel_model.proofs.Served.{filter_first, filter_past}
 use Rattle.worker_server.specs.Serving.{IsFull, items_of, own_in}
 
 -- the ids of a table are its places, from 1 on
@@ -85,15 +82,3 @@ module _ {A Q R : Type 0} (s : WireFormat Item A Q R) (id : ℕ) where
   pub none_under : (w : List ℕ) → is_nil w ≡ true → is_in id (map s.id_of (filter s.is_message (items_of w))) ≡ false
   none_under [] e = refl
   none_under (x ∷ w) e = absurd (cc)
-
-  pub one_under : (w : List ℕ) → is_nil w ≡ false → is_in id (map s.id_of (filter s.is_message (items_of w))) ≡ (s.is_message (item_of w []) && (s.id_of (item_of w []) == id))
-  one_under [] e = absurd (cc)
-  one_under (x ∷ w) e =
-      let i = item_of (x ∷ w) [] in
-      by_test (s.is_message i)
-      (λ yes. ap (λ l. is_in id (map s.id_of l)) (filter_first s.is_message i [] yes) ∙ (or_none (s.id_of i == id) ∙ ap (λ b. b && (s.id_of i == id)) (sym yes)))
-      (λ no. ap (λ l. is_in id (map s.id_of l)) (filter_past s.is_message i [] no) ∙ ap (λ b. b && (s.id_of i == id)) (sym no))
-    where
-      or_none : (b : Bool) → (b || false) ≡ b
-      or_none true = refl
-      or_none false = refl

@@ -31,10 +31,12 @@ use Rattle.channel_model.proofs.Serving.{server_took, server_served, server_pass
 use Rattle.worker_port.specs.Line.{Line, SleepsFor}
 use Rattle.ring_core.specs.declared.room.Room.{Room as Spare}
 use Rattle.worker_port.specs.Owed.{is_nil, need_of, MetFull}
-use Rattle.worker_port.specs.Tries.{FoundFull, FoundNone, MarkedOnce}
+use Rattle.worker_port.specs.Tries.{FoundFull, FoundNone, FoundNothing, MarkedOnce}
 use Rattle.worker_port.specs.Rooms.{ServedWithin, AskedOver, ServeLacksFor, OnlyWith, is_asked}
 use Rattle.txn_table.specs.Open.{HasNone}
-use Rattle.worker_server.specs.Serving.{Responder, Serving, IsServing, Rests, HasRoomFor, HasServed, HasToWait, Closes, ServesPacket, Orders, EndsAll, BreaksOff, CallsEach, AnswersAll, FirstFull, LetsGo, LetsGoTried, LacksPlace, LeavesTried, LeftOff, EndsBy, LeavesOff, LacksRoom, ServesOn, IsFull, own_in, has_done, has_served, lacks_call, marked_by}
+use Rattle.worker_server.specs.Serving.{Responder, Serving, IsServing, Rests, HasRoomFor, HasServed, HasToWait, Closes, ServesPacket, Orders, EndsAll, BreaksOff, CallsEach, AnswersAll, FirstFull, LetsGo, LetsGoTried, LacksPlace, EverTried, LeavesTried, LeftOff, OwedTried, RestsTried, EndsBy, LeavesOff, LacksRoom, ServesOn, IsFull, own_in, has_done, has_served, lacks_call, marked_by}
+use Rattle.worker_port.specs.declared.ended.Turn.TheVariants.{Ended as TurnEnded}
+use Rattle.worker_server.specs.Causes.{ServeCause}
 use Rattle.worker_server.proofs.OwnLaws.{own_within, full_open, none_full, table_empty}
 use Rattle.worker_port.specs.declared.ended.Ended.{Ended}
 use Rattle.worker_port.specs.declared.ended.Ended.TheVariants.{Marked as EndedMarked, PeerMarked, Room, Broken as EndedBroken}
@@ -66,6 +68,19 @@ room_still (p ∷ ps) old new same room = subst (λ (r : Spare). (0 < r.packets)
 
 pub room_on : {T S E Q R : Type 0} (old new : Serving T S E Q R) → new.responder ≡ old.responder → new.end.spare_sent ≡ old.end.spare_sent → HasRoomFor old.responder.owed old.end → HasRoomFor new.responder.owed new.end
 room_on old new responder same room = subst (λ d. HasRoomFor d.owed new.end) (sym responder) (room_still old.responder.owed old.end new.end same room)
+
+module _ {S : Type 0} (told : S → Option Told) (memory : S → Option Memory) where
+  -- nothing that is owed is tried by no call
+  pub owes_none : (owed : List Item) (e : Seen S) → owed ≡ [] → OwedTried told memory owed e e
+  owes_none owed e none = subst (λ l. OwedTried told memory l e e) (sym none) refl
+
+  pub first_tried : (owed : List Item) (old new : Seen S) → FirstFull told memory owed old new → OwedTried told memory owed old new
+  first_tried owed old new f = subst (λ l. OwedTried told memory l old new) (sym f.first) f.full
+
+  -- a worker that rests tried what is owed first
+  pub rests_tried : (owed : List Item) (want : Option ℕ) (before met looked new : Seen S) → OwedTried told memory owed before met → FoundNone told memory met looked → FoundNothing told memory want looked new → RestsTried told memory owed want before new
+  rests_tried [] want before met looked new h none rested = record { looked = looked; none = subst (λ x. FoundNone told memory x looked) h none; rested = rested }
+  rests_tried (p ∷ ps) want before met looked new h none rested = record { tried = met; looked = looked; full = h; none = none; rested = rested }
 
 -- nothing that is owed needs none
 pub room_none : {E : Type 0} (owed : List Item) (e : Line E) → owed ≡ [] → HasRoomFor owed e
@@ -633,6 +648,38 @@ module _ {T S E Q R C : Type 0} (same : S → S → Type 0) (channel : E → C) 
           (subst (λ b. ServerBreaks (sp u.responder.protocol) b u.serve e.state.past calls) on.held (subst (λ n. ServerBreaks (sp u.responder.protocol) w.responder.held n e.state.past calls) on.serve h.0), h.1)
       by EndedBroken h =
           (subst (λ b. ServerBreaks (sp u.responder.protocol) b u.serve e.state.past calls) on.held (subst (λ n. ServerBreaks (sp u.responder.protocol) w.responder.held n e.state.past calls) on.serve h.0), h.1)
+
+  -- and so is what it tried
+  pub tried_on : {A : Type 0} (memory : E → Option Memory) (sp : T → WireFormat Item A Q R) (besides : T → Bool) (how : Ended) (u w : Serving T S E Q R) (before : Seen E) (e : Line E) (calls : List (Call Q R)) → ServesOn same channel told u w
+      → LeavesTried told memory (sp w.responder.protocol) (besides w.responder.protocol) how w before e calls → LeavesTried told memory (sp u.responder.protocol) (besides u.responder.protocol) how u before e calls
+  tried_on {A = A} memory sp besides how u w before e calls on h = by how (subst (λ t. LeavesTried told memory (sp t) (besides t) how w before e calls) on.protocol h)
+    where
+      goes_on : LetsGoTried told memory (sp u.responder.protocol) w before e calls → LetsGoTried told memory (sp u.responder.protocol) u before e calls
+      goes_on k = record {
+        goes = record { served = k.goes.served; first = k.goes.first; missing = k.goes.missing; serves = serves_on (sp u.responder.protocol) u w k.goes.served (sent_of e.state.past ++ k.goes.missing) calls on k.goes.serves; few = k.goes.few; full = k.goes.full };
+        tried = k.tried;
+      }
+
+      by : (how : Ended) → LeavesTried told memory (sp u.responder.protocol) (besides u.responder.protocol) how w before e calls → LeavesTried told memory (sp u.responder.protocol) (besides u.responder.protocol) how u before e calls
+      by EndedMarked k = tt
+      by PeerMarked k =
+          on_either (on_either (answers_on (sp u.responder.protocol) u w e.state.past calls on) goes_on) (only_on (besides u.responder.protocol) (place_on (sp u.responder.protocol) u w e.state.past calls on)) k
+      by (Room packets words left) k = tt
+      by EndedBroken k = tt
+
+  -- a worker that ended in a turn had tried what it let go
+  pub ever_tried : {A : Type 0} (memory : E → Option Memory) (sp : T → WireFormat Item A Q R) (besides : T → Bool) (how : Ended) (u v w : Serving T S E Q R) → ServesOn same channel told u v → ServesOn same channel told u w → ServeCause told memory (TurnEnded how) v.end w.end
+      → (v.end.state.machine.asleep ≡ false → LeavesTried told memory (sp w.responder.protocol) (besides w.responder.protocol) how w v.end.end w.end w.responder.calls)
+      → EverTried channel told memory (sp u.responder.protocol) (besides u.responder.protocol) how u w.end w.responder.calls
+  ever_tried memory sp besides how u v w a on cause tried = record {
+    before = v.end.end;
+    same = a.end;
+    tried = tried_on memory sp besides how u w v.end.end w.end w.responder.calls on (tried (awake v.end.state.machine.asleep refl));
+  }
+    where
+      awake : (b : Bool) → v.end.state.machine.asleep ≡ b → v.end.state.machine.asleep ≡ false
+      awake true e = absurd (cause.asleep e)
+      awake false e = e
 
   -- and so is what it lacked
   pub lacks_on : {A : Type 0} (sp : T → WireFormat Item A Q R) (besides : T → Bool) (how : Ended) (u w : Serving T S E Q R) (past : List (Event Item)) → ServesOn same channel told u w

@@ -19,7 +19,7 @@ use Rattle.channel_model.specs.Channel.{RequestPlan, count_of, held_of, ServerEn
 use Rattle.channel_model.specs.Workers.{left_after, ServerKept, OwnKept}
 use Rattle.worker_port.specs.Line.{IsBroken, IsReady, IsSameEnd, LacksTake, Line, SleepsFor}
 use Rattle.worker_port.specs.Owed.{is_nil, need_of, HasSendRoom, LacksSend, MetFull}
-use Rattle.worker_port.specs.Tries.{FoundFull, TriedLast}
+use Rattle.worker_port.specs.Tries.{FoundFull, LookedRested, TriedLast, TriedLookedRested}
 use Rattle.worker_port.specs.Rooms.{ServedWithin, ServeLacksFor, KeepsRoom, OnlyWith, is_asked}
 use Rattle.worker_port.specs.declared.ended.Ended.{Ended}
 use Rattle.worker_port.specs.declared.ended.Ended.TheVariants.{Marked, PeerMarked, Room, Broken as EndedBroken}
@@ -212,6 +212,12 @@ LeavesTried told memory s besides PeerMarked w old e calls = (AnswersAll s w e.s
 LeavesTried told memory s besides (Room packets words left) w old e calls = Unit {0}
 LeavesTried told memory s besides EndedBroken w old e calls = Unit {0}
 
+-- and that from some moment on of the end that it had first
+pub record EverTried {T S E C A Q R : Type 0} (channel : E → C) (told : E → Option Told) (memory : E → Option Memory) (s : WireFormat Item A Q R) (besides : Bool) (how : Ended) (w : Serving T S E Q R) (e : Line E) (calls : List (Call Q R)) : Type 0 where
+  pub before : Seen E
+  pub same : IsSameEnd channel w.end.end before
+  pub tried : LeavesTried told memory s besides how w before e calls
+
 -- how a worker has ended that marked its end, by whether it had seen the other end's mark
 abbrev pub marked_by : Bool → Ended
 marked_by true = PeerMarked
@@ -257,10 +263,17 @@ Turns left_at s besides Moved w = w.end.state.machine.marked ≡ false
 Turns left_at s besides Idle w = (w.end.state.machine.marked ≡ false) × (w.end.state.machine.asleep ≡ true) × Rests s besides w
 Turns left_at s besides (TurnEnded how) w = EndsBy s besides how w w.end w.responder.calls × LacksRoom left_at s besides how w
 
--- of a turn from this end on: where it ended after the other end's mark, what is missing was tried in it
+-- from an earlier end on the worker did this alone, and rests: it tried the first of these packets, if there is one, and found too little room for it; it looked for a
+-- packet and found none; and it armed for this room, and found nothing
+abbrev pub RestsTried : {S : Type 0} → (S → Option Told) → (S → Option Memory) → List Item → Option ℕ → Seen S → Seen S → Type 0
+RestsTried told memory [] want old new = LookedRested told memory want old new
+RestsTried told memory (p ∷ ps) want old new = TriedLookedRested told memory p.packet want old new
+
+-- of a turn of an end that was awake, from this end on: where it rests, the packet that waits for room was tried in it; and where it ended after the other end's mark,
+-- what is missing was
 abbrev pub TurnTried : {T S E A Q R : Type 0} → (E → Option Told) → (E → Option Memory) → WireFormat Item A Q R → Bool → Turn → Seen E → Serving T S E Q R → Type 0
 TurnTried told memory s besides Moved old w = Unit {0}
-TurnTried told memory s besides Idle old w = Unit {0}
+TurnTried told memory s besides Idle old w = RestsTried told memory w.responder.owed w.want old w.end.end
 TurnTried told memory s besides (TurnEnded how) old w = LeavesTried told memory s besides how w old w.end w.responder.calls
 
 -- the first of these packets was tried once, and found too little room
@@ -269,6 +282,11 @@ pub record FirstFull {S : Type 0} (told : S → Option Told) (memory : S → Opt
   pub rest : List Item
   pub first : owed ≡ packet ∷ rest
   pub full : FoundFull told memory packet.packet old new
+
+-- the same, where there is one; where there is none the end made no call
+abbrev pub OwedTried : {S : Type 0} → (S → Option Told) → (S → Option Memory) → List Item → Seen S → Seen S → Type 0
+OwedTried told memory [] old new = new ≡ old
+OwedTried told memory (p ∷ ps) old new = FoundFull told memory p.packet old new
 
 -- a packet that is owed was sent, or nothing changed
 abbrev pub GaveOne : {T S E Q R : Type 0} → Given → Serving T S E Q R → Serving T S E Q R → Type 0

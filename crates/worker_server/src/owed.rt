@@ -10,7 +10,7 @@ ghost use Rattle.channel_model.specs.WireFormat.{packets_in, packets_of};
 use channel_protocol::Protocol;
 use std::alloc::{AllocError, Global};
 use std::marker::Model;
-use worker_port::PacketBuffer;
+use worker_port::{PacketBuffer, id_read, is_message_read};
 
 /// A message and an answer, each of which may be none, and neither of which has page words. The message is sent first.
 #[derive(Drop)]
@@ -115,28 +115,12 @@ impl Owed {
 }
 
 // Whether a packet, if there is one, is a message under this id.
-#[tactic(auto, using(crate::proofs::OwnLaws::none_under, crate::proofs::OwnLaws::one_under))]
+#[tactic(auto, using(crate::proofs::OwnLaws::none_under))]
 fn is_message_under<T: Protocol>(protocol: &T, buffer: &PacketBuffer, id: u64) -> bool
     ensures { result ≡ is_in id (map (T.format protocol.now).id_of (filter (T.format protocol.now).is_message (items_of buffer.now.packet))) }
 {
     if buffer.is_empty() {
         return false;
     }
-    is_message(protocol, buffer.packet()) && id_of(protocol, buffer.packet()) == id
-}
-
-// Whether a packet without page words is a message.
-fn is_message<T: Protocol>(protocol: &T, packet: &[u64]) -> bool
-    requires { IsPacket packet.now }
-    ensures { result ≡ (T.format protocol.now).is_message (item_of packet.now []) }
-{
-    protocol.is_message(packet)
-}
-
-// The id of one.
-fn id_of<T: Protocol>(protocol: &T, packet: &[u64]) -> u64
-    requires { IsPacket packet.now }
-    ensures { result ≡ (T.format protocol.now).id_of (item_of packet.now []) }
-{
-    protocol.id(packet)
+    is_message_read(protocol, buffer.packet(), &[]) && id_read(protocol, buffer.packet(), &[]) == id
 }

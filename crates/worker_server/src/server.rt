@@ -6,7 +6,7 @@ ghost use Rattle.worker_server.specs.Causes.{GivesLast, GivesOne, GivesOrTakes, 
 ghost use Rattle.worker_port.specs.Line.{new_end, IsLine, line_of, past_as, Finds, IsBroken, IsReady, IsSameEnd, HasTakeRoom, LacksTake, TookOne};
 ghost use Rattle.worker_port.specs.Owed.{is_nil, LacksSend, MetFull};
 ghost use Rattle.worker_port.specs.Rooms.{KeepsRoom, OnlyWith, ServeLacksFor, ServedWithin, broke, is_broken};
-ghost use Rattle.worker_server.specs.Serving.{Closes, EndsBy, FirstFull, HasRoomFor, HasServed, HasToWait, Lacks, LacksRoom, LeavesTried, Turns, TurnTried, GaveOne, ServeEnds, ServesOn, BreaksOff, StandsGiven, calls_behind, has_done, lacks_call, marked_by};
+ghost use Rattle.worker_server.specs.Serving.{Closes, EndsBy, EverTried, FirstFull, HasRoomFor, HasServed, HasToWait, Lacks, LacksRoom, LeavesTried, OwedTried, Turns, TurnTried, GaveOne, ServeEnds, ServesOn, BreaksOff, StandsGiven, calls_behind, has_done, lacks_call, marked_by};
 ghost use Rattle.worker_port.specs.Tries.{FoundNone};
 ghost use Rattle.ring_core.specs.Seen.{Seen};
 ghost use Rattle.channel_model.specs.Acks.{AllOwnOpen, OwnFrom};
@@ -191,7 +191,7 @@ impl<T: Protocol, S: Device<T>, E: Parks + Drop> Server<T, S, E> {
         requires unseen { self.old.seen ≡ false }
         ensures turns { Turns S.left (T.format self.new.responder.protocol) (T.besides self.new.responder.protocol) result self.new }
         ensures cause { Arms result self.old.end.state.past self.new.end }
-        ensures tried { (before : Seen E) → TurnTried E.told E.memory (T.format self.new.responder.protocol) (T.besides self.new.responder.protocol) result before self.new }
+        ensures tried { (before met : Seen E) → OwedTried E.told E.memory self.old.responder.owed before met → FoundNone E.told E.memory met self.old.end.end → TurnTried E.told E.memory (T.format self.new.responder.protocol) (T.besides self.new.responder.protocol) result before self.new }
         ensures honest { broke result ≡ false }
         ensures on { ServesOn S.same E.channel E.told self.old self.new }
     {
@@ -272,7 +272,7 @@ impl<T: Protocol, S: Device<T>, E: Parks + Drop> Server<T, S, E> {
         requires unseen { is_nil self.old.responder.owed ≡ false → self.old.seen ≡ false }
         ensures turns { Turns S.left (T.format self.new.responder.protocol) (T.besides self.new.responder.protocol) result self.new }
         ensures cause { TakesOrArms result self.old.end.state.past self.new.end }
-        ensures tried { (before : Seen E) → TurnTried E.told E.memory (T.format self.new.responder.protocol) (T.besides self.new.responder.protocol) result before self.new }
+        ensures tried { (before : Seen E) → OwedTried E.told E.memory self.old.responder.owed before self.old.end.end → TurnTried E.told E.memory (T.format self.new.responder.protocol) (T.besides self.new.responder.protocol) result before self.new }
         ensures honest { is_some (E.told self.old.end.seat) ≡ true → broke result ≡ false }
         ensures on { ServesOn S.same E.channel E.told self.old self.new }
     {
@@ -433,7 +433,6 @@ impl<T: Protocol, S: Device<T>, E: Parks + Drop> Server<T, S, E> {
         requires unmarked { self.old.end.state.machine.marked ≡ false }
         ensures turns { Turns S.left (T.format self.new.responder.protocol) (T.besides self.new.responder.protocol) result self.new }
         ensures cause { Polls E.told E.memory result self.old.end self.new.end }
-        ensures tried { TurnTried E.told E.memory (T.format self.new.responder.protocol) (T.besides self.new.responder.protocol) result self.old.end.end self.new }
         ensures honest { broke result ≡ false }
         ensures on { ServesOn S.same E.channel E.told self.old self.new }
     {
@@ -505,7 +504,7 @@ impl<T: Protocol, S: Device<T>, E: Parks + Drop> Server<T, S, E> {
         requires unmarked { self.old.end.state.machine.marked ≡ false }
         ensures turns { Turns S.left (T.format self.new.responder.protocol) (T.besides self.new.responder.protocol) result self.new }
         ensures cause { ServeCause E.told E.memory result self.old.end self.new.end }
-        ensures tried { TurnTried E.told E.memory (T.format self.new.responder.protocol) (T.besides self.new.responder.protocol) result self.old.end.end self.new }
+        ensures tried { self.old.end.state.machine.asleep ≡ false → TurnTried E.told E.memory (T.format self.new.responder.protocol) (T.besides self.new.responder.protocol) result self.old.end.end self.new }
         ensures room { ServeEnds (T.format self.new.responder.protocol) (T.besides self.new.responder.protocol) result self.new }
         ensures honest { is_some (E.told self.old.end.seat) ≡ true → broke result ≡ false }
         ensures on { ServesOn S.same E.channel E.told self.old self.new }
@@ -565,6 +564,7 @@ impl<T: Protocol, S: Device<T>, E: Parks + Drop> Server<T, S, E> {
     pub fn run<R: Wait, G: Gate>(mut self, rt: &R, gate: &G) -> ServerDone<T, S, E>
         requires unmarked { self.end.state.machine.marked ≡ false }
         ensures ends { EndsBy (T.format self.responder.protocol) (T.besides self.responder.protocol) result.ended self (line_of T.said result.end) (calls_behind self.responder.before (S.calls result.seat)) }
+        ensures tried { EverTried E.channel E.told E.memory (T.format self.responder.protocol) (T.besides self.responder.protocol) result.ended self (line_of T.said result.end) (calls_behind self.responder.before (S.calls result.seat)) }
         ensures before { take (length self.responder.before) (S.calls result.seat) ≡ self.responder.before }
         ensures serials { result.serials.items ≡ map (λ c. c.serial) (calls_behind self.responder.before (S.calls result.seat)) }
         ensures end { IsSameEnd E.channel self.end.end result.end }

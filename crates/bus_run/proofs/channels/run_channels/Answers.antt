@@ -3,6 +3,7 @@ use Rattle.bus_run.specs.Closing.{AllCome}
 use Rattle.bus_run.specs.Due.{due_of}
 use Rattle.bus_run.specs.Opening.{AreAway, CanOpenAll, OpensAt, quotas_of, seats_given}
 use Rattle.bus_run.proofs.Items.{with_long}
+use Rattle.bus_run.proofs.OpenedAs.{have_worked}
 use Rattle.bus_run.proofs.Assembling.{all_come, all_back, channels_ran, still_ready}
 use Rattle.std.proofs.lemmas.List.{length-map}
 use Rattle.bus_run.proofs.channels.run_channels.Goals as goal
@@ -43,7 +44,7 @@ close_slots-requires g c =
     let all = c.in_ok-pairs.ensures old can (subst (λ d. AreAway c.args.plan.items old d c.in_ok-seats.seats.items) (sym c.deref-3.ensures.value) away) in
     let dues : c.deref-4.result.now ≡ map due_of c.args.plan.items = (c.deref-4.ensures.value ∙ (c.in_ok-dues.ensures ∙ ap (map due_of) c.deref-2.ensures.value)) in
     let come = subst (λ l. AllCome l old all.opened.given c.open_all.new.seats.items c.run_phase.new.done.items) (sym dues) (all_come c.args.settings.now c.args.plan.items old c.reopen_all.new.slots.items c.in_ok-seats.seats.items c.open_all.new.seats.items c.in_ok-pairs.pairs.items c.run_phase.new.done.items can away all c.run_phase.ensures) in
-    let closed = c.in_ok-outcomes.ensures old all.opened.given come in (
+    let closed = c.in_ok-outcomes.ensures.closed old all.opened.given come in (
       old,
       λ k. quotas_of k c.args.plan.items,
       λ k. seats_given k all.opened.given,
@@ -63,7 +64,7 @@ returns-clause-ran g c p can =
     let all = c.in_ok-pairs.ensures old can.can (subst (λ d. AreAway c.args.plan.items old d before) (sym c.deref-3.ensures.value) away) in
     let dues : c.deref-4.result.now ≡ map due_of c.args.plan.items = (c.deref-4.ensures.value ∙ (c.in_ok-dues.ensures ∙ ap (map due_of) c.deref-2.ensures.value)) in
     let come = subst (λ l. AllCome l old all.opened.given c.open_all.new.seats.items c.run_phase.new.done.items) (sym dues) (all_come c.args.settings.now c.args.plan.items old held before between pairs c.run_phase.new.done.items can.can away all c.run_phase.ensures) in
-    let closed = c.in_ok-outcomes.ensures old all.opened.given come in
+    let closed = c.in_ok-outcomes.ensures.closed old all.opened.given come in
     let back = all_back c.args.settings.now c.args.phase c.args.phase c.args.plan.items old held before between seats pairs c.args.settled.now.items c.close_all.new.settled.items c.in_ok-outcomes.outcomes c.requires.ready away all closed in
     channels_ran c.args.settings.now c.args.phase c.args.plan.items p old held c.close_slots.new.slots.items before between seats pairs c.args.settled.now.items c.close_all.new.settled.items c.in_ok-outcomes.outcomes can away all closed
     (c.close_slots.ensures old (λ k. quotas_of k c.args.plan.items) (λ k. seats_given k all.opened.given) back)
@@ -82,7 +83,15 @@ returns-clause-ready g c =
     let all = c.in_ok-pairs.ensures old can.can (subst (λ d. AreAway c.args.plan.items old d before) (sym c.deref-3.ensures.value) away) in
     let dues : c.deref-4.result.now ≡ map due_of c.args.plan.items = (c.deref-4.ensures.value ∙ (c.in_ok-dues.ensures ∙ ap (map due_of) c.deref-2.ensures.value)) in
     let come = subst (λ l. AllCome l old all.opened.given c.open_all.new.seats.items c.run_phase.new.done.items) (sym dues) (all_come c.args.settings.now c.args.plan.items old held before between pairs c.run_phase.new.done.items can.can away all c.run_phase.ensures) in
-    let closed = c.in_ok-outcomes.ensures old all.opened.given come in
+    let closed = c.in_ok-outcomes.ensures.closed old all.opened.given come in
     let back = all_back c.args.settings.now c.args.phase c.args.phase c.args.plan.items old held before between seats pairs c.args.settled.now.items c.close_all.new.settled.items c.in_ok-outcomes.outcomes c.requires.ready away all closed in
     still_ready c.args.settings.now c.args.phase c.args.plan.items p old held c.close_slots.new.slots.items before between seats pairs c.args.settled.now.items c.close_all.new.settled.items c.in_ok-outcomes.outcomes can away all closed
     (c.close_slots.ensures old (λ k. quotas_of k c.args.plan.items) (λ k. seats_given k all.opened.given) back) c.requires.ready
+
+pub returns-clause-worked : goal.returns-clause-worked
+returns-clause-worked g c p can =
+    let old = c.args.slots.now.items in
+    let away = (subst (λ l. AreAway l c.args.slots.now.items c.reopen_all.new.slots.items c.in_ok-seats.seats.items) c.deref.ensures.value c.in_ok-seats.ensures) in
+    let all = c.in_ok-pairs.ensures old can.can (subst (λ d. AreAway c.args.plan.items old d c.in_ok-seats.seats.items) (sym c.deref-3.ensures.value) away) in
+    have_worked c.args.phase c.args.settings.now p old c.args.plan.items c.in_ok-seats.seats.items c.open_all.new.seats.items c.in_ok-pairs.pairs.items c.run_phase.new.done.items c.args.settled.now.items c.close_all.new.settled.items c.args.work.now.items _ _ c.requires.settings can all c.run_phase.ensures
+    c.in_ok-outcomes.ensures.left c.in_ok-push.ensures.items (ap (λ v. v.items) c.of-opened.ensures) (ap (λ v. v.items) c.of-left.ensures)

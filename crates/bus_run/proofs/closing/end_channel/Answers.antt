@@ -9,8 +9,8 @@ of-requires c =
     let w = c.requires in
     few_serials w.0 w.1 c.args.done c.args.asked w.2 w.3
 
-pub returns : goal.returns
-returns c order first many ran =
+pub returns-clause-ended : goal.returns-clause-ended
+returns-clause-ended c order first many ran =
     let same : ran.back ≡ c.in-Some.seat = ap (λ o. unwrap_or o c.in-Some.seat) (sym (sym c.in-Some.is ∙ c.serving_seat.ensures ∙ ran.serving)) in
     subst (λ s. ChannelEnded order first c.args.done.settled s c.of.result) same
     (record {

@@ -62,3 +62,10 @@ pub returns-clause-relid : goal.returns-clause-relid
 returns-clause-relid g c p this =
     let slots = c.args.slots.now.items in
     c.in_ok-plan.ensures.next (specs_of slots) p (known_subs (4096 * c.args.phase) slots c.requires.ready ∙ sym (c.deref-2.ensures.value ∙ (c.in_ok-subs.ensures ∙ ap (map subs_beside) c.deref.ensures.value))) this.of
+
+pub returns-clause-worked : goal.returns-clause-worked
+returns-clause-worked g c p this =
+    let slots = c.args.slots.now.items in
+    let ordered = (c.in_ok-plan.ensures.plan (specs_of slots) p (known_subs (4096 * c.args.phase) slots c.requires.ready ∙ sym (c.deref-2.ensures.value ∙ (c.in_ok-subs.ensures ∙ ap (map subs_beside) c.deref.ensures.value))) this.of) in
+    let can = can_run c.args.phase c.args.part.now c.args.ended.now c.args.relid.now c.in_ok-plan.plan.items slots p this ordered c.requires.ready c.requires.right c.requires.go c.requires.asks c.requires.subs c.requires.channels in
+    c.in_ok-outcomes.ensures.worked p can

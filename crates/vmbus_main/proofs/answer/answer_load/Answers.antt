@@ -1,4 +1,4 @@
-use Rattle.std.proofs.Common.{◌≡◌, ◌∙◌, List, ap, sym, subst, length, arith, Some}
+use Rattle.std.proofs.Common.{◌∙◌, List, ap, sym, subst, length, arith, Some}
 use Rattle.bus_model.specs.declared.channel_run.ChannelRun.{ChannelRun}
 use Rattle.bus_model.specs.declared.history.DeviceHistory.{DeviceHistory}
 use Rattle.bus_script.specs.declared.outcome.LineResult.{LineResult}

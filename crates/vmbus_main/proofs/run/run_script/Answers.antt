@@ -12,6 +12,9 @@ returns-clause-each g c =
     one_each_lem c.args.script.now c.in_ok-run.run'.settled.items c.in_ok-run.run'.histories.items c.in_ok-run.run'.results.items
     (c.in_ok-run.ensures.run c.args.script.now c.in_ok-path-3.ensures.between.ran c.in_ok-path-3.ensures.all)
 
+pub returns-clause-work : goal.returns-clause-work
+returns-clause-work g c = c.in_ok-run.ensures.work c.args.script.now c.in_ok-path-3.ensures.between.ran c.in_ok-path-3.ensures.all
+
 pub returns-clause-round : goal.returns-clause-round
 returns-clause-round g c =
     let same = same_on _ _ _ c.in_ok-path-3.ensures.between.same c.in_ok-path-4.ensures.ran.same in

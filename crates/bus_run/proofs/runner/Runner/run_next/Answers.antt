@@ -7,6 +7,7 @@ use Rattle.script_lines.specs.Parts.{parts, offered, asks_in, channels_of}
 use Rattle.script_lines.specs.WellFormed.{AllRight, AllGo}
 use Rattle.bus_plan.specs.Endings.{AreEnded}
 use Rattle.bus_run.specs.DeviceSlot.{spec_of}
+use Rattle.bus_run.specs.Opened.{HaveWorked}
 use Rattle.bus_run.specs.Settings.{HasLimits}
 use Rattle.bus_run.specs.Whole.{IsThis, specs_of, parts_left, behind}
 use Rattle.bus_run.proofs.SettingLines.{have_limits}
@@ -97,3 +98,4 @@ returns-clause-so_far g c =
     (λ p this. ran.relid p (subst (λ e. IsThis old.phase part e (specs_of old.slots.items) old.relid p) (sym before) this)) ran.few
     (λ earlier marked. subst (AreEnded (earlier ++ part)) (sym whole) (ran.ended earlier (subst (AreEnded earlier) (sym before) marked)))
     (ap length whole ∙ ran.count ∙ ap length before) ran.ready refl c.behind-self.ensures refl
+    (λ p this. subst (λ s. HaveWorked s p old.settled.items c.run_script_phase.new.settled.items old.work.items c.run_script_phase.new.work.items) c.deref.ensures.value (ran.worked p (subst (λ e. IsThis old.phase part e (specs_of old.slots.items) old.relid p) (sym before) this)))

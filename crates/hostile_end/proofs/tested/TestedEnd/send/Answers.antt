@@ -35,7 +35,7 @@ returns-clause-leads c =
     let words : c.deref.result.now ≡ in_band c.args.len = c.deref.ensures.value ∙ search rules in
     let len : length c.deref.result.now ≡ c.args.len = search rules in
     let ran : MakesSteps (λ (s : Held). None) (λ (s : Held). Some s.memory) (send_begun c.reserve.new.self.state.machine c.args.len) c.deref.result.now c.reserve.new.self c.send.new.self
-        = subst (λ (n : ℕ). MakesSteps (λ (s : Held). None) (λ (s : Held). Some s.memory) (send_begun c.reserve.new.self.state.machine n) c.deref.result.now c.reserve.new.self c.send.new.self) len (c.send.ensures.ran idle) in
+    = subst (λ (n : ℕ). MakesSteps (λ (s : Held). None) (λ (s : Held). Some s.memory) (send_begun c.reserve.new.self.state.machine n) c.deref.result.now c.reserve.new.self c.send.new.self) len (c.send.ensures.ran idle) in
     on_ok c.push_sent.result
     (subst (λ (p : Pair). Leads (by_stage p.state.machine (send_begun p.state.machine c.args.len) (in_band c.args.len)) p (pair c.send.new.self.state c.send.new.self.seat.memory)) c.self.view_is
     (leads_by c.self.inside.end c.reserve.new.self c.send.new.self st c.reserve.ensures.state.1 (search rules) (search rules) (λ (m : EndMachine). send_begun m c.args.len) (in_band c.args.len) c.deref.result.now words ran
@@ -48,7 +48,7 @@ returns-clause-says c =
     let answer = c.send.ensures.answer idle in
     let new : Pair = pair c.send.new.self.state c.send.new.self.seat.memory in
     let said : sent_text c.send.result ≡ said_of (by_stage c.self.inside.end.state.machine (send_begun c.self.inside.end.state.machine c.args.len) (in_band c.args.len)) new
-        = ap sent_text answer.0 ∙ (sent_said c.send.new.self.state.machine.ended c.send.new.self.state.machine (newest c.send.new.self.state.got) answer.1
-        ∙ sym (says_by c.self.inside.end c.reserve.new.self c.send.new.self st c.reserve.ensures.state.1 (search rules) (search rules) (send_begun c.self.inside.end.state.machine c.args.len) (in_band c.args.len))) in
+    = ap sent_text answer.0 ∙ (sent_said c.send.new.self.state.machine.ended c.send.new.self.state.machine (newest c.send.new.self.state.got) answer.1
+    ∙ sym (says_by c.self.inside.end c.reserve.new.self c.send.new.self st c.reserve.ensures.state.1 (search rules) (search rules) (send_begun c.self.inside.end.state.machine c.args.len) (in_band c.args.len))) in
     subst (λ (p : Pair). OnOk c.push_sent.result (c.push_sent.new.text.items ≡ c.args.text.now.items ++ said_of (by_stage p.state.machine (send_begun p.state.machine c.args.len) (in_band c.args.len)) new)) c.self.view_is
     (subst (λ (t : List ℕ). OnOk c.push_sent.result (c.push_sent.new.text.items ≡ c.args.text.now.items ++ t)) said c.push_sent.ensures.text)

@@ -44,7 +44,7 @@ returns-clause-says c =
     let takes = c.take_in-answer.ensures.takes.idle idle in
     let new : Pair = pair c.take_in-answer.new.self.state c.take_in-answer.new.self.seat.memory in
     let said : took_text c.take_in-answer.result c.last.result.now ≡ said_of (by_stage c.self.inside.end.state.machine (take_begun c.self.inside.end.state.machine) []) new
-        = ap (took_text c.take_in-answer.result) c.last.ensures ∙ (took_said c.take_in-answer.new.self.state.machine.ended c.take_in-answer.new.self.state.machine c.take_in-answer.result (newest c.take_in-answer.new.self.state.got) takes.call takes.answer
-        ∙ sym (says_by c.self.inside.end c.reserve.new.self c.take_in-answer.new.self st c.reserve.ensures.state.1 (search rules) (search rules) (take_begun c.self.inside.end.state.machine) [])) in
+    = ap (took_text c.take_in-answer.result) c.last.ensures ∙ (took_said c.take_in-answer.new.self.state.machine.ended c.take_in-answer.new.self.state.machine c.take_in-answer.result (newest c.take_in-answer.new.self.state.got) takes.call takes.answer
+    ∙ sym (says_by c.self.inside.end c.reserve.new.self c.take_in-answer.new.self st c.reserve.ensures.state.1 (search rules) (search rules) (take_begun c.self.inside.end.state.machine) [])) in
     subst (λ (p : Pair). OnOk c.push_took.result (c.push_took.new.text.items ≡ c.args.text.now.items ++ said_of (by_stage p.state.machine (take_begun p.state.machine) []) new)) c.self.view_is
     (subst (λ (t : List ℕ). OnOk c.push_took.result (c.push_took.new.text.items ≡ c.args.text.now.items ++ t)) said c.push_took.ensures.text)

@@ -1,10 +1,12 @@
-use Rattle.std.proofs.Common.{◌≡◌, ◌∙◌, ◌<◌, List, ℕ, Option, None, nat_eq, is_some, is_ok, true, sym, ap, subst, cond, arith}
+use Rattle.std.proofs.Common.{◌≡◌, ◌∙◌, ◌<◌, List, ℕ, Option, None, nat_eq, is_some, is_ok, true, length, sym, ap, subst, cond, arith}
 use Rattle.std.specs.Map.{keys_of, lookup}
 use Rattle.std.specs.List.{AllByRecursion}
+use Rattle.scsi_disk.specs.DiskModel.{most_written}
 use Rattle.scsi_disk.specs.Room.{HasRoom, Written}
 use Rattle.indexmap.specs.IndexMap.{get, insert_entry}
 use Rattle.scsi_disk.proofs.RoomLaws.{has_room, within_more}
 use Rattle.scsi_disk.proofs.BlockLaws.{set_value-present}
+use Rattle.scsi_disk.proofs.SpaceLaws.{length-insert_entry}
 use Rattle.scsi_disk.proofs.store.Store.write_block.Goals as goal
 
 pub unreachable-requires : goal.unreachable-requires
@@ -12,7 +14,11 @@ unreachable-requires c =
     let m = c.get_mut.follows.lender-at-none in
     let kept = subst (HasRoom c.self.inside.blocks) (sym c.get_mut.follows.holds-at-none) c.self.invariant in
     let lt : c.args.place < c.self.inside.blocks = omega (arith, c.requires.within, ap (λ x. x.blocks) c.self.view_is) in
-    let ok = c.insert.ensures.succeeds (has_room m c.self.inside.blocks c.args.place kept lt c.in_default-insert.ensures.absent) in
+    let absent = c.in_default-insert.ensures.absent in
+    let put = λ (es : List (ℕ × List ℕ)). insert_entry nat_eq es c.args.place c.args.block.now in
+    let same = ap (λ (w : Written). length (put w.entries)) c.get_mut.follows.holds-at-none ∙ ap (λ s. length (put s.written)) c.self.view_is in
+    let few : length m.entries < most_written = omega (arith, same, length-insert_entry c.args.place c.args.block.now m.entries absent, c.requires.few) in
+    let ok = c.insert.ensures.succeeds (has_room m c.self.inside.blocks c.args.place kept lt few absent) in
     let no = ap is_ok c.in_default-insert.is in
     cc
 

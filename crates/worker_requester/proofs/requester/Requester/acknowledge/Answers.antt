@@ -6,8 +6,9 @@ use Rattle.worker_port.proofs.ItemSteps.{past_is, room_item}
 use Rattle.worker_port.proofs.ItemLaws.{item_sent_is}
 use Rattle.worker_port.proofs.RoomLaws.{got_same}
 use Rattle.ring_core.specs.declared.room.Room.{Room}
-use Rattle.worker_requester.specs.Asking.{HasMessage}
-use Rattle.worker_requester.proofs.AskSteps.{acked_kept, leaves_full, message_here}
+use Rattle.worker_port.specs.Tries.{FoundFull}
+use Rattle.worker_requester.specs.Asking.{AckFull, HasMessage}
+use Rattle.worker_requester.proofs.AskSteps.{ack_full, acked_kept, leaves_full, message_here}
 use Rattle.worker_requester.proofs.requester.Requester.acknowledge.Goals as goal
 
 pub invariant_of-self-in-Sent : goal.invariant_of-self-in-Sent
@@ -56,6 +57,37 @@ returns-in-Full-clause-left g c =
     let e = c.send.new.self in
     leaves_full (g.T.Protocol.format c.self.inside.protocol) (g.T.Protocol.asks c.self.inside.protocol) _ e i c.got.ensures.value is c.in-Full.ensures.past
     (subst (λ (p : List ℕ). (e.state.machine.room ≤ length p + 1) × (e.state.machine.words ≡ length p)) made (c.in-Full.ensures.found refl)) l.live
+
+pub returns-in-Full-clause-full : goal.returns-in-Full-clause-full
+returns-in-Full-clause-full g c =
+    let v = c.self.view_is in
+    let told = g.S.Seatlike.told in
+    let memory = g.S.Seatlike.memory in
+    let s = g.T.Protocol.format c.self.inside.protocol in
+    let l = c.self.invariant (ap (λ w. w.end.state.machine.marked) v ∙ c.requires.ready.unmarked) in
+    let m = subst (λ w. HasMessage (g.T.Protocol.format w.protocol) w) (sym v) c.requires.message in
+    let i = g.T.Protocol.said (item_of c.got.result.now []) in
+    let is = message_here s c.self.inside.port.state.got c.self.inside.acked m.0 i m.1 m.2 c.got.ensures.value in
+    let value = c.write_ack.ensures.value i (g.T.Protocol.said_packet (item_of c.got.result.now [])) is in
+    let made = c.packet-packet.ensures.value ∙ ap (λ (x : Item). x.packet) value in
+    let e = c.send.new.self in
+    let full : FoundFull told memory c.packet-packet.result.now c.self.inside.port.end e.end = record { tried = c.send.ensures.tried; full = c.in-Full.ensures.full refl } in
+    subst (λ w. AckFull told memory s w.end.end e) v (ack_full s (g.T.Protocol.asks c.self.inside.protocol) _ told memory e i c.got.ensures.value is c.in-Full.ensures.past (subst (λ p. FoundFull told memory p c.self.inside.port.end e.end) made full) l.live)
+
+pub returns-in-Full-clause-tried : goal.returns-in-Full-clause-tried
+returns-in-Full-clause-tried g c =
+    let v = c.self.view_is in
+    let told = g.S.Seatlike.told in
+    let memory = g.S.Seatlike.memory in
+    let s = g.T.Protocol.format c.self.inside.protocol in
+    let m = subst (λ w. HasMessage (g.T.Protocol.format w.protocol) w) (sym v) c.requires.message in
+    let i = g.T.Protocol.said (item_of c.got.result.now []) in
+    let is = message_here s c.self.inside.port.state.got c.self.inside.acked m.0 i m.1 m.2 c.got.ensures.value in
+    let value = c.write_ack.ensures.value i (g.T.Protocol.said_packet (item_of c.got.result.now [])) is in
+    let made = c.packet-packet.ensures.value ∙ ap (λ (x : Item). x.packet) value in
+    let e = c.send.new.self in
+    let full : FoundFull told memory c.packet-packet.result.now c.self.inside.port.end e.end = record { tried = c.send.ensures.tried; full = c.in-Full.ensures.full refl } in
+    (i, ap (λ l. slice_get l c.self.inside.acked) c.send.ensures.got.0 ∙ c.got.ensures.value, subst (λ w. FoundFull told memory (s.ack i).packet w.end.end e.end) v (subst (λ p. FoundFull told memory p c.self.inside.port.end e.end) made full))
 
 pub write_ack-requires-clause-message : goal.write_ack-requires-clause-message
 write_ack-requires-clause-message g c =

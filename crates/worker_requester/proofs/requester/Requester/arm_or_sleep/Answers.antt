@@ -1,8 +1,9 @@
 use Rattle.std.proofs.Common.{ap, sym, ◌∙◌, subst}
 use Rattle.channel_trace.specs.Runs.{sent_of}
 use Rattle.ring_machine.specs.Endings.{want_of}
-use Rattle.worker_requester.specs.Asking.{Holds}
-use Rattle.worker_requester.proofs.AskSteps.{still_kept, holds_on}
+use Rattle.worker_port.specs.Tries.{ArmedOnce, FoundNothing}
+use Rattle.worker_requester.specs.Asking.{Holds, HoldTried, want_by}
+use Rattle.worker_requester.proofs.AskSteps.{still_kept, holds_on, rests_tried}
 use Rattle.worker_port.proofs.RoomLaws.{room_quiet, got_same}
 use Rattle.worker_requester.proofs.requester.Requester.arm_or_sleep.Goals as goal
 
@@ -69,3 +70,26 @@ returns-in-Nothing-clause-turns g c =
       record { asleep = c.in-Nothing.ensures.asleep; want_is = c.arm.ensures.want c.in-Nothing.ensures.asleep ∙ ap want_of c.want_for.ensures },
       ap (λ w. w.seen) v ∙ c.requires.unseen,
     )
+
+pub returns-in-Nothing-clause-tried : goal.returns-in-Nothing-clause-tried
+returns-in-Nothing-clause-tried g c = λ before looked none held.
+    let told = g.S.Seatlike.told in
+    let memory = g.S.Seatlike.memory in
+    let hold = c.args.hold in
+    let old = c.self.inside.port.end in
+    let new = c.arm.new.self.end in
+    let rested : FoundNothing told memory (want_by hold) old new = record { armed = subst (λ o. ArmedOnce told memory o old new) c.want_for.ensures c.arm.ensures.once; asleep = c.in-Nothing.ensures.found } in
+    let held' = subst (λ w. HoldTried told memory (g.T.Protocol.format w.protocol) (g.T.Protocol.asks w.protocol) hold looked w) (sym c.self.view_is) held in
+    rests_tried told memory (g.T.Protocol.format c.self.inside.protocol) (g.T.Protocol.asks c.self.inside.protocol) (record {
+      protocol = c.self.inside.protocol;
+      end = c.self.inside.port;
+      table = c.self.inside.table;
+      next = c.self.inside.next;
+      waiting = c.self.inside.waiting;
+      acked = c.self.inside.acked;
+      told = c.self.inside.replies.items;
+      starts = c.self.inside.starts;
+      seen = c.self.inside.seen;
+      hold = c.self.inside.hold;
+      relid = c.self.inside.relid;
+    }) c.arm.new.self hold before looked c.arm.ensures.lists.0 none held' rested

@@ -1,6 +1,6 @@
 use Rattle.std.proofs.Common.{ap, ◌∙◌}
 use Rattle.worker_requester.proofs.NextLaws.{found_next}
-use Rattle.worker_requester.proofs.AskSteps.{leaves_none, skipped_kept}
+use Rattle.worker_requester.proofs.AskSteps.{acked_all, leaves_none, skipped_kept}
 use Rattle.worker_requester.proofs.requester.Requester.find_message.Goals as goal
 
 pub invariant_of-self : goal.invariant_of-self
@@ -25,3 +25,8 @@ pub returns-clause-left : goal.returns-clause-left
 returns-clause-left g c none =
     let l = c.self.invariant (ap (λ w. w.end.state.machine.marked) c.self.view_is ∙ c.requires.ready.unmarked) in
     leaves_none (g.T.Protocol.format c.self.inside.protocol) (g.T.Protocol.asks c.self.inside.protocol) _ c.next_message-self-inside.result c.got_len.result c.got_len.ensures none c.next_message-self-inside.ensures l.live
+
+pub returns-clause-all : goal.returns-clause-all
+returns-clause-all g c none =
+    let l = c.self.invariant (ap (λ w. w.end.state.machine.marked) c.self.view_is ∙ c.requires.ready.unmarked) in
+    acked_all (g.T.Protocol.format c.self.inside.protocol) (g.T.Protocol.asks c.self.inside.protocol) _ c.next_message-self-inside.result c.got_len.result c.got_len.ensures none c.next_message-self-inside.ensures l.live

@@ -1,6 +1,7 @@
 use Rattle.std.proofs.Common.{◌≤◌, ◌<◌, ℕ, List, [], inr, subst, ◌+◌, ◌*◌, refl, ap, ◌∙◌, length, arith, sym, is_some}
 use Rattle.std.proofs.lemmas.Option.{slice_get_within}
 use Rattle.worker_port.specs.Owed.{LacksSendOf}
+use Rattle.worker_port.specs.Tries.{FoundFull}
 use Rattle.ring_core.specs.declared.room.Room.{Room}
 use Rattle.worker_requester.specs.Asking.{id_in, pending}
 use Rattle.worker_requester.proofs.AskSteps.{sent_kept}
@@ -42,6 +43,24 @@ returns-in-Full-clause-asked g c =
     let pk = packet_of said g.T.Protocol.said_packet c.packet-packet.result.now _ q c.send.ensures.lays made in
     let made = sym pk ∙ ap (λ o. ((g.T.Protocol.format c.self.inside.protocol).encode (id_in o) at.0).packet) (sym waits) in
     (at.0, at.1, ap is_some waits ∙ sym at.2, c.need.ensures.value ∙ ap (λ p. 8 * length p + 8) (sym c.packet-packet.ensures.value ∙ made), c.need.ensures.most.0, c.need.ensures.most.1, ap (λ w. w.acked) v ∙ (c.requires.acked ∙ (ap (λ w. length w.end.state.got) (sym v) ∙ ap length (sym c.send.ensures.got.0))), subst (λ (x : List ℕ × Room). (0 < x.1.packets) × (length x.0 ≤ x.1.words)) (λ i. (made i, sym (c.in-Full.ensures.unsent (λ h. cc)) i)) c.in_default.ensures.lacks)
+
+pub returns-in-Full-clause-tried : goal.returns-in-Full-clause-tried
+returns-in-Full-clause-tried g c =
+    let v = c.self.view_is in
+    let l = c.self.invariant (ap (λ w. w.end.state.machine.marked) v ∙ c.requires.ready.unmarked) in
+    let waits = ap (λ w. w.waiting) v ∙ c.requires.waits in
+    let at = l.live.asked c.args.id waits in
+    let said = g.T.Protocol.said in
+    let q = (g.T.Protocol.format c.self.inside.protocol).encode c.args.id at.0 in
+    let made = laid_is said c.encode.new.self c.packet-packet.result.now _ q c.packet-packet.ensures.value (c.encode.ensures.none l.bare) c.send.ensures.lays (λ j lays. c.encode.ensures.value at.0 j at.1 lays) in
+    let pk = packet_of said g.T.Protocol.said_packet c.packet-packet.result.now _ q c.send.ensures.lays made in
+    let made = sym pk ∙ ap (λ o. ((g.T.Protocol.format c.self.inside.protocol).encode (id_in o) at.0).packet) (sym waits) in
+    let told = g.S.Seatlike.told in
+    let memory = g.S.Seatlike.memory in
+    let e = c.send.new.self in
+    let full : FoundFull told memory c.packet-packet.result.now c.self.inside.port.end e.end = record { tried = c.send.ensures.tried; full = c.in-Full.ensures.full refl } in
+    let p = ((g.T.Protocol.format c.self.inside.protocol).encode (id_in c.self.inside.waiting) at.0).packet in
+    (at.0, at.1, subst (λ w. FoundFull told memory p w.end.end e.end) v (subst (λ q. FoundFull told memory q c.self.inside.port.end e.end) made full))
 
 pub returns-in-Some-clause-asked : goal.returns-in-Some-clause-asked
 returns-in-Some-clause-asked g c =

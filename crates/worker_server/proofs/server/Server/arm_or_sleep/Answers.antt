@@ -1,8 +1,9 @@
 use Rattle.std.proofs.Common.{◌≡◌, ap, sym, ◌∙◌, subst, true}
 use Rattle.channel_trace.specs.Runs.{sent_of}
 use Rattle.worker_port.specs.Owed.{is_nil}
-use Rattle.worker_server.specs.Serving.{HasRoomFor, HasToWait}
-use Rattle.worker_server.proofs.ServeSteps.{saw_kept, still_kept, rests_at}
+use Rattle.worker_port.specs.Tries.{FoundNone, FoundNothing}
+use Rattle.worker_server.specs.Serving.{HasRoomFor, HasToWait, OwedTried}
+use Rattle.worker_server.proofs.ServeSteps.{saw_kept, still_kept, rests_at, rests_tried}
 use Rattle.worker_port.proofs.RoomLaws.{room_quiet, got_same}
 use Rattle.worker_server.proofs.server.Server.arm_or_sleep.Goals as goal
 
@@ -52,3 +53,15 @@ returns-in-Nothing-clause-turns g c =
         want = c.self.inside.want;
       }) _ c.need-want.result c.need-want.ensures.value (record { asleep = c.in-Nothing.ensures.asleep; want_is = c.arm.ensures.want c.in-Nothing.ensures.asleep }) c.arm.ensures.lists.2 (subst (λ w. HasRoomFor w.responder.owed w.end) (sym v) c.requires.room) c.arm.ensures.lists.0 (subst (λ w. is_nil w.responder.owed ≡ true → HasToWait (g.T.Protocol.format w.responder.protocol) (g.T.Protocol.besides w.responder.protocol) w) (sym v) c.requires.waits) c.in-Nothing.ensures.past (ap (λ w. w.seen) v ∙ c.requires.unseen),
     )
+
+pub returns-in-Nothing-clause-tried : goal.returns-in-Nothing-clause-tried
+returns-in-Nothing-clause-tried g c = λ before met owed none.
+    let told = g.E.Seatlike.told in
+    let memory = g.E.Seatlike.memory in
+    let v = c.self.view_is in
+    let old = c.self.inside.port.end in
+    let new = c.arm.new.self.end in
+    let rested : FoundNothing told memory c.need-want.result old new = record { armed = c.arm.ensures.once; asleep = c.in-Nothing.ensures.found } in
+    let owed' = subst (λ w. OwedTried told memory w.responder.owed before met) (sym v) owed in
+    let none' = subst (λ w. FoundNone told memory met w.end.end) (sym v) none in
+    rests_tried told memory c.self.inside.responder.owed c.need-want.result before met old new owed' none' rested

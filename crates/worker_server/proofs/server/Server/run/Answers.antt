@@ -1,8 +1,9 @@
 use Rattle.std.proofs.Common.{◌∙◌, ap, map, sym, subst}
-use Rattle.worker_port.specs.Line.{line_of}
-use Rattle.worker_server.specs.Serving.{EndsBy}
+use Rattle.worker_port.specs.Line.{Line, line_of}
+use Rattle.worker_port.specs.declared.ended.Ended.{Ended}
+use Rattle.worker_server.specs.Serving.{EndsBy, EverTried}
 use Rattle.worker_server.proofs.ResponderLaws.{behind_is, front_is}
-use Rattle.worker_server.proofs.ServeSteps.{ends_on, on_refl, on_trans}
+use Rattle.worker_server.proofs.ServeSteps.{ends_on, ever_tried, on_refl, on_trans}
 use Rattle.worker_server.proofs.server.Server.run.Goals as goal
 
 pub loop-init : goal.loop-init
@@ -47,3 +48,18 @@ returns-in-Ended-clause-serials g c =
     let w = c.turn.new.self in
     let on = on_trans g.S.Device.same g.E.Parks.channel g.E.Seatlike.told g.S.Device.same_trans _ _ _ c.loop.invariant.on c.turn.ensures.on in
     c.done.ensures.serials ∙ ap (map (λ c. c.serial)) (sym (behind_is c.args.self.responder.before w.responder.before w.responder.calls _ c.done.ensures.calls on.before))
+
+pub returns-in-Ended-clause-tried : goal.returns-in-Ended-clause-tried
+returns-in-Ended-clause-tried g c =
+    let same = g.S.Device.same in
+    let channel = g.E.Parks.channel in
+    let told = g.E.Seatlike.told in
+    let memory = g.E.Seatlike.memory in
+    let u = c.args.self in
+    let w = c.turn.new.self in
+    let s = g.T.Protocol.format u.responder.protocol in
+    let besides = g.T.Protocol.besides u.responder.protocol in
+    let on = on_trans same channel told g.S.Device.same_trans _ _ _ c.loop.invariant.on c.turn.ensures.on in
+    let ever = ever_tried same channel told memory g.T.Protocol.format g.T.Protocol.besides c.in-Ended.ended u c.loop.self w c.loop.invariant.on on c.in-Ended.ensures.cause c.in-Ended.ensures.tried in
+    subst (λ l. EverTried channel told memory s besides c.done.result.ended u (line_of g.T.Protocol.said c.done.result.end) l) (sym (behind_is u.responder.before w.responder.before w.responder.calls _ c.done.ensures.calls on.before))
+    (subst (λ (p : Ended × Line _). EverTried channel told memory s besides p.0 u p.1 w.responder.calls) (λ i. (sym c.done.ensures.ends.0 i, c.done.ensures.line i)) ever)
