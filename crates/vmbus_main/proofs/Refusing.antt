@@ -6,7 +6,7 @@ use Rattle.bus_model.specs.declared.channel_run.ChannelRun.{ChannelRun}
 use Rattle.bus_model.specs.declared.history.DeviceHistory.{DeviceHistory}
 use Rattle.vmbus_main.specs.declared.command.Command.TheVariants.{Input}
 use Rattle.vmbus_main.specs.declared.command.InputCommand.{InputCommand}
-use Rattle.vmbus_main.specs.declared.command.InputCommand.TheVariants.{Run, Decode, Trace}
+use Rattle.vmbus_main.specs.declared.command.InputCommand.TheVariants.{Run, Decode, Trace, Hostile}
 use Rattle.vmbus_main.specs.declared.outcome.Controls.{Controls}
 use Rattle.vmbus_main.specs.Answer.{IsAnswer, IsFault}
 use Rattle.vmbus_main.specs.Call.{TellsRefused, most_bytes}
@@ -20,6 +20,9 @@ no_fault Decode input controls settled histories output fault answer faulty =
     cc (both)
 no_fault Trace input controls settled histories output fault answer faulty =
     let both : Ok answer.0.trace ≡ Err fault = sym answer.0.reads ∙ faulty in
+    cc (both)
+no_fault Hostile input controls settled histories output fault answer faulty =
+    let both : Ok answer.0.input ≡ Err fault = sym answer.0.reads ∙ faulty in
     cc (both)
 
 pub told : (command : InputCommand) (left : Option (List ℕ)) (input : List ℕ) (controls : Option Controls) (settled : List ChannelRun) (histories : List DeviceHistory) (output : List ℕ) → HoldsWhole left input → length input ≤ most_bytes → IsAnswer command input controls settled histories output → TellsRefused (Some (Input command)) left → ⊥

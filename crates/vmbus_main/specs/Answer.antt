@@ -7,6 +7,8 @@ use Rattle.script_lines.specs.Grammar.{script_of}
 use Rattle.bus_script.specs.Report.{report_of}
 use Rattle.vmbus_msg_text.specs.Output.{decode_output}
 use Rattle.trace_lines.specs.Traces.{trace_of}
+use Rattle.hostile_lines.specs.Inputs.{hostile_of}
+use Rattle.hostile_run.specs.Run.{IsHostileOutput}
 use Rattle.script_load.specs.Load.{load_lines}
 use Rattle.script_load.specs.Counts.{load_output}
 use Rattle.bus_model.specs.declared.channel_run.ChannelRun.{ChannelRun}
@@ -16,7 +18,7 @@ use Rattle.vmbus_main.specs.declared.command.InputCommand.{InputCommand}
 use Rattle.vmbus_main.specs.declared.outcome.Controls.{Controls}
 use Rattle.vmbus_main.specs.Controls.{HasControls}
 use Rattle.vmbus_main.specs.Verdict.{IsTraceAnswer}
-use Rattle.vmbus_main.specs.declared.command.InputCommand.TheVariants.{Run, Decode, Trace}
+use Rattle.vmbus_main.specs.declared.command.InputCommand.TheVariants.{Run, Decode, Trace, Hostile}
 
 -- the input is a script, and the output is the report of a run of it with these packets and histories; these controls went by the script
 pub record IsRunAnswer (input : List ℕ) (controls : Option Controls) (settled : List ChannelRun) (histories : List DeviceHistory) (output : List ℕ) : Type 0 where
@@ -39,9 +41,11 @@ abbrev pub IsAnswer : InputCommand → List ℕ → Option Controls → List Cha
 IsAnswer Run input controls settled histories output = IsRunAnswer input controls settled histories output
 IsAnswer Decode input controls settled histories output = (decode_output input ≡ Ok output) × (controls ≡ None) × (settled ≡ []) × (histories ≡ [])
 IsAnswer Trace input controls settled histories output = IsTraceAnswer input output × (controls ≡ None) × (settled ≡ []) × (histories ≡ [])
+IsAnswer Hostile input controls settled histories output = IsHostileOutput input output × (controls ≡ None) × (settled ≡ []) × (histories ≡ [])
 
 -- the first wrong line of a command's input
 abbrev pub IsFault : InputCommand → List ℕ → ScriptFault → Type 0
 IsFault Run input fault = script_of input ≡ Err fault
 IsFault Decode input fault = decode_output input ≡ Err fault
 IsFault Trace input fault = trace_of input ≡ Err fault
+IsFault Hostile input fault = hostile_of input ≡ Err fault

@@ -5,14 +5,15 @@ use Rattle.std.specs.Str.{bytes_eq}
 use Rattle.script_text.specs.Forms.{is_decimal, number_of, in_u64, within}
 use Rattle.vmbus_main.specs.declared.command.Command.{Command}
 use Rattle.vmbus_main.specs.declared.command.Command.TheVariants.{Input, Load}
-use Rattle.vmbus_main.specs.declared.command.InputCommand.TheVariants.{Run, Decode, Trace}
+use Rattle.vmbus_main.specs.declared.command.InputCommand.TheVariants.{Run, Decode, Trace, Hostile}
 
 -- the table of commands of one word
 abbrev pub named : List ℕ → Option Command
 named word =
     if bytes_eq word (codes "run") then Some (Input Run) else
     if bytes_eq word (codes "decode") then Some (Input Decode) else
-    if bytes_eq word (codes "trace") then Some (Input Trace) else None
+    if bytes_eq word (codes "trace") then Some (Input Trace) else
+    if bytes_eq word (codes "hostile") then Some (Input Hostile) else None
 
 -- a seed and a count that are in their ranges, where the count is even
 abbrev pub load_of : Option ℕ → Option ℕ → Option Command

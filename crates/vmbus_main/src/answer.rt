@@ -2,9 +2,10 @@
 ghost use Rattle.std.specs.Prelude.{◌≡◌, ◌≤◌, ◌%◌, length, IfOk};
 ghost use Rattle.vmbus_main.specs.Answer.{IsLoadAnswer};
 ghost use Rattle.vmbus_main.specs.Answered.{IsAnswered};
-ghost use Rattle.vmbus_main.specs.declared.command.InputCommand.TheVariants.{Run, Decode, Trace};
+ghost use Rattle.vmbus_main.specs.declared.command.InputCommand.TheVariants.{Run, Decode};
 
 use crate::command::InputCommand;
+use crate::hostile::hostile_input;
 use crate::outcome::Controls;
 use crate::run::{BusRan, run_script};
 use crate::trace::trace_input;
@@ -41,6 +42,7 @@ pub fn answer_input<R: Threads + Wait + Sync, G: Gate>(
         InputCommand::Run => run_input(rt, gate, alloc, input),
         InputCommand::Decode => decode_input(alloc, input),
         InputCommand::Trace => trace_input(alloc, input),
+        InputCommand::Hostile => hostile_input(alloc, input),
     }
 }
 

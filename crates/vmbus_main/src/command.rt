@@ -14,6 +14,8 @@ pub enum InputCommand {
     Decode,
     /// Reads calls and word steps of the two ends of a channel, and writes whether they are a run, or which line is the first that is wrong.
     Trace,
+    /// Reads what a peer writes and what is asked of an end and of other parts beside it, and writes what each came to.
+    Hostile,
 }
 
 /// What the program does.
@@ -54,6 +56,9 @@ fn named(word: &[u8]) -> Option<Command>
     }
     if word == b"trace".as_slice() {
         return Some(Command::Input(InputCommand::Trace));
+    }
+    if word == b"hostile".as_slice() {
+        return Some(Command::Input(InputCommand::Hostile));
     }
     None
 }

@@ -4,6 +4,7 @@
 mod answer;
 mod call;
 mod command;
+mod hostile;
 mod laws;
 mod outcome;
 mod run;
