@@ -18,13 +18,13 @@ fn recorded(
     let mut text = Vec::new(alloc);
     let mut guest = Turn::make(alloc, Side::Guest, turns)?;
     let mut host = Turn::make(alloc, Side::Host, turns)?;
-    // The memory is the guest's.
+    // The memory is the guest's. An end arms only where its peer is free, so that they don't sleep both.
     for _ in 0..turns {
         if random.number() % 2 == 0 {
-            guest.turn(alloc, random, &mut text)?;
+            guest.turn(alloc, random, host.is_free(), &mut text)?;
         } else {
             host.swap(&mut guest);
-            host.turn(alloc, random, &mut text)?;
+            host.turn(alloc, random, guest.is_free(), &mut text)?;
             host.swap(&mut guest);
         }
     }
@@ -212,4 +212,17 @@ fn a_long_run_is_a_run(rt: HostRuntime) {
     let mut random = Random::from(7);
     let (text, run) = recorded(rt.alloc(), &mut random, 15_000).expect(&rt, "memory");
     is_run(&rt, &text, run);
+    match run {
+        Verdict::Run {
+            steps,
+            guest_sent,
+            guest_got,
+            host_sent,
+            host_got,
+        } => {
+            check(&rt, 10_000 < steps && 100 < guest_sent && 100 < host_sent);
+            check(&rt, 100 < guest_got && 100 < host_got);
+        }
+        Verdict::Wrong { .. } => check(&rt, false),
+    }
 }

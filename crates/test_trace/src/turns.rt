@@ -122,6 +122,11 @@ impl Turn {
         (self.steps, self.sent, self.got)
     }
 
+    /// Whether it can begin a call, and isn't asleep.
+    pub fn is_free(&self) -> bool {
+        is_awake(&self.core.machine)
+    }
+
     /// Whether its recorder has no room left.
     pub fn full(&self) -> bool {
         self.recorder.full()
@@ -164,27 +169,28 @@ impl Turn {
         Ok(())
     }
 
-    fn begin_plain(&mut self, number: u64, text: &mut Vec<u8>) -> Result<(), AllocError> {
+    // Begins a call that has no words: seldom the mark, behind which an end makes no call.
+    fn begin_plain(&mut self, random: &mut Random, text: &mut Vec<u8>) -> Result<(), AllocError> {
         if !is_awake(&self.core.machine) {
             return Ok(());
         }
         let side = self.core.machine.side;
-        match number {
-            0..=3 => {
+        match random.number() % 4_096 {
+            0 => {
+                say(text, side, b"mark\n")?;
+                self.core.begin_mark();
+            }
+            1..=2_000 => {
                 say(text, side, b"take\n")?;
                 self.core.begin_take();
             }
-            4..=6 => {
+            2_001..=3_600 => {
                 say(text, side, b"commit\n")?;
                 self.core.begin_commit();
             }
-            7 => {
+            _ => {
                 say(text, side, b"peer\n")?;
                 self.core.begin_peer_mark();
-            }
-            _ => {
-                say(text, side, b"mark\n")?;
-                self.core.begin_mark();
             }
         }
         Ok(())
@@ -195,6 +201,7 @@ impl Turn {
         &mut self,
         alloc: Global,
         random: &mut Random,
+        may_arm: bool,
         text: &mut Vec<u8>,
     ) -> Result<(), AllocError> {
         if is_idle(&self.core.machine) && self.core.machine.asleep {
@@ -204,11 +211,8 @@ impl Turn {
         }
         match random.number() % 32 {
             0..=10 => self.send(alloc, random, text),
-            11..=14 => self.arm(random, text),
-            _ => {
-                let number = random.number() % 65 / 8;
-                self.begin_plain(number, text)
-            }
+            11..=14 if may_arm => self.arm(random, text),
+            _ => self.begin_plain(random, text),
         }
     }
 
@@ -240,13 +244,14 @@ impl Turn {
         &mut self,
         alloc: Global,
         random: &mut Random,
+        may_arm: bool,
         text: &mut Vec<u8>,
     ) -> Result<(), AllocError> {
         if self.core.is_busy() {
             self.step(text)
         } else {
             self.packet.clear();
-            self.begin(alloc, random, text)
+            self.begin(alloc, random, may_arm, text)
         }
     }
 }
