@@ -6,6 +6,12 @@ mod check;
 #[cfg(test)]
 mod line_tests;
 #[cfg(test)]
+mod random;
+#[cfg(test)]
+mod random_tests;
+#[cfg(test)]
 mod recorder_tests;
+#[cfg(test)]
+mod turns;
 #[cfg(test)]
 mod verdict_tests;
