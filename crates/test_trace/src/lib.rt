@@ -1,4 +1,4 @@
-//! Tests of the checker of recorded runs: runs and wrong lines, refused inputs, words and lines, and recorded steps.
+//! Tests of the checker of recorded runs: runs and wrong lines, runs of random calls, refused inputs, words and lines, and recorded steps.
 #![tactic(auto)]
 
 #[cfg(test)]
