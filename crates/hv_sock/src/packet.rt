@@ -1,5 +1,5 @@
 //! The words of a packet of a socket.
-ghost use Rattle.std.specs.Prelude.{◌≡◌, ◌+◌, ◌*◌, ◌≤◌, [], length, take, drop, None, Some, MatchResult};
+ghost use Rattle.std.specs.Prelude.{◌≡◌, ◌+◌, ◌*◌, ◌≤◌, length, take, None, Some, MatchResult};
 ghost use Rattle.vm_page.specs.Words.{words_for, words_of, bytes_in};
 ghost use Rattle.ring_machine.specs.States.{IsPacket};
 ghost use Rattle.pkt_desc.specs.Packets.{payload_of};

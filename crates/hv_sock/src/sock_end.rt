@@ -1,5 +1,5 @@
 //! One end of a socket.
-ghost use Rattle.std.specs.Prelude.{◌≡◌, ◌≢◌, ◌+◌, ◌<◌, ◌≤◌, ◌++◌, ◌∷◌, [], true, false, not, length, Some, None, Ok, Err, OnOk, OnErr, IsTrue};
+ghost use Rattle.std.specs.Prelude.{◌≡◌, ◌+◌, ◌<◌, ◌≤◌, ◌++◌, ◌∷◌, [], true, false, not, length, Some, None, Err, OnOk, OnErr, IsTrue};
 ghost use Rattle.vm_page.specs.Words.{words_for};
 ghost use Rattle.ring_machine.specs.EndCalls.{Arm, Poll};
 ghost use Rattle.ring_machine.specs.Endings.{Leaves, LeavesBy, is_asleep, want_of, IsWant};
