@@ -3,7 +3,7 @@ use Rattle.std.proofs.Common.{◌≡◌, ℕ, zero, suc, ◌+◌, ◌-◌, ◌*�
 use Rattle.std.specs.Prelude.{option_map}
 use Rattle.std.specs.List.{flat_map, AllByRecursion}
 use Rattle.std.proofs.lemmas.Bool.Decides.{nat_tests}
-use Rattle.std.proofs.lemmas.List.{take_all, take_more, take_more_set, take_at, drop_at, drop-drop, append-nil}
+use Rattle.std.proofs.lemmas.List.{take_all, take_more, take_more_set, take_at, drop_at, drop_more, drop-drop, append-nil}
 use Rattle.std.proofs.lemmas.Grind.{flat_map-append}
 use Rattle.wire_table.specs.Little.{number_of, bytes_of}
 use Rattle.wire_table.specs.Rows.{numbers_in}
@@ -47,6 +47,14 @@ size_right min max n size is least most =
     rw (even, a, b) refl
 
 -- ---- units one by one
+
+pub two_bytes : (at : ℕ) (b : List ℕ) → at + 2 ≤ length b → number_at at 2 b ≡ get_or b at 0 + 256 * get_or b (at + 1) 0
+unfolding number_of
+two_bytes at b le =
+    let width : at + 2 - at ≡ 2 = omega arith in
+    let one : drop at b ≡ get_or b at 0 ∷ drop (at + 1) b = drop_more b at 0 (omega arith) in
+    let two : drop (at + 1) b ≡ get_or b (at + 1) 0 ∷ drop (at + 1 + 1) b = drop_more b (at + 1) 0 (omega arith) in
+    ap (λ k. number_of (take k (drop at b))) width ∙ (ap (λ d. number_of (take 2 d)) (one ∙ ap (λ (l : List ℕ). get_or b at 0 ∷ l) two) ∙ omega arith)
 
 -- the first unit of those that are left
 pub units_step : (n i at : ℕ) (b : List ℕ) → i < n → numbers_in 2 (n - i) (drop (at + 2 * i) b) ≡ number_at (at + 2 * i) 2 b ∷ numbers_in 2 (n - (i + 1)) (drop (at + 2 * (i + 1)) b)

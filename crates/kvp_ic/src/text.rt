@@ -81,7 +81,7 @@ fn unit_at(bytes: &[u8], at: usize) -> u16
     requires { at + 2 ≤ length bytes.now }
     ensures { result ≡ number_at at 2 bytes.now }
 {
-    get_at(bytes, at, 2) as u16
+    u16::from(bytes[at]) + 256 * u16::from(bytes[at + 1])
 }
 
 /// Whether a unit behind which so many follow is right: the last is 0, and no other.
