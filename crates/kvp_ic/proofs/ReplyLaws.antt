@@ -182,6 +182,14 @@ pub part_fits : (part : Option (List ℕ)) (b : List ℕ) → NeedsMessage b par
 part_fits None b h = tt
 part_fits (Some us) b h = record_within b h
 
+-- and a message that isn't refused may be answered by any
+needs_met : (part : Option (List ℕ)) (b : List ℕ) → fault_of b ≡ None → NeedsMessage b part
+needs_met None b h = tt
+needs_met (Some us) b h = h
+
+pub may_carry : (b : List ℕ) (r : KvpReply) → fault_of b ≡ None → CanCarry b r
+may_carry b r h = record { key = needs_met r.key b h; value = needs_met r.value b h }
+
 -- what an answer says of itself
 record Says (x b : List ℕ) (s : ℕ) : Type 0 where
   size : length x ≡ length b
