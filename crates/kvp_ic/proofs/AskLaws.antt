@@ -1,5 +1,5 @@
 -- Which bytes ask something: exactly those that have no fault, and they ask one thing.
-use Rattle.std.proofs.Common.{◌≡◌, ℕ, zero, suc, ◌+◌, ◌*◌, ◌<◌, ◌≤◌, ◌==◌, ◌&&◌, Bool, true, false, cond, nat_lt, List, length, Option, Some, None, refl, sym, ap, subst, ◌∙◌, arith}
+use Rattle.std.proofs.Common.{◌≡◌, ℕ, zero, suc, ◌+◌, ◌*◌, ◌≤◌, ◌==◌, ◌&&◌, Bool, true, false, cond, nat_lt, List, length, Option, Some, None, refl, sym, ap, subst, ◌∙◌, arith}
 use Rattle.std.specs.Prelude.{option_map, Result, Ok, Err, MatchResult, IfOk}
 use Rattle.std.proofs.lemmas.Bool.Decides.{nat_tests}
 use Rattle.wire_table.proofs.RowLaws.{IsBytes}
@@ -10,7 +10,7 @@ use Rattle.kvp_ic.specs.declared.text.TextPlace.{TextPlace}
 use Rattle.kvp_ic.specs.declared.fault.KvpFault.{KvpFault}
 use Rattle.kvp_ic.specs.declared.fault.KvpFault.TheVariants.{Short, Operation, Pool, Size, Text}
 use Rattle.kvp_ic.specs.Texts.{size_at, is_size, units_at, text_at, wrong_unit, Holds}
-use Rattle.kvp_ic.specs.Messages.{operation_of, pool_in, index_in, record_at, key_place, value_place, HasHead, Asks}
+use Rattle.kvp_ic.specs.Messages.{operation_of, pool_in, record_at, key_place, value_place, Asks}
 use Rattle.kvp_ic.specs.Faults.{or_else, short_fault, operation_fault, pool_fault, size_fault, text_fault, frame_fault, key_fault, pair_fault, texts_fault, fault_of, asked_by, message_in}
 use Rattle.kvp_ic.proofs.TextLaws.{text_held, held_size, held_right, held_text}
 

@@ -9,10 +9,9 @@ use Rattle.wire_table.specs.Little.{number_of, bytes_of}
 use Rattle.wire_table.specs.Rows.{numbers_in}
 use Rattle.wire_table.proofs.RowLaws.{IsBytes, drop_bytes}
 use Rattle.wire_table.proofs.LittleLemmas.{length-bytes_of, number_of-bytes_of}
-use Rattle.wire_table.proofs.NumberLaws.{numbers_more, numbers_all, length-numbers_in, numbers_again}
+use Rattle.wire_table.proofs.NumberLaws.{numbers_more, numbers_all, length-numbers_in}
 use Rattle.util_ic.specs.Messages.{number_at, zeros}
 use Rattle.util_ic.proofs.ByteLaws.{length-zeros}
-use Rattle.kvp_pool.specs.Pools.{IsText}
 use Rattle.kvp_ic.specs.declared.text.TextPlace.{TextPlace}
 use Rattle.kvp_ic.specs.Texts.{text_size, field_of, size_at, is_size, units_at, text_at, is_right, wrong_unit, Holds}
 

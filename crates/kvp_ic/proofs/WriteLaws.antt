@@ -1,9 +1,9 @@
 -- Requests, as they are written: what they ask.
-use Rattle.std.proofs.Common.{◌≡◌, ℕ, ◌+◌, ◌-◌, ◌*◌, ◌^◌, ◌<◌, ◌≤◌, List, [], ◌∷◌, ◌++◌, length, get_or, take, drop, slice_range, append_assoc, length-append, length-drop, refl, sym, ap, subst, ◌∙◌, arith}
+use Rattle.std.proofs.Common.{◌≡◌, ℕ, ◌+◌, ◌-◌, ◌*◌, ◌^◌, ◌<◌, ◌≤◌, List, [], ◌∷◌, ◌++◌, length, get_or, take, drop, append_assoc, length-append, length-drop, refl, sym, ap, subst, ◌∙◌, arith}
 use Rattle.std.proofs.lemmas.List.{take_at, drop_at, drop-drop, get_or-drop, length-take-le}
 use borrow.Rule.Slice.PartMut.{put_mid}
 use Rattle.wire_table.specs.Little.{number_of}
-use Rattle.wire_table.specs.Rows.{Row, num, Kind, nums, total, numbers_in, AllHave, rows_at, nth_number, spelled_after}
+use Rattle.wire_table.specs.Rows.{num, Kind, nums, total, numbers_in, AllHave, rows_at, nth_number, spelled_after}
 use Rattle.wire_table.proofs.RowLaws.{front_again}
 use Rattle.util_ic.specs.Messages.{number_at}
 use Rattle.util_ic.proofs.ByteLaws.{end_written}
@@ -11,10 +11,9 @@ use Rattle.util_ic.proofs.AskLaws.{header_kinds, heads}
 use Rattle.kvp_pool.specs.Pools.{IsText}
 use Rattle.kvp_ic.specs.declared.message.Kvp.{Kvp}
 use Rattle.kvp_ic.specs.declared.message.Kvp.TheVariants.{Get, Set, Delete, Enum}
-use Rattle.kvp_ic.specs.declared.text.TextPlace.{TextPlace}
 use Rattle.kvp_ic.specs.Machine.{pool_of}
 use Rattle.kvp_ic.specs.Texts.{text_size, field_of, Holds}
-use Rattle.kvp_ic.specs.Messages.{asked_rows, record_rows, field_rows, keyed_rows, placed_rows, kvp_bytes, operation_of, pool_in, index_in, key_place, value_place, HasHead, Asks}
+use Rattle.kvp_ic.specs.Messages.{asked_rows, record_rows, field_rows, keyed_rows, placed_rows, kvp_bytes, operation_of, pool_in, key_place, value_place, Asks}
 use Rattle.kvp_ic.proofs.TextLaws.{field_read, length-field_of}
 
 first_byte : (x : List ℕ) → number_of (take 1 x) ≡ get_or x 0 0

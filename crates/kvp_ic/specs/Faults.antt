@@ -1,5 +1,5 @@
 -- Why bytes don't begin with a message: the first reason that applies is told.
-use Rattle.std.specs.Prelude.{◌≡◌, ℕ, ◌+◌, ◌*◌, ◌==◌, ◌&&◌, nat_lt, List, length, option_map, Option, Some, None, if◌then◌else◌}
+use Rattle.std.specs.Prelude.{ℕ, ◌+◌, ◌*◌, ◌==◌, ◌&&◌, nat_lt, List, length, option_map, Option, Some, None, if◌then◌else◌}
 use Rattle.kvp_ic.specs.declared.message.Kvp.{Kvp}
 use Rattle.kvp_ic.specs.declared.message.Kvp.TheVariants.{Get, Set, Delete, Enum}
 use Rattle.kvp_ic.specs.declared.text.TextPlace.{TextPlace}

@@ -1,8 +1,7 @@
 use Rattle.std.proofs.Common.{◌≡◌, ◌+◌, ◌-◌, length, take, drop, length-drop, ap, ◌∙◌, arith}
 use Rattle.std.proofs.lemmas.List.{length-take-le}
 use Rattle.util_ic.specs.Messages.{put}
-use Rattle.util_ic.proofs.ByteLaws.{length-put}
-use Rattle.kvp_ic.specs.Texts.{text_size, field_of}
+use Rattle.kvp_ic.specs.Texts.{field_of}
 use Rattle.kvp_ic.specs.Answers.{replaced}
 use Rattle.kvp_ic.proofs.TextLaws.{length-field_of}
 use Rattle.kvp_ic.proofs.ReplyLaws.{mid_replaced}

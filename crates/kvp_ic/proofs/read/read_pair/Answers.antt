@@ -1,4 +1,4 @@
-use Rattle.std.proofs.Common.{◌≡◌, Some, None, sym, ap, ◌∙◌}
+use Rattle.std.proofs.Common.{◌≡◌, Some, None, sym}
 use Rattle.kvp_ic.specs.Messages.{key_place, value_place}
 use Rattle.kvp_ic.specs.Faults.{or_else, size_fault, text_fault}
 use Rattle.kvp_ic.proofs.AskLaws.{both_none, told_first, told_later, value_size_told, texts_told}

@@ -1,4 +1,4 @@
-use Rattle.std.proofs.Common.{◌/◌, ap, ◌∙◌, arith}
+use Rattle.std.proofs.Common.{arith}
 use Rattle.kvp_ic.specs.Texts.{size_at}
 use Rattle.kvp_ic.proofs.TextLaws.{sized}
 use Rattle.kvp_ic.proofs.text.count_in.Goals as goal

@@ -1,9 +1,8 @@
-use Rattle.std.proofs.Common.{◌≡◌, ◌+◌, ◌-◌, ◌*◌, ◌/◌, suc, ◌<◌, ◌++◌, length, take, drop, replicate, Some, None, sym, ap, subst, ◌∙◌, arith, rules, ℕ, List}
+use Rattle.std.proofs.Common.{◌≡◌, ◌+◌, ◌-◌, ◌*◌, suc, ◌<◌, length, drop, replicate, None, sym, ap, subst, ◌∙◌, arith, rules, ℕ, List}
 use Rattle.std.specs.Prelude.{option_map}
 use Rattle.std.specs.List.{AllByRecursion}
 use Rattle.std.proofs.lemmas.List.{take_at}
 use Rattle.wire_table.specs.Rows.{numbers_in}
-use Rattle.wire_table.proofs.NumberLaws.{length-numbers_in}
 use Rattle.kvp_ic.specs.declared.fault.KvpFault.TheVariants.{Text}
 use Rattle.kvp_ic.specs.Texts.{wrong_unit}
 use Rattle.kvp_ic.proofs.TextLaws.{right_units}
