@@ -1,4 +1,4 @@
-/* An end by plans of this library beside the ring code of Linux: in turns, on two threads that sleep, and on the clock. Every packet is compared. */
+/* An end by plans of this library beside the ring code of Linux: in turns, and on two threads that sleep. Every packet is compared. */
 #define _GNU_SOURCE
 #include <inttypes.h>
 #include <pthread.h>
@@ -10,13 +10,11 @@
 #include <unistd.h>
 #include "shim.h"
 
-/* In turns the other end may act before any single access of ours: each access is one of these. Not so on the clock. */
+/* In turns the other end may act before any single access of ours: each access is one of these. */
 static void gap(void);
-#ifndef ON_THE_CLOCK
 #define __atomic_load_n(p, o) (gap(), __atomic_load_n(p, o))
 #define __atomic_store_n(p, v, o) (gap(), __atomic_store_n(p, v, o))
 #define memcpy(a, b, n) (gap(), memcpy(a, b, n))
-#endif
 #include "vmbus.h"
 #undef __atomic_load_n
 #undef __atomic_store_n
@@ -439,93 +437,9 @@ static void any_ends(uint64_t count)
     printf("any numbers: %" PRIu64 " calls, %" PRIu64 " of them taken, each plan inside its ring\n", count, accepted);
 }
 
-/* ---- On the clock: each packet is sent, taken into a private copy, and its room given back, in one thread over rings of 16 pages. ---- */
-#define ROUNDS 25
-#define IN_ROUND 20000
-
-static double now(void)
-{
-    struct timespec t;
-    clock_gettime(CLOCK_THREAD_CPUTIME_ID, &t); /* on a busy machine too */
-    return 1e9 * (double)t.tv_sec + (double)t.tv_nsec;
-}
-
-static int by_size(const void *a, const void *b)
-{
-    double x = *(const double *)a, y = *(const double *)b;
-    return (x > y) - (x < y);
-}
-
-static uint64_t clock_packet[MOST_WORDS];
-
-/* Both ends ours: a second end on the same rings. */
-static double time_ours(uint32_t words)
-{
-    static uint64_t copy[1 << 13];
-    struct vmbus_plan_end second;
-    uint32_t len = 0, offset = 0;
-    open_channel(16 * PAGE_SIZE);
-    vmbus_plan_make(&second, ring_bytes);
-    double begin = now();
-    for (int i = 0; i < IN_ROUND; i++) {
-        uint32_t a = vmbus_ring_send(&ours, shared[0].ring, clock_packet);
-        uint32_t b = vmbus_ring_take(&second, shared[0].ring, copy, &len, &offset);
-        uint32_t c = vmbus_ring_commit(&second, shared[0].ring);
-        if (a == VMBUS_FULL || b != VMBUS_TOOK || c == VMBUS_NO_CALL || len != words)
-            fail("a timed call", a);
-    }
-    return (now() - begin) / IN_ROUND;
-}
-
-static double time_theirs(uint32_t words)
-{
-    open_channel(16 * PAGE_SIZE);
-    /* a second end of Linux on the same ring: what the first one sends */
-    struct vmbus_channel second;
-    memset(&second, 0, sizeof second);
-    second.inbound = theirs.outbound;
-    second.inbound.pkt_buffer = theirs.inbound.pkt_buffer;
-    second.inbound.pkt_buffer_size = theirs.inbound.pkt_buffer_size;
-    second.raised = &signals[0];
-    struct kvec part = {clock_packet, 8 * words};
-    double begin = now();
-    for (int i = 0; i < IN_ROUND; i++) {
-        if (hv_ringbuffer_write(&theirs, &part, 1, 1, NULL) != 0)
-            fail("a timed call", 0);
-        struct vmpacket_descriptor *d = hv_pkt_iter_first(&second);
-        if (!d || d->len8 != words)
-            fail("a timed call", 1);
-        __hv_pkt_iter_next(&second, d);
-        hv_pkt_iter_close(&second);
-    }
-    return (now() - begin) / IN_ROUND;
-}
-
-static void on_the_clock(void)
-{
-    static const uint32_t sizes[] = {24, 80, 512, 3072};
-    printf("nanoseconds of a processor a packet, medians of %d rounds side by side, rings of 16 pages\nbytes  plans through C  Linux's ring  ratio\n", ROUNDS);
-    for (int k = 0; k < 4; k++) {
-        uint32_t words = sizes[k] / 8;
-        double x[ROUNDS], y[ROUNDS];
-        clock_packet[0] = 6 | 2 << 16 | (uint64_t)words << 32;
-        for (int i = 0; i < ROUNDS; i++) {
-            x[i] = time_ours(words);
-            y[i] = time_theirs(words);
-        }
-        qsort(x, ROUNDS, sizeof x[0], by_size);
-        qsort(y, ROUNDS, sizeof y[0], by_size);
-        printf("%5" PRIu32 "  %15.1f  %12.1f  %5.2f\n", sizes[k], x[ROUNDS / 2], y[ROUNDS / 2], x[ROUNDS / 2] / y[ROUNDS / 2]);
-    }
-}
-
 int main(int count, char **words)
 {
     setvbuf(stdout, NULL, _IOLBF, 0);
-    if (count == 2 && strcmp(words[1], "clock") == 0) {
-        on_the_clock();
-        return 0;
-    }
     unsigned seconds = count == 3 ? (unsigned)atoi(words[2]) : 4;
     static const uint32_t pages[] = {1, 2, 16, 128};
     if (count == 2 && strcmp(words[1], "any") == 0) {

@@ -3,18 +3,7 @@
 #include <stdio.h>
 #include <string.h>
 #include "vmbus.h"
-
-#define CELLS 512
-
-/* Where a place stands among the words of a channel here: five header words and the cells of each ring, both signals, both marks. */
-static size_t place_of(const struct vmbus_step *step) {
-    size_t ring = step->which * (CELLS + 5);
-    if (step->place < 6)
-        return ring + step->place - 1;
-    if (step->place == 6)
-        return ring + 5 + step->at / 8;
-    return 2 * (CELLS + 5) + (step->place - 7) * 2 + step->which;
-}
+#include "words.h"
 
 /* Makes the steps of the call under way. The words of a packet that is taken are those that the steps on cells loaded. */
 static void run(struct vmbus_end *end, uint64_t *words, const uint64_t *packet, size_t len, uint64_t *taken) {
@@ -34,11 +23,11 @@ static void run(struct vmbus_end *end, uint64_t *words, const uint64_t *packet, 
 }
 
 static void pass(const uint64_t *packet, size_t len) {
-    static uint64_t words[2 * (CELLS + 5) + 4], taken[CELLS];
+    static uint64_t words[WORDS], taken[CELLS];
     struct vmbus_end guest, host;
     if (!vmbus_end_make(&guest, 0, 8 * CELLS) || !vmbus_end_make(&host, 1, 8 * CELLS))
         return;
-    words[2] = words[4] = words[CELLS + 7] = words[CELLS + 9] = 1;
+    open_words(words);
     if (vmbus_end_begin_send(&guest, len))
         run(&guest, words, packet, len, taken);
     if (vmbus_end_begin_take(&host))

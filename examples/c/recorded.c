@@ -10,24 +10,13 @@
 #include <stdio.h>
 #include <string.h>
 #include "vmbus.h"
+#include "words.h"
 
-#define CELLS 512
 #define PACKETS 40
 
-static uint64_t words[2 * (CELLS + 5) + 4];
+static uint64_t words[WORDS];
 static pthread_mutex_t turn = PTHREAD_MUTEX_INITIALIZER;
 static int faulty;
-
-/* Where a place stands among the words here: five header words and the cells of each ring, both signals, both marks. */
-static size_t place_of(const struct vmbus_step *step)
-{
-    size_t ring = step->which * (CELLS + 5);
-    if (step->place < 6)
-        return ring + step->place - 1;
-    if (step->place == 6)
-        return ring + 5 + step->at / 8;
-    return 2 * (CELLS + 5) + (step->place - 7) * 2 + step->which;
-}
 
 /* Lets the other thread make a step. */
 static void give_way(void)
@@ -78,7 +67,7 @@ static int rest(struct vmbus_end *end, size_t len)
     run(end, NULL, 0, none);
     for (int polls = 0; end->asleep && (!faulty || polls < 100000); polls++) {
         /* A look that finds the signal down says nothing of the run: only every thousandth is made a poll. */
-        if (polls % 1000 == 999 || words[2 * (CELLS + 5) + end->side]) {
+        if (polls % 1000 == 999 || words[SIGNAL(end->side)]) {
             say(end, "poll", NULL, 0);
             vmbus_end_begin_poll(end);
             run(end, NULL, 0, none);
@@ -142,7 +131,7 @@ int main(int count, char **unused)
     pthread_t a, b;
     (void)unused;
     faulty = count > 1;
-    words[2] = words[4] = words[CELLS + 7] = words[CELLS + 9] = 1;
+    open_words(words);
     if (pthread_create(&a, NULL, guest, NULL) || pthread_create(&b, NULL, host, NULL))
         return 1;
     pthread_join(a, NULL);

@@ -1,5 +1,5 @@
 //! Texts of UTF-16 units.
-ghost use Rattle.std.specs.Prelude.{◌≡◌, ◌==◌, ◌<◌, ◌≤◌, ◌^◌, MatchOption, length};
+ghost use Rattle.std.specs.Prelude.{◌≡◌, ◌==◌, ◌<◌, ◌≤◌, ◌^◌, MatchOption, length, take};
 ghost use Rattle.std.specs.Bool.{MatchBool};
 ghost use Rattle.std.specs.List.{AllByRecursion, list_any};
 ghost use Rattle.kvp_pool.specs.Pools.{IsText};
@@ -42,6 +42,19 @@ impl<const MIN: usize, const MAX: usize> Units<MIN, MAX> {
         let len = units.len();
         held[..len].copy_from_slice(units);
         Units { len, units: held }
+    }
+
+    /// The first so many of these units.
+    pub fn first(len: usize, units: [u16; MAX]) -> Units<MIN, MAX>
+        requires least { MIN ≤ len }
+        requires most { len ≤ MAX }
+        requires text { AllByRecursion (λ u. 0 < u) (take len units) }
+        ensures value { result ≡ take len units.entry }
+        ensures text { IsText MIN MAX result }
+    {
+        let held = Units { len, units };
+        let _units = held.units();
+        held
     }
 
     /// These units, where they are a text of so many.

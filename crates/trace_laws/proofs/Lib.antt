@@ -1,2 +1,5 @@
 pub mod Beginnings
 pub mod Keeping
+pub mod Words
+pub mod Printed
+pub mod Texts

@@ -1,10 +1,9 @@
--- A recorder goes on: not at all, by one step, and by some and then by more.
-use Rattle.std.proofs.Common.{◌≡◌, ℕ, Bool, List, [], ◌∷◌, ◌++◌, Option, Some, refl, sym, ap, ◌∙◌, subst}
+-- A recorder goes on: not at all, and by some steps and then by more. A trait's laws are proved by lemmas that stand beside the definitions.
+use Rattle.std.proofs.Common.{◌≡◌, ℕ, Bool, List, [], ◌∷◌, ◌++◌, Option, refl, sym, ap, ◌∙◌, subst}
 use Rattle.io_edge.specs.declared.side.Side.{Side}
-use Rattle.ring_machine.specs.declared.place.Op.{Op}
-use Rattle.ring_core.specs.Told.{Memory, memory_after, answer_of}
-use Rattle.trace_text.specs.Steps.{step_text}
-use Rattle.trace_text.specs.Recording.{Recorded, Made, kept, kept_of, StepsLead, RecordsOn}
+use Rattle.ring_core.specs.Told.{Memory}
+use Rattle.ring_core.specs.declared.told.Told.{Told}
+use Rattle.trace_text.specs.Recording.{Recorded, Made, kept_of, StepsLead, StepsTell, RecordsOn}
 
 kept_more : (size : ℕ) (x : Side) (a b : List Made) (so : Bool × List ℕ) → kept_of size x (a ++ b) so ≡ kept_of size x b (kept_of size x a so)
 kept_more size x [] b so = refl
@@ -14,11 +13,15 @@ lead_more : (d : ℕ) (a b : List Made) (k m n : Memory) → StepsLead d a k m �
 lead_more d [] b k m n p q = subst (λ (y : Memory). StepsLead d b y n) p q
 lead_more d (s ∷ a) b k m n p q = (p.0, lead_more d a b _ m n p.1 q)
 
-module _ {S : Type 0} (same : S → S → Type 0) (cells : S → ℕ) (memory : S → Option Memory) where
-  pub goes_nowhere : (r : Recorded S) → same r.seat r.seat → RecordsOn same cells memory r r
-  goes_nowhere r h = record { seat = h; fits = refl; side = refl; size = refl; made = []; text = refl; leads = λ m e. (m, e, refl) }
+tell_more : (a b : List Made) (u v w : Told) → StepsTell a u v → StepsTell b v w → StepsTell (a ++ b) u w
+tell_more [] b u v w p q = subst (λ (y : Told). StepsTell b y w) p q
+tell_more (s ∷ a) b u v w p q = (p.0, p.1, tell_more a b p.0 v w p.2 q)
 
-  pub goes_further : (r t u : Recorded S) → same r.seat u.seat → RecordsOn same cells memory r t → RecordsOn same cells memory t u → RecordsOn same cells memory r u
+module _ {S : Type 0} (same : S → S → Type 0) (cells : S → ℕ) (memory : S → Option Memory) (told : S → Option Told) where
+  pub goes_nowhere : (r : Recorded S) → same r.seat r.seat → RecordsOn same cells memory told r r
+  goes_nowhere r h = record { seat = h; fits = refl; side = refl; size = refl; made = []; text = refl; leads = λ m e. (m, e, refl); tells = λ u e. (u, e, refl) }
+
+  pub goes_further : (r t u : Recorded S) → same r.seat u.seat → RecordsOn same cells memory told r t → RecordsOn same cells memory told t u → RecordsOn same cells memory told r u
   goes_further r t u h p q = record {
     seat = h;
     fits = q.fits ∙ p.fits;
@@ -29,8 +32,5 @@ module _ {S : Type 0} (same : S → S → Type 0) (cells : S → ℕ) (memory : 
         ∙ ap (kept_of r.size r.side q.made) p.text ∙ sym (kept_more r.size r.side p.made q.made (r.full, r.text));
     leads = λ m e. let a = p.leads m e in let b = q.leads a.0 a.1 in
         (b.0, b.1, lead_more (cells r.seat) p.made q.made m a.0 b.0 a.2 (subst (λ (d : ℕ). StepsLead d q.made a.0 b.0) p.fits b.2));
+    tells = λ v e. let a = p.tells v e in let b = q.tells a.0 a.1 in (b.0, b.1, tell_more p.made q.made v a.0 b.0 a.2 b.2);
   }
-
-  pub goes_by_a_step : (r t : Recorded S) (op : Op) (v : ℕ) → same r.seat t.seat → cells t.seat ≡ cells r.seat → t.side ≡ r.side → t.size ≡ r.size → (t.full, t.text) ≡ kept r (step_text r.side op v)
-      → ((m : Memory) → memory r.seat ≡ Some m → (memory t.seat ≡ Some (memory_after (cells r.seat) op m)) × (v ≡ answer_of (cells r.seat) op m)) → RecordsOn same cells memory r t
-  goes_by_a_step r t op v h fits side size text runs = record { seat = h; fits = fits; side = side; size = size; made = record { op = op; answer = v } ∷ []; text = text; leads = λ m e. let z = runs m e in (_, z.0, (z.1, refl)) }

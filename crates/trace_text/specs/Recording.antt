@@ -1,8 +1,13 @@
 -- What a recorder keeps.
 use Rattle.std.specs.Prelude.{◌≡◌, ℕ, ◌+◌, ◌++◌, Bool, true, false, ◌||◌, nat_lt, List, [], ◌∷◌, length, Option, Some, if◌then◌else◌}
 use Rattle.io_edge.specs.declared.side.Side.{Side}
+use Rattle.page_kept.specs.declared.page_call.PageCall.{PageCall}
+use Rattle.ring_machine.specs.PageCalls.{next_in}
+use Rattle.ring_machine.specs.Steps.{is_busy_at}
+use Rattle.ring_machine.specs.declared.machine.EndMachine.{EndMachine}
 use Rattle.ring_machine.specs.declared.place.Op.{Op}
-use Rattle.ring_core.specs.Told.{Memory, memory_after, answer_of}
+use Rattle.ring_core.specs.Told.{Memory, memory_after, answer_of, GoesOn, told_step}
+use Rattle.ring_core.specs.declared.told.Told.{Told}
 use Rattle.trace_text.specs.Steps.{step_text}
 
 -- a seat, whose end it is, the text of its steps so far, the bytes that it may have, and whether a line didn't fit
@@ -35,9 +40,23 @@ abbrev pub StepsLead : ℕ → List Made → Memory → Memory → Type 0
 StepsLead d [] m n = n ≡ m
 StepsLead d (s ∷ steps) m n = (s.answer ≡ answer_of d s.op m) × StepsLead d steps (memory_after d s.op m) n
 
--- A later state of a recorder. Its seat made some steps in between: they are what it kept of them, line by line, and what led from the words that the seat
--- had to those that it has
-pub record RecordsOn {S : Type 0} (same : S → S → Type 0) (cells : S → ℕ) (memory : S → Option Memory) (r t : Recorded S) : Type 0 where
+-- this step is the one that an end names which goes on, or begins a call, where this was told, and that is told once it has answered so
+pub record StepTells (s : Made) (u w : Told) : Type 0 where
+  pub machine : EndMachine
+  pub call : PageCall
+  pub packet : List ℕ
+  pub goes_on : GoesOn (is_busy_at machine.stage) u.state machine call packet
+  pub next : next_in machine call packet ≡ Some s.op
+  pub told : w ≡ told_step (is_busy_at machine.stage) u machine call packet s.answer
+
+-- these steps, one after the other, lead from what a seat tells of its end to that: each counts as one
+abbrev pub StepsTell : List Made → Told → Told → Type 0
+StepsTell [] u w = w ≡ u
+StepsTell (s ∷ steps) u w = (v : Told) × StepTells s u v × StepsTell steps v w
+
+-- A later state of a recorder. Its seat made some steps in between: they are what it kept of them, line by line. Where the seat tells its memory, they led
+-- from the words that it had to those that it has; where it tells its end's state, they are the steps that it made since, each told once
+pub record RecordsOn {S : Type 0} (same : S → S → Type 0) (cells : S → ℕ) (memory : S → Option Memory) (told : S → Option Told) (r t : Recorded S) : Type 0 where
   pub seat : same r.seat t.seat
   pub fits : cells t.seat ≡ cells r.seat
   pub side : t.side ≡ r.side
@@ -45,3 +64,4 @@ pub record RecordsOn {S : Type 0} (same : S → S → Type 0) (cells : S → ℕ
   pub made : List Made
   pub text : (t.full, t.text) ≡ kept_of r.size r.side made (r.full, r.text)
   pub leads : (m : Memory) → memory r.seat ≡ Some m → (n : Memory) × (memory t.seat ≡ Some n) × StepsLead (cells r.seat) made m n
+  pub tells : (u : Told) → told r.seat ≡ Some u → (w : Told) × (told t.seat ≡ Some w) × StepsTell made u w

@@ -89,11 +89,11 @@ impl<S: Seatlike> Seatlike for Recorder<S> {
 
     ghost told = { λ r. S.told r.seat };
 
-    ghost same = { λ r t. RecordsOn S.same S.cells S.memory r t };
+    ghost same = { λ r t. RecordsOn S.same S.cells S.memory S.told r t };
 
-    ghost same_refl = { λ r. goes_nowhere S.same S.cells S.memory r (S.same_refl r.seat) };
+    ghost same_refl = { λ r. goes_nowhere S.same S.cells S.memory S.told r (S.same_refl r.seat) };
 
-    ghost same_trans = { λ r t u p q. goes_further S.same S.cells S.memory r t u (S.same_trans r.seat t.seat u.seat p.seat q.seat) p q };
+    ghost same_trans = { λ r t u p q. goes_further S.same S.cells S.memory S.told r t u (S.same_trans r.seat t.seat u.seat p.seat q.seat) p q };
 
     ghost same_pages = { λ r t p. S.same_pages r.seat t.seat p.seat };
 
@@ -103,7 +103,7 @@ impl<S: Seatlike> Seatlike for Recorder<S> {
         requires pages { is_paging core.now.pages.call ≡ true → core.now.pages.count ≡ S.pages self.old.seat }
         requires goes_on { (u : Told) → S.told self.old.seat ≡ Some u → GoesOn (is_busy_at core.now.machine.stage) u.state core.now.machine core.now.pages.call packet.now }
         ensures runs { (m : Memory) (op : Op) → S.memory self.old.seat ≡ Some m → next_in core.now.machine core.now.pages.call packet.now ≡ Some op → (S.memory self.new.seat ≡ Some (memory_after core.now.machine.cells op m)) × (result ≡ answer_of core.now.machine.cells op m) }
-        ensures same { RecordsOn S.same S.cells S.memory self.old self.new }
+        ensures same { RecordsOn S.same S.cells S.memory S.told self.old self.new }
         ensures cells { S.cells self.new.seat ≡ S.cells self.old.seat }
         ensures silent { S.told self.old.seat ≡ None → S.told self.new.seat ≡ None }
         ensures tells { (u : Told) → S.told self.old.seat ≡ Some u → (S.told self.new.seat ≡ Some (told_step (is_busy_at core.now.machine.stage) u core.now.machine core.now.pages.call packet.now result)) × ((fed core.now.machine result).stage ≢ Stopped) }

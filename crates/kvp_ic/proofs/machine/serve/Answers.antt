@@ -1,5 +1,4 @@
 use Rattle.std.proofs.Common.{◌∙◌, ap, sym, subst}
-use Rattle.std.specs.Prelude.{if◌then◌else◌}
 use Rattle.kvp_ic.specs.declared.message.Kvp.{Kvp}
 use Rattle.kvp_ic.specs.Machine.{value_reply, pool_reply, pool_after, IsReplyTo}
 use Rattle.kvp_ic.proofs.machine.serve.Goals as goal
