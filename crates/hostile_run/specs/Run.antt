@@ -48,7 +48,7 @@ line_text number said = decimal number ++ (codes " " ++ (said ++ codes "\n"))
 -- each line in order
 abbrev pub SaysLines : List CommandLine → Stand → Stand → List ℕ → Type 0
 SaysLines [] s t text = (t ≡ s) × (text ≡ [])
-SaysLines (a ∷ as) s t text = (mid : Stand) × (said : List ℕ) × (rest : List ℕ) × SaysCommand a.number a.command s mid said × (text ≡ line_text a.number said ++ rest) × SaysLines as mid t rest
+SaysLines (l ∷ ls) s t text = (mid : Stand) × (said : List ℕ) × (rest : List ℕ) × SaysCommand l.number l.command s mid said × (text ≡ line_text l.number said ++ rest) × SaysLines ls mid t rest
 
 -- the last line: how many steps were made
 abbrev pub end_text : ℕ → List ℕ
