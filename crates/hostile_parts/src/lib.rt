@@ -2,8 +2,8 @@
 #![tactic(auto)]
 
 mod kind;
-mod pages;
 mod packet;
+mod pages;
 mod parts;
 mod text;
 mod vstor;

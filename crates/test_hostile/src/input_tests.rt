@@ -34,9 +34,18 @@ fn values_have_a_range(rt: HostRuntime) {
 #[test]
 fn lines_have_an_order(rt: HostRuntime) {
     refused(&rt, b"take\nset in read 0", 2, Why6::Order);
-    refused(&rt, b"take\nbefore 3 set in read 18446744073709551616", 2, Why6::Order);
+    refused(
+        &rt,
+        b"take\nbefore 3 set in read 18446744073709551616",
+        2,
+        Why6::Order,
+    );
     refused(&rt, b"ring 1\nring 2", 2, Why6::Order);
     // Comments and empty lines are no lines with words.
-    prints(&rt, b"# a ring\n\nring 2\nsend 511\n", b"4 sent quiet\nend steps 515\n");
+    prints(
+        &rt,
+        b"# a ring\n\nring 2\nsend 511\n",
+        b"4 sent quiet\nend steps 515\n",
+    );
     prints(&rt, b"", b"end steps 0\n");
 }
