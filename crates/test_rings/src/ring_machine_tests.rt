@@ -45,3 +45,14 @@ fn an_end_tells_its_mode_and_indices(rt: HostRuntime) {
         core.next(&[]).is_none() && is_awake_at(&core, 0, 32, 0),
     );
 }
+
+// An end is at a page from the moment that a call of one begins until its last step was fed: a store of a word makes one step.
+#[test]
+fn an_end_tells_that_it_is_at_a_page(rt: HostRuntime) {
+    let mut core = EndCore::make(Side::Host, 4096, 1);
+    let before = core.is_paging();
+    core.begin_page_store(0, 511, 7);
+    let within = core.is_paging();
+    let fed = is_fed(&mut core, 0);
+    check(&rt, !before && within && fed && !core.is_paging());
+}
