@@ -1,0 +1,9 @@
+//! Tests of an end on memory that anybody may write.
+#![tactic(auto)]
+
+#[cfg(test)]
+mod beside_tests;
+#[cfg(test)]
+mod check;
+#[cfg(test)]
+mod written_tests;
