@@ -1,10 +1,14 @@
-//! Tests of key-value exchange: pools, the device, and each public call once.
+//! Tests of key-value exchange: its messages against those that Linux's structs make, pools and the device, and each public call once.
 #![tactic(auto)]
 
 #[cfg(test)]
 mod check;
 #[cfg(test)]
 mod device_tests;
+#[cfg(test)]
+mod hex;
+#[cfg(test)]
+mod message_tests;
 #[cfg(test)]
 mod pool_tests;
 #[cfg(test)]
