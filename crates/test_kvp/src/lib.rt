@@ -1,4 +1,4 @@
-//! Tests of key-value exchange: its messages against those that Linux's structs make, pools and the device, and each public call once.
+//! Tests of key-value exchange: its messages, a delete's apart, against those that Linux's structs make, pools and the device, and each public call once.
 #![tactic(auto)]
 
 #[cfg(test)]

@@ -1,4 +1,4 @@
-//! Messages against those of Linux's struct hv_kvp_msg, each fault in its order, and the answers.
+//! Messages against those of Linux's struct hv_kvp_msg, a delete's apart, each fault in its order, and the answers.
 
 use crate::check::check;
 use crate::hex::unhex;
@@ -72,6 +72,23 @@ fn messages_are_those_of_linux(rt: HostRuntime) {
     );
     is_both_ways(
         &rt,
+        "00000000280a000003000000020003000000140a0000000000030000030100000000000001",
+        2608,
+        &Kvp::Enum { pool: 1, index: 0 },
+    );
+    is_both_ways(
+        &rt,
+        "00000000280a000003000000020003000000140a0000000000030000030300000600000001",
+        2608,
+        &Kvp::Enum { pool: 3, index: 6 },
+    );
+}
+
+// A delete's record is this program's: that of a get.
+#[test]
+fn a_delete_has_the_record_of_a_get(rt: HostRuntime) {
+    is_both_ways(
+        &rt,
         "00000000240a000003000000020003000000100a000000000003000002010000010000000c0000000000000063006f006c006f0072",
         2604,
         &Kvp::Delete {
@@ -96,18 +113,6 @@ fn messages_are_those_of_linux(rt: HostRuntime) {
             pool: 3,
             key: key(&rt, "a-longer-key-name"),
         },
-    );
-    is_both_ways(
-        &rt,
-        "00000000280a000003000000020003000000140a0000000000030000030100000000000001",
-        2608,
-        &Kvp::Enum { pool: 1, index: 0 },
-    );
-    is_both_ways(
-        &rt,
-        "00000000280a000003000000020003000000140a0000000000030000030300000600000001",
-        2608,
-        &Kvp::Enum { pool: 3, index: 6 },
     );
 }
 
