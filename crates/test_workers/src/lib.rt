@@ -1,8 +1,6 @@
-//! Tests of the workers: both ends of a channel on two threads and by turns, and the channels of a phase.
+//! Tests of the workers of any device: both ends of a channel on two threads and by turns.
 #![tactic(auto)]
 
-#[cfg(test)]
-mod bus_threads_tests;
 #[cfg(test)]
 mod channel_model_tests;
 #[cfg(test)]
@@ -11,11 +9,3 @@ mod channel_tests;
 mod check;
 #[cfg(test)]
 mod echo;
-#[cfg(test)]
-mod only_seat;
-#[cfg(test)]
-mod pump_tests;
-#[cfg(test)]
-mod short_plan_tests;
-#[cfg(test)]
-mod worker_pair_tests;

@@ -1,6 +1,6 @@
 //! The workers of a heartbeat's channel, by their own calls.
 ghost use Rattle.std.specs.Prelude.{◌≡◌};
-ghost use Rattle.worker_pair.specs.Workers.{IsLive};
+ghost use Rattle.worker_pair.specs.Workers.{Caused, IsLive, Tried};
 ghost use Rattle.io_edge.specs.declared.side.Side.TheVariants.{Guest as GuestSide, Host as HostSide};
 ghost use Rattle.ring_seat.specs.Seats.{new_end};
 
@@ -118,6 +118,8 @@ fn workers_run_on_two_threads(rt: HostRuntime) {
 // A turn of the guest.
 fn turn_guest(rt: &impl Wait, guest: &mut GuestWorker) -> Turn
     requires { IsLive guest.old }
+    ensures cause { Caused result guest.old guest.new }
+    ensures tried { Tried result guest.old guest.new }
 {
     guest.turn(rt, &NoGate)
 }
@@ -125,6 +127,8 @@ fn turn_guest(rt: &impl Wait, guest: &mut GuestWorker) -> Turn
 // A turn of the host.
 fn turn_host(rt: &impl Wait, host: &mut HostWorker) -> Turn
     requires { IsLive host.old }
+    ensures cause { Caused result host.old host.new }
+    ensures tried { Tried result host.old host.new }
 {
     host.turn(rt, &NoGate)
 }
