@@ -177,7 +177,7 @@ const WRONG_SCRIPTS: &[(&[u8], u32, Why6)] = &[
         Why6::Limit,
     ),
     (b"offer disk a 64 16\n", 1, Why6::Limit),
-    (b"offer disk d0 65537 0\n", 1, Why6::Range),
+    (b"offer disk d0 1099511627777 0\n", 1, Why6::Range),
     (b"offer disk d0 64 0\nwrite d0 0 8 11\n", 2, Why6::Range),
     (
         b"offer disk d 64 0\nrescind d after 0 held\n",
