@@ -2,8 +2,9 @@
 ghost use Rattle.std.specs.Prelude.{◌≡◌};
 
 use crate::check::check;
-use open_seat::{OpenEnd, OpenMem, Scribbler};
-use ring_core::{Armed, Bad, Place, Ring, Room, Side, TakeRefusal, Why, may_take};
+use crate::opened::opened;
+use open_seat::{OpenEnd, Scribbler};
+use ring_core::{Armed, Bad, Place, Ring, Side, TakeRefusal, Why, may_take};
 use std::alloc::AllocGlobal;
 use std::process::Abort;
 use std::sync::Wait;
@@ -67,19 +68,6 @@ fn takes(mut end: OpenEnd) -> Option<u32> {
         }
     }
     Some(TAKES)
-}
-
-// An end of a channel of one page, with room for 16 packets, and its hand.
-fn opened(rt: &(impl Abort + AllocGlobal)) -> (OpenEnd, Scribbler)
-    ensures { result.1.cells ≡ 512 }
-{
-    let (mut end, hand) = OpenMem::make(rt.alloc(), 1, 0).expect(rt, "memory");
-    let room = Room {
-        packets: 16,
-        words: 8192,
-    };
-    end.reserve(room, room).expect(rt, "memory");
-    (end, hand)
 }
 
 // How many takes an end makes beside a hand on a second thread.

@@ -6,4 +6,6 @@ mod beside_tests;
 #[cfg(test)]
 mod check;
 #[cfg(test)]
+mod opened;
+#[cfg(test)]
 mod written_tests;

@@ -2,23 +2,11 @@
 ghost use Rattle.std.specs.Prelude.{◌≡◌};
 
 use crate::check::check;
-use open_seat::{OpenEnd, OpenMem, Scribbler};
-use ring_core::{Bad, Place, Ring, Room, TakeRefusal, Why, may_take};
+use crate::opened::opened;
+use open_seat::{OpenEnd, Scribbler};
+use ring_core::{Bad, Place, Ring, TakeRefusal, Why, may_take};
 use std::alloc::AllocGlobal;
 use std::process::Abort;
-
-// An end of a channel of one page, with room for 16 packets, and its hand.
-fn opened(rt: &(impl Abort + AllocGlobal)) -> (OpenEnd, Scribbler)
-    ensures { result.1.cells ≡ 512 }
-{
-    let (mut end, hand) = OpenMem::make(rt.alloc(), 1, 0).expect(rt, "memory");
-    let room = Room {
-        packets: 16,
-        words: 8192,
-    };
-    end.reserve(room, room).expect(rt, "memory");
-    (end, hand)
-}
 
 // Writes a packet's first word and the write index.
 fn write(hand: &mut Scribbler, first: u64, index: u64)
