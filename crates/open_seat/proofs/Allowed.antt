@@ -1,7 +1,7 @@
 -- Each step is allowed at open memory, and stands in the table.
 use Rattle.std.proofs.Common.{◌≡◌, ℕ, ◌+◌, ◌*◌, ◌<◌, ◌≤◌, Bool, true, false, List, [], ◌∷◌, Option, Some, refl, sym, ap, ◌∙◌, subst, arith}
 use mathlib.Core.Option.{none}
-use Rattle.atomic_table.specs.Table.{State, Me, Act, step, keeps, Allows, Splits}
+use Rattle.atomic_table.specs.Table.{State, Me, step, keeps, Allows, Splits}
 use Rattle.page_kept.specs.declared.page_call.PageCall.{PageCall}
 use Rattle.page_kept.specs.declared.page_call.PageCall.TheVariants.{Off, StoreWord, LoadWords}
 use Rattle.ring_machine.specs.declared.machine.EndMachine.{EndMachine}
