@@ -27,7 +27,7 @@ static uint64_t now(void)
     return 1000000000 * (uint64_t)t.tv_sec + (uint64_t)t.tv_nsec;
 }
 
-/* One message of each type, whose fields are 0, but for the range of a list of one page: as long as the reader asks. How many there are. */
+/* One message of each type from 1 to 17, whose fields are 0, but for the range of a list of one page: as long as the reader asks. How many there are. */
 static size_t make_messages(void)
 {
     struct vmbus_message message;

@@ -48,6 +48,28 @@ build_dpdk() {
     cc -O2 -Wno-address-of-packed-member -I "$2" -include "$top/checks/foreign/shim_dpdk.h" -c -o "$2/bufring.o" "$2/bufring.c"
 }
 
+# The ring code of the QEMU source tree $1, into the directory $2: qemu_structs.h, and qemu_ring.h with its functions.
+build_qemu() {
+    code=$1/hw/hyperv/vmbus.c include=$1/include/hw/hyperv
+    [ -r "$code" ] && [ -r "$include/vmbus.h" ] && [ -r "$include/vmbus-proto.h" ] || { echo "no ring code of QEMU in $1" >&2; return 1; }
+    mkdir -p "$2" || return 1
+    {
+        cat "$include/vmbus-proto.h"
+        cut_out "$include/vmbus.h" '^typedef struct VMBusChanReq [{]'
+        cut_out "$code" '^(typedef struct (GpadlIter|VMBusRingBufCommon|VMBusSendRingBuf|VMBusRecvRingBuf)|struct (VMBusGpadl|VMBusChannel)) [{]'
+        sed -n '/^#define VMBUS_PKT_TRAILER/p' "$code"
+    } >"$2/qemu_structs.h" || return 1
+    cut_out "$code" '^[a-zA-Z].*[ *](gpadl_iter_[a-z_]*|rb_idx_[a-z]*|ringbufs?_[a-z_]*|vmbus_pkt_hdr_set_offsets|vmbus_alloc_req|vmbus_free_req|vmbus_channel_(reserve|send|recv_[a-z]*))[(]' >"$2/qemu_ring.h"
+}
+
+# The program $1 over what was taken out of a tree into the directory $2, with more files.
+build_turns() {
+    program=$1 into=$2
+    shift 2
+    cc -O2 -Wno-address-of-packed-member -pthread -I "$into" -I "$top/checks/foreign" -I "$top/examples/c" -o "$into/$program" "$top/checks/foreign/$program.c" "$@" \
+        "$top/crates/ring_plan_c/out/libring_plan_c.a"
+}
+
 # The check over the ring code of the Linux source tree $1 into the directory $2, with more words for cc.
 build_rings() {
     tree=$1 into=$2

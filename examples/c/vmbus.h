@@ -1,12 +1,21 @@
-/* Calls of the static libraries crates/vmbus_c and, for the ends of a channel, crates/vmbus_ring_c and crates/ring_plan_c. Nothing takes memory, and nothing is kept between calls. A null pointer
-   with length 0 is an empty slice. What each call gives is proved there; here is what C has to know of it. Each call is total: whatever the numbers that it is given, it answers as
-   is said here, and touches no memory but that. Every pointer is to private memory, never into pages that a peer shares: a call may read a byte twice, and rests on reading the same. */
+/* Calls of the static libraries vmbus_c (control messages, packets, services, signals), vmbus_net_c (NVSP and Remote NDIS), vmbus_stor_c (storage packets) and, for the ends
+   of a channel, ring_plan_c and vmbus_ring_c. Nothing takes memory, and nothing is kept between calls. A null pointer with length 0 is an empty slice. What each call gives is proved
+   there; here is what C has to know of it. Each call is total: whatever the numbers that it is given, it answers as is said here, and touches no memory but that. Every pointer is to
+   private memory, never into pages that a peer shares: a call may read a byte twice, and rests on reading the same. Slices that are written overlap no other argument.
+
+   Every call whose name ends in _write, and each that writes a packet of bytes or words, has these answers. What is not VMBUS_WRITTEN writes nothing but, where it is said, a length. */
 #ifndef VMBUS_H
 #define VMBUS_H
 #include <stdbool.h>
 #include <stddef.h>
 #include <stdint.h>
 #include <string.h>
+
+enum vmbus_written {
+    VMBUS_WRITTEN = 0,
+    VMBUS_NO_FORM = 1, /* there is no such message or packet */
+    VMBUS_NO_ROOM = 2, /* the buffer is too small */
+};
 
 /* What a refusal tells, by its number; what it doesn't tell is 0. */
 struct vmbus_fault {
@@ -56,6 +65,8 @@ struct vmbus_message {
 #define VMBUS_OFFER_IF_INSTANCE 24 /* 16 bytes */
 #define VMBUS_OFFER_USER 60        /* 120 bytes */
 #define VMBUS_OPEN_USER 28         /* 120 bytes */
+#define VMBUS_CONNECT_GUEST_ENDPOINT 8 /* 16 bytes: the ids of a TL_CONNECT_REQUEST */
+#define VMBUS_CONNECT_HOST_SERVICE 24  /* 16 bytes */
 #define VMBUS_GPADL_HEADER_FRAMES 28
 #define VMBUS_GPADL_BODY_FRAMES 16
 
@@ -65,6 +76,12 @@ struct vmbus_message {
    3 long: have bytes;
    4 a field of a page list's header: field 1 is range_buflen, 2 rangecount, of this value. */
 uint32_t vmbus_message_read(const uint8_t *bytes, size_t len, struct vmbus_message *message, struct vmbus_fault *fault);
+
+/* The control message of these numbers at the front of out, round the ids and the user data, which stand in out already, at the places above; len is then how many bytes it has. VMBUS_NO_ROOM
+   where out has less than the VMBUS_MESSAGE_MOST bytes that a message may have, and else VMBUS_NO_FORM where no message has these numbers: those that its type doesn't have are 0, and the
+   others fit their fields. Of types 8 and 9, a page list's messages, there is none here. */
+#define VMBUS_MESSAGE_MOST 240
+uint32_t vmbus_message_write(const struct vmbus_message *message, uint8_t *out, size_t room, size_t *len);
 
 /* A packet's descriptor; offset and length in words of 8 bytes. */
 struct vmbus_packet {
@@ -79,6 +96,25 @@ struct vmbus_packet {
    4 ranges that go past the payload's beginning. */
 uint32_t vmbus_packet_read(const uint64_t *words, size_t len, struct vmbus_packet *packet);
 
+/* A packet of type 6 or a completion (type 11, flags 0) at the front of out: the payload follows the descriptor, padded with zeros to whole words. len is then how many words it has, also
+   where there is no room. VMBUS_NO_FORM where that is more than VMBUS_PACKET_MOST, or flags has more than 16 bits; then len stays. */
+#define VMBUS_PACKET_MOST 384
+uint32_t vmbus_packet_inband(uint64_t tid, uint32_t flags, const uint8_t *payload, size_t bytes, uint64_t *out, size_t room, size_t *len);
+uint32_t vmbus_packet_completion(uint64_t tid, const uint8_t *payload, size_t bytes, uint64_t *out, size_t room, size_t *len);
+
+/* A packet of type 9, with flags 1, that names `length` bytes from `offset` on in the first of these pages: a range for each page, and then the payload, padded as above. VMBUS_NO_FORM where
+   the offset isn't in the first page, the range touches another number of pages, or the packet has more than VMBUS_PACKET_MOST words; then len stays. */
+uint32_t vmbus_packet_pages(uint64_t tid, uint32_t offset, uint32_t length, const uint64_t *pages, size_t count, const uint8_t *payload, size_t bytes, uint64_t *out, size_t room, size_t *len);
+
+/* The range of pages that begins at word `at` of the packet of type 9 that the words are (the first one at word VMBUS_FIRST_RANGE): its bytes, their offset in its first page, the word at which
+   its page frame numbers begin, and how many there are; the next range begins behind them, if one does. 0; or, and then nothing is written, 1 where the words are no packet of type 9
+   (vmbus_packet_read), or else 2 where no range with all its frames stands there before the payload. */
+#define VMBUS_FIRST_RANGE 3
+struct vmbus_range {
+    uint32_t bytes, offset, frames_at, frames;
+};
+uint32_t vmbus_packet_range(const uint64_t *words, size_t len, uint32_t at, struct vmbus_range *range);
+
 /* The numbers of a storage packet; 52 bytes follow them. */
 struct vmbus_storage {
     uint32_t operation, flags, status;
@@ -89,6 +125,48 @@ struct vmbus_storage {
    2 an operation that there isn't;
    3 a request whose status isn't 0. */
 uint32_t vmbus_storage_read(const uint8_t *bytes, size_t len, struct vmbus_storage *packet);
+
+/* A storage packet is VMBUS_STORAGE bytes. These calls write one at the front of out; VMBUS_NO_ROOM where that has fewer. */
+#define VMBUS_STORAGE 64
+#define VMBUS_STORAGE_REST 12 /* where its 52 bytes begin */
+
+/* The packet of these numbers and 52 bytes. VMBUS_NO_FORM where rest isn't 52 bytes, there is no such operation, or a request has a status. */
+uint32_t vmbus_storage_write(const struct vmbus_storage *packet, const uint8_t *rest, size_t len, uint8_t *out, size_t room);
+
+/* A request of the start-up: flags 1; `first`, in the first two of the 52 bytes, is the version that operation 9 asks for, major * 256 + minor, or the count that operation 13 asks for.
+   VMBUS_NO_FORM where there is no such operation, or first has more than 16 bits. */
+uint32_t vmbus_storage_start(uint32_t operation, uint32_t first, uint8_t *out, size_t room);
+
+/* The host's answer to the request with which the bytes begin. VMBUS_NO_FORM where they are no storage packet, or operation 3. */
+uint32_t vmbus_storage_answer(const uint8_t *bytes, size_t len, uint8_t *out, size_t room);
+
+/* The packet of a disk's request: operation 3, flags 1, and an srb with the lengths and the direction of the command in the 16 bytes of cdb; a write gives `goes` bytes. VMBUS_NO_FORM where
+   cdb isn't 16 bytes, its command isn't built (codes 00, 12, 25, 28, 2A, 35, 88, 8A and 9E are), or more than 4,096 bytes go or come. */
+uint32_t vmbus_disk_ask(const uint8_t *cdb, size_t len, uint32_t goes, uint8_t *out, size_t room);
+
+/* How the request ended whose completion the bytes begin with: 0, and status 1 (success) or 0x84 (refused, with this sense, which otherwise is 0). 1 where they are no storage packet, and 2
+   where the status is another; then nothing is written. */
+struct vmbus_disk_end {
+    uint32_t status, moved, key, asc, ascq;
+};
+uint32_t vmbus_disk_end(const uint8_t *bytes, size_t len, struct vmbus_disk_end *end);
+
+/* What the request with which the bytes begin asks of a disk: 0. 1 where they are no storage packet or another operation than 3; then nothing is written. */
+struct vmbus_disk_asked {
+    uint32_t command; /* 0 not built, 1 TEST UNIT READY, 2 INQUIRY, 3 READ CAPACITY (10), 4 READ, 5 WRITE, 6 SYNCHRONIZE CACHE, 7 code 9E */
+    uint32_t transfer; /* how many bytes go, or may come */
+    uint32_t plain; /* of INQUIRY: no page is asked for; of code 9E: it is READ CAPACITY (16) */
+    uint32_t stop; /* 0, or the status with which it has to be stopped: 0x20 another device, 4 a command of more than 16 bytes */
+    uint64_t allocation; /* how many bytes may come back at most */
+    uint64_t lba, count;
+};
+uint32_t vmbus_disk_asked(const uint8_t *bytes, size_t len, struct vmbus_disk_asked *asked);
+
+/* The answer to the request with which the bytes begin: the disk did it, and `back` bytes come back; or refused it with this sense; or it is stopped with this status. VMBUS_NO_FORM where they
+   are no SCSI request, back is above 4,096, or another number above 255. */
+uint32_t vmbus_disk_good(const uint8_t *bytes, size_t len, uint32_t back, uint8_t *out, size_t room);
+uint32_t vmbus_disk_check(const uint8_t *bytes, size_t len, uint32_t key, uint32_t asc, uint32_t ascq, uint8_t *out, size_t room);
+uint32_t vmbus_disk_stop(const uint8_t *bytes, size_t len, uint32_t status, uint8_t *out, size_t room);
 
 /* The numbers of an NVSP message (Linux drivers/net/hyperv/hyperv_net.h). Those that its type doesn't have are 0. */
 struct vmbus_nvsp {
@@ -142,6 +220,15 @@ struct vmbus_rndis {
    5 body has less than 1,514 bytes: nothing is looked at, and not even the fault is written.
    On 0 the fault stays as it was, and so does body behind the buffer. */
 uint32_t vmbus_rndis_read(const uint8_t *bytes, size_t len, struct vmbus_rndis *message, uint8_t *body, size_t room, struct vmbus_fault *fault);
+
+/* The NVSP message of these numbers at the front of out, in VMBUS_NVSP bytes, of which those behind its fields are 0. VMBUS_NO_FORM where no message has them: those that its type doesn't have
+   are 0, and an id has 16 bits. */
+#define VMBUS_NVSP 40
+uint32_t vmbus_nvsp_write(const struct vmbus_nvsp *message, uint8_t *out, size_t room);
+
+/* The Remote NDIS message of these numbers, with this buffer behind its fixed part, at the front of out; len is then how many bytes it has, also where there is no room. VMBUS_NO_FORM where no
+   message has these numbers and this buffer: numbers that its type doesn't have are 0, body_len is the buffer's length, and that is 1,514 at most; then len stays. */
+uint32_t vmbus_rndis_write(const struct vmbus_rndis *message, const uint8_t *body, size_t body_len, uint8_t *out, size_t room, size_t *len);
 
 /* The guest's answer to any request of a heartbeat or a shutdown channel, and how many bytes it has: 28 where the request has fewer, and as many as the
    request otherwise. Where the reply has less room, nothing is written, and the answer is 0. The two slices may not overlap. */

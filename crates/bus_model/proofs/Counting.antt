@@ -6,7 +6,7 @@ use Rattle.std.proofs.lemmas.List.{length-map}
 use Rattle.std.proofs.lemmas.List.Sums.{length-filter}
 use Rattle.script_lines.specs.declared.line.Line.{Line}
 use Rattle.script_lines.specs.declared.line.What.{What}
-use Rattle.script_lines.specs.declared.line.What.TheVariants.{Contact as IsContact, Offer as IsOffer, Bad as IsBad, RingSize as IsRingSize, Window as IsWindow, Ask as IsAsk, Rescind as IsRescind, Shut as IsShut, Phase as IsPhase}
+use Rattle.script_lines.specs.declared.line.What.TheVariants.{Contact as IsContact, Offer as IsOffer, Bad as IsBad, RingSize as IsRingSize, Window as IsWindow, Ask as IsAsk, Rescind as IsRescind, Shut as IsShut, Modify as IsModify, Phase as IsPhase}
 use Rattle.script_lines.specs.declared.line.DeviceSpec.{DeviceSpec}
 use Rattle.script_lines.specs.Lines.{is_phase}
 use Rattle.script_lines.specs.Parts.{ends_part, parts, offered}
@@ -14,6 +14,7 @@ use Rattle.bus_script.specs.Report.{prints, tells}
 use Rattle.bus_script.specs.declared.outcome.LineResult.{LineResult}
 use Rattle.bus_model.specs.Logs.{Recorded}
 use Rattle.bus_model.specs.declared.channel_run.ChannelRun.{ChannelRun}
+use Rattle.script_phases.specs.Agreed.{agreed_in}
 use Rattle.script_phases.specs.Openings.{Phase, phases_from}
 use Rattle.bus_model.specs.Run.{Source, source_of, sources_from, outcome_at, PhaseRuns, RunsOf, over, then_on}
 use Rattle.bus_model.specs.Laws.{OneEach}
@@ -36,6 +37,7 @@ line_source p before (IsWindow device size) l ss ls is = is
 line_source p before (IsAsk device ask) l ss ls is = omega (arith, is)
 line_source p before (IsRescind device after held) l ss ls is = is
 line_source p before (IsShut device) l ss ls is = is
+line_source p before (IsModify device vp) l ss ls is = omega (arith, is)
 line_source p before IsPhase l ss ls is = is
 
 sources_print : (p : Phase) (before part : List Line) → length (sources_from p before part) ≡ shown part
@@ -47,11 +49,11 @@ one_phase p before after runs told run =
     sym (length-map told (λ r. Some r)) ∙ ap length run.outcomes ∙ length-map (sources_from p [] p.part) (outcome_at p run.channels) ∙ sources_print p [] p.part
 
 -- an outcome for each line of the phases that prints
-told_each : (specs : List DeviceSpec) (number next : ℕ) (earlier : List Line) (ps : List (List Line)) (before : List (List Recorded)) (settled : List ChannelRun) (after : List (List Recorded)) (results : List LineResult)
-    → RunsOf (phases_from specs number next earlier ps) before settled after results → length results ≡ shown_in ps
-told_each specs number next earlier [] before settled after results over = refl
-told_each specs number next earlier (part ∷ rest) before settled after results (then_on {told = told} {results = more} one on) =
-    omega (arith, one_phase _ _ _ _ told one, told_each specs (number + 1) _ (earlier ++ part) rest _ _ _ more on, length-append told more)
+told_each : (version : ℕ) (specs : List DeviceSpec) (number next : ℕ) (earlier : List Line) (ps : List (List Line)) (before : List (List Recorded)) (settled : List ChannelRun) (after : List (List Recorded)) (results : List LineResult)
+    → RunsOf (phases_from version specs number next earlier ps) before settled after results → length results ≡ shown_in ps
+told_each version specs number next earlier [] before settled after results over = refl
+told_each version specs number next earlier (part ∷ rest) before settled after results (then_on {told = told} {results = more} one on) =
+    omega (arith, one_phase _ _ _ _ told one, told_each version specs (number + 1) _ (earlier ++ part) rest _ _ _ more on, length-append told more)
 
 -- the phases' lines that print are the script's
 
@@ -75,6 +77,7 @@ split_line l (IsBad device lba) is ps = onto l ps
 split_line l (IsAsk device ask) is ps = onto l ps
 split_line l (IsRescind device after held) is ps = onto l ps
 split_line l (IsShut device) is ps = onto l ps
+split_line l (IsModify device vp) is ps = onto l ps
 split_line l IsPhase is ps = let none : one l ≡ 0 = ap (λ w. length (cond (tells w) (l ∷ []) [])) is in omega (arith, none)
 
 all_parts : (lines : List Line) → shown_in (slice_split ends_part lines) ≡ shown lines
@@ -82,4 +85,4 @@ all_parts [] = refl
 all_parts (l ∷ lines) = omega (arith, split_line l l.what refl (slice_split ends_part lines), all_parts lines, first_of (prints l) l (filter prints lines))
 
 pub one_each_lem : OneEach
-one_each_lem lines settled histories results run = told_each (offered lines) 0 _ [] (parts lines) _ settled _ results run.phases_run ∙ all_parts lines ∙ length-filter prints lines
+one_each_lem lines settled histories results run = told_each (agreed_in lines) (offered lines) 0 _ [] (parts lines) _ settled _ results run.phases_run ∙ all_parts lines ∙ length-filter prints lines

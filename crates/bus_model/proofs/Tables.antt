@@ -8,7 +8,7 @@ use Rattle.bus_model.specs.Served.{Served, done_of}
 use Rattle.script_phases.specs.Says.{asks_of, is_shut}
 use Rattle.bus_model.specs.Orders.{Order}
 use Rattle.bus_model.specs.Channel.{rescinded_of, outcomes_by, outcomes_of}
-use Rattle.bus_model.specs.Run.{Source, AskedOf, known_or}
+use Rattle.bus_model.specs.Run.{Source, Known, AskedOf, known_or, modified_by}
 use Rattle.bus_model.specs.Laws.{Table, TableOfOutcomes, RowsOfEnded}
 use Rattle.bus_model.proofs.Arriving.{serves_each_lem}
 
@@ -65,6 +65,9 @@ either gone shut source = known_or (if gone then Some Gone else if shut then Som
 pub ended_lem : RowsOfEnded
 ended_lem p device = record {
   gone = λ is before ask. ap (λ b. either b (is_shut device p.earlier) (AskedOf device (length (asks_of device before)))) is;
+  gone_unmoved = λ is before vp. ap (λ b. either b (is_shut device p.earlier) (Known (modified_by p.version vp))) is;
+  closed_unmoved = λ no is before vp.
+      ap (λ b. either b (is_shut device p.earlier) (Known (modified_by p.version vp))) no ∙ ap (λ b. either false b (Known (modified_by p.version vp))) is;
   closed = λ no is before ask.
       ap (λ b. either b (is_shut device p.earlier) (AskedOf device (length (asks_of device before)))) no ∙ ap (λ b. either false b (AskedOf device (length (asks_of device before)))) is;
 }

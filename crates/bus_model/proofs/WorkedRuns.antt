@@ -1,5 +1,6 @@
 -- The worked examples have runs.
 use Rattle.std.proofs.Common.{◌≡◌, ℕ, List, [], ◌∷◌, Bool, true, false, refl, ap, arith}
+use Rattle.contact.specs.Versions.{version}
 use Rattle.contact.specs.declared.kind.Kind.TheVariants.{Disk as DiskKind}
 use Rattle.script_lines.specs.declared.line.Line.{Line}
 use Rattle.script_lines.specs.declared.line.What.TheVariants.{Offer as IsOffer, Ask as IsAsk, Shut as IsShut}
@@ -47,7 +48,7 @@ module _ (a : Exchange) where
   lines_to_close = line 1 (IsOffer [] (Disk 64 0)) ∷ line 2 (IsAsk 0 a.ask) ∷ line 3 (IsShut 0) ∷ []
 
   abbrev closed_phase : Phase
-  closed_phase = record { number = 0; earlier = []; part = lines_to_close; opened = opening 1 0 0 ∷ [] }
+  closed_phase = record { version = version 5 2; number = 0; earlier = []; part = lines_to_close; opened = opening 1 0 0 ∷ [] }
 
   once : Suits (order_of closed_phase (opening 1 0 0)) (call 0 a ∷ [])
   once = record { can = (a.can, tt); few = omega arith; serves = one_disk 5 a.ask a.can; fits = (a.fits, tt) }
@@ -76,10 +77,10 @@ module _ (a b c : Exchange) where
   lines_before = line 1 (IsOffer [] (Disk 64 1)) ∷ line 2 (IsAsk 0 a.ask) ∷ []
 
   abbrev before : Phase
-  before = record { number = 0; earlier = []; part = lines_before; opened = opening 1 1 0 ∷ opening 2 1 1 ∷ [] }
+  before = record { version = version 5 2; number = 0; earlier = []; part = lines_before; opened = opening 1 1 0 ∷ opening 2 1 1 ∷ [] }
 
   abbrev behind : Phase
-  behind = record { number = 1; earlier = lines_before; part = line 4 (IsAsk 0 b.ask) ∷ line 5 (IsAsk 0 c.ask) ∷ []; opened = opening 1 1 0 ∷ opening 3 1 1 ∷ [] }
+  behind = record { version = version 5 2; number = 1; earlier = lines_before; part = line 4 (IsAsk 0 b.ask) ∷ line 5 (IsAsk 0 c.ask) ∷ []; opened = opening 1 1 0 ∷ opening 3 1 1 ∷ [] }
 
   one : Suits (order_of before (opening 1 1 0)) (call 0 a ∷ [])
   one = record { can = (a.can, tt); few = omega arith; serves = one_disk 6 a.ask a.can; fits = (a.fits, tt) }

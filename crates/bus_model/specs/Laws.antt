@@ -5,11 +5,11 @@ use Rattle.channel_trace.specs.Runs.{IsFront}
 use Rattle.contact.specs.declared.kind.Kind.TheVariants.{Net}
 use Rattle.script_lines.specs.declared.line.Line.{Line}
 use Rattle.script_lines.specs.declared.line.Ask.{Ask}
-use Rattle.script_lines.specs.Lines.{Asks}
+use Rattle.script_lines.specs.Lines.{Asks, Modifies}
 use Rattle.script_phases.specs.Says.{is_rescinded, is_shut}
 use Rattle.script_phases.specs.Openings.{Phase, phases, by_relid}
 use Rattle.bus_script.specs.declared.outcome.LineResult.{LineResult}
-use Rattle.bus_script.specs.declared.outcome.LineResult.TheVariants.{Version, Done, RescindedServed, Unserved, Gone, Closed}
+use Rattle.bus_script.specs.declared.outcome.LineResult.TheVariants.{Version, Done, RescindedServed, Unserved, Modified, Unsupported, Gone, Closed}
 use Rattle.bus_script.specs.declared.outcome.Reply.{Reply}
 use Rattle.bus_script.specs.Report.{prints}
 use Rattle.device_formats.specs.Wants.{IsAskable}
@@ -98,6 +98,8 @@ was_served (Version tried) = false
 was_served (Done serial reply) = true
 was_served (RescindedServed serial) = true
 was_served Unserved = false
+was_served (Modified vp answered) = false
+was_served Unsupported = false
 was_served Gone = false
 was_served Closed = false
 
@@ -132,6 +134,8 @@ ListsTell = (order : Order) (lists : Lists) (served : List Served) → IsChannel
 pub record EndedRows (p : Phase) (device : ℕ) : Type 0 where
   pub gone : is_rescinded device p.earlier ≡ true → (before : List Line) (ask : Ask) → source_said p before (Some (device, Asks ask)) ≡ Known Gone ∷ []
   pub closed : is_rescinded device p.earlier ≡ false → is_shut device p.earlier ≡ true → (before : List Line) (ask : Ask) → source_said p before (Some (device, Asks ask)) ≡ Known Closed ∷ []
+  pub gone_unmoved : is_rescinded device p.earlier ≡ true → (before : List Line) (vp : ℕ) → source_said p before (Some (device, Modifies vp)) ≡ Known Gone ∷ []
+  pub closed_unmoved : is_rescinded device p.earlier ≡ false → is_shut device p.earlier ≡ true → (before : List Line) (vp : ℕ) → source_said p before (Some (device, Modifies vp)) ≡ Known Closed ∷ []
 
 abbrev pub RowsOfEnded : Type 0
 RowsOfEnded = (p : Phase) (device : ℕ) → EndedRows p device

@@ -1,16 +1,16 @@
 -- A run of the bus, phase by phase: what each channel carried, how each device's history went on, and the outcomes of the lines.
-use Rattle.std.specs.Prelude.{ℕ, ◌≡◌, ◌+◌, ◌%◌, ◌/◌, ◌==◌, List, [], ◌∷◌, ◌++◌, length, map, filter, Option, Some, None, slice_get, slice_index_or, if◌then◌else◌}
+use Rattle.std.specs.Prelude.{ℕ, true, false, ◌≡◌, ◌+◌, ◌%◌, ◌/◌, ◌==◌, List, [], ◌∷◌, ◌++◌, length, map, filter, Option, Some, None, slice_get, slice_index_or, if◌then◌else◌}
 use Rattle.std.specs.List.{AllByRecursion}
 use Rattle.std.specs.Option.{option_map_or}
-use Rattle.contact.specs.Versions.{versions_tried}
+use Rattle.contact.specs.Versions.{versions_tried, has_modify, answers_modify}
 use Rattle.script_lines.specs.declared.line.Line.{Line}
 use Rattle.script_lines.specs.declared.line.What.{What}
-use Rattle.script_lines.specs.Lines.{Says, Asks, Rescinds, Shuts, said, contact_of}
+use Rattle.script_lines.specs.Lines.{Says, Asks, Rescinds, Shuts, Modifies, said, contact_of}
 use Rattle.script_lines.specs.Parts.{offered}
 use Rattle.script_phases.specs.Says.{asks_of, is_rescinded, is_shut}
 use Rattle.script_phases.specs.Openings.{Opening, Phase, phases, by_relid}
 use Rattle.bus_script.specs.declared.outcome.LineResult.{LineResult}
-use Rattle.bus_script.specs.declared.outcome.LineResult.TheVariants.{Version as Agreed, Gone, Closed}
+use Rattle.bus_script.specs.declared.outcome.LineResult.TheVariants.{Version as Agreed, Modified, Unsupported, Gone, Closed}
 use Rattle.bus_model.specs.Served.{Served}
 use Rattle.bus_model.specs.Orders.{order_of}
 use Rattle.bus_model.specs.Channel.{IsChannelRun, outcomes_of}
@@ -55,12 +55,17 @@ abbrev pub known_or : Option LineResult → Source → Source
 known_or None source = source
 known_or (Some result) source = Known result
 
+-- how the interrupts of a device's first channel are moved, by the version: from 5.3 on the host answers, and below 4.1 there is no message for it
+abbrev pub modified_by : ℕ → ℕ → LineResult
+modified_by version vp = if answers_modify version then Modified vp true else if has_modify version then Modified vp false else Unsupported
+
 -- the source of what is said behind these lines of the phase, where it has an outcome
 abbrev pub source_said : Phase → List Line → Option (ℕ × Says) → List Source
 source_said p before None = []
 source_said p before (Some (device, Asks ask)) = known_or (ended_as device p.earlier) (AskedOf device (length (asks_of device before))) ∷ []
 source_said p before (Some (device, Rescinds after held)) = []
 source_said p before (Some (device, Shuts)) = []
+source_said p before (Some (device, Modifies vp)) = known_or (ended_as device p.earlier) (Known (modified_by p.version vp)) ∷ []
 
 -- a contact line has one besides, and no other line of settings
 abbrev pub source_of : Phase → List Line → What → List Source

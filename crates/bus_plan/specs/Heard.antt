@@ -6,8 +6,8 @@ use Rattle.chan_state.specs.declared.stop.Stop.{Stop}
 use Rattle.script_lines.specs.declared.line.Line.{Line}
 use Rattle.script_lines.specs.declared.line.What.{What}
 use Rattle.bus_plan.specs.declared.heard.Heard.{Heard}
-use Rattle.bus_plan.specs.declared.heard.Heard.TheVariants.{Asks as HeardAsks, Stops as HeardStops, Shuts as HeardShuts}
-use Rattle.script_lines.specs.Lines.{Says, Asks, Rescinds, Shuts, said}
+use Rattle.bus_plan.specs.declared.heard.Heard.TheVariants.{Asks as HeardAsks, Stops as HeardStops, Shuts as HeardShuts, Modifies as HeardModifies}
+use Rattle.script_lines.specs.Lines.{Says, Asks, Rescinds, Shuts, Modifies, said}
 
 -- after how many requests, and whether nothing goes back for the last of them
 abbrev pub stop_told : Option Stop → Option (ℕ × Bool)
@@ -18,6 +18,7 @@ abbrev pub says_told : Heard → Says
 says_told (HeardAsks ask) = Asks ask.now
 says_told (HeardStops s) = Rescinds s.after s.held
 says_told HeardShuts = Shuts
+says_told (HeardModifies vp) = Modifies vp
 
 abbrev pub said_told : Option (ℕ × Heard) → Option (ℕ × Says)
 said_told None = None

@@ -26,6 +26,7 @@ fn end(ended: &mut [Option<Ending>], what: &What)
         Some((device, Heard::Stops(_))) => ended[device as usize] = Some(Ending::Rescinded),
         Some((device, Heard::Shuts)) => close(&mut ended[device as usize]),
         Some((_, Heard::Asks(_))) => {}
+        Some((_, Heard::Modifies(_))) => {}
         None => {}
     }
 }

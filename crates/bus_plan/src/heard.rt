@@ -19,6 +19,8 @@ pub enum Heard<'a> {
     Stops(Stop),
     /// It is closed.
     Shuts,
+    /// The interrupts of its first channel go to this processor.
+    Modifies(u32),
 }
 
 /// The device that a line speaks to, and what it says.
@@ -39,6 +41,7 @@ pub fn said(what: &What) -> Option<(u32, Heard<'_>)>
             }),
         )),
         What::Shut { device } => Some((*device, Heard::Shuts)),
+        What::Modify { device, vp } => Some((*device, Heard::Modifies(*vp))),
         _ => None,
     }
 }
@@ -91,6 +94,7 @@ fn push_ask(
         }
         Some(Heard::Stops(_)) => Ok(()),
         Some(Heard::Shuts) => Ok(()),
+        Some(Heard::Modifies(_)) => Ok(()),
         None => Ok(()),
     }
 }
@@ -104,6 +108,7 @@ fn asks_heard(heard: Option<Heard<'_>>) -> usize
         Some(Heard::Asks(_)) => 1,
         Some(Heard::Stops(_)) => 0,
         Some(Heard::Shuts) => 0,
+        Some(Heard::Modifies(_)) => 0,
         None => 0,
     }
 }
@@ -150,6 +155,7 @@ fn stop_by(heard: Option<Heard<'_>>) -> Option<Stop>
         Some(Heard::Stops(stop)) => Some(stop),
         Some(Heard::Asks(_)) => None,
         Some(Heard::Shuts) => None,
+        Some(Heard::Modifies(_)) => None,
         None => None,
     }
 }

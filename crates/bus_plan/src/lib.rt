@@ -10,6 +10,7 @@ mod outcomes;
 mod phase_outcomes;
 mod plan;
 mod split;
+mod versions;
 
 pub use channel_outcomes::ChannelOutcomes;
 pub use ending::Ending;
@@ -19,3 +20,4 @@ pub use outcomes::line_results;
 pub use phase_outcomes::Outcomes;
 pub use plan::plan_part;
 pub use split::first_part;
+pub use versions::agreed;

@@ -17,7 +17,7 @@ use Rattle.script_lines.specs.declared.line.Line.{Line}
 use Rattle.script_lines.specs.declared.asked.Asked.{Asked}
 use Rattle.script_lines.specs.declared.asked.Asked.TheVariants.{Beat, Down, Command, Message}
 use Rattle.script_lines.specs.declared.said.Said.{Said}
-use Rattle.script_lines.specs.declared.said.Said.TheVariants.{Nothing, Contact, Offer, Bad, Ring, Window, Request, Rescind, Close, Phase}
+use Rattle.script_lines.specs.declared.said.Said.TheVariants.{Nothing, Contact, Offer, Bad, Ring, Window, Request, Rescind, Close, Modify, Phase}
 use Rattle.script_lines.specs.Rows as rows
 use Rattle.script_lines.specs.Rows.{sized, begins_comment, is_printable, said_in, said_by}
 use Rattle.script_lines.specs.Faults.{device_said, fault_at}
@@ -91,6 +91,7 @@ data_said (Window name size) = 0
 data_said (Request name asked) = data_asked asked
 data_said (Rescind name after held) = 0
 data_said (Close name) = 0
+data_said (Modify name vp) = 0
 data_said Phase = 0
 
 abbrev data_if : Option Said → ℕ
@@ -223,7 +224,8 @@ row_half key others =
     (half_if n (bytes_eq key (codes "beat")) _ _ (half_map n _ (rows.name_and_number others) (λ a. refl))
     (half_if n (bytes_eq key (codes "down")) _ _ (half_map n _ (rows.name_and_number others) (λ a. refl))
     (half_if n (bytes_eq key (codes "rescind")) _ _ (rescind_half n others)
-    (half_if n (bytes_eq key (codes "close")) _ _ (half_map n _ (rows.name_alone others) (λ a. refl)) (half_if n (bytes_eq key (codes "phase")) _ _ (phase_half n others) (disk_half key others)))))))))
+    (half_if n (bytes_eq key (codes "close")) _ _ (half_map n _ (rows.name_alone others) (λ a. refl))
+    (half_if n (bytes_eq key (codes "modify")) _ _ (half_map n _ (rows.name_and_number others) (λ a. refl)) (half_if n (bytes_eq key (codes "phase")) _ _ (phase_half n others) (disk_half key others))))))))))
 
 by_half : (ws : List (List ℕ)) → Half (total ws) (said_by ws)
 by_half [] = omega arith
@@ -254,6 +256,7 @@ what_data number device (Window name size) = omega arith
 what_data number device (Request name asked) = asked_data number name device asked
 what_data number device (Rescind name after held) = omega arith
 what_data number device (Close name) = omega arith
+what_data number device (Modify name vp) = omega arith
 what_data number device Phase = omega arith
 
 said_data : (number : ℕ) (before : List Line) (o : Option Said) → data_by (said_lines number before o) ≤ data_if o

@@ -10,18 +10,20 @@ use Rattle.contact.specs.declared.kind.Kind.{Kind}
 use Rattle.scsi_disk.proofs.RoomLaws.{by_test}
 use Rattle.script_lines.specs.declared.line.Line.{Line}
 use Rattle.script_lines.specs.declared.line.What.{What}
-use Rattle.script_lines.specs.declared.line.What.TheVariants.{Contact as IsContact, Offer as IsOffer, Bad as IsBad, RingSize as IsRingSize, Window as IsWindow, Ask as IsAsk, Rescind as IsRescind, Shut as IsShut, Phase as IsPhase}
+use Rattle.script_lines.specs.declared.line.What.TheVariants.{Contact as IsContact, Offer as IsOffer, Bad as IsBad, RingSize as IsRingSize, Window as IsWindow, Ask as IsAsk, Rescind as IsRescind, Shut as IsShut, Modify as IsModify, Phase as IsPhase}
 use Rattle.script_lines.specs.declared.line.Ask.{Ask}
 use Rattle.script_lines.specs.declared.line.Ask.TheVariants.{Ic as AskIc, Disk as AskDisk, Net as AskNet}
 use Rattle.script_lines.specs.declared.line.DeviceSpec.{DeviceSpec}
-use Rattle.script_lines.specs.Lines.{Says, Asks, Rescinds, Shuts, said, is_phase}
+use Rattle.script_lines.specs.Lines.{Says, Asks, Rescinds, Shuts, Modifies, said, is_phase}
 use Rattle.script_lines.specs.Parts.{ends_part, parts, offered, offered_by, channels_of, kind_of, kind_asked}
 use Rattle.script_lines.specs.WellFormed.{IsDevice, IsRight, AllRight}
 use Rattle.script_phases.specs.Says.{heard_by, said_to, asked, asks_of, is_rescinded, is_shut}
+use Rattle.contact.specs.Versions.{has_modify, answers_modify}
+use Rattle.script_phases.specs.Agreed.{agreed_in}
 use Rattle.script_phases.specs.Openings.{Opening, Phase, subs_of, is_opened, subs_from, channels_from, opened_from, firsts, others, is_first, by_relid, phases_from}
 use Rattle.script_phases.specs.Shares.{share}
 use Rattle.bus_script.specs.declared.outcome.LineResult.{LineResult}
-use Rattle.bus_script.specs.declared.outcome.LineResult.TheVariants.{Gone, Closed}
+use Rattle.bus_script.specs.declared.outcome.LineResult.TheVariants.{Modified, Unsupported, Gone, Closed}
 use Rattle.bus_script.specs.Report.{prints, result_runs, runs_back}
 use Rattle.script_lines.proofs.Plain.{PlainAsk, PlainSays, PlainLine, script_plain}
 use Rattle.channel_model.specs.Roles.{side_that_asks}
@@ -30,7 +32,7 @@ use Rattle.bus_model.specs.Served.{Served}
 use Rattle.bus_model.specs.Orders.{order_of}
 use Rattle.bus_model.specs.Channel.{asked_under, asked_by, served_count}
 use Rattle.bus_model.specs.Logs.{Recorded}
-use Rattle.bus_model.specs.Run.{Carried, IsCarried, seats_of, EachGrows, Source, Known, AskedOf, known_or, source_of, sources_from, outcome_at, PhaseRuns, RunsOf, over, then_on}
+use Rattle.bus_model.specs.Run.{Carried, IsCarried, seats_of, EachGrows, Source, Known, AskedOf, known_or, modified_by, source_of, sources_from, outcome_at, PhaseRuns, RunsOf, over, then_on}
 use Rattle.bus_model.specs.declared.channel_run.ChannelRun.{ChannelRun}
 use Rattle.bus_model.proofs.Counting.{one_each_lem}
 use Rattle.bus_model.proofs.Lists.{each_append, each_map, each_unmap, each_if, each_filter, each_unfilter, each_split, each_swap, IfThere}
@@ -61,6 +63,7 @@ heard_plain device None plain = tt
 heard_plain device (Some (d, Asks ask)) plain = heard_ask (nat_eq d device) ask plain
 heard_plain device (Some (d, Rescinds after held)) plain = heard_no_ask (nat_eq d device) (Rescinds after held) refl
 heard_plain device (Some (d, Shuts)) plain = heard_no_ask (nat_eq d device) Shuts refl
+heard_plain device (Some (d, Modifies vp)) plain = heard_no_ask (nat_eq d device) (Modifies vp) refl
 
 asks_plain : (device : ℕ) (part : List Line) → AllByRecursion PlainLine part → AllByRecursion PlainAsk (asks_of device part)
 asks_plain device [] plain = tt
@@ -113,11 +116,11 @@ grows_plain device channels (b ∷ before) (a ∷ after) each all old = (
   grows_plain (device + 1) channels before after each.1 all old.1,
 )
 
-run_plain : (specs : List DeviceSpec) (number next : ℕ) (earlier : List Line) (ps : List (List Line)) (before : List (List Recorded)) (settled : List ChannelRun) (after : List (List Recorded)) (results : List LineResult)
-    → RunsOf (phases_from specs number next earlier ps) before settled after results → AllByRecursion (AllByRecursion PlainLine) ps → AllByRecursion PlainLog before → AllByRecursion PlainLog after
-run_plain specs number next earlier [] before settled after results over plain old = old
-run_plain specs number next earlier (part ∷ rest) before settled after results (then_on {p = p} {between = between} {settled = later} {results = more} one on) plain old =
-    run_plain specs (number + 1) _ (earlier ++ part) rest between later after more on plain.1 (grows_plain 0 one.channels before between one.histories (channels_plain p one.channels one.each plain.0) old)
+run_plain : (version : ℕ) (specs : List DeviceSpec) (number next : ℕ) (earlier : List Line) (ps : List (List Line)) (before : List (List Recorded)) (settled : List ChannelRun) (after : List (List Recorded)) (results : List LineResult)
+    → RunsOf (phases_from version specs number next earlier ps) before settled after results → AllByRecursion (AllByRecursion PlainLine) ps → AllByRecursion PlainLog before → AllByRecursion PlainLog after
+run_plain version specs number next earlier [] before settled after results over plain old = old
+run_plain version specs number next earlier (part ∷ rest) before settled after results (then_on {p = p} {between = between} {settled = later} {results = more} one on) plain old =
+    run_plain version specs (number + 1) _ (earlier ++ part) rest between later after more on plain.1 (grows_plain 0 one.channels before between one.histories (channels_plain p one.channels one.each plain.0) old)
 
 none_before : (kinds : List DeviceSpec) → AllByRecursion PlainLog (map (λ k. []) kinds)
 none_before [] = tt
@@ -198,6 +201,7 @@ sent_by (IsWindow d size) = []
 sent_by (IsAsk d ask) = data_of ask ∷ []
 sent_by (IsRescind d after held) = []
 sent_by (IsShut d) = []
+sent_by (IsModify d vp) = 0 ∷ []
 sent_by IsPhase = []
 
 abbrev sent_in : List Line → List ℕ
@@ -220,6 +224,16 @@ ended_fine : (specs : List DeviceSpec) (part : List Line) (r s : Bool) (device k
 ended_fine specs part true s device k n here = omega arith
 ended_fine specs part false true device k n here = omega arith
 ended_fine specs part false false device k n here = here
+
+moved_fine : (specs : List DeviceSpec) (part : List Line) (r s : Bool) (version vp : ℕ) → FineSource specs part (known_or (if r then Some Gone else if s then Some Closed else None) (Known (modified_by version vp))) 0
+moved_fine specs part true s version vp = omega arith
+moved_fine specs part false true version vp = omega arith
+moved_fine specs part false false version vp = by_version (answers_modify version) (has_modify version)
+  where
+    by_version : (answered known : Bool) → result_runs (if answered then Modified vp true else if known then Modified vp false else Unsupported) ≤ 40
+    by_version true known = omega arith
+    by_version false true = omega arith
+    by_version false false = omega arith
 
 asks_append : (device : ℕ) (xs ys : List Line) → asks_of device (xs ++ ys) ≡ asks_of device xs ++ asks_of device ys
 asks_append device xs ys =
@@ -256,6 +270,7 @@ source_fine specs p before rest l (IsAsk d ask) what is right =
     (ended_fine specs p.part (is_rescinded d p.earlier) (is_shut d p.earlier) d (length (asks_of d before)) (data_of ask) (record { ask = ask; at = ask_there p.part before rest l d ask is what; sent = refl; spec = found.0; offered = found.1 }), tt)
 source_fine specs p before rest l (IsRescind d after held) what is right = tt
 source_fine specs p before rest l (IsShut d) what is right = tt
+source_fine specs p before rest l (IsModify d vp) what is right = (moved_fine specs p.part (is_rescinded d p.earlier) (is_shut d p.earlier) p.version vp, tt)
 source_fine specs p before rest l IsPhase what is right = tt
 
 sources_fine : (specs : List DeviceSpec) (p : Phase) (before part : List Line) → p.part ≡ before ++ part → AllByRecursion (λ l. IsRight specs l.what) part → Each2 (FineSource specs p.part) (sources_from p before part) (sent_in part)
@@ -319,12 +334,12 @@ abbrev sent_all : List (List Line) → List ℕ
 sent_all [] = []
 sent_all (part ∷ parts) = sent_in part ++ sent_all parts
 
-run_few : (specs : List DeviceSpec) (number next : ℕ) (earlier : List Line) (ps : List (List Line)) (before : List (List Recorded)) (settled : List ChannelRun) (after : List (List Recorded)) (results : List LineResult)
-    → length before ≡ length specs → AllByRecursion (AllByRecursion (λ l. IsRight specs l.what)) ps → RunsOf (phases_from specs number next earlier ps) before settled after results → AllByRecursion FewLog after
+run_few : (version : ℕ) (specs : List DeviceSpec) (number next : ℕ) (earlier : List Line) (ps : List (List Line)) (before : List (List Recorded)) (settled : List ChannelRun) (after : List (List Recorded)) (results : List LineResult)
+    → length before ≡ length specs → AllByRecursion (AllByRecursion (λ l. IsRight specs l.what)) ps → RunsOf (phases_from version specs number next earlier ps) before settled after results → AllByRecursion FewLog after
     → AllByRecursion FewLog before × FewTold results (sent_all ps)
-run_few specs number next earlier [] before settled after results many right over few = (few, tt)
-run_few specs number next earlier (part ∷ rest) before settled after results many right (then_on {p = p} {between = between} {runs = runs} {settled = later} {told = told} {results = more} one on) few =
-    let behind = run_few specs (number + 1) _ (earlier ++ part) rest between later after more (grows_long 0 one.channels before between one.histories ∙ many) right.1 on few in
+run_few version specs number next earlier [] before settled after results many right over few = (few, tt)
+run_few version specs number next earlier (part ∷ rest) before settled after results many right (then_on {p = p} {between = between} {runs = runs} {settled = later} {told = told} {results = more} one on) few =
+    let behind = run_few version specs (number + 1) _ (earlier ++ part) rest between later after more (grows_long 0 one.channels before between one.histories ∙ many) right.1 on few in
     let here = phase_few p next specs before between runs told one refl (opened_within (is_opened earlier part) (length before) 0 next specs (omega (arith, many))) right.0 behind.0 in
     (here.logs, each2_append (λ (r : LineResult) (n : ℕ). FewFor n r) told more (sent_in part) (sent_all rest) here.told_few behind.1)
 
@@ -353,6 +368,7 @@ line_sent (IsWindow d size) = refl
 line_sent (IsAsk d ask) = omega arith
 line_sent (IsRescind d after held) = refl
 line_sent (IsShut d) = refl
+line_sent (IsModify d vp) = refl
 line_sent IsPhase = refl
 
 -- the phases' lines are the script's
@@ -370,6 +386,7 @@ split_sent l (IsWindow d size) is ps = onto_sent l ps ∙ ap (λ w. data_in w + 
 split_sent l (IsAsk d ask) is ps = onto_sent l ps ∙ ap (λ w. data_in w + in_all (sent_all ps)) is
 split_sent l (IsRescind d after held) is ps = onto_sent l ps ∙ ap (λ w. data_in w + in_all (sent_all ps)) is
 split_sent l (IsShut d) is ps = onto_sent l ps ∙ ap (λ w. data_in w + in_all (sent_all ps)) is
+split_sent l (IsModify d vp) is ps = onto_sent l ps ∙ ap (λ w. data_in w + in_all (sent_all ps)) is
 split_sent l IsPhase is ps = omega arith
 
 parts_sent : (lines : List Line) → in_all (sent_all (slice_split ends_part lines)) ≡ data_by lines
@@ -391,6 +408,7 @@ device_right kinds (IsWindow d size) right = tt
 device_right kinds (IsAsk d ask) right = tt
 device_right kinds (IsRescind d after held) right = tt
 device_right kinds (IsShut d) right = tt
+device_right kinds (IsModify d vp) right = tt
 device_right kinds IsPhase right = tt
 
 devices_right : (kinds : List DeviceSpec) (lines : List Line) → AllRight kinds lines → AllByRecursion IsDevice (offered lines)
@@ -402,9 +420,9 @@ few_runs_back_lem bytes lines settled histories results reads script run =
     let specs = offered lines in
     let plain = each_split PlainLine ends_part lines (script_plain bytes lines reads) in
     let right = each_split (λ (l : Line). IsRight specs l.what) ends_part lines (all_right specs lines script.right) in
-    let logs = run_plain specs 0 (length specs + 1) [] (parts lines) _ settled _ results run.phases_run plain (none_before specs) in
+    let logs = run_plain (agreed_in lines) specs 0 (length specs + 1) [] (parts lines) _ settled _ results run.phases_run plain (none_before specs) in
     let few = histories_few lines 0 specs histories (devices_right specs lines script.right) run.legal logs in
-    let told = (run_few specs 0 (length specs + 1) [] (parts lines) _ settled _ results (length-map specs (λ k. [])) right run.phases_run few).1 in
+    let told = (run_few (agreed_in lines) specs 0 (length specs + 1) [] (parts lines) _ settled _ results (length-map specs (λ k. [])) right run.phases_run few).1 in
     omega (arith, sum_few results (sent_all (parts lines)) told, parts_sent lines)
 
 pub report_fits_lem : ReportFits

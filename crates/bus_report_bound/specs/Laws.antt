@@ -2,7 +2,7 @@
 use Rattle.std.specs.Prelude.{ℕ, ◌≡◌, ◌≤◌, ◌+◌, ◌*◌, List, [], ◌∷◌, length, Ok}
 use Rattle.std.specs.Option.{option_map_or}
 use Rattle.rndis_msg.specs.Messages.{body_of}
-use Rattle.script_lines.specs.Lines.{Says, Asks, Rescinds, Shuts, said}
+use Rattle.script_lines.specs.Lines.{Says, Asks, Rescinds, Shuts, Modifies, said}
 use Rattle.script_lines.specs.Grammar.{script_of}
 use Rattle.script_lines.specs.WellFormed.{IsScript}
 use Rattle.script_lines.specs.declared.line.Line.{Line}
@@ -26,6 +26,7 @@ abbrev pub data_said : Says → ℕ
 data_said (Asks ask) = data_of ask
 data_said (Rescinds after held) = 0
 data_said Shuts = 0
+data_said (Modifies vp) = 0
 
 abbrev pub data_in : What → ℕ
 data_in what = option_map_or (λ s. data_said s.1) (said what) 0

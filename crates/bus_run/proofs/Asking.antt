@@ -14,9 +14,9 @@ use Rattle.io_edge.specs.declared.side.Side.TheVariants.{Guest}
 use Rattle.channel_model.specs.Roles.{side_that_asks}
 use Rattle.script_lines.specs.declared.line.Line.{Line}
 use Rattle.script_lines.specs.declared.line.What.{What}
-use Rattle.script_lines.specs.declared.line.What.TheVariants.{Contact as IsContact, Offer as IsOffer, Bad as IsBad, RingSize as IsRingSize, Window as IsWindow, Ask as IsAsk, Rescind as IsRescind, Shut as IsShut, Phase as IsPhase}
+use Rattle.script_lines.specs.declared.line.What.TheVariants.{Contact as IsContact, Offer as IsOffer, Bad as IsBad, RingSize as IsRingSize, Window as IsWindow, Ask as IsAsk, Rescind as IsRescind, Shut as IsShut, Modify as IsModify, Phase as IsPhase}
 use Rattle.script_lines.specs.declared.line.DeviceSpec.{DeviceSpec}
-use Rattle.script_lines.specs.Lines.{Says, Asks, Rescinds, Shuts, said, is_request}
+use Rattle.script_lines.specs.Lines.{Says, Asks, Rescinds, Shuts, Modifies, said, is_request}
 use Rattle.script_lines.specs.Parts.{is_ask, asks_in, kind_of, kind_asked}
 use Rattle.script_lines.specs.WellFormed.{IsRescindable, IsRight, AllRight, CanGo, AskGoes, AllGo}
 use Rattle.script_phases.specs.Says.{said_to, heard_by, asked, stops, asks_of}
@@ -29,6 +29,7 @@ abbrev pub FitsSays : List DeviceSpec → ℕ → Says → Type 0
 FitsSays kinds device (Asks ask) = (slice_get (map kind_of kinds) device ≡ Some (kind_asked ask)) × CanGo ask
 FitsSays kinds device (Rescinds after held) = IsRescindable (slice_get (map kind_of kinds) device) × (after ≤ 4096) × (held ≡ true → 1 ≤ after)
 FitsSays kinds device Shuts = device < length kinds
+FitsSays kinds device (Modifies vp) = device < length kinds
 
 line_fits : (kinds : List DeviceSpec) (w : What) → IsRight kinds w → AskGoes w → IfSome (said w) (λ s. FitsSays kinds s.0 s.1)
 line_fits kinds (IsContact guest host) right goes = tt
@@ -39,6 +40,7 @@ line_fits kinds (IsWindow device size) right goes = tt
 line_fits kinds (IsAsk device ask) right goes = (right, goes)
 line_fits kinds (IsRescind device after held) right goes = right
 line_fits kinds (IsShut device) right goes = right
+line_fits kinds (IsModify device vp) right goes = right.0
 line_fits kinds IsPhase right goes = tt
 
 -- it speaks of a device that is offered
@@ -54,6 +56,7 @@ says_below : (kinds : List DeviceSpec) (device : ℕ) (s : Says) → FitsSays ki
 says_below kinds device (Asks ask) fits = offered_at kinds device (kind_asked ask) fits.0
 says_below kinds device (Rescinds after held) fits = rescinded_at kinds device fits.0
 says_below kinds device Shuts fits = fits
+says_below kinds device (Modifies vp) fits = fits
 
 below_said : (kinds : List DeviceSpec) (o : Option (ℕ × Says)) → IfSome o (λ s. FitsSays kinds s.0 s.1) → IfSome o (λ s. s.0 < length kinds)
 below_said kinds None fits = tt
@@ -85,6 +88,7 @@ asks_fit kinds k kind [] is fits = tt
 asks_fit kinds k kind (Asks ask ∷ ss) is fits = (same_Some (kind_asked ask) kind (sym fits.0.0 ∙ is), fits.0.1, asks_fit kinds k kind ss is fits.1)
 asks_fit kinds k kind (Rescinds after held ∷ ss) is fits = asks_fit kinds k kind ss is fits.1
 asks_fit kinds k kind (Shuts ∷ ss) is fits = asks_fit kinds k kind ss is fits.1
+asks_fit kinds k kind (Modifies vp ∷ ss) is fits = asks_fit kinds k kind ss is fits.1
 
 -- what is rescinded is asked by the guest
 guest_asks : (kinds : List DeviceSpec) (k : ℕ) (kind : Kind) → slice_get (map kind_of kinds) k ≡ Some kind → IsRescindable (slice_get (map kind_of kinds) k) → side_that_asks kind ≡ Guest
@@ -96,6 +100,7 @@ stop_fits kinds k kind [] is fits = tt
 stop_fits kinds k kind (Asks ask ∷ ss) is fits = stop_fits kinds k kind ss is fits.1
 stop_fits kinds k kind (Rescinds after held ∷ ss) is fits = (guest_asks kinds k kind is fits.0.0, fits.0.1, fits.0.2)
 stop_fits kinds k kind (Shuts ∷ ss) is fits = stop_fits kinds k kind ss is fits.1
+stop_fits kinds k kind (Modifies vp ∷ ss) is fits = stop_fits kinds k kind ss is fits.1
 
 -- a device is asked no more than the phase asks
 
@@ -108,6 +113,7 @@ heard_few k None = omega arith
 heard_few k (Some (device, Asks ask)) = few_if (device == k) (Asks ask) 1 (omega arith)
 heard_few k (Some (device, Rescinds after held)) = few_if (device == k) (Rescinds after held) 0 (omega arith)
 heard_few k (Some (device, Shuts)) = few_if (device == k) Shuts 0 (omega arith)
+heard_few k (Some (device, Modifies vp)) = few_if (device == k) (Modifies vp) 0 (omega arith)
 
 long_if : (b : Bool) (l : Line) (ls : List Line) → length (cond b (l ∷ ls) ls) ≡ cond b 1 0 + length ls
 long_if true l ls = omega arith

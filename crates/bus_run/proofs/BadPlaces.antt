@@ -8,7 +8,7 @@ use Rattle.std.proofs.lemmas.Grind.{flat_map-append}
 use Rattle.std.proofs.lemmas.Bool.Decides.{nat_tests}
 use Rattle.script_lines.specs.declared.line.Line.{Line}
 use Rattle.script_lines.specs.declared.line.What.{What}
-use Rattle.script_lines.specs.declared.line.What.TheVariants.{Contact as IsContact, Offer as IsOffer, Bad as IsBad, RingSize as IsRingSize, Window as IsWindow, Ask as IsAsk, Rescind as IsRescind, Shut as IsShut, Phase as IsPhase}
+use Rattle.script_lines.specs.declared.line.What.TheVariants.{Contact as IsContact, Offer as IsOffer, Bad as IsBad, RingSize as IsRingSize, Window as IsWindow, Ask as IsAsk, Rescind as IsRescind, Shut as IsShut, Modify as IsModify, Phase as IsPhase}
 use Rattle.script_lines.specs.declared.line.DeviceSpec.{DeviceSpec}
 use Rattle.script_lines.specs.Parts.{offered, offered_by, blocks_of, blocks_at, bads_by, bads_of}
 use Rattle.script_lines.specs.WellFormed.{IsRight, AllRight}
@@ -41,6 +41,7 @@ bad_here kinds device (IsWindow d size) right = All-nil (λ place. place < block
 bad_here kinds device (IsAsk d ask) right = All-nil (λ place. place < blocks_at device kinds)
 bad_here kinds device (IsRescind d after held) right = All-nil (λ place. place < blocks_at device kinds)
 bad_here kinds device (IsShut d) right = All-nil (λ place. place < blocks_at device kinds)
+bad_here kinds device (IsModify d vp) right = All-nil (λ place. place < blocks_at device kinds)
 bad_here kinds device IsPhase right = All-nil (λ place. place < blocks_at device kinds)
 
 pub bads_within : (kinds : List DeviceSpec) (device : ℕ) (lines : List Line) → AllRight kinds lines → All (λ place. place < blocks_at device kinds) (bads_of device lines)
@@ -76,6 +77,7 @@ make_line lines front back device (IsWindow d size) all right is cut = tt
 make_line lines front back device (IsAsk d ask) all right is cut = tt
 make_line lines front back device (IsRescind d after held) all right is cut = tt
 make_line lines front back device (IsShut d) all right is cut = tt
+make_line lines front back device (IsModify d vp) all right is cut = tt
 make_line lines front back device IsPhase all right is cut = tt
 
 pub can_make : (lines : List Line) (i : ℕ) (line : Line) (slots : List DeviceSlot) → AllRight (offered lines) lines → i < length lines → line ≡ get_or lines i line → AreFresh lines (offered (take i lines)) slots → CanMake lines (length slots) line.what

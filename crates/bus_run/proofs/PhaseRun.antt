@@ -231,9 +231,9 @@ subs_at [] k spec all is = absurd (cc)
 subs_at (s ∷ specs) zero spec all is = let same : s ≡ spec = cc in omega (arith, ap subs_of same, all.0)
 subs_at (s ∷ specs) (suc k) spec all is = subs_at specs k spec all.1 is
 
-pub can_run : (phase : ℕ) (part : List Line) (ended : List (Option Ending)) (next : ℕ) (plan : List ChannelOrder) (slots : List DeviceSlot) (p : Phase) → IsThis phase part ended (specs_of slots) next p → EachOrdered p (by_relid p.opened) plan
+pub can_run : (version phase : ℕ) (part : List Line) (ended : List (Option Ending)) (next : ℕ) (plan : List ChannelOrder) (slots : List DeviceSlot) (p : Phase) → IsThis version phase part ended (specs_of slots) next p → EachOrdered p (by_relid p.opened) plan
     → All (IsReady (4096 * phase)) slots → AllRight (specs_of slots) part → AllGo part → asks_in part ≤ 4096 → AllByRecursion (λ s. subs_of s ≤ 3) (specs_of slots) → sum_by channels_of (specs_of slots) ≤ 16 → CanRun phase plan slots p
-can_run phase part ended next plan slots p this ordered ready right go few three sixteen =
+can_run version phase part ended next plan slots p this ordered ready right go few three sixteen =
     let of = this.of in
     let f = is_opened p.earlier p.part in
     let specs = specs_of slots in
@@ -341,9 +341,9 @@ shares_all p k next spec (c ∷ seats) (suc j) each is less =
     let e : 1 + j ≡ suc j = omega arith in
     shares_from p (channels_of spec) k spec seats 1 next (subs_of spec) j refl each.1 tail (omega (arith, less, all_channels spec)) ∙ ap (λ s. length (share (channels_of spec) s 0 (asks_of k p.part))) e
 
-pub have_outcomes : (phase : ℕ) (part : List Line) (ended : List (Option Ending)) (next : ℕ) (old new : List DeviceSlot) (settled settled' : List ChannelRun) (outcomes : List (List (List LineResult))) (p : Phase) → IsThis phase part ended (specs_of old) next p
+pub have_outcomes : (version phase : ℕ) (part : List Line) (ended : List (Option Ending)) (next : ℕ) (old new : List DeviceSlot) (settled settled' : List ChannelRun) (outcomes : List (List (List LineResult))) (p : Phase) → IsThis version phase part ended (specs_of old) next p
     → ChannelsRan p old new settled settled' outcomes → HasOutcomes part ended outcomes
-have_outcomes phase part ended next old new settled settled' outcomes p this ran k less none n asks =
+have_outcomes version phase part ended next old new settled settled' outcomes p this ran k less none n asks =
     let of = this.of in
     let f = is_opened p.earlier p.part in
     let within : k < length old = omega (arith, less, of.devices, length-map old spec_of) in

@@ -14,9 +14,11 @@ use Rattle.bus_script.specs.declared.outcome.LineResult.{LineResult}
 use Rattle.script_lines.specs.Parts.{parts, ends_part, offered, offered_by, bads_of}
 use Rattle.script_lines.specs.WellFormed.{AllRight, AllGo, IsRight, IsScript}
 use Rattle.script_lines.specs.declared.line.What.{What}
-use Rattle.script_lines.specs.declared.line.What.TheVariants.{Contact as IsContact, Offer as IsOffer, Bad as IsBad, RingSize as IsRingSize, Window as IsWindow, Ask as IsAsk, Rescind as IsRescind, Shut as IsShut, Phase as IsPhase}
+use Rattle.script_lines.specs.declared.line.What.TheVariants.{Contact as IsContact, Offer as IsOffer, Bad as IsBad, RingSize as IsRingSize, Window as IsWindow, Ask as IsAsk, Rescind as IsRescind, Shut as IsShut, Modify as IsModify, Phase as IsPhase}
 use Rattle.script_lines.specs.declared.line.DeviceSpec.TheVariants.{Beat as IsBeat, Down as IsDown, Disk as IsDisk, Net as IsNet}
 use Rattle.bus_model.proofs.Lists.{each_append}
+use Rattle.contact.specs.declared.version.Version.{Version}
+use Rattle.script_phases.specs.Agreed.{agreed_in}
 use Rattle.script_phases.specs.Openings.{Phase, subs_of, is_opened, opened_from, others, phases_from, phases}
 use Rattle.bus_model.specs.Logs.{EachHistory, IsHistory, log_of}
 use Rattle.bus_model.specs.Logs.{Recorded}
@@ -201,30 +203,32 @@ runs_push (q ∷ ps) before between after settled runs results told p (then_on {
 -- each phase of a script
 
 pub no_phase : Phase
-no_phase = record { number = 0; earlier = []; part = []; opened = [] }
+no_phase = record { version = 0; number = 0; earlier = []; part = []; opened = [] }
 
-record IsAt (specs : List DeviceSpec) (number next : ℕ) (earlier : List Line) (ps : List (List Line)) (k : ℕ) (p : Phase) : Type 0 where
+record IsAt (version : ℕ) (specs : List DeviceSpec) (number next : ℕ) (earlier : List Line) (ps : List (List Line)) (k : ℕ) (p : Phase) : Type 0 where
+  pub version_is : p.version ≡ version
   pub number_is : p.number ≡ number + k
   pub earlier_is : p.earlier ≡ earlier ++ flat_map (λ part. part) (take k ps)
   pub part_is : p.part ≡ get_or ps k []
-  pub opened : p.opened ≡ opened_from (is_opened p.earlier p.part) 0 (next + length (flat_map (λ p. others p.opened) (take k (phases_from specs number next earlier ps)))) specs
+  pub opened : p.opened ≡ opened_from (is_opened p.earlier p.part) 0 (next + length (flat_map (λ p. others p.opened) (take k (phases_from version specs number next earlier ps)))) specs
 
-phases_long : (specs : List DeviceSpec) (number next : ℕ) (earlier : List Line) (ps : List (List Line)) → length (phases_from specs number next earlier ps) ≡ length ps
-phases_long specs number next earlier [] = refl
-phases_long specs number next earlier (part ∷ rest) = ap suc (phases_long specs (number + 1) _ (earlier ++ part) rest)
+phases_long : (version : ℕ) (specs : List DeviceSpec) (number next : ℕ) (earlier : List Line) (ps : List (List Line)) → length (phases_from version specs number next earlier ps) ≡ length ps
+phases_long version specs number next earlier [] = refl
+phases_long version specs number next earlier (part ∷ rest) = ap suc (phases_long version specs (number + 1) _ (earlier ++ part) rest)
 
-phase_at : (specs : List DeviceSpec) (number next : ℕ) (earlier : List Line) (ps : List (List Line)) (k : ℕ) (d : Phase) → k < length ps → IsAt specs number next earlier ps k (get_or (phases_from specs number next earlier ps) k d)
-phase_at specs number next earlier [] k d less = absurd (omega (arith, less))
-phase_at specs number next earlier (part ∷ rest) zero d less =
+phase_at : (version : ℕ) (specs : List DeviceSpec) (number next : ℕ) (earlier : List Line) (ps : List (List Line)) (k : ℕ) (d : Phase) → k < length ps → IsAt version specs number next earlier ps k (get_or (phases_from version specs number next earlier ps) k d)
+phase_at version specs number next earlier [] k d less = absurd (omega (arith, less))
+phase_at version specs number next earlier (part ∷ rest) zero d less =
     let here : next ≡ next + 0 = omega arith in
-    record { number_is = omega arith; earlier_is = sym (append-nil earlier); part_is = refl; opened = ap (λ n. opened_from (is_opened earlier part) 0 n specs) here }
-phase_at specs number next earlier (part ∷ rest) (suc k) d less =
+    record { version_is = refl; number_is = omega arith; earlier_is = sym (append-nil earlier); part_is = refl; opened = ap (λ n. opened_from (is_opened earlier part) 0 n specs) here }
+phase_at version specs number next earlier (part ∷ rest) (suc k) d less =
     let os = others (opened_from (is_opened earlier part) 0 next specs) in
-    let more = flat_map (λ p. others p.opened) (take k (phases_from specs (number + 1) (next + length os) (earlier ++ part) rest)) in
-    let at = phase_at specs (number + 1) (next + length os) (earlier ++ part) rest k d (omega (arith, less)) in
+    let more = flat_map (λ p. others p.opened) (take k (phases_from version specs (number + 1) (next + length os) (earlier ++ part) rest)) in
+    let at = phase_at version specs (number + 1) (next + length os) (earlier ++ part) rest k d (omega (arith, less)) in
     let relid : (next + length os) + length more ≡ next + length (os ++ more) = omega (arith, length-append os more) in
-    let p = get_or (phases_from specs (number + 1) (next + length os) (earlier ++ part) rest) k d in
+    let p = get_or (phases_from version specs (number + 1) (next + length os) (earlier ++ part) rest) k d in
     record {
+      version_is = at.version_is;
       number_is = omega (arith, at.number_is);
       earlier_is = at.earlier_is ∙ append_assoc earlier part (flat_map (λ part. part) (take k rest));
       part_is = at.part_is;
@@ -236,13 +240,14 @@ abbrev pub the_phase : List Line → ℕ → Phase
 the_phase lines k = get_or (phases lines) k no_phase
 
 -- it is the one that runs next
-pub next_phase : (lines : List Line) (r : Runner) (part : List Line) (rest : List (List Line)) → RunsSoFar lines r → IsScript lines → part ∷ rest ≡ drop r.phase (parts lines) → IsThis r.phase part r.ended.items (specs_of r.slots.items) r.relid (the_phase lines r.phase)
+pub next_phase : (lines : List Line) (r : Runner) (part : List Line) (rest : List (List Line)) → RunsSoFar lines r → IsScript lines → part ∷ rest ≡ drop r.phase (parts lines) → IsThis r.version.0 r.phase part r.ended.items (specs_of r.slots.items) r.relid (the_phase lines r.phase)
 next_phase lines r part rest so_far script left =
     let less : r.phase < length (parts lines) = (this_phase (parts lines) r.phase part rest left).0 in
-    let at = phase_at (offered lines) 0 (length (offered lines) + 1) [] (parts lines) r.phase no_phase less in
+    let at = phase_at (agreed_in lines) (offered lines) 0 (length (offered lines) + 1) [] (parts lines) r.phase no_phase less in
     let head : part ≡ get_or (parts lines) r.phase [] = ap (λ (l : List (List Line)). get_or l 0 []) (left ∙ drop_more (parts lines) r.phase [] less) in
     let kinds = so_far.kinds in
     record {
+      version = at.version_is ∙ sym so_far.version;
       number = omega (arith, at.number_is);
       of = record {
         part_is = at.part_is ∙ sym head;
@@ -268,6 +273,7 @@ few_offered kinds (IsWindow d size) right = tt
 few_offered kinds (IsAsk d ask) right = tt
 few_offered kinds (IsRescind d after held) right = tt
 few_offered kinds (IsShut d) right = tt
+few_offered kinds (IsModify d vp) right = tt
 few_offered kinds IsPhase right = tt
 
 pub all_few : (kinds : List DeviceSpec) (lines : List Line) → AllRight kinds lines → AllByRecursion (λ s. subs_of s ≤ 3) (offered lines)
@@ -275,9 +281,9 @@ all_few kinds [] right = tt
 all_few kinds (l ∷ lines) right = each_append (λ s. subs_of s ≤ 3) (offered_by l.what) (offered lines) (few_offered kinds l.what right.0) (all_few kinds lines right.1)
 
 -- no phase ran
-pub start : (lines : List Line) (r : Runner) → AreFresh lines (offered lines) r.slots.items → SettingsOf lines (length r.slots.items) r.settings.items → r.ended.items ≡ replicate (length r.slots.items) None → r.relid ≡ length r.slots.items + 1 → length (offered lines) ≤ 16 → r.phase ≡ 0 → r.next ≡ Some 0 → r.settled.items ≡ [] → r.results.items ≡ [] → r.work.items ≡ []
+pub start : (lines : List Line) (r : Runner) → r.version.0 ≡ agreed_in lines → AreFresh lines (offered lines) r.slots.items → SettingsOf lines (length r.slots.items) r.settings.items → r.ended.items ≡ replicate (length r.slots.items) None → r.relid ≡ length r.slots.items + 1 → length (offered lines) ≤ 16 → r.phase ≡ 0 → r.next ≡ Some 0 → r.settled.items ≡ [] → r.results.items ≡ [] → r.work.items ≡ []
     → RunsSoFar lines r
-start lines r fresh settings none relid sixteen phase next settled results work =
+start lines r agreed fresh settings none relid sixteen phase next settled results work =
     let before : List (List Recorded) = map (λ k. []) (offered lines) in
     let many : length r.slots.items ≡ length (offered lines) = sym (length-map r.slots.items spec_of) ∙ ap length fresh.kinds_are in
     let none_opened : length (offered lines) + 1 ≡ next_relid lines 0 = omega arith in
@@ -293,6 +299,7 @@ start lines r fresh settings none relid sixteen phase next settled results work 
       kinds = fresh.kinds_are;
       setups = fresh.setups_are;
       ready = λ k d less. record { kept = (fresh.ready k d less).kept; few = omega (arith, (fresh.ready k d less).few) };
+      version = agreed;
       settings = settings;
       ended = subst (λ n. AreEnded (earlier_lines lines n) r.ended.items) (sym phase)
           (λ k less.
@@ -307,12 +314,12 @@ start lines r fresh settings none relid sixteen phase next settled results work 
 -- one more phase ran
 pub go_on : (lines part : List Line) (old new : Runner) (at : ℕ) (next : Option ℕ) → RunsSoFar lines old → IsScript lines → old.next ≡ Some at
     → MatchOption next (parts (drop at lines) ≡ part ∷ []) (λ n. parts (drop at lines) ≡ part ∷ parts (drop n (drop at lines))) → MatchOption next ⊤ (λ n. n ≤ length (drop at lines))
-    → ((p : Phase) → IsThis old.phase part old.ended.items (specs_of old.slots.items) old.relid p → PhaseRan p old.slots.items new.slots.items old.settled.items new.settled.items old.results.items new.results.items)
-    → ((p : Phase) → IsThis old.phase part old.ended.items (specs_of old.slots.items) old.relid p → new.relid ≡ old.relid + length (others p.opened)) → new.relid ≤ old.relid + 48
+    → ((p : Phase) → IsThis old.version.0 old.phase part old.ended.items (specs_of old.slots.items) old.relid p → PhaseRan p old.slots.items new.slots.items old.settled.items new.settled.items old.results.items new.results.items)
+    → ((p : Phase) → IsThis old.version.0 old.phase part old.ended.items (specs_of old.slots.items) old.relid p → new.relid ≡ old.relid + length (others p.opened)) → new.relid ≤ old.relid + 48
     → ((earlier : List Line) → AreEnded earlier old.ended.items → AreEnded (earlier ++ part) new.ended.items)
-    → length new.ended.items ≡ length old.ended.items → All (IsReady (4096 * (old.phase + 1))) new.slots.items → new.phase ≡ old.phase + 1 → new.next ≡ behind at next → new.settings.items ≡ old.settings.items
-    → ((p : Phase) → IsThis old.phase part old.ended.items (specs_of old.slots.items) old.relid p → HaveWorked old.settings.items p old.settled.items new.settled.items old.work.items new.work.items) → RunsSoFar lines new
-go_on lines part old new at next so_far script here split within ran relids few ended count ready phase moved settings worked =
+    → length new.ended.items ≡ length old.ended.items → All (IsReady (4096 * (old.phase + 1))) new.slots.items → new.phase ≡ old.phase + 1 → new.next ≡ behind at next → new.settings.items ≡ old.settings.items → new.version ≡ old.version
+    → ((p : Phase) → IsThis old.version.0 old.phase part old.ended.items (specs_of old.slots.items) old.relid p → HaveWorked old.settings.items p old.settled.items new.settled.items old.work.items new.work.items) → RunsSoFar lines new
+go_on lines part old new at next so_far script here split within ran relids few ended count ready phase moved settings agreed worked =
     let cut : parts (drop at lines) ≡ part ∷ parts_left lines (behind at next) = part_next lines part at next split in
     let left : part ∷ parts_left lines (behind at next) ≡ drop old.phase (parts lines) = sym cut ∙ ap (parts_left lines) (sym here) ∙ so_far.left in
     let p = the_phase lines old.phase in
@@ -321,7 +328,7 @@ go_on lines part old new at next so_far script here split within ran relids few 
     let this = this_phase (parts lines) old.phase part (parts_left lines (behind at next)) left in
     let started : at ≤ length lines = subst (NextWithin lines) here so_far.within in
     let slots : length new.slots.items ≡ length old.slots.items = sym (length-map new.slots.items spec_of) ∙ ap length one.kinds ∙ length-map old.slots.items spec_of in
-    let less : old.phase < length (phases lines) = omega (arith, this.0, phases_long (offered lines) 0 (length (offered lines) + 1) [] (parts lines)) in
+    let less : old.phase < length (phases lines) = omega (arith, this.0, phases_long (agreed_in lines) (offered lines) 0 (length (offered lines) + 1) [] (parts lines)) in
     let before : List (List Recorded) = map (λ k. []) (offered lines) in
     let whole : RunsOf (take old.phase (phases lines) ++ p ∷ []) before (old.settled.items ++ one.runs) (map slot_log new.slots.items) (old.results.items ++ one.told) =
     runs_push (take old.phase (phases lines)) before (map slot_log old.slots.items) (map slot_log new.slots.items) old.settled.items one.runs old.results.items one.told p so_far.runs one.phase_runs in
@@ -343,6 +350,7 @@ go_on lines part old new at next so_far script here split within ran relids few 
       kinds = one.kinds ∙ so_far.kinds;
       setups = one.setups ∙ so_far.setups;
       ready = subst (λ p. All (IsReady (4096 * p)) new.slots.items) (sym phase) ready;
+      version = ap (λ (v : Version). v.0) agreed ∙ so_far.version;
       settings = subst (λ n. SettingsOf lines n new.settings.items) (sym slots) (subst (SettingsOf lines (length old.slots.items)) (sym settings) so_far.settings);
       ended = subst (λ l. AreEnded l new.ended.items) lines_behind (ended (earlier_lines lines old.phase) so_far.ended);
       ended_count = count ∙ so_far.ended_count ∙ sym slots;
@@ -362,7 +370,7 @@ go_on lines part old new at next so_far script here split within ran relids few 
 pub finish : (lines : List Line) (r : Runner) (histories : List DeviceHistory) → RunsSoFar lines r → r.phase ≡ length (parts lines) → map log_of histories ≡ map slot_log r.slots.items → ((ls : List Line) → map setup_of r.slots.items ≡ setups_from ls 0 (map spec_of r.slots.items) → EachHistory ls 0 (map spec_of r.slots.items) histories)
     → IsBusRun lines r.settled.items histories r.results.items
 finish lines r histories so_far done logs legal =
-    let all : take r.phase (phases lines) ≡ phases lines = take_all r.phase (phases lines) (omega (arith, done, phases_long (offered lines) 0 (length (offered lines) + 1) [] (parts lines))) in
+    let all : take r.phase (phases lines) ≡ phases lines = take_all r.phase (phases lines) (omega (arith, done, phases_long (agreed_in lines) (offered lines) 0 (length (offered lines) + 1) [] (parts lines))) in
     let before : List (List Recorded) = map (λ k. []) (offered lines) in
     record {
       phases_run = subst (λ l. RunsOf (phases lines) before r.settled.items l r.results.items) (sym logs) (subst (λ ps. RunsOf ps before r.settled.items (map slot_log r.slots.items) r.results.items) all so_far.runs);
@@ -372,5 +380,5 @@ finish lines r histories so_far done logs legal =
 -- on channels that were opened as the lines say
 pub finish_worked : (lines : List Line) (r : Runner) → RunsSoFar lines r → r.phase ≡ length (parts lines) → AllRanAsSet lines (phases lines) r.work.items r.settled.items
 finish_worked lines r so_far done =
-    let all : take r.phase (phases lines) ≡ phases lines = take_all r.phase (phases lines) (omega (arith, done, phases_long (offered lines) 0 (length (offered lines) + 1) [] (parts lines))) in
+    let all : take r.phase (phases lines) ≡ phases lines = take_all r.phase (phases lines) (omega (arith, done, phases_long (agreed_in lines) (offered lines) 0 (length (offered lines) + 1) [] (parts lines))) in
     subst (λ ps. AllRanAsSet lines ps r.work.items r.settled.items) all so_far.worked

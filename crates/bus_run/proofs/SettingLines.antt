@@ -8,7 +8,7 @@ use Rattle.std.proofs.lemmas.Grind.{flat_map-append}
 use Rattle.std.proofs.lemmas.Bool.{cases_eq}
 use Rattle.script_lines.specs.declared.line.Line.{Line}
 use Rattle.script_lines.specs.declared.line.What.{What}
-use Rattle.script_lines.specs.declared.line.What.TheVariants.{Contact as IsContact, Offer as IsOffer, Bad as IsBad, RingSize as IsRingSize, Window as IsWindow, Ask as IsAsk, Rescind as IsRescind, Shut as IsShut, Phase as IsPhase}
+use Rattle.script_lines.specs.declared.line.What.TheVariants.{Contact as IsContact, Offer as IsOffer, Bad as IsBad, RingSize as IsRingSize, Window as IsWindow, Ask as IsAsk, Rescind as IsRescind, Shut as IsShut, Modify as IsModify, Phase as IsPhase}
 use Rattle.script_lines.specs.declared.line.DeviceSpec.{DeviceSpec}
 use Rattle.script_lines.specs.Parts.{pages_by, window_by}
 use Rattle.script_lines.specs.WellFormed.{IsRight, AllRight}
@@ -70,6 +70,7 @@ pages_line kinds device (IsWindow d size) rest right fits = fits
 pages_line kinds device (IsAsk d ask) rest right fits = fits
 pages_line kinds device (IsRescind d after held) rest right fits = fits
 pages_line kinds device (IsShut d) rest right fits = fits
+pages_line kinds device (IsModify d vp) rest right fits = fits
 pages_line kinds device IsPhase rest right fits = fits
 
 window_line : (kinds : List DeviceSpec) (device : ℕ) (w : What) (rest : List ℕ) → IsRight kinds w → IsWithin 1 64 4 rest → IsWithin 1 64 4 (window_by device w ++ rest)
@@ -81,6 +82,7 @@ window_line kinds device (IsWindow d size) rest right fits = within_test (d == d
 window_line kinds device (IsAsk d ask) rest right fits = fits
 window_line kinds device (IsRescind d after held) rest right fits = fits
 window_line kinds device (IsShut d) rest right fits = fits
+window_line kinds device (IsModify d vp) rest right fits = fits
 window_line kinds device IsPhase rest right fits = fits
 
 pages_within : (kinds : List DeviceSpec) (device : ℕ) (lines : List Line) → AllRight kinds lines → IsWithin 1 16 1 (set_in (pages_by device) lines)

@@ -8,6 +8,7 @@ use Rattle.bus_script.specs.declared.outcome.LineResult.{LineResult}
 use Rattle.script_lines.specs.Lines.{offer_of}
 use Rattle.script_lines.specs.Parts.{parts, offered, blocks_of, bads_of}
 use Rattle.script_lines.specs.WellFormed.{IsDevice}
+use Rattle.script_phases.specs.Agreed.{agreed_in}
 use Rattle.script_phases.specs.Openings.{Phase, others, phases}
 use Rattle.bus_model.specs.Run.{PhaseRuns, RunsOf}
 use Rattle.bus_model.specs.declared.channel_run.ChannelRun.{ChannelRun}
@@ -24,8 +25,9 @@ use Rattle.bus_run.specs.DeviceSlot.{spec_of, setup_of, setup_for, slot_log, IsR
 abbrev pub specs_of : List DeviceSlot → List DeviceSpec
 specs_of slots = map spec_of slots
 
--- the phase with this number and these lines, behind phases that ended these devices, where this relid is the next one
-pub record IsThis (phase : ℕ) (part : List Line) (ended : List (Option Ending)) (specs : List DeviceSpec) (next : ℕ) (p : Phase) : Type 0 where
+-- the phase of this version with this number and these lines, behind phases that ended these devices, where this relid is the next one
+pub record IsThis (agreed phase : ℕ) (part : List Line) (ended : List (Option Ending)) (specs : List DeviceSpec) (next : ℕ) (p : Phase) : Type 0 where
+  pub version : p.version ≡ agreed
   pub number : p.number ≡ phase
   pub of : IsPhaseOf part ended specs next p
 
@@ -88,6 +90,7 @@ pub record RunsSoFar (lines : List Line) (r : Runner) : Type 0 where
   pub kinds : map spec_of r.slots.items ≡ offered lines
   pub setups : map setup_of r.slots.items ≡ setups_from lines 0 (offered lines)
   pub ready : All (IsReady (4096 * r.phase)) r.slots.items
+  pub version : r.version.0 ≡ agreed_in lines
   pub settings : SettingsOf lines (length r.slots.items) r.settings.items
   pub ended : AreEnded (earlier_lines lines r.phase) r.ended.items
   pub ended_count : length r.ended.items ≡ length r.slots.items

@@ -18,17 +18,19 @@ use crate::settings::Settings;
 use bus_model::ChannelRun;
 use bus_plan::{Ending, line_results, mark_ended, plan_part};
 use bus_script::{Line, LineResult};
+use contact::Version;
 use io_edge::Gate;
 use std::alloc::{AllocError, Global};
 use std::sync::Wait;
 use std::thread::Threads;
 
-/// Plans a phase, runs its channels, tells the outcomes of its lines in their order, and notes which devices it ended. `relid` is the first one that no
+/// Plans a phase, runs its channels, tells the outcomes of its lines in their order, and notes which devices it ended. `version` is the agreed one. `relid` is the first one that no
 /// channel has had.
 pub fn run_script_phase<R: Threads + Wait + Sync, G: Gate>(
     rt: &R,
     gate: &G,
     alloc: Global,
+    version: Version,
     phase: u32,
     part: &[Line],
     settings: &[Settings],
@@ -43,7 +45,7 @@ pub fn run_script_phase<R: Threads + Wait + Sync, G: Gate>(
     requires right { AllRight (specs_of slots.old.items) part.now }
     requires go { AllGo part.now }
     requires asks { asks_in part.now ≤ 4096 }
-    requires this { (p : Phase) × IsThis phase part.now ended.old (specs_of slots.old.items) relid.old p }
+    requires this { (p : Phase) × IsThis version.0 phase part.now ended.old (specs_of slots.old.items) relid.old p }
     requires room { relid.old + 48 < 2 ^ 32 }
     requires ended { length ended.old ≡ length slots.old.items }
     requires settings { length settings.now ≡ length slots.old.items }
@@ -52,9 +54,9 @@ pub fn run_script_phase<R: Threads + Wait + Sync, G: Gate>(
     requires subs { AllByRecursion (λ s. subs_of s ≤ 3) (specs_of slots.old.items) }
     requires channels { sum_by channels_of (specs_of slots.old.items) ≤ 16 }
     requires phase { phase ≤ 20000 }
-    ensures ran { OnOk result ((p : Phase) → IsThis phase part.now ended.old (specs_of slots.old.items) relid.old p → PhaseRan p slots.old.items slots.new.items settled.old.items settled.new.items results.old.items results.new.items) }
-    ensures worked { OnOk result ((p : Phase) → IsThis phase part.now ended.old (specs_of slots.old.items) relid.old p → HaveWorked settings.now p settled.old.items settled.new.items work.old.items work.new.items) }
-    ensures relid { OnOk result ((p : Phase) → IsThis phase part.now ended.old (specs_of slots.old.items) relid.old p → relid.new ≡ relid.old + length (others p.opened)) }
+    ensures ran { OnOk result ((p : Phase) → IsThis version.0 phase part.now ended.old (specs_of slots.old.items) relid.old p → PhaseRan p slots.old.items slots.new.items settled.old.items settled.new.items results.old.items results.new.items) }
+    ensures worked { OnOk result ((p : Phase) → IsThis version.0 phase part.now ended.old (specs_of slots.old.items) relid.old p → HaveWorked settings.now p settled.old.items settled.new.items work.old.items work.new.items) }
+    ensures relid { OnOk result ((p : Phase) → IsThis version.0 phase part.now ended.old (specs_of slots.old.items) relid.old p → relid.new ≡ relid.old + length (others p.opened)) }
     ensures few { OnOk result (relid.new ≤ relid.old + 48) }
     ensures ready { OnOk result (All (IsReady (4096 * (phase + 1))) slots.new.items) }
     ensures ended { OnOk result ((earlier : List OneLine) → AreEnded earlier ended.old → AreEnded (earlier ++ part.now) ended.new) }
@@ -63,7 +65,7 @@ pub fn run_script_phase<R: Threads + Wait + Sync, G: Gate>(
     let subs = all_subs(alloc, slots)?;
     let plan = plan_part(alloc, ended, &subs, relid, part)?;
     let outcomes = run_channels(rt, gate, alloc, phase, plan, settings, slots, settled, work)?;
-    line_results(ended, outcomes, part, results)?;
+    line_results(version, ended, outcomes, part, results)?;
     mark_ended(ended, part);
     Ok(())
 }

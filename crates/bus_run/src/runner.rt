@@ -20,8 +20,9 @@ use crate::phase::run_script_phase;
 use crate::phase_work::PhaseWork;
 use crate::settings::{Settings, all_settings};
 use bus_model::{ChannelRun, DeviceHistory};
-use bus_plan::{Ending, first_part};
+use bus_plan::{Ending, agreed, first_part};
 use bus_script::{Line, LineResult, Script, What};
+use contact::Version;
 use control_run::ControlPath;
 use io_edge::Gate;
 use std::alloc::{AllocError, Global};
@@ -62,6 +63,8 @@ impl ScriptRun {
 /// A script under way, between two of its phases.
 #[derive(Drop)]
 pub struct Runner {
+    // the version that both ends agreed on
+    version: Version,
     slots: Vec<DeviceSlot>,
     settings: Vec<Settings>,
     // how an earlier phase ended each device
@@ -148,7 +151,10 @@ fn first_relid(offers: usize) -> u32
 fn prints(line: &Line) -> bool
     ensures { result ≡ prints line.now }
 {
-    matches!(line.what, What::Contact { .. } | What::Ask { .. })
+    matches!(
+        line.what,
+        What::Contact { .. } | What::Ask { .. } | What::Modify { .. }
+    )
 }
 
 /// Room for an outcome of each line that prints.
@@ -185,6 +191,7 @@ impl Runner {
         let relid = first_relid(slots.len());
         let results = new_results(alloc, lines)?;
         Ok(Runner {
+            version: agreed(lines),
             slots,
             settings,
             ended,
@@ -240,6 +247,7 @@ impl Runner {
             rt,
             gate,
             alloc,
+            self.version,
             self.phase,
             part,
             &self.settings,

@@ -3,7 +3,7 @@ use Rattle.std.proofs.Common.{◌≡◌, ℕ, zero, suc, ◌<◌, List, [], ◌�
 use Rattle.std.specs.Prelude.{slice_index_or}
 use Rattle.script_lines.specs.declared.line.Line.{Line}
 use Rattle.script_lines.specs.declared.line.What.{What}
-use Rattle.script_lines.specs.declared.line.What.TheVariants.{Contact as IsContact, Offer as IsOffer, Bad as IsBad, RingSize as IsRingSize, Window as IsWindow, Ask as IsAsk, Rescind as IsRescind, Shut as IsShut, Phase as IsPhase}
+use Rattle.script_lines.specs.declared.line.What.TheVariants.{Contact as IsContact, Offer as IsOffer, Bad as IsBad, RingSize as IsRingSize, Window as IsWindow, Ask as IsAsk, Rescind as IsRescind, Shut as IsShut, Modify as IsModify, Phase as IsPhase}
 use Rattle.script_lines.specs.declared.line.DeviceSpec.{DeviceSpec}
 use Rattle.script_lines.specs.WellFormed.{IsRight, AllRight}
 use Rattle.bus_script.specs.Report.{HasVersion}
@@ -17,6 +17,7 @@ right_version kinds (IsWindow device size) right = tt
 right_version kinds (IsAsk device ask) right = tt
 right_version kinds (IsRescind device after held) right = tt
 right_version kinds (IsShut device) right = tt
+right_version kinds (IsModify device vp) right = tt
 right_version kinds IsPhase right = tt
 
 -- the versions of a line are in the list

@@ -15,17 +15,17 @@ use Rattle.util_ic.specs.declared.ic.IcAsk.{IcAsk}
 use Rattle.util_ic.specs.declared.ic.IcAsk.TheVariants.{Beat as AskBeat, Down as AskDown}
 use Rattle.script_lines.specs.declared.line.Line.{Line}
 use Rattle.script_lines.specs.declared.line.What.{What}
-use Rattle.script_lines.specs.declared.line.What.TheVariants.{Contact as IsContact, Offer as IsOffer, Bad as IsBad, RingSize as IsRingSize, Window as IsWindow, Ask as IsAsk, Rescind as IsRescind, Shut as IsShut, Phase as IsPhase}
+use Rattle.script_lines.specs.declared.line.What.TheVariants.{Contact as IsContact, Offer as IsOffer, Bad as IsBad, RingSize as IsRingSize, Window as IsWindow, Ask as IsAsk, Rescind as IsRescind, Shut as IsShut, Modify as IsModify, Phase as IsPhase}
 use Rattle.script_lines.specs.declared.line.Ask.{Ask}
 use Rattle.script_lines.specs.declared.line.Ask.TheVariants.{Ic, Disk as AskDisk, Net as AskNet}
 use Rattle.bus_script.specs.declared.outcome.Reply.{Reply}
 use Rattle.bus_script.specs.declared.outcome.Reply.TheVariants.{Ic as IcReply, Disk as ReplyDisk, Net as ReplyNet}
 use Rattle.bus_script.specs.declared.outcome.LineResult.{LineResult}
-use Rattle.bus_script.specs.declared.outcome.LineResult.TheVariants.{Version as Agreed, Done, RescindedServed, Unserved, Gone, Closed}
+use Rattle.bus_script.specs.declared.outcome.LineResult.TheVariants.{Version as Agreed, Done, RescindedServed, Unserved, Modified, Unsupported, Gone, Closed}
 use Rattle.script_text.specs.Hex.{hex_8, hex_2, hex_short}
 use Rattle.script_text.specs.Runs.{runs_of, runs_text}
 use Rattle.script_lines.specs.Lines.{contact_of}
-use Rattle.script_lines.specs.Parts.{is_ask, asks_in}
+use Rattle.script_lines.specs.Parts.{is_ask, is_move, asks_in}
 
 -- the versions that a guest with this highest one may try, in order
 abbrev pub versions_from : ℕ → List ℕ
@@ -128,6 +128,8 @@ result_runs (Agreed count) = 0
 result_runs (Done serial reply) = reply_runs reply
 result_runs (RescindedServed serial) = 0
 result_runs Unserved = 0
+result_runs (Modified vp answered) = 0
+result_runs Unsupported = 0
 result_runs Gone = 0
 result_runs Closed = 0
 
@@ -141,6 +143,8 @@ ask_text ask (Agreed count) = []
 ask_text ask (Done serial reply) = codes "done @" ++ (decimal serial ++ (codes " " ++ reply_text ask reply))
 ask_text ask (RescindedServed serial) = codes "rescinded @" ++ decimal serial
 ask_text ask Unserved = codes "rescinded unserved"
+ask_text ask (Modified vp answered) = []
+ask_text ask Unsupported = []
 ask_text ask Gone = codes "gone"
 ask_text ask Closed = codes "closed"
 
@@ -150,10 +154,24 @@ agreed_text guest (Agreed count) = contact_text guest.0 count
 agreed_text guest (Done serial reply) = []
 agreed_text guest (RescindedServed serial) = []
 agreed_text guest Unserved = []
+agreed_text guest (Modified vp answered) = []
+agreed_text guest Unsupported = []
 agreed_text guest Gone = []
 agreed_text guest Closed = []
 
--- contact and requests have outcomes, and no other line has
+-- modified VP, and whether the host answered; or that the version has no such message, or how the device ended before; no other outcome of a modify has a text
+abbrev pub modified_text : LineResult → List ℕ
+modified_text (Agreed count) = []
+modified_text (Done serial reply) = []
+modified_text (RescindedServed serial) = []
+modified_text Unserved = []
+modified_text (Modified vp true) = codes "modified " ++ decimal vp
+modified_text (Modified vp false) = codes "modified " ++ (decimal vp ++ codes " unanswered")
+modified_text Unsupported = codes "modify unsupported"
+modified_text Gone = codes "gone"
+modified_text Closed = codes "closed"
+
+-- contact, requests and modify have outcomes, and no other line has
 abbrev pub outcome_text : What → LineResult → List ℕ
 outcome_text (IsContact guest host) result = agreed_text guest result
 outcome_text (IsOffer name device) result = []
@@ -163,15 +181,16 @@ outcome_text (IsWindow device size) result = []
 outcome_text (IsAsk device ask) result = ask_text ask result
 outcome_text (IsRescind device after held) result = []
 outcome_text (IsShut device) result = []
+outcome_text (IsModify device vp) result = modified_text result
 outcome_text IsPhase result = []
 
 -- the line's number and its outcome
 abbrev pub line_text : Line → LineResult → List ℕ
 line_text line result = decimal line.number ++ (codes " " ++ (outcome_text line.what result ++ codes "\n"))
 
--- a line that prints: a contact or a request
+-- a line that prints: a contact, a request or a modify
 abbrev pub tells : What → Bool
-tells what = is_some (contact_of what) || is_ask what
+tells what = is_some (contact_of what) || is_ask what || is_move what
 
 abbrev pub prints : Line → Bool
 prints line = tells line.what
@@ -190,6 +209,8 @@ is_done (Agreed count) = false
 is_done (Done serial reply) = true
 is_done (RescindedServed serial) = false
 is_done Unserved = false
+is_done (Modified vp answered) = false
+is_done Unsupported = false
 is_done Gone = false
 is_done Closed = false
 
@@ -199,6 +220,8 @@ is_rescinded (Agreed count) = false
 is_rescinded (Done serial reply) = false
 is_rescinded (RescindedServed serial) = true
 is_rescinded Unserved = true
+is_rescinded (Modified vp answered) = false
+is_rescinded Unsupported = false
 is_rescinded Gone = false
 is_rescinded Closed = false
 
@@ -216,4 +239,4 @@ HasVersion what = IfSome (contact_of what) (λ v. IsVersion v.0.0)
 
 -- no outcome of a line has more bytes beside the runs that come back
 abbrev pub most_text : What → ℕ
-most_text what = option_map_or (λ v. 55 + 42 * length (versions_from v.0.0)) (contact_of what) (if is_ask what then 58 else 0)
+most_text what = option_map_or (λ v. 55 + 42 * length (versions_from v.0.0)) (contact_of what) (if is_ask what || is_move what then 58 else 0)

@@ -52,6 +52,11 @@ pub enum LineResult {
     RescindedServed { serial: u32 },
     /// It was not served, for its channel was rescinded.
     Unserved,
+    /// The interrupts of its device's first channel go to this processor now; the host answered,
+    /// as it does from version 5.3 on, or not.
+    Modified { vp: u32, answered: bool },
+    /// The agreed version, one below 4.1, has no message that moves them.
+    Unsupported,
     /// Its device was rescinded in an earlier phase.
     Gone,
     /// Its device was closed in an earlier phase.
@@ -73,6 +78,11 @@ impl LineResult {
                 LineResult::RescindedServed { serial: *serial }
             }
             LineResult::Unserved => LineResult::Unserved,
+            LineResult::Modified { vp, answered } => LineResult::Modified {
+                vp: *vp,
+                answered: *answered,
+            },
+            LineResult::Unsupported => LineResult::Unsupported,
             LineResult::Gone => LineResult::Gone,
             LineResult::Closed => LineResult::Closed,
         }

@@ -1,12 +1,12 @@
 //! The report of a run, written as bytes.
-ghost use Rattle.std.specs.Prelude.{◌≡◌, ◌<◌, ◌≤◌, ◌++◌, ◌+◌, ◌*◌, ◌^◌, List, length, IfOk, OnOk, count_by, vec_len, codes, cond};
+ghost use Rattle.std.specs.Prelude.{◌≡◌, ◌<◌, ◌≤◌, ◌++◌, ◌+◌, ◌*◌, ◌^◌, List, length, IfOk, OnOk, count_by, vec_len, codes, cond, false};
 ghost use Rattle.std.specs.Fmt.{decimal};
 ghost use Rattle.contact.specs.Versions.{IsVersion};
 ghost use Rattle.script_lines.specs.Parts.{is_ask, asks_in};
 ghost use Rattle.script_text.specs.Hex.{hex_short};
 ghost use Rattle.script_text.specs.Runs.{runs_of, runs_text};
 ghost use Rattle.rndis_msg.specs.Messages.{body_of};
-ghost use Rattle.bus_script.specs.Report.{Answers, versions_from, last_or, tried, version_text, versions_text, contact_text, good_text, disk_text, disk_runs, answer_text, bytes_text, status_text, completion_text, back_text, net_text, net_runs, reply_text, reply_runs, result_runs, runs_back, ask_text, agreed_text, outcome_text, line_text, end_text, report_of, tells, HasVersion, most_text, is_done, is_rescinded};
+ghost use Rattle.bus_script.specs.Report.{Answers, versions_from, last_or, tried, version_text, versions_text, contact_text, good_text, disk_text, disk_runs, answer_text, bytes_text, status_text, completion_text, back_text, net_text, net_runs, reply_text, reply_runs, result_runs, runs_back, ask_text, agreed_text, modified_text, outcome_text, line_text, end_text, report_of, tells, HasVersion, most_text, is_done, is_rescinded};
 
 use crate::{LineResult, Reply};
 use contact::{Version, next_version};
@@ -17,7 +17,7 @@ use scsi_disk::DiskReply;
 use std::alloc::{AllocError, Global};
 use util_ic::{IcAnswer, IcAsk};
 
-/// The text of a run's outcomes: for each contact and each request its line's number and its
+/// The text of a run's outcomes: for each contact, request and modify its line's number and its
 /// outcome, in order of the lines, and then how many requests there were, how many are done and
 /// how many were rescinded. An outcome that is none of its line has no text.
 pub fn report(alloc: Global, script: &Script, results: &[LineResult]) -> Result<Vec<u8>, AllocError>
@@ -39,11 +39,14 @@ pub fn report(alloc: Global, script: &Script, results: &[LineResult]) -> Result<
     Ok(text)
 }
 
-/// Whether a line prints: a contact or a request.
+/// Whether a line prints: a contact, a request or a modify.
 fn tells(what: &What) -> bool
     ensures { result ≡ tells what.now }
 {
-    matches!(what, What::Contact { .. } | What::Ask { .. })
+    matches!(
+        what,
+        What::Contact { .. } | What::Ask { .. } | What::Modify { .. }
+    )
 }
 
 fn count_ask(what: &What) -> u64
@@ -293,7 +296,7 @@ fn push_asked(text: &mut Vec<u8>, ask: &Ask, outcome: &LineResult) -> Result<(),
     ensures short { OnOk result (vec_len text.new ≤ vec_len text.old + 58 + 24 * result_runs outcome.now) }
 {
     match outcome {
-        LineResult::Version { .. } => {}
+        LineResult::Version { .. } | LineResult::Modified { .. } | LineResult::Unsupported => {}
         LineResult::Done { serial, reply } => push_done(text, *serial, ask, reply)?,
         LineResult::RescindedServed { serial } => push_rescinded(text, *serial)?,
         LineResult::Unserved => text.extend_from_slice(b"rescinded unserved")?,
@@ -315,6 +318,43 @@ fn push_agreed(text: &mut Vec<u8>, guest: Version, outcome: &LineResult) -> Resu
     Ok(())
 }
 
+fn push_moved(text: &mut Vec<u8>, vp: u32) -> Result<(), AllocError>
+    ensures text { OnOk result (text.new.items ≡ text.old.items ++ (codes "modified " ++ decimal vp)) }
+    ensures short { OnOk result (vec_len text.new ≤ vec_len text.old + 29) }
+{
+    text.extend_from_slice(b"modified ")?;
+    push_decimal(text, vp as u64)?;
+    Ok(())
+}
+
+fn push_unanswered(text: &mut Vec<u8>, vp: u32) -> Result<(), AllocError>
+    ensures text { OnOk result (text.new.items ≡ text.old.items ++ modified_text (LineResult.Modified vp false)) }
+    ensures short { OnOk result (vec_len text.new ≤ vec_len text.old + 40) }
+{
+    push_moved(text, vp)?;
+    text.extend_from_slice(b" unanswered")?;
+    Ok(())
+}
+
+/// How a modify ended: below 5.3 the host leaves it unanswered, and below 4.1 there is none.
+fn push_modified(text: &mut Vec<u8>, outcome: &LineResult) -> Result<(), AllocError>
+    ensures text { OnOk result (text.new.items ≡ text.old.items ++ modified_text outcome.now) }
+    ensures short { OnOk result (vec_len text.new ≤ vec_len text.old + 40) }
+{
+    match outcome {
+        LineResult::Modified { vp, answered: true } => push_moved(text, *vp)?,
+        LineResult::Modified {
+            vp,
+            answered: false,
+        } => push_unanswered(text, *vp)?,
+        LineResult::Unsupported => text.extend_from_slice(b"modify unsupported")?,
+        LineResult::Gone => text.extend_from_slice(b"gone")?,
+        LineResult::Closed => text.extend_from_slice(b"closed")?,
+        _ => {}
+    }
+    Ok(())
+}
+
 fn push_outcome(text: &mut Vec<u8>, what: &What, outcome: &LineResult) -> Result<(), AllocError>
     requires { HasVersion what.now }
     ensures text { OnOk result (text.new.items ≡ text.old.items ++ outcome_text what.now outcome.now) }
@@ -323,6 +363,7 @@ fn push_outcome(text: &mut Vec<u8>, what: &What, outcome: &LineResult) -> Result
     match what {
         What::Contact { guest, .. } => push_agreed(text, *guest, outcome)?,
         What::Ask { ask, .. } => push_asked(text, ask, outcome)?,
+        What::Modify { .. } => push_modified(text, outcome)?,
         _ => {}
     }
     Ok(())

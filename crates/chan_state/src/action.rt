@@ -9,6 +9,10 @@ pub enum Action {
     SendOpen,
     /// Send OPENCHANNEL_RESULT.
     SendResult,
+    /// Send MODIFYCHANNEL.
+    SendModify,
+    /// Send MODIFYCHANNEL_RESPONSE.
+    SendModified,
     /// Send CLOSECHANNEL and GPADL_TEARDOWN.
     SendClose,
     /// Send GPADL_TORNDOWN.

@@ -5,6 +5,13 @@
 pub enum Event {
     /// This side wants it open.
     WantOpen,
+    /// This side wants its interrupts on another virtual processor.
+    WantModify {
+        /// The processor.
+        vp: u32,
+        /// Whether the host answers, as it does from version 5.3 on.
+        answered: bool,
+    },
     /// This side wants it closed.
     WantClose,
     /// This side wants to give it back.
@@ -18,6 +25,15 @@ pub enum Event {
         /// 0 where the channel is open now.
         status: u32,
     },
+    /// MODIFYCHANNEL came.
+    ModifySeen {
+        /// The virtual processor that it names.
+        vp: u32,
+        /// Whether it is answered, as it is from version 5.3 on.
+        answered: bool,
+    },
+    /// MODIFYCHANNEL_RESPONSE came.
+    ModifiedSeen,
     /// CLOSECHANNEL came.
     CloseSeen,
     /// GPADL_TEARDOWN came.

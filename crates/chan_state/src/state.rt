@@ -10,6 +10,8 @@ pub enum State {
     Opening,
     /// It is open: packets go.
     Opened,
+    /// It is open, and the guest waits for the answer to MODIFYCHANNEL.
+    Modifying,
     /// The guest closed it, and its page list is not torn down yet.
     Closing,
     /// It was closed, and may be opened again.

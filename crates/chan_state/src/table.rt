@@ -15,7 +15,8 @@ pub fn row(side: Side, state: State, event: Event) -> Option<(State, Action)>
     }
 }
 
-// The guest opens, closes and releases. An offer may be rescinded in each state before that.
+// The guest opens, moves to another processor, closes and releases. An offer may be rescinded in
+// each state before that. An answer to a move that the rescind has overtaken is passed over.
 fn guest_row(state: State, event: Event) -> Option<(State, Action)>
     ensures { result ≡ transition Side.Guest state event }
 {
@@ -29,12 +30,29 @@ fn guest_row(state: State, event: Event) -> Option<(State, Action)>
         (State::Opening, Event::ResultSeen { status: _ }) => {
             Some((State::Offered, Action::Nothing))
         }
+        (State::Opened, Event::WantModify { answered: true, .. }) => {
+            Some((State::Modifying, Action::SendModify))
+        }
+        (
+            State::Opened,
+            Event::WantModify {
+                answered: false,
+                ..
+            },
+        ) => { Some((State::Opened, Action::SendModify)) }
+        (State::Modifying, Event::ModifiedSeen) => Some((State::Opened, Action::Nothing)),
         (State::Opened, Event::WantClose) => Some((State::Closing, Action::SendClose)),
         (State::Closing, Event::TorndownSeen) => Some((State::Closed, Action::EndRings)),
         (
-            State::Offered | State::Opening | State::Opened | State::Closing | State::Closed,
+            State::Offered
+            | State::Opening
+            | State::Opened
+            | State::Modifying
+            | State::Closing
+            | State::Closed,
             Event::RescindSeen,
         ) => Some((State::Rescinded, Action::Settle)),
+        (State::Rescinded, Event::ModifiedSeen) => Some((State::Rescinded, Action::Nothing)),
         (State::Rescinded, Event::WantRelease) => Some((State::Released, Action::SendRelease)),
         _ => None,
     }
@@ -48,13 +66,24 @@ fn host_row(state: State, event: Event) -> Option<(State, Action)>
         (State::Offered | State::Closed, Event::OpenSeen) => {
             Some((State::Opened, Action::SendResult))
         }
+        (State::Opened, Event::ModifySeen { answered: true, .. }) => {
+            Some((State::Opened, Action::SendModified))
+        }
+        (
+            State::Opened,
+            Event::ModifySeen {
+                answered: false,
+                ..
+            },
+        ) => { Some((State::Opened, Action::Nothing)) }
         (State::Opened, Event::CloseSeen) => Some((State::Closing, Action::Nothing)),
         (State::Closing, Event::TeardownSeen) => Some((State::Closed, Action::SendTorndown)),
         (State::Offered | State::Opened | State::Closing | State::Closed, Event::WantRescind) =>
             Some((State::Rescinded, Action::SendRescind)),
-        (State::Rescinded, Event::OpenSeen | Event::CloseSeen | Event::TeardownSeen) => {
-            Some((State::Rescinded, Action::Nothing))
-        }
+        (
+            State::Rescinded,
+            Event::OpenSeen | Event::CloseSeen | Event::TeardownSeen | Event::ModifySeen { .. },
+        ) => Some((State::Rescinded, Action::Nothing)),
         (State::Rescinded, Event::ReleaseSeen) => Some((State::Released, Action::Nothing)),
         _ => None,
     }

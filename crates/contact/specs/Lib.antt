@@ -1,2 +1,3 @@
 pub mod Versions
 pub mod Classes
+pub mod Services

@@ -9,7 +9,7 @@ version major minor = major * 65536 + minor
 
 -- all versions, greatest first
 abbrev pub versions : List ℕ
-versions = version 5 2 ∷ version 5 1 ∷ version 5 0 ∷ version 4 1 ∷ version 4 0 ∷ version 3 0 ∷ version 2 4 ∷ []
+versions = version 5 3 ∷ version 5 2 ∷ version 5 1 ∷ version 5 0 ∷ version 4 1 ∷ version 4 0 ∷ version 3 0 ∷ version 2 4 ∷ []
 
 -- the last one that a guest tries
 abbrev pub oldest : ℕ
@@ -26,3 +26,11 @@ is_tried guest host v = nat_le v guest && nat_le (min guest host) v
 -- the versions that it tries, in order
 abbrev pub versions_tried : ℕ → ℕ → List ℕ
 versions_tried guest host = filter (is_tried guest host) versions
+
+-- a version has MODIFYCHANNEL: 4.1 and the later ones do
+abbrev pub has_modify : ℕ → Bool
+has_modify v = nat_le (version 4 1) v
+
+-- a host answers it: from 5.3 on it does
+abbrev pub answers_modify : ℕ → Bool
+answers_modify v = nat_le (version 5 3) v

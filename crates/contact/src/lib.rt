@@ -5,9 +5,11 @@ mod channel_offer;
 mod class;
 mod kind;
 mod part;
+mod service;
 mod version;
 
 pub use channel_offer::{OfferFault, Offered, offer, offers, read_offer};
 pub use kind::Kind;
 pub use part::Part;
-pub use version::{Version, agree, host_accepts, next_version, tried};
+pub use service::{port_in, service_id};
+pub use version::{Version, agree, answers_modify, has_modify, host_accepts, next_version, tried};

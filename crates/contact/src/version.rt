@@ -1,6 +1,6 @@
 //! The protocol's versions, and which of them a guest and its host use.
 ghost use Rattle.std.specs.Prelude.{◌≡◌, ℕ, ◌<◌, ◌≤◌, ◌↔◌, length, cond, All, IfSome, IfNone, IsTrue, IsNone};
-ghost use Rattle.contact.specs.Versions.{versions, oldest, versions_tried, is_tried, IsVersion};
+ghost use Rattle.contact.specs.Versions.{versions, oldest, versions_tried, is_tried, has_modify, answers_modify, IsVersion};
 
 /// A version of the VMBus protocol, `major * 65536 + minor`, as Linux's `VERSION_WIN10` and the
 /// others (include/linux/hyperv.h).
@@ -8,7 +8,8 @@ ghost use Rattle.contact.specs.Versions.{versions, oldest, versions_tried, is_tr
 pub struct Version(pub u32);
 
 // All versions, greatest first.
-const VERSIONS: [u32; 7] = [
+const VERSIONS: [u32; 8] = [
+    0x0005_0003,
     0x0005_0002,
     0x0005_0001,
     0x0005_0000,
@@ -17,6 +18,11 @@ const VERSIONS: [u32; 7] = [
     0x0003_0000,
     0x0002_0004,
 ];
+
+// The first version that has MODIFYCHANNEL, and the first one whose host answers it.
+const FIRST_WITH_MODIFY: u32 = 0x0004_0001;
+
+const FIRST_WITH_ANSWER: u32 = 0x0005_0003;
 
 /// The version to try after this one was refused: the next lower one. None is left after 2.4.
 pub fn next_version(v: Version) -> Option<Version>
@@ -73,4 +79,20 @@ pub fn tried(guest: Version, host: Version) -> u32
         count += tries(guest, host, v);
     }
     count
+}
+
+/// Whether a version has MODIFYCHANNEL, by which a guest moves a channel's interrupts to another
+/// virtual processor: 4.1 and the later ones have it (`vmbus_send_modifychannel` in Linux's
+/// drivers/hv/channel.c).
+pub fn has_modify(v: Version) -> bool
+    ensures { result ≡ has_modify v.0 }
+{
+    v.0 >= FIRST_WITH_MODIFY
+}
+
+/// Whether a host answers MODIFYCHANNEL at a version: from 5.3 on it does.
+pub fn answers_modify(v: Version) -> bool
+    ensures { result ≡ answers_modify v.0 }
+{
+    v.0 >= FIRST_WITH_ANSWER
 }

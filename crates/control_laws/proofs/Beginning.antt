@@ -20,19 +20,19 @@ use Rattle.control_model.specs.declared.guest_turn.GuestTurn.{GuestTurn}
 use Rattle.control_model.specs.declared.host_wait.HostWait.{HostWait}
 use Rattle.control_model.specs.declared.host_wait.HostWait.TheVariants.{Nothing as HostNothing, Unload as AwaitsUnload}
 use Rattle.control_model.specs.declared.host_next.HostNext.{HostNext}
-use Rattle.control_model.specs.Plan.{BusPlan, part_after, first_subs, opening_at, closing_at, IsPlan, phase_of, closing_of}
+use Rattle.control_model.specs.Plan.{BusPlan, part_after, opening_at, closing_at, IsPlan, phase_of, closing_of}
 use Rattle.control_model.specs.Channels.{changed}
 use Rattle.control_model.specs.Messages.{propose, request, farewell, farewell_taken, Sends}
 use Rattle.control_model.specs.Said.{agreed, guest_closes, host_closes, from_3_0}
 use Rattle.control_model.specs.Guest.{GuestSeen, can_begin, idle, guest_begins}
 use Rattle.control_model.specs.Host.{HostSeen, host_can_begin, next_end, rescinded_among, without_its, host_begins}
-use Rattle.control_model.specs.Stand.{EndsAt, offered_before, offered_by, marked, guest_is, host_is, guest_before, host_before, Stand, Agreed, Meet, handles}
+use Rattle.control_model.specs.Stand.{EndsAt, offered_before, offered_by, marked, guest_is, host_is, guest_before, host_before, Stand, Agreed, Meet, handles, vps_before}
 use Rattle.control_model.specs.GuestAt.{guest_from, host_from, end_to_say, end_to_hear, to_say, to_hear, GuestStands}
-use Rattle.control_model.specs.GuestAt.GuestStands.{fresh, proposes, asks, contacted, offers, lists, opens, started, closes, gives_back, gives_sub_back, ended, leaves, is_over}
+use Rattle.control_model.specs.GuestAt.GuestStands.{fresh, proposes, asks, contacted, offers, lists, opens, moves, started, closes, gives_back, gives_sub_back, ended, leaves, is_over}
 use Rattle.control_model.specs.HostAt.{host_end_to_say, host_end_to_hear, host_to_say, host_to_hear, live_ones, lists_but, HostStands}
-use Rattle.control_model.specs.HostAt.HostStands.{fresh as IsFresh, answers as IsAnswering, accepts as IsAccepting, contacted as IsContacted, lists as IsListing, listed as IsListed, started as IsStarted, closes as IsClosing, tears as IsTearing, takes_back as IsTakingBack, ended as IsEnded, leaves as IsLeaving, is_over as IsDone}
+use Rattle.control_model.specs.HostAt.HostStands.{fresh as IsFresh, answers as IsAnswering, accepts as IsAccepting, contacted as IsContacted, lists as IsListing, listed as IsListed, moves as IsMoving, started as IsStarted, closes as IsClosing, tears as IsTearing, takes_back as IsTakingBack, ended as IsEnded, leaves as IsLeaving, is_over as IsDone}
 use Rattle.control_laws.proofs.NextOne.{guest_next_awaits, guest_next_stands, guest_next_sends, host_next_awaits, host_next_stands, host_next_done, host_next_sends}
-use Rattle.control_laws.proofs.Logs.{Logs}
+use Rattle.control_laws.proofs.Logs.{Logs, a_guest, a_host}
 use Rattle.control_laws.proofs.Marks.{by_test, marked_here, stand_like}
 use Rattle.control_laws.proofs.Plans.{end_facts}
 use Rattle.control_laws.proofs.Closing.{marked_closing}
@@ -40,12 +40,11 @@ use Rattle.control_laws.proofs.Relids.{phase_relids}
 use Rattle.control_laws.proofs.Live.{all_live}
 use Rattle.control_laws.proofs.Seats.{starts_first, phase_seated}
 use Rattle.control_laws.proofs.Lower.{tries_first}
-use Rattle.control_laws.proofs.Next.{Turned, next_list, pieces_of, next_wait}
+use Rattle.control_laws.proofs.Next.{Turned, pieces_of}
+use Rattle.control_laws.proofs.Moving.{next_list, next_wait}
 use Rattle.control_laws.proofs.NextEnd.{NextIs, guest_goes, guest_stands_so, guest_next, host_goes, host_stands_so, host_next}
 use Rattle.control_laws.proofs.Tried.{first_tried, agreed_is}
-use Rattle.control_laws.proofs.Saying.{lists_said, lists_heard, waits_so, ends_said, ends_heard, host_ends_said, host_ends_heard, guest_from_phase, host_from_phase, guest_at_last, host_at_last}
-use Rattle.control_laws.proofs.GuestSteps.{a_guest}
-use Rattle.control_laws.proofs.HostSteps.{a_host}
+use Rattle.control_laws.proofs.Saying.{ends_said, ends_heard, host_ends_said, host_ends_heard, guest_from_phase, host_from_phase, guest_at_last, host_at_last}
 
 -- a guest that began a part
 pub record GuestBegun (plan : BusPlan) (g : GuestSeen) (part : Part) : Type 0 where
@@ -87,25 +86,27 @@ at_start plan v channels phase stands planned in_plan meet =
     let count : offered_before plan phase ≡ offered_by plan phase [] (phase_of plan phase) = omega (arith, none) in
     subst (λ n. Meet plan v channels n stands) count meet
 
-guest_phase : (plan : BusPlan) (logs : Logs) (part : Option Part) (v : Version) (guests : List Channel) (phase : ℕ) → IsPlan plan → phase < length plan.phases → Meet plan v guests (offered_before plan phase) (guest_before plan phase)
+guest_phase : (plan : BusPlan) (logs : Logs) (part : Option Part) (v : Version) (guests : List Channel) (phase : ℕ) → IsPlan plan → phase < length plan.phases → Meet plan v guests (offered_before plan phase) (guest_before (vps_before plan phase) plan phase)
     → to_say plan part Nothing ≡ guest_from plan phase → to_hear plan part Nothing (length guests) ≡ host_from plan phase → GuestBegun plan (a_guest plan logs part Nothing (Some v) guests) (PhaseStart phase)
-guest_phase plan logs part v guests phase planned in_plan meet left to_come = record {
-  goes = next_list plan v guests phase 0 [] (phase_of plan phase) Nothing Same in_plan refl refl (at_start plan v guests phase (guest_before plan phase) planned in_plan meet);
-  says = λ sent sends. left ∙ guest_from_phase plan phase in_plan ∙ lists_said plan v phase 0 [] (phase_of plan phase) Nothing Same sent refl refl sends (flat_map guest_closes (closing_of plan phase) ++ guest_from plan (suc phase));
-  hears = to_come ∙ host_from_phase plan phase in_plan ∙ ap (λ xs. xs ++ (flat_map host_closes (closing_of plan phase) ++ host_from plan (suc phase))) (lists_heard plan v phase 0 [] (phase_of plan phase) Nothing Same refl refl);
-}
+guest_phase plan logs part v guests phase planned in_plan meet left to_come =
+    let onward = next_list plan logs part v guests phase 0 [] (phase_of plan phase) Nothing Nothing Same planned in_plan refl refl (at_start plan v guests phase (guest_before (vps_before plan phase) plan phase) planned in_plan meet) (λ none relid some. refl) in
+    record {
+      goes = onward.goes;
+      says = λ sent sends. left ∙ guest_from_phase plan phase in_plan ∙ onward.says sent (flat_map guest_closes (closing_of plan phase) ++ guest_from plan (suc phase)) sends;
+      hears = to_come ∙ host_from_phase plan phase in_plan ∙ onward.heard (flat_map host_closes (closing_of plan phase) ++ host_from plan (suc phase));
+    }
 
-host_phase : (plan : BusPlan) (logs : Logs) (part : Option Part) (v : Version) (hosts : List ChanState) (phase : ℕ) → IsPlan plan → phase < length plan.phases → Meet plan v hosts (offered_before plan phase) (host_before plan phase)
+host_phase : (plan : BusPlan) (logs : Logs) (part : Option Part) (v : Version) (hosts : List ChanState) (phase : ℕ) → IsPlan plan → phase < length plan.phases → Meet plan v hosts (offered_before plan phase) (host_before (vps_before plan phase) plan phase)
     → host_to_say plan part HostNothing [] ≡ host_from plan phase → host_to_hear plan part HostNothing [] [] ≡ guest_from plan phase → HostBegun plan (a_host plan logs part HostNothing (Some v) hosts (live_ones [])) (PhaseStart phase)
 host_phase plan logs part v hosts phase planned in_plan meet left to_come =
-    let on = waits_so plan phase 0 [] (phase_of plan phase) refl refl in
+    let onward = next_wait plan logs part v hosts hosts (live_ones []) phase 0 [] (phase_of plan phase) HostNothing planned in_plan refl refl (at_start plan v hosts phase (host_before (vps_before plan phase) plan phase) planned in_plan meet) in
     record {
       tried = [];
       pieces = pieces_of (opening_at plan phase 0);
-      goes = next_wait plan v hosts phase 0 [] (phase_of plan phase) planned in_plan refl refl (at_start plan v hosts phase (host_before plan phase) planned in_plan meet);
+      goes = onward.goes;
       says = λ sent e. ap (λ s. s ++ host_to_say plan part HostNothing []) (sym e)
-          ∙ ap (λ xs. sent ++ xs) (left ∙ host_from_phase plan phase in_plan ∙ ap (λ xs. xs ++ (flat_map host_closes (closing_of plan phase) ++ host_from plan (suc phase))) on.0);
-      hears = to_come ∙ guest_from_phase plan phase in_plan ∙ ap (λ xs. xs ++ (flat_map guest_closes (closing_of plan phase) ++ guest_from plan (suc phase))) on.1;
+          ∙ ap (λ xs. sent ++ xs) (left ∙ host_from_phase plan phase in_plan ∙ onward.says (flat_map host_closes (closing_of plan phase) ++ host_from plan (suc phase)));
+      hears = to_come ∙ guest_from_phase plan phase in_plan ∙ onward.hears (flat_map guest_closes (closing_of plan phase) ++ guest_from plan (suc phase));
     }
 
 -- the first channel that is done with is open, and the channels of the phase stand alike in the order in which they are closed
@@ -123,16 +124,16 @@ in_closing plan channels so base phase planned in_plan stand =
     stand_like channels (offered_before plan (suc phase)) (marked so (phase_of plan phase) base) (marked so (closing_of plan phase) base) stand
     (λ q. marked_closing so base q (phase_of plan phase) (phase_relids plan phase planned in_plan).distinct)
 
-guest_end : (plan : BusPlan) (logs : Logs) (v : Version) (guests : List Channel) (phase : ℕ) → IsPlan plan → phase < length plan.phases → Meet plan v guests (offered_before plan (suc phase)) (marked (guest_is Opened) (phase_of plan phase) (guest_before plan phase))
+guest_end : (plan : BusPlan) (logs : Logs) (v : Version) (guests : List Channel) (phase : ℕ) → IsPlan plan → phase < length plan.phases → Meet plan v guests (offered_before plan (suc phase)) (marked (guest_is (vps_before plan (suc phase)) Opened) (phase_of plan phase) (guest_before (vps_before plan (suc phase)) plan phase))
     → GuestBegun plan (a_guest plan logs (Some (PhaseStart phase)) Nothing (Some v) guests) (PhaseEnd phase)
 guest_end plan logs v guests phase planned in_plan meet =
     let os : List Opening = closing_of plan phase in
     let g : GuestSeen = a_guest plan logs (Some (PhaseStart phase)) Nothing (Some v) guests in
     let turn : GuestTurn = guest_begins g (PhaseEnd phase) in
-    let stand = in_closing plan guests (guest_is Opened) (guest_before plan phase) phase planned in_plan meet.stand in
-    let ends = guest_goes plan v guests phase 0 [] os Nothing Same None planned in_plan refl refl stand (first_is plan guests (guest_is Opened) (guest_before plan phase) phase os planned in_plan refl stand) in
+    let stand = in_closing plan guests (guest_is (vps_before plan (suc phase)) Opened) (guest_before (vps_before plan (suc phase)) plan phase) phase planned in_plan meet.stand in
+    let ends = guest_goes plan v guests phase 0 [] os Nothing Same None planned in_plan refl refl stand (first_is plan guests (guest_is (vps_before plan (suc phase)) Opened) (guest_before (vps_before plan (suc phase)) plan phase) phase os planned in_plan refl stand) in
     record {
-      goes = guest_stands_so plan phase v (Some (PhaseEnd phase)) guests turn (guest_next_awaits 0 os) (guest_next_stands os (guest_before plan phase)) (guest_next_sends os) ends
+      goes = guest_stands_so plan phase v (Some (PhaseEnd phase)) guests turn (guest_next_awaits 0 os) (guest_next_stands (vps_before plan (suc phase)) os (guest_before (vps_before plan (suc phase)) plan phase)) (guest_next_sends os) ends
           (guest_next plan v (changed (changed guests turn.heard) turn.wished) phase 0 [] os planned in_plan refl refl (record { agreed = meet.agreed; stand = ends.guest }));
       says = λ sent sends.
           ap (λ xs. xs ++ guest_from plan (suc phase)) (ends_said plan phase 0 [] os in_plan refl refl) ∙ append_assoc (guest_next_sends os) (end_to_say os (guest_next_awaits 0 os)) (guest_from plan (suc phase))
@@ -140,18 +141,18 @@ guest_end plan logs v guests phase planned in_plan meet =
       hears = ap (λ xs. xs ++ host_from plan (suc phase)) (ends_heard plan phase 0 [] os refl refl) ∙ ap (λ w. end_to_hear os w ++ host_from plan (suc phase)) (sym ends.awaits);
     }
 
-host_end : (plan : BusPlan) (logs : Logs) (v : Version) (hosts : List ChanState) (phase : ℕ) → IsPlan plan → phase < length plan.phases → Meet plan v hosts (offered_before plan (suc phase)) (marked (host_is Opened) (phase_of plan phase) (host_before plan phase))
+host_end : (plan : BusPlan) (logs : Logs) (v : Version) (hosts : List ChanState) (phase : ℕ) → IsPlan plan → phase < length plan.phases → Meet plan v hosts (offered_before plan (suc phase)) (marked (host_is (vps_before plan (suc phase)) Opened) (phase_of plan phase) (host_before (vps_before plan (suc phase)) plan phase))
     → HostBegun plan (a_host plan logs (Some (PhaseStart phase)) HostNothing (Some v) hosts (live_ones (handles (phase_of plan phase)))) (PhaseEnd phase)
 host_end plan logs v hosts phase planned in_plan meet =
     let os : List Opening = closing_of plan phase in
     let later : HostNext = next_end hosts 0 (closing_at plan phase 0) in
-    let stand = in_closing plan hosts (host_is Opened) (host_before plan phase) phase planned in_plan meet.stand in
-    let ends = host_goes plan hosts hosts phase 0 [] os planned in_plan refl refl stand (first_is plan hosts (host_is Opened) (host_before plan phase) phase os planned in_plan refl stand) in
+    let stand = in_closing plan hosts (host_is (vps_before plan (suc phase)) Opened) (host_before (vps_before plan (suc phase)) plan phase) phase planned in_plan meet.stand in
+    let ends = host_goes plan hosts hosts phase 0 [] os planned in_plan refl refl stand (first_is plan hosts (host_is (vps_before plan (suc phase)) Opened) (host_before (vps_before plan (suc phase)) plan phase) phase os planned in_plan refl stand) in
     record {
       tried = [];
       pieces = [];
       goes = subst (λ l. HostStands plan (Some (PhaseEnd phase)) later.awaits (Some v) (rescinded_among hosts later.rescinds) (without_its l later.rescinds) [] []) (all_live (phase_of plan phase))
-          (host_stands_so plan phase v (Some (PhaseEnd phase)) hosts (lists_but [] (phase_of plan phase)) later (host_next_awaits 0 os) (host_next_stands os (host_before plan phase)) (lists_but (host_next_done [] os) (phase_of plan phase)) (host_next_sends os) ends
+          (host_stands_so plan phase v (Some (PhaseEnd phase)) hosts (lists_but [] (phase_of plan phase)) later (host_next_awaits 0 os) (host_next_stands (vps_before plan (suc phase)) os (host_before (vps_before plan (suc phase)) plan phase)) (lists_but (host_next_done [] os) (phase_of plan phase)) (host_next_sends os) ends
           (host_next plan v (rescinded_among hosts later.rescinds) phase 0 [] os planned in_plan refl refl (record { agreed = meet.agreed; stand = ends.host })));
       says = λ sent sends.
           ap (λ xs. xs ++ host_from plan (suc phase)) (host_ends_said plan phase 0 [] os in_plan refl refl) ∙ append_assoc (host_next_sends os) (host_end_to_say os (host_next_awaits 0 os)) (host_from plan (suc phase))
@@ -173,7 +174,7 @@ record HostLeaves (plan : BusPlan) (v : Version) (hosts : List ChanState) (await
   says : from_3_0 plan (farewell_taken ∷ []) ≡ host_to_say plan (Some Unload) awaits []
   hears : from_3_0 plan (farewell ∷ []) ≡ host_to_hear plan (Some Unload) awaits [] []
 
-guest_unload : (plan : BusPlan) (logs : Logs) (part : Option Part) (v : Version) (guests : List Channel) → IsPlan plan → Meet plan v guests (offered_before plan (length plan.phases)) (guest_before plan (length plan.phases))
+guest_unload : (plan : BusPlan) (logs : Logs) (part : Option Part) (v : Version) (guests : List Channel) → IsPlan plan → Meet plan v guests (offered_before plan (length plan.phases)) (guest_before (vps_before plan (length plan.phases)) plan (length plan.phases))
     → to_say plan part Nothing ≡ from_3_0 plan (farewell ∷ []) → to_hear plan part Nothing (length guests) ≡ from_3_0 plan (farewell_taken ∷ []) → GuestBegun plan (a_guest plan logs part Nothing (Some v) guests) Unload
 guest_unload plan logs part v guests planned meet left to_come =
     let g : GuestSeen = a_guest plan logs part Nothing (Some v) guests in
@@ -185,7 +186,7 @@ guest_unload plan logs part v guests planned meet left to_come =
     let there = both (late plan v planned meet.agreed) in
     record { goes = there.goes; says = λ sent sends. left ∙ there.says sent sends; hears = to_come ∙ there.hears }
 
-host_unload : (plan : BusPlan) (logs : Logs) (part : Option Part) (v : Version) (hosts : List ChanState) → IsPlan plan → Meet plan v hosts (offered_before plan (length plan.phases)) (host_before plan (length plan.phases))
+host_unload : (plan : BusPlan) (logs : Logs) (part : Option Part) (v : Version) (hosts : List ChanState) → IsPlan plan → Meet plan v hosts (offered_before plan (length plan.phases)) (host_before (vps_before plan (length plan.phases)) plan (length plan.phases))
     → host_to_say plan part HostNothing [] ≡ from_3_0 plan (farewell_taken ∷ []) → host_to_hear plan part HostNothing [] [] ≡ from_3_0 plan (farewell ∷ []) → HostBegun plan (a_host plan logs part HostNothing (Some v) hosts (live_ones [])) Unload
 host_unload plan logs part v hosts planned meet left to_come =
     let P : Bool → Type 0 = λ b. (nat_le (version 3 0) (agreed plan) ≡ b) → HostLeaves plan v hosts (if b then AwaitsUnload else HostNothing) in
@@ -230,6 +231,7 @@ guest_begins_so plan logs before awaits version channels part planned (contacted
 guest_begins_so plan logs before awaits version channels part planned (offers v cs phase place done first offered o left at is_first subs meet) can is = absurd (cc)
 guest_begins_so plan logs before awaits version channels part planned (lists v cs phase place done o left at meet) can is = absurd (cc)
 guest_begins_so plan logs before awaits version channels part planned (opens v cs phase place done o left at meet) can is = absurd (cc)
+guest_begins_so plan logs before awaits version channels part planned (moves v cs phase place done o left in_plan ms at answers meet) can is = absurd (cc)
 guest_begins_so plan logs before awaits version channels part planned (started v cs phase in_plan meet) can is =
     let same_part : PhaseEnd phase ≡ part = cc in
     subst (GuestBegun plan (a_guest plan logs (Some (PhaseStart phase)) Nothing (Some v) cs)) same_part (guest_end plan logs v cs phase planned in_plan meet)
@@ -239,7 +241,7 @@ guest_begins_so plan logs before awaits version channels part planned (gives_sub
 guest_begins_so plan logs before awaits version channels part planned (ended v cs phase in_plan meet) can is =
     behind plan phase part (GuestBegun plan (a_guest plan logs (Some (PhaseEnd phase)) Nothing (Some v) cs)) in_plan is
     (λ less. guest_phase plan logs (Some (PhaseEnd phase)) v cs (suc phase) planned less meet refl refl)
-    (λ last. guest_unload plan logs (Some (PhaseEnd phase)) v cs planned (subst (λ n. Meet plan v cs (offered_before plan n) (guest_before plan n)) last meet) (ap (guest_from plan) last ∙ guest_at_last plan) (ap (host_from plan) last ∙ host_at_last plan))
+    (λ last. guest_unload plan logs (Some (PhaseEnd phase)) v cs planned (subst (λ n. Meet plan v cs (offered_before plan n) (guest_before (vps_before plan n) plan n)) last meet) (ap (guest_from plan) last ∙ guest_at_last plan) (ap (host_from plan) last ∙ host_at_last plan))
 guest_begins_so plan logs before awaits version channels part planned (leaves v cs meet) can is = absurd (cc)
 guest_begins_so plan logs before awaits version channels part planned (is_over v cs meet) can is = absurd (cc)
 
@@ -268,6 +270,7 @@ host_begins_so plan logs before awaits version channels assembly tried pieces pa
     so plan h part (subst (HostBegun plan h) same_part (host_phase plan logs (Some Contact) v cs 0 planned (omega (arith, some)) meet refl refl))
 host_begins_so plan logs before awaits version channels assembly tried pieces part planned (IsListing v cs phase place done o left s m ms at meet list) can is = absurd (cc)
 host_begins_so plan logs before awaits version channels assembly tried pieces part planned (IsListed v cs phase place done o left at meet) can is = absurd (cc)
+host_begins_so plan logs before awaits version channels assembly tried pieces part planned (IsMoving v cs phase place done o left in_plan ms at meet) can is = absurd (cc)
 host_begins_so plan logs before awaits version channels assembly tried pieces part planned (IsStarted v cs phase in_plan meet) can is =
     let h : HostSeen = a_host plan logs (Some (PhaseStart phase)) HostNothing (Some v) cs (live_ones (handles (phase_of plan phase))) in
     let same_part : PhaseEnd phase ≡ part = cc in
@@ -279,6 +282,6 @@ host_begins_so plan logs before awaits version channels assembly tried pieces pa
     let h : HostSeen = a_host plan logs (Some (PhaseEnd phase)) HostNothing (Some v) cs (live_ones []) in
     so plan h part (behind plan phase part (HostBegun plan h) in_plan is
     (λ less. host_phase plan logs (Some (PhaseEnd phase)) v cs (suc phase) planned less meet refl refl)
-    (λ last. host_unload plan logs (Some (PhaseEnd phase)) v cs planned (subst (λ n. Meet plan v cs (offered_before plan n) (host_before plan n)) last meet) (ap (host_from plan) last ∙ host_at_last plan) (ap (guest_from plan) last ∙ guest_at_last plan)))
+    (λ last. host_unload plan logs (Some (PhaseEnd phase)) v cs planned (subst (λ n. Meet plan v cs (offered_before plan n) (host_before (vps_before plan n) plan n)) last meet) (ap (host_from plan) last ∙ host_at_last plan) (ap (guest_from plan) last ∙ guest_at_last plan)))
 host_begins_so plan logs before awaits version channels assembly tried pieces part planned (IsLeaving v cs meet) can is = absurd (cc)
 host_begins_so plan logs before awaits version channels assembly tried pieces part planned (IsDone v cs meet) can is = absurd (cc)

@@ -1,5 +1,5 @@
 -- The openings of a phase in the order in which its channels are closed: the same ones, each once.
-use Rattle.std.proofs.Common.{◌≡◌, ◌≢◌, ◌∙◌, ℕ, suc, ◌+◌, Bool, true, false, cond, not, ◌==◌, if◌then◌else◌, List, [], ◌∷◌, ◌++◌, length, filter, refl, sym, ap, arith}
+use Rattle.std.proofs.Common.{◌≡◌, ◌≢◌, ◌∙◌, ℕ, suc, Bool, true, false, ◌==◌, if◌then◌else◌, List, [], ◌∷◌, ◌++◌, length, refl, sym, ap}
 use Rattle.std.specs.List.{AllByRecursion}
 use Rattle.control_model.specs.declared.opening.Opening.{Opening}
 use Rattle.std.proofs.lemmas.Bool.{eqb-true}

@@ -1,5 +1,5 @@
 -- How many messages can be on their way, by where both sides stand: what one has still to hear is what is on its way to it, and what the other has still to say.
-use Rattle.std.proofs.Common.{◌≡◌, ◌≢◌, ◌∙◌, ℕ, zero, suc, ◌+◌, ◌*◌, ◌-◌, ◌<◌, ◌≤◌, ◌&&◌, Bool, true, false, List, [], ◌∷◌, ◌++◌, length, map, drop, replicate, Option, Some, All, if◌then◌else◌, refl, sym, ap, append_assoc, length-append, length-drop, arith}
+use Rattle.std.proofs.Common.{◌≡◌, ◌≢◌, ◌∙◌, ℕ, zero, suc, ◌+◌, ◌*◌, ◌-◌, ◌<◌, ◌≤◌, ◌&&◌, Bool, true, false, List, [], ◌∷◌, ◌++◌, cond, filter, is_some, length, map, drop, replicate, Option, Some, All, if◌then◌else◌, refl, sym, ap, append_assoc, length-append, length-drop, arith}
 use Rattle.std.specs.List.{AllByRecursion, flat_map}
 use Rattle.std.proofs.lemmas.List.{length-map}
 use Rattle.std.proofs.lemmas.List.Concat.{flat_map-cons}
@@ -7,7 +7,7 @@ use Rattle.std.proofs.lemmas.List.Elements.{All-get_or}
 use Rattle.std.proofs.lemmas.List.FromFn.{length-range_with_len}
 use Rattle.contact.specs.declared.version.Version.{Version}
 use Rattle.contact.specs.declared.part.Part.{Part}
-use Rattle.contact.specs.Versions.{versions_tried}
+use Rattle.contact.specs.Versions.{versions_tried, has_modify, answers_modify}
 use Rattle.contact.specs.Classes.{offers_from}
 use Rattle.chan_state.specs.declared.chan_state.ChanState.{ChanState}
 use Rattle.gpadl.specs.Assembly.{Assembly}
@@ -19,20 +19,21 @@ use Rattle.control_model.specs.declared.channel.Channel.{Channel}
 use Rattle.control_model.specs.declared.guest_wait.GuestWait.{GuestWait}
 use Rattle.control_model.specs.declared.guest_wait.GuestWait.TheVariants.{SubOffer}
 use Rattle.control_model.specs.declared.host_wait.HostWait.{HostWait}
-use Rattle.control_model.specs.Plan.{BusPlan, is_sub, first_subs, subs_next, closing_at, IsOpening, list_pages, IsPlan, phase_of, closing_of}
-use Rattle.control_model.specs.Messages.{propose, request, delivered, pages_from, open_on, offer_sub, close, teardown, torndown, rescind, release, farewell}
-use Rattle.control_model.specs.Said.{answer_to, guest_opens, host_opens_all, guest_closes, host_closes, only_sub}
+use Rattle.control_model.specs.Plan.{BusPlan, movers, vp_for, is_sub, first_subs, subs_next, closing_at, IsOpening, list_pages, IsPlan, phase_of, closing_of}
+use Rattle.control_model.specs.Messages.{propose, request, delivered, pages_from, open_on, modify, modified, offer_sub, close, teardown, torndown, rescind, release, farewell}
+use Rattle.control_model.specs.Said.{agreed, answer_to, moved, guest_moves, host_moves, guest_opens, host_opens_all, guest_closes, host_closes, only_sub}
 use Rattle.control_model.specs.Guest.{offered_channel, waits_for_nothing}
 use Rattle.control_model.specs.Host.{host_waits_for_nothing}
-use Rattle.control_model.specs.Stand.{At, EndsAt, Tries}
-use Rattle.control_model.specs.GuestAt.{guest_from, host_from, contact_to_say, contact_to_hear, opens_listed, answers_open, from_first_sub, start_to_say, start_to_hear, gives_sub, gives_one, takes_one, end_to_say, end_to_hear, to_say, to_hear, GuestStands}
-use Rattle.control_model.specs.GuestAt.GuestStands.{fresh, proposes, asks, contacted, offers, lists, opens, started, closes, gives_back, gives_sub_back, ended, leaves, is_over}
-use Rattle.control_model.specs.HostAt.{host_contact_to_say, host_contact_to_hear, host_start_to_say, host_start_to_hear, tears_down, host_end_to_say, host_end_to_hear, host_to_say, host_to_hear, ListComes, HostStands}
-use Rattle.control_model.specs.HostAt.HostStands.{fresh as IsFresh, answers as IsAnswering, accepts as IsAccepting, contacted as IsContacted, lists as IsListing, listed as IsListed, started as IsStarted, closes as IsClosing, tears as IsTearing, takes_back as IsTakingBack, ended as IsEnded, leaves as IsLeaving, is_over as IsDone}
+use Rattle.control_model.specs.Stand.{At, EndsAt, Tries, Agreed}
+use Rattle.control_model.specs.GuestAt.{guest_from, host_from, contact_to_say, contact_to_hear, opens_listed, answers_open, from_first_sub, start_to_say, start_to_hear, moves_to_say, moves_to_hear, gives_sub, gives_one, takes_one, end_to_say, end_to_hear, to_say, to_hear, GuestStands}
+use Rattle.control_model.specs.GuestAt.GuestStands.{fresh, proposes, asks, contacted, offers, lists, opens, moves, started, closes, gives_back, gives_sub_back, ended, leaves, is_over}
+use Rattle.control_model.specs.HostAt.{host_contact_to_say, host_contact_to_hear, host_start_to_say, host_start_to_hear, host_moves_to_say, host_moves_to_hear, tears_down, host_end_to_say, host_end_to_hear, host_to_say, host_to_hear, ListComes, HostStands}
+use Rattle.control_model.specs.HostAt.HostStands.{fresh as IsFresh, answers as IsAnswering, accepts as IsAccepting, contacted as IsContacted, lists as IsListing, listed as IsListed, moves as IsMoving, started as IsStarted, closes as IsClosing, tears as IsTearing, takes_back as IsTakingBack, ended as IsEnded, leaves as IsLeaving, is_over as IsDone}
 use Rattle.control_model.proofs.PlanLaws.{offers_length, messages_few}
 use Rattle.control_laws.proofs.Plans.{facts, closing_here}
 use Rattle.control_laws.proofs.Cutting.{by_all}
 use Rattle.control_laws.proofs.Tried.{first_tried}
+use Rattle.control_laws.proofs.Vps.{answers_are}
 use Rattle.control_laws.proofs.Saying.{drop_all, left_at, left_behind, ends_left, ends_behind}
 use Rattle.control_laws.proofs.Handles.{all_front}
 use Rattle.control_laws.proofs.Seats.{AreSubs, first_run, sub_at}
@@ -356,6 +357,79 @@ none_opened os = ap (λ xs. length (host_opens_all xs)) (drop_all os)
 drop_all_count : (f : Opening → List Msg) (os : List Opening) → count f os (length os) ≡ 0
 drop_all_count f os = ap (λ xs. length (flat_map f xs)) (drop_all os)
 
+-- of what both lists end with before that, too
+cancel_both : (xs ms ys ns zs : List Msg) (n : ℕ) → length (xs ++ (ms ++ zs)) ≡ n + length (ys ++ (ns ++ zs)) → length xs + length ms ≡ n + (length ys + length ns)
+cancel_both xs ms ys ns zs n e =
+    let a = length-append xs (ms ++ zs) in
+    let b = length-append ms zs in
+    let c = length-append ys (ns ++ zs) in
+    let d = length-append ns zs in
+    omega (arith, e, a, b, c, d)
+
+-- how many channels a phase moves: the guest says as many messages, and the host as many where it answers, and none otherwise
+filter_few : (test : Opening → Bool) (os : List Opening) → length (filter test os) ≤ length os
+filter_few test [] = omega arith
+filter_few test (o ∷ os) = one (test o) (filter_few test os)
+  where
+    one : (b : Bool) → length (filter test os) ≤ length os → length (cond b (o ∷ filter test os) (filter test os)) ≤ suc (length os)
+    one true few = omega (arith, few)
+    one false few = omega (arith, few)
+
+moved_few : (plan : BusPlan) (os : List Opening) → length (moved plan os) ≤ length os
+moved_few plan os = one (has_modify (agreed plan))
+  where
+    one : (b : Bool) → length (if b then movers os else []) ≤ length os
+    one true = filter_few (λ o. is_some o.vp) os
+    one false = omega arith
+
+record MovesAt (plan : BusPlan) (os : List Opening) : Type 0 where
+  asked : length (guest_moves plan os) ≡ length (moved plan os)
+  answered : length (host_moves plan os) ≤ length (moved plan os)
+  few : length (moved plan os) ≤ 16
+
+moves_at : (plan : BusPlan) (phase : ℕ) → IsPlan plan → phase < length plan.phases → MovesAt plan (phase_of plan phase)
+moves_at plan phase planned less =
+    let os : List Opening = phase_of plan phase in
+    let small = phase_small plan phase planned less in
+    let most = moved_few plan os in
+    record {
+      asked = length-map (moved plan os) (λ o. modify o.relid (vp_for o));
+      answered = one (moved plan os) (answers_modify (agreed plan));
+      few = omega (arith, small, most);
+    }
+  where
+    one : (ms : List Opening) (b : Bool) → length (if b then map (λ o. modified o.relid) ms else []) ≤ length ms
+    one ms true = let e = length-map ms (λ o. modified o.relid) in omega (arith, e)
+    one ms false = omega arith
+
+-- of them some are left from a place on: as many messages of the guest's, and where the host answers as many of its own
+record LeftAt (plan : BusPlan) (os : List Opening) (place : ℕ) : Type 0 where
+  less : place < length (moved plan os)
+  asked : length (drop place (guest_moves plan os)) + place ≡ length (moved plan os)
+  answered : length (drop place (host_moves plan os)) ≤ length (host_moves plan os) - place
+
+left_from : (plan : BusPlan) (os done : List Opening) (o : Opening) (left : List Opening) (place : ℕ) → moved plan os ≡ done ++ o ∷ left → place ≡ length done → LeftAt plan os place
+left_from plan os done o left place is at =
+    let whole = ap length is in
+    let both = length-append done (o ∷ left) in
+    let all = length-map (moved plan os) (λ o. modify o.relid (vp_for o)) in
+    let part = length-drop place (guest_moves plan os) in
+    let rest = length-drop place (host_moves plan os) in
+    record {
+      less = omega (arith, whole, both, at);
+      asked = omega (arith, whole, both, at, all, part);
+      answered = omega (arith, rest);
+    }
+
+-- where the host answers, it has as many answers left as there are channels
+all_answered : (plan : BusPlan) (v : Version) (os : List Opening) (place : ℕ) → IsPlan plan → Agreed plan v → answers_modify v.0 ≡ true → LeftAt plan os place → length (drop place (host_moves plan os)) + place ≡ length (moved plan os)
+all_answered plan v os place planned is answers here =
+    let so : host_moves plan os ≡ map (λ (o : Opening). modified o.relid) (moved plan os) = ap (λ b. if b then map (λ (o : Opening). modified o.relid) (moved plan os) else []) (answers_are plan v planned is ∙ answers) in
+    let all = ap length so ∙ length-map (moved plan os) (λ o. modified o.relid) in
+    let part = length-drop place (host_moves plan os) in
+    let less = here.less in
+    omega (arith, all, part, less)
+
 -- the start of a phase
 module _ (os : List Opening) (a b : ℕ) (all : Some3 guest_opens os) (small : length os ≤ 16) where
   created_listing : (k j c d : ℕ) (ms : List Msg) → StartAt os k c → StartAt os j d → suc (length ms) ≤ d → suc (length (ms ++ opens_listed (drop j os))) ≡ a + length (opens_listed (drop k os)) → opens_count os k ≡ b + opens_count os j → Near a b false false
@@ -378,8 +452,11 @@ module _ (os : List Opening) (a b : ℕ) (all : Some3 guest_opens os) (small : l
       let two = ap (opens_count os) at in
       neither a b (omega (arith, e, f, one, two, here.listed, there.listed, there.answered), omega (arith, e, f, one, two, here.listed, there.listed, there.answered), omega (arith, e, f, one, two, here.listed, there.listed, there.answered))
 
-  created_started : (k c : ℕ) → StartAt os k c → 0 ≡ a + length (opens_listed (drop k os)) → Near a b false true
-  created_started k c here e = absurd (omega (arith, e, here.listed))
+  created_started : (said k c : ℕ) → StartAt os k c → 0 ≡ a + (length (opens_listed (drop k os)) + said) → Near a b false true
+  created_started said k c here e = absurd (omega (arith, e, here.listed))
+
+  created_moving : (plan : BusPlan) (k j c : ℕ) → MovesAt plan os → StartAt os k c → LeftAt plan os j → 0 + length (drop j (guest_moves plan os)) ≡ a + (length (opens_listed (drop k os)) + length (guest_moves plan os)) → Near a b false false
+  created_moving plan k j c has here there e = absurd (omega (arith, e, here.listed, there.asked, has.asked))
 
   opened_listing : (k j c d : ℕ) (ms : List Msg) → StartAt os k c → StartAt os j d → suc (length ms) ≤ d → suc (length (ms ++ opens_listed (drop j os))) ≡ a + count guest_opens os (suc k) → length (answers_open (drop k os)) ≡ b + opens_count os j → Near a b false false
   opened_listing k j c d ms here there pieces e f =
@@ -400,12 +477,22 @@ module _ (os : List Opening) (a b : ℕ) (all : Some3 guest_opens os) (small : l
       let two = ap (opens_count os) at in
       neither a b (omega (arith, e, f, one, two, there.listed, here.answered, there.answered), omega (arith, e, f, one, two, there.listed, here.answered, there.answered), omega (arith, e, f, one, two, there.listed, here.answered, there.answered))
 
-  opened_started : (k c : ℕ) → StartAt os k c → 0 ≡ a + count guest_opens os (suc k) → length (answers_open (drop k os)) ≡ b + 0 → Near a b false true
-  opened_started k c here e f =
+  opened_started : (plan : BusPlan) (k c : ℕ) → MovesAt plan os → StartAt os k c → 0 ≡ a + (count guest_opens os (suc k) + length (guest_moves plan os)) → length (answers_open (drop k os)) + length (host_moves plan os) ≡ b + 0 → Near a b false true
+  opened_started plan k c has here e f =
       let up = steps guest_opens os (length os) (suc k) (omega arith) all in
       let last : suc k ≡ length os = omega (arith, e, up, here.less) in
       let none = ap (opens_count os) last ∙ none_opened os in
-      host_over a b (omega (arith, e), omega (arith, f, none, here.answered, here.created), omega (arith, f, none, here.answered, here.created, here.few))
+      host_over a b (omega (arith, e), omega (arith, f, none, here.answered, here.created), omega (arith, e, f, none, here.answered, here.created, here.few, has.asked, has.answered))
+
+  opened_moving : (plan : BusPlan) (k j c : ℕ) → MovesAt plan os → StartAt os k c → LeftAt plan os j → 0 + length (drop j (guest_moves plan os)) ≡ a + (count guest_opens os (suc k) + length (guest_moves plan os))
+      → length (answers_open (drop k os)) + length (host_moves plan os) ≡ b + (0 + length (drop j (host_moves plan os))) → Near a b false false
+  opened_moving plan k j c has here there e f =
+      let up = steps guest_opens os (length os) (suc k) (omega arith) all in
+      let last : suc k ≡ length os = omega (arith, e, up, here.less, there.asked, has.asked) in
+      let none = ap (opens_count os) last ∙ none_opened os in
+      let first : j ≡ 0 = omega (arith, e, there.asked, has.asked) in
+      let whole : length (drop j (host_moves plan os)) ≡ length (host_moves plan os) = ap (λ n. length (drop n (host_moves plan os))) first in
+      neither a b (omega (arith, e, there.asked, has.asked), omega (arith, f, none, whole, here.answered, here.created, here.few), omega (arith, f, none, whole, here.answered, here.created))
 
   offered_listing : (k first j d : ℕ) (ms : List Msg) → OffersAt os k first → StartAt os j d → suc (length ms) ≤ d → suc (length (ms ++ opens_listed (drop j os))) ≡ a + length (start_to_say os (SubOffer k)) → length (start_to_hear os (SubOffer k)) ≡ b + opens_count os j → Near a b false false
   offered_listing k first j d ms here there pieces e f =
@@ -423,16 +510,37 @@ module _ (os : List Opening) (a b : ℕ) (all : Some3 guest_opens os) (small : l
       let back = opens_steps os first j (let less = here.less in omega (arith, less)) small in
       absurd (omega (arith, e, f, up, back, here.says, here.hears, here.held, there.listed, there.answered, there.whole, there.least))
 
-  offered_started : (k first : ℕ) → OffersAt os k first → 0 ≡ a + length (start_to_say os (SubOffer k)) → Near a b false true
-  offered_started k first here e =
+  offered_started : (said k first : ℕ) → OffersAt os k first → 0 ≡ a + (length (start_to_say os (SubOffer k)) + said) → Near a b false true
+  offered_started said k first here e =
       let up = steps guest_opens os (length os) (suc first) (omega arith) all in
       absurd (omega (arith, e, up, here.says, here.less))
 
-  started_listing : (j d : ℕ) → StartAt os j d → 0 ≡ b + opens_count os j → Near a b true false
-  started_listing j d there f = absurd (omega (arith, f, there.created))
+  offered_moving : (plan : BusPlan) (k first j : ℕ) → MovesAt plan os → OffersAt os k first → LeftAt plan os j → 0 + length (drop j (guest_moves plan os)) ≡ a + (length (start_to_say os (SubOffer k)) + length (guest_moves plan os)) → Near a b false false
+  offered_moving plan k first j has here there e =
+      let up = steps guest_opens os (length os) (suc first) (omega arith) all in
+      absurd (omega (arith, e, up, here.says, here.less, there.asked, has.asked))
 
-  started_listed : (j d : ℕ) → StartAt os j d → 0 ≡ b + length (answers_open (drop j os)) → Near a b true false
-  started_listed j d there f = absurd (omega (arith, f, there.answered, there.created))
+  moved_listing : (plan : BusPlan) (k j d : ℕ) → LeftAt plan os k → StartAt os j d → 0 + length (drop k (host_moves plan os)) ≡ b + (opens_count os j + length (host_moves plan os)) → Near a b false false
+  moved_listing plan k j d here there f = absurd (omega (arith, f, here.answered, there.created))
+
+  moved_listed : (plan : BusPlan) (k j d : ℕ) → LeftAt plan os k → StartAt os j d → 0 + length (drop k (host_moves plan os)) ≡ b + (length (answers_open (drop j os)) + length (host_moves plan os)) → Near a b false false
+  moved_listed plan k j d here there f = absurd (omega (arith, f, here.answered, there.answered, there.created))
+
+  moved_moving : (plan : BusPlan) (k j : ℕ) → MovesAt plan os → LeftAt plan os k → LeftAt plan os j → 0 + length (drop j (guest_moves plan os)) ≡ a + 0 → 0 + length (drop k (host_moves plan os)) ≡ b + (0 + length (drop j (host_moves plan os))) → Near a b false false
+  moved_moving plan k j has here there e f =
+      neither a b (omega (arith, e, there.asked, has.few), omega (arith, f, here.answered, has.answered, has.few), omega (arith, e, there.asked, there.less))
+
+  moved_started : (plan : BusPlan) (k : ℕ) → MovesAt plan os → LeftAt plan os k → 0 ≡ a + 0 → length (drop k (host_moves plan os)) + k ≡ length (moved plan os) → 0 + length (drop k (host_moves plan os)) ≡ b + 0 → Near a b false true
+  moved_started plan k has here e all_answer f = host_over a b (omega (arith, e), omega (arith, f, all_answer, here.less), omega (arith, f, all_answer, has.few))
+
+  started_listing : (said j d : ℕ) → StartAt os j d → 0 ≡ b + (opens_count os j + said) → Near a b true false
+  started_listing said j d there f = absurd (omega (arith, f, there.created))
+
+  started_listed : (said j d : ℕ) → StartAt os j d → 0 ≡ b + (length (answers_open (drop j os)) + said) → Near a b true false
+  started_listed said j d there f = absurd (omega (arith, f, there.answered, there.created))
+
+  started_moving : (plan : BusPlan) (j : ℕ) → MovesAt plan os → LeftAt plan os j → 0 + length (drop j (guest_moves plan os)) ≡ a + 0 → 0 ≡ b + (0 + length (drop j (host_moves plan os))) → Near a b true false
+  started_moving plan j has there e f = guest_over a b (omega (arith, f), omega (arith, e, there.asked, there.less), omega (arith, e, there.asked, has.few))
 
 -- the end of a phase
 module _ (os : List Opening) (a b : ℕ) where
@@ -658,17 +766,25 @@ near plan part awaits version channels waits agreed lives assembly tried pieces 
 near plan part awaits version channels waits agreed lives assembly tried pieces a b planned (contacted v cs meet) (IsAnswering u others) e f = over_contact plan planned a b u others (cancel (host_contact_to_hear waits tried) (contact_to_say plan awaits) (guest_from plan 0) a e) (cancel (contact_to_hear plan awaits (length channels)) (host_contact_to_say plan waits tried) (host_from plan 0) b f)
 near plan part awaits version channels waits agreed lives assembly tried pieces a b planned (contacted v cs meet) (IsAccepting u ours) e f = over_request plan planned a b u (cancel (host_contact_to_hear waits tried) (contact_to_say plan awaits) (guest_from plan 0) a e) (cancel (contact_to_hear plan awaits (length channels)) (host_contact_to_say plan waits tried) (host_from plan 0) b f)
 near plan part awaits version channels waits agreed lives assembly tried pieces a b planned (contacted v cs meet) (IsContacted u ls ours) e f = over_over a b _ _ e f
-near plan part awaits version channels waits agreed lives assembly tried pieces a b planned (offers v cs phase k done first offered o left at is_first subs meet) (IsListing u ls phase2 j before p behind s m ms there ours list) e f = offered_listing (phase_of plan phase) a b (opens_3 (phase_of plan phase) (phase_fits plan phase planned at.in_plan)) (phase_small plan phase planned at.in_plan) k (length done) j _ ms (offers_at plan phase k done first offered o left planned at is_first subs) (start_at plan phase j before p behind planned there) (pieces_few before p s m ms list) (cancel (host_start_to_hear (phase_of plan phase) waits pieces) (start_to_say (phase_of plan phase) awaits) (flat_map guest_closes (closing_of plan phase) ++ guest_from plan (suc phase)) a e) (cancel (start_to_hear (phase_of plan phase) awaits) (host_start_to_say (phase_of plan phase) waits) (flat_map host_closes (closing_of plan phase) ++ host_from plan (suc phase)) b f)
-near plan part awaits version channels waits agreed lives assembly tried pieces a b planned (offers v cs phase k done first offered o left at is_first subs meet) (IsListed u ls phase2 j before p behind there ours) e f = offered_listed (phase_of plan phase) a b (opens_3 (phase_of plan phase) (phase_fits plan phase planned at.in_plan)) (phase_small plan phase planned at.in_plan) k (length done) j _ (offers_at plan phase k done first offered o left planned at is_first subs) (start_at plan phase j before p behind planned there) (cancel (host_start_to_hear (phase_of plan phase) waits pieces) (start_to_say (phase_of plan phase) awaits) (flat_map guest_closes (closing_of plan phase) ++ guest_from plan (suc phase)) a e) (cancel (start_to_hear (phase_of plan phase) awaits) (host_start_to_say (phase_of plan phase) waits) (flat_map host_closes (closing_of plan phase) ++ host_from plan (suc phase)) b f)
-near plan part awaits version channels waits agreed lives assembly tried pieces a b planned (offers v cs phase k done first offered o left at is_first subs meet) (IsStarted u ls phase2 in_plan2 ours) e f = offered_started (phase_of plan phase) a b (opens_3 (phase_of plan phase) (phase_fits plan phase planned at.in_plan)) (phase_small plan phase planned at.in_plan) k (length done) (offers_at plan phase k done first offered o left planned at is_first subs) (cancel (host_start_to_hear (phase_of plan phase) waits pieces) (start_to_say (phase_of plan phase) awaits) (flat_map guest_closes (closing_of plan phase) ++ guest_from plan (suc phase)) a e)
-near plan part awaits version channels waits agreed lives assembly tried pieces a b planned (lists v cs phase k done o left at meet) (IsListing u ls phase2 j before p behind s m ms there ours list) e f = created_listing (phase_of plan phase) a b (opens_3 (phase_of plan phase) (phase_fits plan phase planned at.in_plan)) (phase_small plan phase planned at.in_plan) k j _ _ ms (start_at plan phase k done o left planned at) (start_at plan phase j before p behind planned there) (pieces_few before p s m ms list) (cancel (host_start_to_hear (phase_of plan phase) waits pieces) (start_to_say (phase_of plan phase) awaits) (flat_map guest_closes (closing_of plan phase) ++ guest_from plan (suc phase)) a e) (cancel (start_to_hear (phase_of plan phase) awaits) (host_start_to_say (phase_of plan phase) waits) (flat_map host_closes (closing_of plan phase) ++ host_from plan (suc phase)) b f)
-near plan part awaits version channels waits agreed lives assembly tried pieces a b planned (lists v cs phase k done o left at meet) (IsListed u ls phase2 j before p behind there ours) e f = created_listed (phase_of plan phase) a b (opens_3 (phase_of plan phase) (phase_fits plan phase planned at.in_plan)) (phase_small plan phase planned at.in_plan) k j _ _ (start_at plan phase k done o left planned at) (start_at plan phase j before p behind planned there) (cancel (host_start_to_hear (phase_of plan phase) waits pieces) (start_to_say (phase_of plan phase) awaits) (flat_map guest_closes (closing_of plan phase) ++ guest_from plan (suc phase)) a e) (cancel (start_to_hear (phase_of plan phase) awaits) (host_start_to_say (phase_of plan phase) waits) (flat_map host_closes (closing_of plan phase) ++ host_from plan (suc phase)) b f)
-near plan part awaits version channels waits agreed lives assembly tried pieces a b planned (lists v cs phase k done o left at meet) (IsStarted u ls phase2 in_plan2 ours) e f = created_started (phase_of plan phase) a b (opens_3 (phase_of plan phase) (phase_fits plan phase planned at.in_plan)) (phase_small plan phase planned at.in_plan) k _ (start_at plan phase k done o left planned at) (cancel (host_start_to_hear (phase_of plan phase) waits pieces) (start_to_say (phase_of plan phase) awaits) (flat_map guest_closes (closing_of plan phase) ++ guest_from plan (suc phase)) a e)
-near plan part awaits version channels waits agreed lives assembly tried pieces a b planned (opens v cs phase k done o left at meet) (IsListing u ls phase2 j before p behind s m ms there ours list) e f = opened_listing (phase_of plan phase) a b (opens_3 (phase_of plan phase) (phase_fits plan phase planned at.in_plan)) (phase_small plan phase planned at.in_plan) k j _ _ ms (start_at plan phase k done o left planned at) (start_at plan phase j before p behind planned there) (pieces_few before p s m ms list) (cancel (host_start_to_hear (phase_of plan phase) waits pieces) (start_to_say (phase_of plan phase) awaits) (flat_map guest_closes (closing_of plan phase) ++ guest_from plan (suc phase)) a e) (cancel (start_to_hear (phase_of plan phase) awaits) (host_start_to_say (phase_of plan phase) waits) (flat_map host_closes (closing_of plan phase) ++ host_from plan (suc phase)) b f)
-near plan part awaits version channels waits agreed lives assembly tried pieces a b planned (opens v cs phase k done o left at meet) (IsListed u ls phase2 j before p behind there ours) e f = opened_listed (phase_of plan phase) a b (opens_3 (phase_of plan phase) (phase_fits plan phase planned at.in_plan)) (phase_small plan phase planned at.in_plan) k j _ _ (start_at plan phase k done o left planned at) (start_at plan phase j before p behind planned there) (cancel (host_start_to_hear (phase_of plan phase) waits pieces) (start_to_say (phase_of plan phase) awaits) (flat_map guest_closes (closing_of plan phase) ++ guest_from plan (suc phase)) a e) (cancel (start_to_hear (phase_of plan phase) awaits) (host_start_to_say (phase_of plan phase) waits) (flat_map host_closes (closing_of plan phase) ++ host_from plan (suc phase)) b f)
-near plan part awaits version channels waits agreed lives assembly tried pieces a b planned (opens v cs phase k done o left at meet) (IsStarted u ls phase2 in_plan2 ours) e f = opened_started (phase_of plan phase) a b (opens_3 (phase_of plan phase) (phase_fits plan phase planned at.in_plan)) (phase_small plan phase planned at.in_plan) k _ (start_at plan phase k done o left planned at) (cancel (host_start_to_hear (phase_of plan phase) waits pieces) (start_to_say (phase_of plan phase) awaits) (flat_map guest_closes (closing_of plan phase) ++ guest_from plan (suc phase)) a e) (cancel (start_to_hear (phase_of plan phase) awaits) (host_start_to_say (phase_of plan phase) waits) (flat_map host_closes (closing_of plan phase) ++ host_from plan (suc phase)) b f)
-near plan part awaits version channels waits agreed lives assembly tried pieces a b planned (started v cs phase in_plan meet) (IsListing u ls phase2 j before p behind s m ms there ours list) e f = started_listing (phase_of plan phase) a b (opens_3 (phase_of plan phase) (phase_fits plan phase planned in_plan)) (phase_small plan phase planned in_plan) j _ (start_at plan phase j before p behind planned there) (cancel (start_to_hear (phase_of plan phase) awaits) (host_start_to_say (phase_of plan phase) waits) (flat_map host_closes (closing_of plan phase) ++ host_from plan (suc phase)) b f)
-near plan part awaits version channels waits agreed lives assembly tried pieces a b planned (started v cs phase in_plan meet) (IsListed u ls phase2 j before p behind there ours) e f = started_listed (phase_of plan phase) a b (opens_3 (phase_of plan phase) (phase_fits plan phase planned in_plan)) (phase_small plan phase planned in_plan) j _ (start_at plan phase j before p behind planned there) (cancel (start_to_hear (phase_of plan phase) awaits) (host_start_to_say (phase_of plan phase) waits) (flat_map host_closes (closing_of plan phase) ++ host_from plan (suc phase)) b f)
+near plan part awaits version channels waits agreed lives assembly tried pieces a b planned (offers v cs phase k done first offered o left at is_first subs meet) (IsListing u ls phase2 j before p behind s m ms there ours list) e f = offered_listing (phase_of plan phase) a b (opens_3 (phase_of plan phase) (phase_fits plan phase planned at.in_plan)) (phase_small plan phase planned at.in_plan) k (length done) j _ ms (offers_at plan phase k done first offered o left planned at is_first subs) (start_at plan phase j before p behind planned there) (pieces_few before p s m ms list) (cancel (host_start_to_hear (phase_of plan phase) waits pieces) (start_to_say (phase_of plan phase) awaits) (guest_moves plan (phase_of plan phase) ++ (flat_map guest_closes (closing_of plan phase) ++ guest_from plan (suc phase))) a e) (cancel (start_to_hear (phase_of plan phase) awaits) (host_start_to_say (phase_of plan phase) waits) (host_moves plan (phase_of plan phase) ++ (flat_map host_closes (closing_of plan phase) ++ host_from plan (suc phase))) b f)
+near plan part awaits version channels waits agreed lives assembly tried pieces a b planned (offers v cs phase k done first offered o left at is_first subs meet) (IsListed u ls phase2 j before p behind there ours) e f = offered_listed (phase_of plan phase) a b (opens_3 (phase_of plan phase) (phase_fits plan phase planned at.in_plan)) (phase_small plan phase planned at.in_plan) k (length done) j _ (offers_at plan phase k done first offered o left planned at is_first subs) (start_at plan phase j before p behind planned there) (cancel (host_start_to_hear (phase_of plan phase) waits pieces) (start_to_say (phase_of plan phase) awaits) (guest_moves plan (phase_of plan phase) ++ (flat_map guest_closes (closing_of plan phase) ++ guest_from plan (suc phase))) a e) (cancel (start_to_hear (phase_of plan phase) awaits) (host_start_to_say (phase_of plan phase) waits) (host_moves plan (phase_of plan phase) ++ (flat_map host_closes (closing_of plan phase) ++ host_from plan (suc phase))) b f)
+near plan part awaits version channels waits agreed lives assembly tried pieces a b planned (offers v cs phase k done first offered o left at is_first subs meet) (IsMoving u ls phase2 j before p behind in_plan2 ms there ours) e f = offered_moving (phase_of plan phase) a b (opens_3 (phase_of plan phase) (phase_fits plan phase planned at.in_plan)) (phase_small plan phase planned at.in_plan) plan k (length done) j (moves_at plan phase planned at.in_plan) (offers_at plan phase k done first offered o left planned at is_first subs) (left_from plan (phase_of plan phase) before p behind j ms there) (cancel_both (host_start_to_hear (phase_of plan phase) waits pieces) (host_moves_to_hear plan (phase_of plan phase) waits) (start_to_say (phase_of plan phase) awaits) (moves_to_say plan (phase_of plan phase) awaits) (flat_map guest_closes (closing_of plan phase) ++ guest_from plan (suc phase)) a e)
+near plan part awaits version channels waits agreed lives assembly tried pieces a b planned (offers v cs phase k done first offered o left at is_first subs meet) (IsStarted u ls phase2 in_plan2 ours) e f = offered_started (phase_of plan phase) a b (opens_3 (phase_of plan phase) (phase_fits plan phase planned at.in_plan)) (phase_small plan phase planned at.in_plan) _ k (length done) (offers_at plan phase k done first offered o left planned at is_first subs) (cancel_both (host_start_to_hear (phase_of plan phase) waits pieces) (host_moves_to_hear plan (phase_of plan phase) waits) (start_to_say (phase_of plan phase) awaits) (moves_to_say plan (phase_of plan phase) awaits) (flat_map guest_closes (closing_of plan phase) ++ guest_from plan (suc phase)) a e)
+near plan part awaits version channels waits agreed lives assembly tried pieces a b planned (lists v cs phase k done o left at meet) (IsListing u ls phase2 j before p behind s m ms there ours list) e f = created_listing (phase_of plan phase) a b (opens_3 (phase_of plan phase) (phase_fits plan phase planned at.in_plan)) (phase_small plan phase planned at.in_plan) k j _ _ ms (start_at plan phase k done o left planned at) (start_at plan phase j before p behind planned there) (pieces_few before p s m ms list) (cancel (host_start_to_hear (phase_of plan phase) waits pieces) (start_to_say (phase_of plan phase) awaits) (guest_moves plan (phase_of plan phase) ++ (flat_map guest_closes (closing_of plan phase) ++ guest_from plan (suc phase))) a e) (cancel (start_to_hear (phase_of plan phase) awaits) (host_start_to_say (phase_of plan phase) waits) (host_moves plan (phase_of plan phase) ++ (flat_map host_closes (closing_of plan phase) ++ host_from plan (suc phase))) b f)
+near plan part awaits version channels waits agreed lives assembly tried pieces a b planned (lists v cs phase k done o left at meet) (IsListed u ls phase2 j before p behind there ours) e f = created_listed (phase_of plan phase) a b (opens_3 (phase_of plan phase) (phase_fits plan phase planned at.in_plan)) (phase_small plan phase planned at.in_plan) k j _ _ (start_at plan phase k done o left planned at) (start_at plan phase j before p behind planned there) (cancel (host_start_to_hear (phase_of plan phase) waits pieces) (start_to_say (phase_of plan phase) awaits) (guest_moves plan (phase_of plan phase) ++ (flat_map guest_closes (closing_of plan phase) ++ guest_from plan (suc phase))) a e) (cancel (start_to_hear (phase_of plan phase) awaits) (host_start_to_say (phase_of plan phase) waits) (host_moves plan (phase_of plan phase) ++ (flat_map host_closes (closing_of plan phase) ++ host_from plan (suc phase))) b f)
+near plan part awaits version channels waits agreed lives assembly tried pieces a b planned (lists v cs phase k done o left at meet) (IsMoving u ls phase2 j before p behind in_plan2 ms there ours) e f = created_moving (phase_of plan phase) a b (opens_3 (phase_of plan phase) (phase_fits plan phase planned at.in_plan)) (phase_small plan phase planned at.in_plan) plan k j _ (moves_at plan phase planned at.in_plan) (start_at plan phase k done o left planned at) (left_from plan (phase_of plan phase) before p behind j ms there) (cancel_both (host_start_to_hear (phase_of plan phase) waits pieces) (host_moves_to_hear plan (phase_of plan phase) waits) (start_to_say (phase_of plan phase) awaits) (moves_to_say plan (phase_of plan phase) awaits) (flat_map guest_closes (closing_of plan phase) ++ guest_from plan (suc phase)) a e)
+near plan part awaits version channels waits agreed lives assembly tried pieces a b planned (lists v cs phase k done o left at meet) (IsStarted u ls phase2 in_plan2 ours) e f = created_started (phase_of plan phase) a b (opens_3 (phase_of plan phase) (phase_fits plan phase planned at.in_plan)) (phase_small plan phase planned at.in_plan) _ k _ (start_at plan phase k done o left planned at) (cancel_both (host_start_to_hear (phase_of plan phase) waits pieces) (host_moves_to_hear plan (phase_of plan phase) waits) (start_to_say (phase_of plan phase) awaits) (moves_to_say plan (phase_of plan phase) awaits) (flat_map guest_closes (closing_of plan phase) ++ guest_from plan (suc phase)) a e)
+near plan part awaits version channels waits agreed lives assembly tried pieces a b planned (opens v cs phase k done o left at meet) (IsListing u ls phase2 j before p behind s m ms there ours list) e f = opened_listing (phase_of plan phase) a b (opens_3 (phase_of plan phase) (phase_fits plan phase planned at.in_plan)) (phase_small plan phase planned at.in_plan) k j _ _ ms (start_at plan phase k done o left planned at) (start_at plan phase j before p behind planned there) (pieces_few before p s m ms list) (cancel (host_start_to_hear (phase_of plan phase) waits pieces) (start_to_say (phase_of plan phase) awaits) (guest_moves plan (phase_of plan phase) ++ (flat_map guest_closes (closing_of plan phase) ++ guest_from plan (suc phase))) a e) (cancel (start_to_hear (phase_of plan phase) awaits) (host_start_to_say (phase_of plan phase) waits) (host_moves plan (phase_of plan phase) ++ (flat_map host_closes (closing_of plan phase) ++ host_from plan (suc phase))) b f)
+near plan part awaits version channels waits agreed lives assembly tried pieces a b planned (opens v cs phase k done o left at meet) (IsListed u ls phase2 j before p behind there ours) e f = opened_listed (phase_of plan phase) a b (opens_3 (phase_of plan phase) (phase_fits plan phase planned at.in_plan)) (phase_small plan phase planned at.in_plan) k j _ _ (start_at plan phase k done o left planned at) (start_at plan phase j before p behind planned there) (cancel (host_start_to_hear (phase_of plan phase) waits pieces) (start_to_say (phase_of plan phase) awaits) (guest_moves plan (phase_of plan phase) ++ (flat_map guest_closes (closing_of plan phase) ++ guest_from plan (suc phase))) a e) (cancel (start_to_hear (phase_of plan phase) awaits) (host_start_to_say (phase_of plan phase) waits) (host_moves plan (phase_of plan phase) ++ (flat_map host_closes (closing_of plan phase) ++ host_from plan (suc phase))) b f)
+near plan part awaits version channels waits agreed lives assembly tried pieces a b planned (opens v cs phase k done o left at meet) (IsMoving u ls phase2 j before p behind in_plan2 ms there ours) e f = opened_moving (phase_of plan phase) a b (opens_3 (phase_of plan phase) (phase_fits plan phase planned at.in_plan)) (phase_small plan phase planned at.in_plan) plan k j _ (moves_at plan phase planned at.in_plan) (start_at plan phase k done o left planned at) (left_from plan (phase_of plan phase) before p behind j ms there) (cancel_both (host_start_to_hear (phase_of plan phase) waits pieces) (host_moves_to_hear plan (phase_of plan phase) waits) (start_to_say (phase_of plan phase) awaits) (moves_to_say plan (phase_of plan phase) awaits) (flat_map guest_closes (closing_of plan phase) ++ guest_from plan (suc phase)) a e) (cancel_both (start_to_hear (phase_of plan phase) awaits) (moves_to_hear plan (phase_of plan phase) awaits) (host_start_to_say (phase_of plan phase) waits) (host_moves_to_say plan (phase_of plan phase) waits) (flat_map host_closes (closing_of plan phase) ++ host_from plan (suc phase)) b f)
+near plan part awaits version channels waits agreed lives assembly tried pieces a b planned (opens v cs phase k done o left at meet) (IsStarted u ls phase2 in_plan2 ours) e f = opened_started (phase_of plan phase) a b (opens_3 (phase_of plan phase) (phase_fits plan phase planned at.in_plan)) (phase_small plan phase planned at.in_plan) plan k _ (moves_at plan phase planned at.in_plan) (start_at plan phase k done o left planned at) (cancel_both (host_start_to_hear (phase_of plan phase) waits pieces) (host_moves_to_hear plan (phase_of plan phase) waits) (start_to_say (phase_of plan phase) awaits) (moves_to_say plan (phase_of plan phase) awaits) (flat_map guest_closes (closing_of plan phase) ++ guest_from plan (suc phase)) a e) (cancel_both (start_to_hear (phase_of plan phase) awaits) (moves_to_hear plan (phase_of plan phase) awaits) (host_start_to_say (phase_of plan phase) waits) (host_moves_to_say plan (phase_of plan phase) waits) (flat_map host_closes (closing_of plan phase) ++ host_from plan (suc phase)) b f)
+near plan part awaits version channels waits agreed lives assembly tried pieces a b planned (moves v cs phase k done o left in_plan is at answers meet) (IsListing u ls phase2 j before p behind s m ms there ours list) e f = moved_listing (phase_of plan phase) a b (opens_3 (phase_of plan phase) (phase_fits plan phase planned in_plan)) (phase_small plan phase planned in_plan) plan k j _ (left_from plan (phase_of plan phase) done o left k is at) (start_at plan phase j before p behind planned there) (cancel_both (start_to_hear (phase_of plan phase) awaits) (moves_to_hear plan (phase_of plan phase) awaits) (host_start_to_say (phase_of plan phase) waits) (host_moves_to_say plan (phase_of plan phase) waits) (flat_map host_closes (closing_of plan phase) ++ host_from plan (suc phase)) b f)
+near plan part awaits version channels waits agreed lives assembly tried pieces a b planned (moves v cs phase k done o left in_plan is at answers meet) (IsListed u ls phase2 j before p behind there ours) e f = moved_listed (phase_of plan phase) a b (opens_3 (phase_of plan phase) (phase_fits plan phase planned in_plan)) (phase_small plan phase planned in_plan) plan k j _ (left_from plan (phase_of plan phase) done o left k is at) (start_at plan phase j before p behind planned there) (cancel_both (start_to_hear (phase_of plan phase) awaits) (moves_to_hear plan (phase_of plan phase) awaits) (host_start_to_say (phase_of plan phase) waits) (host_moves_to_say plan (phase_of plan phase) waits) (flat_map host_closes (closing_of plan phase) ++ host_from plan (suc phase)) b f)
+near plan part awaits version channels waits agreed lives assembly tried pieces a b planned (moves v cs phase k done o left in_plan is at answers meet) (IsMoving u ls phase2 j before p behind in_plan2 ms there ours) e f = moved_moving (phase_of plan phase) a b (opens_3 (phase_of plan phase) (phase_fits plan phase planned in_plan)) (phase_small plan phase planned in_plan) plan k j (moves_at plan phase planned in_plan) (left_from plan (phase_of plan phase) done o left k is at) (left_from plan (phase_of plan phase) before p behind j ms there) (cancel_both (host_start_to_hear (phase_of plan phase) waits pieces) (host_moves_to_hear plan (phase_of plan phase) waits) (start_to_say (phase_of plan phase) awaits) (moves_to_say plan (phase_of plan phase) awaits) (flat_map guest_closes (closing_of plan phase) ++ guest_from plan (suc phase)) a e) (cancel_both (start_to_hear (phase_of plan phase) awaits) (moves_to_hear plan (phase_of plan phase) awaits) (host_start_to_say (phase_of plan phase) waits) (host_moves_to_say plan (phase_of plan phase) waits) (flat_map host_closes (closing_of plan phase) ++ host_from plan (suc phase)) b f)
+near plan part awaits version channels waits agreed lives assembly tried pieces a b planned (moves v cs phase k done o left in_plan is at answers meet) (IsStarted u ls phase2 in_plan2 ours) e f = moved_started (phase_of plan phase) a b (opens_3 (phase_of plan phase) (phase_fits plan phase planned in_plan)) (phase_small plan phase planned in_plan) plan k (moves_at plan phase planned in_plan) (left_from plan (phase_of plan phase) done o left k is at) (cancel_both (host_start_to_hear (phase_of plan phase) waits pieces) (host_moves_to_hear plan (phase_of plan phase) waits) (start_to_say (phase_of plan phase) awaits) (moves_to_say plan (phase_of plan phase) awaits) (flat_map guest_closes (closing_of plan phase) ++ guest_from plan (suc phase)) a e) (all_answered plan v (phase_of plan phase) k planned meet.agreed answers (left_from plan (phase_of plan phase) done o left k is at)) (cancel_both (start_to_hear (phase_of plan phase) awaits) (moves_to_hear plan (phase_of plan phase) awaits) (host_start_to_say (phase_of plan phase) waits) (host_moves_to_say plan (phase_of plan phase) waits) (flat_map host_closes (closing_of plan phase) ++ host_from plan (suc phase)) b f)
+near plan part awaits version channels waits agreed lives assembly tried pieces a b planned (started v cs phase in_plan meet) (IsListing u ls phase2 j before p behind s m ms there ours list) e f = started_listing (phase_of plan phase) a b (opens_3 (phase_of plan phase) (phase_fits plan phase planned in_plan)) (phase_small plan phase planned in_plan) _ j _ (start_at plan phase j before p behind planned there) (cancel_both (start_to_hear (phase_of plan phase) awaits) (moves_to_hear plan (phase_of plan phase) awaits) (host_start_to_say (phase_of plan phase) waits) (host_moves_to_say plan (phase_of plan phase) waits) (flat_map host_closes (closing_of plan phase) ++ host_from plan (suc phase)) b f)
+near plan part awaits version channels waits agreed lives assembly tried pieces a b planned (started v cs phase in_plan meet) (IsListed u ls phase2 j before p behind there ours) e f = started_listed (phase_of plan phase) a b (opens_3 (phase_of plan phase) (phase_fits plan phase planned in_plan)) (phase_small plan phase planned in_plan) _ j _ (start_at plan phase j before p behind planned there) (cancel_both (start_to_hear (phase_of plan phase) awaits) (moves_to_hear plan (phase_of plan phase) awaits) (host_start_to_say (phase_of plan phase) waits) (host_moves_to_say plan (phase_of plan phase) waits) (flat_map host_closes (closing_of plan phase) ++ host_from plan (suc phase)) b f)
+near plan part awaits version channels waits agreed lives assembly tried pieces a b planned (started v cs phase in_plan meet) (IsMoving u ls phase2 j before p behind in_plan2 ms there ours) e f = started_moving (phase_of plan phase) a b (opens_3 (phase_of plan phase) (phase_fits plan phase planned in_plan)) (phase_small plan phase planned in_plan) plan j (moves_at plan phase planned in_plan) (left_from plan (phase_of plan phase) before p behind j ms there) (cancel_both (host_start_to_hear (phase_of plan phase) waits pieces) (host_moves_to_hear plan (phase_of plan phase) waits) (start_to_say (phase_of plan phase) awaits) (moves_to_say plan (phase_of plan phase) awaits) (flat_map guest_closes (closing_of plan phase) ++ guest_from plan (suc phase)) a e) (cancel_both (start_to_hear (phase_of plan phase) awaits) (moves_to_hear plan (phase_of plan phase) awaits) (host_start_to_say (phase_of plan phase) waits) (host_moves_to_say plan (phase_of plan phase) waits) (flat_map host_closes (closing_of plan phase) ++ host_from plan (suc phase)) b f)
 near plan part awaits version channels waits agreed lives assembly tried pieces a b planned (started v cs phase in_plan meet) (IsStarted u ls phase2 in_plan2 ours) e f = over_over a b _ _ e f
 near plan part awaits version channels waits agreed lives assembly tried pieces a b planned (closes v cs phase k done o left at closed meet) (IsClosing u ls phase2 j before p behind there other ours) e f = torn_close (closing_of plan phase) a b k j o p (end_at plan phase k done o left at) (end_at plan phase j before p behind there) closed (cancel (host_end_to_hear (closing_of plan phase) waits) (end_to_say (closing_of plan phase) awaits) (guest_from plan (suc phase)) a e) (cancel (end_to_hear (closing_of plan phase) awaits) (host_end_to_say (closing_of plan phase) waits) (host_from plan (suc phase)) b f)
 near plan part awaits version channels waits agreed lives assembly tried pieces a b planned (closes v cs phase k done o left at closed meet) (IsTearing u ls phase2 j before p behind there other ours) e f = torn_teardown (closing_of plan phase) a b k j o p (end_at plan phase k done o left at) (end_at plan phase j before p behind there) closed other (cancel (host_end_to_hear (closing_of plan phase) waits) (end_to_say (closing_of plan phase) awaits) (guest_from plan (suc phase)) a e) (cancel (end_to_hear (closing_of plan phase) awaits) (host_end_to_say (closing_of plan phase) waits) (host_from plan (suc phase)) b f)

@@ -1,10 +1,10 @@
 -- How many channels are offered while a phase starts.
-use Rattle.std.proofs.Common.{◌≡◌, ◌≢◌, ◌∙◌, ℕ, zero, suc, ◌+◌, ◌<◌, ◌≤◌, Bool, true, false, cond, if◌then◌else◌, List, [], ◌∷◌, ◌++◌, length, filter, refl, sym, ap, subst, arith, length-append}
+use Rattle.std.proofs.Common.{◌≡◌, ◌≢◌, ◌∙◌, ℕ, zero, suc, ◌+◌, ◌<◌, ◌≤◌, Bool, true, false, cond, if◌then◌else◌, List, [], ◌∷◌, ◌++◌, length, refl, ap, subst, arith, length-append}
 use Rattle.std.specs.List.{AllByRecursion, range_with_len}
 use Rattle.std.proofs.lemmas.List.Elements.{filter-append}
 use Rattle.control_model.specs.declared.opening.Opening.{Opening}
 use Rattle.control_model.specs.Plan.{BusPlan, IsPlan, is_sub, first_subs, subs_next, subs_in, phase_of}
-use Rattle.control_model.specs.Stand.{At, offered_before, offered_by, marked, before_phase}
+use Rattle.control_model.specs.Stand.{At, offered_before, offered_by, before_phase}
 use Rattle.control_laws.proofs.Marks.{marked_apart}
 use Rattle.control_laws.proofs.Cutting.{all_weaker}
 use Rattle.control_laws.proofs.Relids.{relids, cut, in_range, firsts_have, all_mixed, phase_relids, known_before, offered_grows}

@@ -1,5 +1,5 @@
 -- How both stand at the end.
-use Rattle.std.proofs.Common.{◌≡◌, ◌∙◌, ℕ, zero, suc, ◌+◌, ◌<◌, ◌≢◌, ◌≤◌, ◌==◌, ◌&&◌, ◌||◌, Bool, true, false, List, [], ◌∷◌, ◌++◌, length, map, take, Option, Some, is_some, if◌then◌else◌, refl, sym, ap, subst, arith}
+use Rattle.std.proofs.Common.{◌≡◌, ◌∙◌, ℕ, zero, suc, ◌<◌, ◌≢◌, ◌≤◌, ◌==◌, ◌&&◌, ◌||◌, Bool, true, false, List, [], ◌∷◌, ◌++◌, length, map, take, Option, Some, is_some, if◌then◌else◌, refl, sym, ap, subst, arith}
 use Rattle.std.specs.List.{AllByRecursion, list_any}
 use Rattle.std.proofs.lemmas.Bool.{eqb-true}
 use Rattle.std.proofs.lemmas.List.{take_all, append-nil}
@@ -11,7 +11,6 @@ use Rattle.chan_state.specs.declared.state.State.{State}
 use Rattle.chan_state.specs.declared.state.State.TheVariants.{Offered, Closed, Released}
 use Rattle.chan_state.specs.declared.chan_state.ChanState.{ChanState}
 use Rattle.gpadl.specs.Assembly.{Assembly}
-use Rattle.io_edge.specs.declared.side.Side.TheVariants.{Host as HostSide}
 use Rattle.vmbus_msg.specs.declared.msg.Msg.{Msg}
 use Rattle.control_model.specs.declared.opening.Opening.{Opening}
 use Rattle.control_model.specs.declared.channel.Channel.{Channel}
@@ -19,13 +18,14 @@ use Rattle.control_model.specs.declared.guest_wait.GuestWait.{GuestWait}
 use Rattle.control_model.specs.declared.host_wait.HostWait.{HostWait}
 use Rattle.control_model.specs.Plan.{BusPlan, all_openings, IsPlan, phase_of}
 use Rattle.control_model.specs.Guest.{offered_channel, waits_for_nothing}
-use Rattle.control_model.specs.Host.{host_waits_for_nothing}
-use Rattle.control_model.specs.Said.{ends_given_back, said_by_guest, said_by_host, last_state, at_end}
-use Rattle.control_model.specs.Stand.{marked, before_phase, end_state, guest_ends, host_ends, Stand, Agreed}
+use Rattle.control_model.specs.Host.{offered_life, host_waits_for_nothing}
+use Rattle.control_model.specs.Said.{channel_count, ends_given_back, said_by_guest, said_by_host, last_state, at_end}
+use Rattle.control_model.specs.Stand.{marked, vps_before, before_phase, end_state, guest_ends, host_ends, Stand, Agreed}
 use Rattle.control_model.specs.GuestAt.{to_say, to_hear, GuestStands}
-use Rattle.control_model.specs.GuestAt.GuestStands.{fresh, proposes, asks, contacted, offers, lists, opens, started, closes, gives_back, gives_sub_back, ended, leaves, is_over}
+use Rattle.control_model.specs.GuestAt.GuestStands.{fresh, proposes, asks, contacted, offers, lists, opens, moves, started, closes, gives_back, gives_sub_back, ended, leaves, is_over}
 use Rattle.control_model.specs.HostAt.{host_to_say, host_to_hear, HostStands}
-use Rattle.control_model.specs.HostAt.HostStands.{fresh as IsFresh, answers as IsAnswering, accepts as IsAccepting, contacted as IsContacted, lists as IsListing, listed as IsListed, started as IsStarted, closes as IsClosing, tears as IsTearing, takes_back as IsTakingBack, ended as IsEnded, leaves as IsLeaving, is_over as IsDone}
+use Rattle.control_model.specs.HostAt.HostStands.{fresh as IsFresh, answers as IsAnswering, accepts as IsAccepting, contacted as IsContacted, lists as IsListing, listed as IsListed, moves as IsMoving, started as IsStarted, closes as IsClosing, tears as IsTearing, takes_back as IsTakingBack, ended as IsEnded, leaves as IsLeaving, is_over as IsDone}
+use Rattle.control_laws.specs.Over.{vps_at_end}
 use Rattle.control_laws.specs.Sides.{BothOver}
 use Rattle.control_laws.proofs.Marks.{by_test, differ}
 use Rattle.control_laws.proofs.Plans.{not_given_back}
@@ -33,6 +33,7 @@ use Rattle.control_laws.proofs.Relids.{phase_relids, all_offered}
 use Rattle.control_laws.proofs.Closing.{Distinct}
 use Rattle.control_laws.proofs.Cutting.{all_weaker, openings_more}
 use Rattle.control_laws.proofs.States.{all_stand}
+use Rattle.control_laws.proofs.Vps.{vp_known}
 use Rattle.control_laws.proofs.Tried.{agreed_is}
 
 -- openings of a channel, and those of them behind which it is given back
@@ -135,16 +136,17 @@ at_last plan state as_left unopened relid planned first is =
     ∙ ap (λ phases. stands_so (rescinds_it relid (all_openings phases)) (opens_it relid (all_openings phases))) (take_all (length plan.phases) plan.phases (omega arith))
 
 -- a side that is done with the farewell
-record AllOver {X : Type 0} (plan : BusPlan) (version : Option Version) (channels : List X) (state : X → State) (say hear : List Msg) : Type 0 where
+record AllOver {X : Type 0} (plan : BusPlan) (version : Option Version) (channels : List X) (state : X → State) (vp : X → ℕ) (say hear : List Msg) : Type 0 where
   last : Version
   agreed : Agreed plan last
   version_is : version ≡ Some last
   stands : map state channels ≡ at_end plan
+  vps : map vp channels ≡ vps_at_end plan
   no_say : say ≡ []
   no_hear : hear ≡ []
 
 guest_ended : (plan : BusPlan) (part : Option Part) (awaits : GuestWait) (version : Option Version) (channels : List Channel) → IsPlan plan → GuestStands plan part awaits version channels → part ≡ Some Unload → (is_some part && waits_for_nothing awaits) ≡ true
-    → AllOver plan version channels (λ c. c.life.state) (to_say plan part awaits) (to_hear plan part awaits (length channels))
+    → AllOver plan version channels (λ c. c.life.state) (λ c. c.life.vp) (to_say plan part awaits) (to_hear plan part awaits (length channels))
 guest_ended plan part awaits version channels planned fresh last over = absurd (cc)
 guest_ended plan part awaits version channels planned (proposes v tries) last over = absurd (cc)
 guest_ended plan part awaits version channels planned (asks v n agreed few) last over = absurd (cc)
@@ -152,44 +154,57 @@ guest_ended plan part awaits version channels planned (contacted v cs meet) last
 guest_ended plan part awaits version channels planned (offers v cs phase place done first offered o left at one subs meet) last over = absurd (cc)
 guest_ended plan part awaits version channels planned (lists v cs phase place done o left at meet) last over = absurd (cc)
 guest_ended plan part awaits version channels planned (opens v cs phase place done o left at meet) last over = absurd (cc)
+guest_ended plan part awaits version channels planned (moves v cs phase place done o left in_plan is at answers meet) last over = absurd (cc)
 guest_ended plan part awaits version channels planned (started v cs phase in_plan meet) last over = absurd (cc)
 guest_ended plan part awaits version channels planned (closes v cs phase place done o left at closed meet) last over = absurd (cc)
 guest_ended plan part awaits version channels planned (gives_back v cs phase place done o left at gone meet) last over = absurd (cc)
 guest_ended plan part awaits version channels planned (gives_sub_back v cs phase place done o left at closed sub meet) last over = absurd (cc)
 guest_ended plan part awaits version channels planned (ended v cs phase in_plan meet) last over = absurd (cc)
 guest_ended plan part awaits version channels planned (leaves v cs meet) last over = absurd (cc)
-guest_ended plan part awaits version channels planned (is_over v cs meet) last over = record {
-  last = v;
-  agreed = meet.agreed;
-  version_is = refl;
-  stands = all_stand (λ (c : Channel). c.life.state) cs plan (before_phase plan guest_ends offered_channel (length plan.phases)) (subst (λ n. Stand cs n (before_phase plan guest_ends offered_channel (length plan.phases))) (all_offered plan) meet.stand) (λ relid. at_last plan (λ (c : Channel). c.life.state) guest_ends offered_channel relid planned refl (λ o. refl));
-  no_say = refl;
-  no_hear = refl;
-}
+guest_ended plan part awaits version channels planned (is_over v cs meet) last over =
+    let n : ℕ = length plan.phases in
+    let vps : ℕ → ℕ = vps_before plan n in
+    let stands : ℕ → Channel = before_phase plan (guest_ends vps) offered_channel n in
+    let stand : Stand cs (channel_count plan) stands = subst (λ k. Stand cs k stands) (all_offered plan) meet.stand in
+    record {
+      last = v;
+      agreed = meet.agreed;
+      version_is = refl;
+      stands = all_stand (λ (c : Channel). c.life.state) (last_state plan) cs plan stands stand (λ relid. at_last plan (λ (c : Channel). c.life.state) (guest_ends vps) offered_channel relid planned refl (λ o. refl));
+      vps = all_stand (λ (c : Channel). c.life.vp) vps cs plan stands stand (λ relid. vp_known plan (λ (c : Channel). c.life.vp) (guest_ends vps) offered_channel n relid (λ o. refl) refl);
+      no_say = refl;
+      no_hear = refl;
+    }
 
 host_ended : (plan : BusPlan) (part : Option Part) (awaits : HostWait) (version : Option Version) (channels : List ChanState) (assembly : Assembly) (tried : List ℕ) (pieces : List Msg) → IsPlan plan → HostStands plan part awaits version channels assembly tried pieces
-    → part ≡ Some Unload → (is_some part && host_waits_for_nothing awaits) ≡ true → AllOver plan version channels (λ c. c.state) (host_to_say plan part awaits tried) (host_to_hear plan part awaits tried pieces)
+    → part ≡ Some Unload → (is_some part && host_waits_for_nothing awaits) ≡ true → AllOver plan version channels (λ c. c.state) (λ c. c.vp) (host_to_say plan part awaits tried) (host_to_hear plan part awaits tried pieces)
 host_ended plan part awaits version channels assembly tried pieces planned IsFresh last over = absurd (cc)
 host_ended plan part awaits version channels assembly tried pieces planned (IsAnswering v tries) last over = absurd (cc)
 host_ended plan part awaits version channels assembly tried pieces planned (IsAccepting v agreed) last over = absurd (cc)
 host_ended plan part awaits version channels assembly tried pieces planned (IsContacted v cs meet) last over = absurd (cc)
 host_ended plan part awaits version channels assembly tried pieces planned (IsListing v cs phase place done o left s m ms at meet list) last over = absurd (cc)
 host_ended plan part awaits version channels assembly tried pieces planned (IsListed v cs phase place done o left at meet) last over = absurd (cc)
+host_ended plan part awaits version channels assembly tried pieces planned (IsMoving v cs phase place done o left in_plan is at meet) last over = absurd (cc)
 host_ended plan part awaits version channels assembly tried pieces planned (IsStarted v cs phase in_plan meet) last over = absurd (cc)
 host_ended plan part awaits version channels assembly tried pieces planned (IsClosing v cs phase place done o left at closed meet) last over = absurd (cc)
 host_ended plan part awaits version channels assembly tried pieces planned (IsTearing v cs phase place done o left at closed meet) last over = absurd (cc)
 host_ended plan part awaits version channels assembly tried pieces planned (IsTakingBack v cs phase place done o left at gone meet) last over = absurd (cc)
 host_ended plan part awaits version channels assembly tried pieces planned (IsEnded v cs phase in_plan meet) last over = absurd (cc)
 host_ended plan part awaits version channels assembly tried pieces planned (IsLeaving v cs meet) last over = absurd (cc)
-host_ended plan part awaits version channels assembly tried pieces planned (IsDone v cs meet) last over = record {
-  last = v;
-  agreed = meet.agreed;
-  version_is = refl;
-  stands = all_stand (λ (c : ChanState). c.state) cs plan (before_phase plan host_ends (record { side = HostSide; state = Offered }) (length plan.phases)) (subst (λ n. Stand cs n (before_phase plan host_ends (record { side = HostSide; state = Offered }) (length plan.phases))) (all_offered plan) meet.stand)
-      (λ relid. at_last plan (λ (c : ChanState). c.state) host_ends (record { side = HostSide; state = Offered }) relid planned refl (λ o. refl));
-  no_say = refl;
-  no_hear = refl;
-}
+host_ended plan part awaits version channels assembly tried pieces planned (IsDone v cs meet) last over =
+    let n : ℕ = length plan.phases in
+    let vps : ℕ → ℕ = vps_before plan n in
+    let stands : ℕ → ChanState = before_phase plan (host_ends vps) offered_life n in
+    let stand : Stand cs (channel_count plan) stands = subst (λ k. Stand cs k stands) (all_offered plan) meet.stand in
+    record {
+      last = v;
+      agreed = meet.agreed;
+      version_is = refl;
+      stands = all_stand (λ (c : ChanState). c.state) (last_state plan) cs plan stands stand (λ relid. at_last plan (λ (c : ChanState). c.state) (host_ends vps) offered_life relid planned refl (λ o. refl));
+      vps = all_stand (λ (c : ChanState). c.vp) vps cs plan stands stand (λ relid. vp_known plan (λ (c : ChanState). c.vp) (host_ends vps) offered_life n relid (λ o. refl) refl);
+      no_say = refl;
+      no_hear = refl;
+    }
 
 -- how both stand at the end
 pub over_law : BothOver
@@ -212,6 +227,8 @@ over_law plan g h planned guest host guest_part host_part guest_over host_over =
       at_host = there.version_is ∙ (λ i. Some (record { 0 = one i }));
       guest_stands = here.stands;
       host_stands = there.stands;
+      guest_vps = here.vps;
+      host_vps = there.vps;
       guest_said = guest_said;
       host_said = host_said;
       guest_fed = guest_fed ∙ sym host_said;

@@ -16,10 +16,9 @@ use Rattle.control_model.specs.HostAt.{host_to_say, host_to_hear, HostStands, Ho
 use Rattle.control_model.specs.HostAt.HostStands.{fresh as HostFresh}
 use Rattle.control_laws.specs.Sides.{IsFront, NewOnesStand, GuestStarts, HostStarts, GuestHears, HostHears, GuestFronts, HostFronts}
 use Rattle.control_laws.specs.Laws.{Agrees, NewOnesAgree, BothBegin, HostGoesOn, GuestGoesOn, BothDone, FewOnTheirWay, EndsWell}
-use Rattle.control_laws.proofs.Logs.{Logs}
+use Rattle.control_laws.proofs.Logs.{Logs, a_guest, a_host}
 use Rattle.control_laws.proofs.Next.{Turned}
-use Rattle.control_laws.proofs.GuestSteps.{a_guest, guest_step}
-use Rattle.control_laws.proofs.HostSteps.{a_host}
+use Rattle.control_laws.proofs.GuestSteps.{guest_step}
 use Rattle.control_laws.proofs.HostLists.{host_step}
 use Rattle.control_laws.proofs.Beginning.{guest_begins_so, host_begins_so}
 use Rattle.control_laws.proofs.Counting.{Near, near}

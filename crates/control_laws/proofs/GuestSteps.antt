@@ -1,7 +1,7 @@
 -- A guest takes the next message that its host says.
 use Rattle.std.proofs.Common.{◌≡◌, ◌≢◌, ◌∙◌, ℕ, zero, suc, ◌+◌, ◌-◌, ◌<◌, ◌≤◌, ◌==◌, ◌&&◌, ◌||◌, not, true, false, Bool, nat_le, cond, if◌then◌else◌, List, [], ◌∷◌, ◌++◌, length, map, drop, replicate, slice_get, slice_set, Option, Some, None, Ok, refl, sym, ap, subst, append_assoc, length-append, arith}
 use Rattle.std.specs.Option.{option_to_list}
-use Rattle.std.specs.List.{AllByRecursion, flat_map}
+use Rattle.std.specs.List.{AllByRecursion, flat_map, position_from}
 use Rattle.std.proofs.lemmas.Bool.{eq-eqb}
 use Rattle.std.proofs.lemmas.Bool.Decides.{nat_tests}
 use Rattle.std.proofs.lemmas.List.Concat.{flat_map-cons}
@@ -10,56 +10,49 @@ use Rattle.std.proofs.lemmas.List.Elements.{filter-append}
 use Rattle.contact.specs.declared.version.Version.{Version}
 use Rattle.contact.specs.declared.kind.Kind.{Kind}
 use Rattle.contact.specs.declared.kind.Kind.TheVariants.{Disk}
-use Rattle.contact.specs.Versions.{versions_tried}
+use Rattle.contact.specs.Versions.{versions_tried, answers_modify}
 use Rattle.contact.specs.declared.part.Part.{Part}
 use Rattle.contact.specs.declared.part.Part.TheVariants.{Contact, PhaseStart, PhaseEnd, Unload}
 use Rattle.contact.specs.Classes.{class_id, offer, offers_from}
+use Rattle.io_edge.specs.declared.side.Side.TheVariants.{Guest as GuestSide}
 use Rattle.chan_state.specs.declared.state.State.{State}
-use Rattle.chan_state.specs.declared.state.State.TheVariants.{Opening as IsOpening, Opened, Closing, Closed, Released}
+use Rattle.chan_state.specs.declared.state.State.TheVariants.{Opening as IsOpening, Opened, Modifying, Closing, Closed, Released}
 use Rattle.chan_state.specs.declared.event.Event.TheVariants.{WantOpen}
 use Rattle.vmbus_msg.specs.declared.msg.Msg.{Msg}
 use Rattle.control_model.specs.declared.opening.Opening.{Opening}
 use Rattle.control_model.specs.declared.channel.Channel.{Channel}
+use Rattle.control_model.specs.declared.change.Change.{Change}
 use Rattle.control_model.specs.declared.change.Change.TheVariants.{Offered, Now}
 use Rattle.control_model.specs.declared.burst.Burst.TheVariants.{One}
 use Rattle.control_model.specs.declared.guest_wait.GuestWait.{GuestWait}
-use Rattle.control_model.specs.declared.guest_wait.GuestWait.TheVariants.{Nothing, Response, Offers, SubOffer, Created, Opened as AwaitsOpened, Torn, Rescinded, Unloaded}
+use Rattle.control_model.specs.declared.guest_wait.GuestWait.TheVariants.{Nothing, Response, Offers, SubOffer, Created, Opened as AwaitsOpened, Modified, Torn, Rescinded, Unloaded}
 use Rattle.control_model.specs.declared.guest_turn.GuestTurn.{GuestTurn}
 use Rattle.control_model.specs.Plan.{BusPlan, is_sub, is_of_sub, first_subs, subs_next, subs_in, opening_at, closing_at, IsPlan, phase_of, closing_of}
 use Rattle.control_model.specs.Channels.{by_relid, lived, changed, is_handle, place_of_list}
-use Rattle.control_model.specs.Messages.{propose, respond, request, delivered, created, open_on, opened, offer_sub, close, teardown, torndown, rescind, release, farewell_taken, Sends}
-use Rattle.control_model.specs.Guest.{GuestSeen, idle, offered_channel, proposal, proposes, answered, device_offered, is_sub_offer, goes_behind, sub_offered, on_offer, opens, created_for, on_created, opens_next, opened_for, on_result, torn_at, torn_then, torn_for, ended_for, on_torndown, on_rescind, lists_next, closes_next, guest_hears, waits_for_nothing}
-use Rattle.control_model.specs.Said.{answer_to, guest_opens, host_opens_all, guest_closes, host_closes, only_sub, ends_given_back}
-use Rattle.control_model.specs.GuestAt.{guest_from, host_from, opens_listed, answers_open, from_first_sub, gives_sub, gives_one, takes_one, end_to_say, end_to_hear, to_say, to_hear, GuestStands}
-use Rattle.control_model.specs.GuestAt.GuestStands.{fresh, proposes as IsProposing, asks, contacted, offers as IsOffering, lists, opens as IsOpened, started, closes as IsClosing, gives_back, gives_sub_back, ended, leaves, is_over}
+use Rattle.control_model.specs.Messages.{propose, respond, request, delivered, created, open_on, opened, modified, offer_sub, torndown, rescind, release, farewell_taken, Sends}
+use Rattle.control_model.specs.Guest.{GuestSeen, idle, offered_channel, proposal, proposes, answered, device_offered, is_sub_offer, goes_behind, sub_offered, on_offer, opens, created_for, on_created, opens_next, opened_for, on_result, is_modifying, in_state, then_in, waits_answer, on_modified, torn_at, torn_then, torn_for, ended_for, on_torndown, on_rescind, lists_next, closes_next, guest_hears, waits_for_nothing}
+use Rattle.control_model.specs.Said.{agreed, answer_to, moved, guest_moves, host_moves, guest_opens, host_opens_all, guest_closes, host_closes, only_sub, ends_given_back}
+use Rattle.control_model.specs.GuestAt.{guest_from, host_from, opens_listed, answers_open, from_first_sub, gives_sub, gives_one, takes_one, end_to_say, end_to_hear, moves_to_say, start_to_say, to_say, to_hear, GuestStands}
+use Rattle.control_model.specs.GuestAt.GuestStands.{fresh, proposes as IsProposing, asks, contacted, offers as IsOffering, lists, opens as IsOpened, moves, started, closes as IsClosing, gives_back, gives_sub_back, ended, leaves, is_over}
 use Rattle.control_model.proofs.KindLaws.{kind_of_class}
-use Rattle.control_model.specs.Stand.{At, EndsAt, offered_before, offered_by, marked, end_state, guest_is, guest_ends, guest_before, Stand, Tries, Agreed, Meet}
+use Rattle.control_model.specs.Stand.{At, EndsAt, offered_before, offered_by, marked, end_state, guest_is, guest_ends, guest_before, Stand, Tries, Agreed, Meet, vps_before}
 use Rattle.control_laws.proofs.NextOne.{guest_next_awaits, guest_next_stands, guest_next_sends}
-use Rattle.control_laws.proofs.Logs.{Logs}
-use Rattle.control_laws.proofs.Marks.{by_test, same, at_relid, marked_apart, marked_here, marked_there, stand_add, stand_mark, stand_join, stand_at}
-use Rattle.control_laws.proofs.Cutting.{all_weaker}
+use Rattle.control_laws.proofs.Logs.{Logs, a_guest}
+use Rattle.control_laws.proofs.Marks.{by_test, same, at_relid, marked_apart, marked_here, marked_there, stand_now, stand_add, stand_mark, stand_join, stand_at}
+use Rattle.control_laws.proofs.Closing.{Distinct, distinct_mid}
+use Rattle.control_laws.proofs.Cutting.{all_weaker, mid_all}
 use Rattle.control_laws.proofs.Counts.{count_next, unopened}
-use Rattle.control_laws.proofs.Plans.{facts, opening_from, opening_here, offered_here, done_more, place_more, end_facts, closing_here, ends_more, ends_place}
+use Rattle.control_laws.proofs.Plans.{phase_has, facts, opening_from, opening_here, offered_here, done_more, place_more, end_facts, closing_here, ends_more, ends_place}
 use Rattle.control_laws.proofs.Lower.{lower_one}
 use Rattle.control_laws.proofs.Offering.{kind_same, one_more, all_alike}
 use Rattle.control_laws.proofs.Handles.{all_front, can_open, find_list, closing_handle}
-use Rattle.control_laws.proofs.Next.{Turned, heard_so, next_list}
+use Rattle.control_laws.proofs.Next.{Turned, heard_so}
+use Rattle.control_laws.proofs.Vps.{vp_known, moved_all, moved_distinct, movers_are, answers_are, own_marked, host_rest}
+use Rattle.control_laws.proofs.Moving.{Known, phase_known, guest_opened, then_now, next_list, answers_left}
 use Rattle.control_laws.proofs.NextEnd.{NextIs, next_is, heard_with, GuestEnds, guest_goes, guest_stands_so, guest_next}
 use Rattle.control_laws.proofs.Tried.{one_tried, next_tried, first_tried}
-use Rattle.control_laws.proofs.Saying.{drop_all, left_at, left_behind, lists_said, lists_heard, ends_left, ends_said, ends_heard}
+use Rattle.control_laws.proofs.Saying.{drop_all, left_at, left_behind, ends_left, ends_said, ends_heard}
 use Rattle.control_laws.proofs.Seats.{AreSubs, all_snoc, first_run, no_first, no_subs_next, sub_at}
-
--- a guest
-abbrev pub a_guest : BusPlan → Logs → Option Part → GuestWait → Option Version → List Channel → GuestSeen
-a_guest plan logs part awaits version channels = record {
-  plan = plan;
-  part = part;
-  awaits = awaits;
-  version = version;
-  channels = channels;
-  posted = logs.posted;
-  fed = logs.fed;
-}
 
 -- a message is taken, and the guest goes on
 pub record GuestStep (plan : BusPlan) (g : GuestSeen) (m : Msg) : Type 0 where
@@ -161,7 +154,7 @@ step_offered plan logs v n agreed few is =
 
 -- GPADL_CREATED
 pub step_listed : (plan : BusPlan) (logs : Logs) (v : Version) (guests : List Channel) (phase place : ℕ) (done : List Opening) (o : Opening) (left : List Opening) → IsPlan plan
-    → At plan phase place done o left → Meet plan v guests (offered_by plan phase done (o ∷ left)) (marked (guest_is Opened) done (guest_before plan phase))
+    → At plan phase place done o left → Meet plan v guests (offered_by plan phase done (o ∷ left)) (marked (guest_is (vps_before plan phase) Opened) done (guest_before (vps_before plan phase) plan phase))
     → GuestStep plan (a_guest plan logs (Some (PhaseStart phase)) (Created place) (Some v) guests) (created o.relid o.gpadl)
 step_listed plan logs v guests phase place done o left planned at meet =
     let g : GuestSeen = a_guest plan logs (Some (PhaseStart phase)) (Created place) (Some v) guests in
@@ -169,114 +162,118 @@ step_listed plan logs v guests phase place done o left planned at meet =
     let count : ℕ = offered_by plan phase done (o ∷ left) in
     let fact = facts plan phase place done o left planned at in
     let mine = offered_here plan phase place done o left planned at in
-    let c : Channel = guest_before plan phase o.relid in
-    let now : Channel = guest_is IsOpening o in
-    let turn : GuestTurn = record (idle g) { awaits = AwaitsOpened place; wished = Now o.relid now; burst = One (open_on o) } in
-    let known : by_relid guests o.relid ≡ Some c = stand_at guests count (guest_is Opened) done o (guest_before plan phase) c meet.stand fact.fits.named mine fact.done_apart refl in
+    let c : Channel = guest_before (vps_before plan phase) plan phase o.relid in
+    let now : Channel = guest_is (vps_before plan phase) IsOpening o in
+    let turn_with : ℕ → GuestTurn = λ vp. record (idle g) { awaits = AwaitsOpened place; wished = Now o.relid (record { life = record { side = GuestSide; state = IsOpening; vp = vp }; gpadl = Some o.gpadl }); burst = One (open_on o) } in
+    let turn : GuestTurn = turn_with (vps_before plan phase o.relid) in
+    let vp_is : c.life.vp ≡ vps_before plan phase o.relid = vp_known plan (λ (c : Channel). c.life.vp) (guest_ends (vps_before plan phase)) offered_channel phase o.relid (λ p. refl) refl in
+    let known : by_relid guests o.relid ≡ Some c = stand_at guests count (guest_is (vps_before plan phase) Opened) done o (guest_before (vps_before plan phase) plan phase) c meet.stand fact.fits.named mine fact.done_apart refl in
     let here : drop place (phase_of plan phase) ≡ o ∷ left = left_at plan phase place done (o ∷ left) at.phase_is at.place_is in
     let asked : created_for g place o.relid o.gpadl 0 c (Some o) ≡ opens g place o (lived c WantOpen) = rw (same o.relid, same o.gpadl) refl in
-    let after : Stand (slice_set guests (o.relid - 1) now) count (marked (guest_is Opened) done (marked (guest_is IsOpening) (o ∷ []) (guest_before plan phase))) =
-    stand_mark guests count (guest_is Opened) (guest_is IsOpening) done o (guest_before plan phase) (guest_before plan phase) meet.stand fact.fits.named mine fact.done_apart (λ q off. refl) in
+    let after : Stand (slice_set guests (o.relid - 1) now) count (marked (guest_is (vps_before plan phase) Opened) done (marked (guest_is (vps_before plan phase) IsOpening) (o ∷ []) (guest_before (vps_before plan phase) plan phase))) =
+    stand_mark guests count (guest_is (vps_before plan phase) Opened) (guest_is (vps_before plan phase) IsOpening) done o (guest_before (vps_before plan phase) plan phase) (guest_before (vps_before plan phase) plan phase) meet.stand fact.fits.named mine fact.done_apart (λ q off. refl) in
     record {
       turn = turn;
-      hears = ap (on_created g o.relid o.gpadl 0) known ∙ ap (λ x. Ok (created_for g place o.relid o.gpadl 0 c x)) (opening_here plan phase place done o left at) ∙ ap (λ t. Ok t) (asked ∙ ap (opens g place o) (can_open plan phase o.relid fact.not_before));
+      hears = ap (on_created g o.relid o.gpadl 0) known ∙ ap (λ x. Ok (created_for g place o.relid o.gpadl 0 c x)) (opening_here plan phase place done o left at) ∙ ap (λ t. Ok t) (asked ∙ ap (opens g place o) (can_open plan (vps_before plan phase) phase o.relid fact.not_before) ∙ ap turn_with vp_is);
       goes = IsOpened v (slice_set guests (o.relid - 1) now) phase place done o left at (record { agreed = meet.agreed; stand = after });
       says = λ sent e.
           let asks = sym e in
           let behind = sym (left_behind plan phase place done o left at) in
-          let later : List Msg = flat_map guest_closes (closing_of plan phase) ++ guest_from plan (suc phase) in
+          let later : List Msg = guest_moves plan (phase_of plan phase) ++ (flat_map guest_closes (closing_of plan phase) ++ guest_from plan (suc phase)) in
           ap (λ os. opens_listed os ++ later) here ∙ (λ i. asks i ++ (flat_map guest_opens (behind i) ++ later));
       heard =
-          let later : List Msg = flat_map host_closes (closing_of plan phase) ++ host_from plan (suc phase) in
+          let later : List Msg = host_moves plan (phase_of plan phase) ++ (flat_map host_closes (closing_of plan phase) ++ host_from plan (suc phase)) in
           ap (λ os. host_opens_all os ++ later) here ∙ ap (λ os. m ∷ (answers_open os ++ later)) (sym here);
     }
 
 -- OPENCHANNEL_RESULT: the channel is open
 record IsOpen (plan : BusPlan) (v : Version) (guests : List Channel) (phase place : ℕ) (done : List Opening) (o : Opening) (left : List Opening) : Type 0 where
-  known : by_relid guests o.relid ≡ Some (guest_is IsOpening o)
-  stand : Stand (slice_set guests (o.relid - 1) (guest_is Opened o)) (offered_by plan phase done (o ∷ left)) (marked (guest_is Opened) (done ++ o ∷ []) (guest_before plan phase))
+  known : by_relid guests o.relid ≡ Some (guest_is (vps_before plan phase) IsOpening o)
+  stand : Stand (slice_set guests (o.relid - 1) (guest_is (vps_before plan phase) Opened o)) (offered_by plan phase done (o ∷ left)) (marked (guest_is (vps_before plan phase) Opened) (done ++ o ∷ []) (guest_before (vps_before plan phase) plan phase))
   next : opening_at plan phase (place + 1) ≡ slice_get left 0
   answers : (later : List Msg) → answers_open (drop place (phase_of plan phase)) ++ later ≡ opened o.relid o.relid ∷ ((map offer_sub (subs_next (o ∷ left)) ++ host_opens_all left) ++ later)
 
 is_open : (plan : BusPlan) (v : Version) (guests : List Channel) (phase place : ℕ) (done : List Opening) (o : Opening) (left : List Opening) → IsPlan plan
-    → At plan phase place done o left → Meet plan v guests (offered_by plan phase done (o ∷ left)) (marked (guest_is Opened) done (marked (guest_is IsOpening) (o ∷ []) (guest_before plan phase))) → IsOpen plan v guests phase place done o left
+    → At plan phase place done o left → Meet plan v guests (offered_by plan phase done (o ∷ left)) (marked (guest_is (vps_before plan phase) Opened) done (marked (guest_is (vps_before plan phase) IsOpening) (o ∷ []) (guest_before (vps_before plan phase) plan phase))) → IsOpen plan v guests phase place done o left
 is_open plan v guests phase place done o left planned at meet =
     let fact = facts plan phase place done o left planned at in
     let mine = offered_here plan phase place done o left planned at in
     let count : ℕ = offered_by plan phase done (o ∷ left) in
-    let base : ℕ → Channel = guest_before plan phase in
+    let base : ℕ → Channel = guest_before (vps_before plan phase) plan phase in
     record {
-      known = stand_at guests count (guest_is Opened) done o (marked (guest_is IsOpening) (o ∷ []) base) (guest_is IsOpening o) meet.stand fact.fits.named mine fact.done_apart (marked_here (guest_is IsOpening) o [] base);
-      stand = stand_join guests count (guest_is Opened) done o (marked (guest_is IsOpening) (o ∷ []) base) base meet.stand fact.fits.named mine fact.done_apart (λ q off. sym (marked_there (guest_is IsOpening) o [] base q off));
+      known = stand_at guests count (guest_is (vps_before plan phase) Opened) done o (marked (guest_is (vps_before plan phase) IsOpening) (o ∷ []) base) (guest_is (vps_before plan phase) IsOpening o) meet.stand fact.fits.named mine fact.done_apart (marked_here (guest_is (vps_before plan phase) IsOpening) o [] base);
+      stand = stand_join guests count (guest_is (vps_before plan phase) Opened) done o (marked (guest_is (vps_before plan phase) IsOpening) (o ∷ []) base) base meet.stand fact.fits.named mine fact.done_apart (λ q off. sym (marked_there (guest_is (vps_before plan phase) IsOpening) o [] base q off));
       next = opening_from plan phase (place + 1) (done ++ o ∷ []) left (done_more plan phase place done o left at) (place_more plan phase place done o left at);
       answers = λ later. ap (λ os. answers_open os ++ later) (left_at plan phase place done (o ∷ left) at.phase_is at.place_is);
     }
 
 -- the guest goes on with the next opening
 step_open_one : (plan : BusPlan) (logs : Logs) (v : Version) (guests : List Channel) (phase place : ℕ) (done : List Opening) (o : Opening) (left : List Opening) → IsPlan plan
-    → At plan phase place done o left → Meet plan v guests (offered_by plan phase done (o ∷ left)) (marked (guest_is Opened) done (marked (guest_is IsOpening) (o ∷ []) (guest_before plan phase)))
+    → At plan phase place done o left → Meet plan v guests (offered_by plan phase done (o ∷ left)) (marked (guest_is (vps_before plan phase) Opened) done (marked (guest_is (vps_before plan phase) IsOpening) (o ∷ []) (guest_before (vps_before plan phase) plan phase)))
     → (not (is_sub o) && is_of_sub (opening_at plan phase (place + 1))) ≡ false → GuestStep plan (a_guest plan logs (Some (PhaseStart phase)) (AwaitsOpened place) (Some v) guests) (opened o.relid o.relid)
 step_open_one plan logs v guests phase place done o left planned at meet none =
     let g : GuestSeen = a_guest plan logs (Some (PhaseStart phase)) (AwaitsOpened place) (Some v) guests in
+    let fact = facts plan phase place done o left planned at in
     let m : Msg = opened o.relid o.relid in
     let opened_so = is_open plan v guests phase place done o left planned at meet in
-    let now : Channel = guest_is Opened o in
+    let now : Channel = guest_is (vps_before plan phase) Opened o in
     let heard : GuestTurn = heard_so (AwaitsOpened place) v (Now o.relid now) in
-    let turn : GuestTurn = lists_next heard (place + 1) (opening_at plan phase (place + 1)) in
-    let asked : opened_for g heard place o.relid 0 (Some o) ≡ opens_next heard place o (opening_at plan phase (place + 1)) = rw (same o.relid) refl in
-    let on : opens_next heard place o (opening_at plan phase (place + 1)) ≡ turn = ap (λ b. if b then record heard { awaits = SubOffer (place + 1) } else turn) none in
+    let turn : GuestTurn = lists_next g (Some (PhaseStart phase)) heard (place + 1) (opening_at plan phase (place + 1)) in
+    let asked : opened_for g heard place o.relid 0 (Some o) ≡ opens_next g heard place o (opening_at plan phase (place + 1)) = rw (same o.relid) refl in
+    let on : opens_next g heard place o (opening_at plan phase (place + 1)) ≡ turn = ap (λ b. if b then record heard { awaits = SubOffer (place + 1) } else turn) none in
     let no_subs = no_subs_next o left (sym (ap (λ x. not (is_sub o) && is_of_sub x) opened_so.next) ∙ none) in
     let more = count_next plan phase done o left in
     let no_more = ap length no_subs in
     let same_count : offered_by plan phase done (o ∷ left) ≡ offered_by plan phase (done ++ o ∷ []) left = omega (arith, more, no_more) in
-    let after = subst (λ n. Stand (slice_set guests (o.relid - 1) now) n (marked (guest_is Opened) (done ++ o ∷ []) (guest_before plan phase))) same_count opened_so.stand in
+    let after = subst (λ n. Stand (slice_set guests (o.relid - 1) now) n (marked (guest_is (vps_before plan phase) Opened) (done ++ o ∷ []) (guest_before (vps_before plan phase) plan phase))) same_count opened_so.stand in
+    let onward = next_list plan logs (Some (PhaseStart phase)) v guests phase (place + 1) (done ++ o ∷ []) left (AwaitsOpened place) (AwaitsOpened place) (Now o.relid now) planned at.in_plan (done_more plan phase place done o left at) (place_more plan phase place done o left at) (record { agreed = meet.agreed; stand = after })
+    (λ none relid some. then_now g o.relid relid now fact.fits.named (let many = meet.stand.many in let few = offered_here plan phase place done o left planned at in omega (arith, many, few)) some) in
     record {
       turn = turn;
       hears = ap (on_result g o.relid 0) opened_so.known ∙ ap (λ x. Ok (opened_for g heard place o.relid 0 x)) (opening_here plan phase place done o left at) ∙ ap (λ t. Ok t) (asked ∙ on);
-      goes = next_list plan v guests phase (place + 1) (done ++ o ∷ []) left (AwaitsOpened place) (Now o.relid now) at.in_plan (done_more plan phase place done o left at) (place_more plan phase place done o left at) (record { agreed = meet.agreed; stand = after });
+      goes = onward.goes;
       says = λ sent sends.
           let later : List Msg = flat_map guest_closes (closing_of plan phase) ++ guest_from plan (suc phase) in
-          ap (λ os. flat_map guest_opens os ++ later) (left_behind plan phase place done o left at)
-          ∙ lists_said plan v phase (place + 1) (done ++ o ∷ []) left (AwaitsOpened place) (Now o.relid now) sent (done_more plan phase place done o left at) (place_more plan phase place done o left at) sends later;
+          ap (λ os. flat_map guest_opens os ++ (guest_moves plan (phase_of plan phase) ++ later)) (left_behind plan phase place done o left at) ∙ onward.says sent later sends;
       heard =
           let later : List Msg = flat_map host_closes (closing_of plan phase) ++ host_from plan (suc phase) in
-          opened_so.answers later ∙ ap (λ os. m ∷ ((map offer_sub os ++ host_opens_all left) ++ later)) no_subs
-          ∙ ap (λ xs. m ∷ (xs ++ later)) (lists_heard plan v phase (place + 1) (done ++ o ∷ []) left (AwaitsOpened place) (Now o.relid now) (done_more plan phase place done o left at) (place_more plan phase place done o left at));
+          let moves : List Msg = host_moves plan (phase_of plan phase) in
+          opened_so.answers (moves ++ later) ∙ ap (λ os. m ∷ ((map offer_sub os ++ host_opens_all left) ++ (moves ++ later))) no_subs ∙ ap (λ xs. m ∷ xs) (onward.heard later);
     }
 
 -- the offers of the device's sub-channels come before
 step_open_subs : (plan : BusPlan) (logs : Logs) (v : Version) (guests : List Channel) (phase place : ℕ) (done : List Opening) (o : Opening) (left : List Opening) → IsPlan plan
-    → At plan phase place done o left → Meet plan v guests (offered_by plan phase done (o ∷ left)) (marked (guest_is Opened) done (marked (guest_is IsOpening) (o ∷ []) (guest_before plan phase)))
+    → At plan phase place done o left → Meet plan v guests (offered_by plan phase done (o ∷ left)) (marked (guest_is (vps_before plan phase) Opened) done (marked (guest_is (vps_before plan phase) IsOpening) (o ∷ []) (guest_before (vps_before plan phase) plan phase)))
     → is_sub o ≡ false → is_of_sub (slice_get left 0) ≡ true → GuestStep plan (a_guest plan logs (Some (PhaseStart phase)) (AwaitsOpened place) (Some v) guests) (opened o.relid o.relid)
 step_open_subs plan logs v guests phase place done o [] planned at meet is_first is_next = absurd (cc)
 step_open_subs plan logs v guests phase place done o (p ∷ left) planned at meet is_first is_next =
     let g : GuestSeen = a_guest plan logs (Some (PhaseStart phase)) (AwaitsOpened place) (Some v) guests in
     let m : Msg = opened o.relid o.relid in
     let opened_so = is_open plan v guests phase place done o (p ∷ left) planned at meet in
-    let now : Channel = guest_is Opened o in
+    let now : Channel = guest_is (vps_before plan phase) Opened o in
     let heard : GuestTurn = heard_so (AwaitsOpened place) v (Now o.relid now) in
     let turn : GuestTurn = record heard { awaits = SubOffer (place + 1) } in
     let next : opening_at plan phase (place + 1) ≡ Some p = opened_so.next in
-    let one : Option Opening → GuestTurn = λ x. lists_next heard (place + 1) x in
-    let asked : opened_for g heard place o.relid 0 (Some o) ≡ opens_next heard place o (opening_at plan phase (place + 1)) = rw (same o.relid) refl in
-    let on : opens_next heard place o (opening_at plan phase (place + 1)) ≡ turn =
-    ap (opens_next heard place o) next ∙ ap (λ b. if not b && is_sub p then turn else one (Some p)) is_first ∙ ap (λ b. if b then turn else one (Some p)) is_next in
+    let one : Option Opening → GuestTurn = λ x. lists_next g (Some (PhaseStart phase)) heard (place + 1) x in
+    let asked : opened_for g heard place o.relid 0 (Some o) ≡ opens_next g heard place o (opening_at plan phase (place + 1)) = rw (same o.relid) refl in
+    let on : opens_next g heard place o (opening_at plan phase (place + 1)) ≡ turn =
+    ap (opens_next g heard place o) next ∙ ap (λ b. if not b && is_sub p then turn else one (Some p)) is_first ∙ ap (λ b. if b then turn else one (Some p)) is_next in
     let there : At plan phase (place + 1) (done ++ o ∷ []) p left = record { in_plan = at.in_plan; phase_is = done_more plan phase place done o (p ∷ left) at; place_is = place_more plan phase place done o (p ∷ left) at } in
     let subs : AreSubs (p ∷ []) = (is_next, tt) in
     let spot = sub_at plan phase (place + 1) done o [] p left planned there is_first subs in
     let none : length (first_subs (o ∷ (p ∷ left))) ≡ 0 = ap (λ b. length (if b then o ∷ first_subs (p ∷ left) else [])) is_first in
     let same_count : offered_by plan phase done (o ∷ (p ∷ left)) ≡ offered_by plan phase done [] + 0 = omega (arith, none) in
-    let after = subst (λ n. Stand (slice_set guests (o.relid - 1) now) n (marked (guest_is Opened) (done ++ o ∷ []) (guest_before plan phase))) same_count opened_so.stand in
+    let after = subst (λ n. Stand (slice_set guests (o.relid - 1) now) n (marked (guest_is (vps_before plan phase) Opened) (done ++ o ∷ []) (guest_before (vps_before plan phase) plan phase))) same_count opened_so.stand in
     record {
       turn = turn;
       hears = ap (on_result g o.relid 0) opened_so.known ∙ ap (λ x. Ok (opened_for g heard place o.relid 0 x)) (opening_here plan phase place done o (p ∷ left) at) ∙ ap (λ t. Ok t) (asked ∙ on);
       goes = IsOffering v (slice_set guests (o.relid - 1) now) phase (place + 1) done o [] p left there is_first subs (record { agreed = meet.agreed; stand = after });
       says = λ sent e.
-          let later : List Msg = flat_map guest_closes (closing_of plan phase) ++ guest_from plan (suc phase) in
+          let later : List Msg = guest_moves plan (phase_of plan phase) ++ (flat_map guest_closes (closing_of plan phase) ++ guest_from plan (suc phase)) in
           ap (λ os. flat_map guest_opens os ++ later) (left_behind plan phase place done o (p ∷ left) at ∙ sym spot.from_first)
           ∙ ap (λ s. s ++ (flat_map guest_opens (from_first_sub (phase_of plan phase) (place + 1) (drop (place + 1) (phase_of plan phase))) ++ later)) (sym e);
       heard =
-          let later : List Msg = flat_map host_closes (closing_of plan phase) ++ host_from plan (suc phase) in
+          let later : List Msg = host_moves plan (phase_of plan phase) ++ (flat_map host_closes (closing_of plan phase) ++ host_from plan (suc phase)) in
           let here = sym spot.here in
           let back = sym spot.from_first in
           opened_so.answers later ∙ ap (λ b. m ∷ ((map offer_sub (if b then [] else first_subs (p ∷ left)) ++ host_opens_all (p ∷ left)) ++ later)) is_first
@@ -288,7 +285,7 @@ and_both true b e = absurd (cc)
 and_both false b e = (refl, e)
 
 pub step_open : (plan : BusPlan) (logs : Logs) (v : Version) (guests : List Channel) (phase place : ℕ) (done : List Opening) (o : Opening) (left : List Opening) → IsPlan plan
-    → At plan phase place done o left → Meet plan v guests (offered_by plan phase done (o ∷ left)) (marked (guest_is Opened) done (marked (guest_is IsOpening) (o ∷ []) (guest_before plan phase)))
+    → At plan phase place done o left → Meet plan v guests (offered_by plan phase done (o ∷ left)) (marked (guest_is (vps_before plan phase) Opened) done (marked (guest_is (vps_before plan phase) IsOpening) (o ∷ []) (guest_before (vps_before plan phase) plan phase)))
     → GuestStep plan (a_guest plan logs (Some (PhaseStart phase)) (AwaitsOpened place) (Some v) guests) (opened o.relid o.relid)
 step_open plan logs v guests phase place done o left planned at meet =
     let next : opening_at plan phase (place + 1) ≡ slice_get left 0 = opening_from plan phase (place + 1) (done ++ o ∷ []) left (done_more plan phase place done o left at) (place_more plan phase place done o left at) in
@@ -300,19 +297,19 @@ step_open plan logs v guests phase place done o left planned at meet =
 record IsOffered (plan : BusPlan) (logs : Logs) (v : Version) (guests : List Channel) (phase place : ℕ) (done : List Opening) (first : Opening) (offered : List Opening) (o : Opening) (left : List Opening) : Type 0 where
   hears : guest_hears (a_guest plan logs (Some (PhaseStart phase)) (SubOffer place) (Some v) guests) (offer_sub o)
       ≡ Ok (goes_behind (a_guest plan logs (Some (PhaseStart phase)) (SubOffer place) (Some v) guests) (heard_so (SubOffer place) v (Offered offered_channel)) place o)
-  stand : Stand (guests ++ offered_channel ∷ []) ((offered_by plan phase done [] + length offered) + 1) (marked (guest_is Opened) (done ++ first ∷ []) (guest_before plan phase))
+  stand : Stand (guests ++ offered_channel ∷ []) ((offered_by plan phase done [] + length offered) + 1) (marked (guest_is (vps_before plan phase) Opened) (done ++ first ∷ []) (guest_before (vps_before plan phase) plan phase))
   next : opening_at plan phase (place + 1) ≡ slice_get left 0
 
 is_offered : (plan : BusPlan) (logs : Logs) (v : Version) (guests : List Channel) (phase place : ℕ) (done : List Opening) (first : Opening) (offered : List Opening) (o : Opening) (left : List Opening) → IsPlan plan
     → At plan phase place (done ++ first ∷ offered) o left → is_sub first ≡ false → AreSubs (offered ++ o ∷ [])
-    → Meet plan v guests (offered_by plan phase done [] + length offered) (marked (guest_is Opened) (done ++ first ∷ []) (guest_before plan phase))
+    → Meet plan v guests (offered_by plan phase done [] + length offered) (marked (guest_is (vps_before plan phase) Opened) (done ++ first ∷ []) (guest_before (vps_before plan phase) plan phase))
     → IsOffered plan logs v guests phase place done first offered o left
 is_offered plan logs v guests phase place done first offered o left planned at is_first subs meet =
     let g : GuestSeen = a_guest plan logs (Some (PhaseStart phase)) (SubOffer place) (Some v) guests in
     let front : List Opening = done ++ first ∷ offered in
     let spot = sub_at plan phase place done first offered o left planned at is_first subs in
     let count : ℕ = offered_by plan phase done [] + length offered in
-    let base : ℕ → Channel = guest_before plan phase in
+    let base : ℕ → Channel = guest_before (vps_before plan phase) plan phase in
     let heard : GuestTurn = heard_so (SubOffer place) v (Offered offered_channel) in
     let many = meet.stand.many in
     let relid_is = spot.relid_is in
@@ -320,19 +317,19 @@ is_offered plan logs v guests phase place done first offered o left planned at i
     let is_it : is_sub_offer g o Disk o.sub o.relid ≡ true = ap (λ n. (((o.relid == n) && (o.relid == o.relid)) && (o.sub == o.sub)) && true) (sym next_one) ∙ (λ i. ((same o.relid i && same o.relid i) && same o.sub i) && true) in
     let takes : sub_offered g place Disk o.sub o.relid (Some o) ≡ goes_behind g heard place o = ap (λ b. if b then goes_behind g heard place o else idle g) is_it in
     let in_plan = at.in_plan in
-    let fresh : (q : ℕ) → count < q → q ≤ count + 1 → marked (guest_is Opened) (done ++ first ∷ []) base q ≡ offered_channel = λ q above few.
-    marked_apart (guest_is Opened) (done ++ first ∷ []) base q (all_weaker (λ p. p.relid ≤ offered_by plan phase done []) (λ p. p.relid ≢ q) (λ p l e. absurd (omega (arith, l, e, above))) (done ++ first ∷ []) spot.known)
-    ∙ unopened plan guest_ends offered_channel phase q planned (omega (arith, in_plan)) (omega (arith, above)) in
+    let fresh : (q : ℕ) → count < q → q ≤ count + 1 → marked (guest_is (vps_before plan phase) Opened) (done ++ first ∷ []) base q ≡ offered_channel = λ q above few.
+    marked_apart (guest_is (vps_before plan phase) Opened) (done ++ first ∷ []) base q (all_weaker (λ p. p.relid ≤ offered_by plan phase done []) (λ p. p.relid ≢ q) (λ p l e. absurd (omega (arith, l, e, above))) (done ++ first ∷ []) spot.known)
+    ∙ unopened plan (guest_ends (vps_before plan phase)) offered_channel phase q planned (omega (arith, in_plan)) (omega (arith, above)) in
     record {
       hears = ap (on_offer g (class_id Disk) o.sub o.relid) (kind_of_class Disk (class_id Disk) refl) ∙ ap (λ x. Ok (sub_offered g place Disk o.sub o.relid x)) (opening_here plan phase place front o left at) ∙ ap (λ t. Ok t) takes;
-      stand = stand_add guests count 1 (marked (guest_is Opened) (done ++ first ∷ []) base) offered_channel meet.stand fresh;
+      stand = stand_add guests count 1 (marked (guest_is (vps_before plan phase) Opened) (done ++ first ∷ []) base) offered_channel meet.stand fresh;
       next = opening_from plan phase (place + 1) (front ++ o ∷ []) left (done_more plan phase place front o left at) (place_more plan phase place front o left at);
     }
 
 -- one more of them is offered
 step_offer_more : (plan : BusPlan) (logs : Logs) (v : Version) (guests : List Channel) (phase place : ℕ) (done : List Opening) (first : Opening) (offered : List Opening) (o : Opening) (left : List Opening) → IsPlan plan
     → At plan phase place (done ++ first ∷ offered) o left → is_sub first ≡ false → AreSubs (offered ++ o ∷ [])
-    → Meet plan v guests (offered_by plan phase done [] + length offered) (marked (guest_is Opened) (done ++ first ∷ []) (guest_before plan phase)) → is_of_sub (slice_get left 0) ≡ true
+    → Meet plan v guests (offered_by plan phase done [] + length offered) (marked (guest_is (vps_before plan phase) Opened) (done ++ first ∷ []) (guest_before (vps_before plan phase) plan phase)) → is_of_sub (slice_get left 0) ≡ true
     → GuestStep plan (a_guest plan logs (Some (PhaseStart phase)) (SubOffer place) (Some v) guests) (offer_sub o)
 step_offer_more plan logs v guests phase place done first offered o [] planned at is_first subs meet is_next = absurd (cc)
 step_offer_more plan logs v guests phase place done first offered o (p ∷ left) planned at is_first subs meet is_next =
@@ -344,7 +341,7 @@ step_offer_more plan logs v guests phase place done first offered o (p ∷ left)
     let spot = sub_at plan phase place done first offered o (p ∷ left) planned at is_first subs in
     let heard : GuestTurn = heard_so (SubOffer place) v (Offered offered_channel) in
     let turn : GuestTurn = record heard { awaits = SubOffer (place + 1) } in
-    let other : GuestTurn = lists_next heard (place + 1 - o.sub) (opening_at plan phase (place + 1 - o.sub)) in
+    let other : GuestTurn = lists_next g (Some (PhaseStart phase)) heard (place + 1 - o.sub) (opening_at plan phase (place + 1 - o.sub)) in
     let next : is_of_sub (opening_at plan phase (place + 1)) ≡ true = ap is_of_sub on.next ∙ is_next in
     let joined : front ++ o ∷ [] ≡ done ++ first ∷ (offered ++ o ∷ []) = append_assoc done (first ∷ offered) (o ∷ []) in
     let there : At plan phase (place + 1) (done ++ first ∷ (offered ++ o ∷ [])) p left = subst (λ xs. At plan phase (place + 1) xs p left) joined
@@ -353,7 +350,7 @@ step_offer_more plan logs v guests phase place done first offered o (p ∷ left)
     let spot2 = sub_at plan phase (place + 1) done first (offered ++ o ∷ []) p left planned there is_first more in
     let sum = length-append offered (o ∷ []) in
     let count : (offered_by plan phase done [] + length offered) + 1 ≡ offered_by plan phase done [] + length (offered ++ o ∷ []) = omega (arith, sum) in
-    let after = subst (λ n. Stand (guests ++ offered_channel ∷ []) n (marked (guest_is Opened) (done ++ first ∷ []) (guest_before plan phase))) count on.stand in
+    let after = subst (λ n. Stand (guests ++ offered_channel ∷ []) n (marked (guest_is (vps_before plan phase) Opened) (done ++ first ∷ []) (guest_before (vps_before plan phase) plan phase))) count on.stand in
     let same_front : from_first_sub os place (drop place os) ≡ from_first_sub os (place + 1) (drop (place + 1) os) = spot.from_first ∙ sym (append_assoc offered (o ∷ []) (p ∷ left)) ∙ sym spot2.from_first in
     let here = spot.here in
     let here2 = sym spot2.here in
@@ -363,10 +360,10 @@ step_offer_more plan logs v guests phase place done first offered o (p ∷ left)
       hears = on.hears ∙ ap (λ b. Ok (if b then turn else other)) next;
       goes = IsOffering v (guests ++ offered_channel ∷ []) phase (place + 1) done first (offered ++ o ∷ []) p left there is_first more (record { agreed = meet.agreed; stand = after });
       says = λ sent e.
-          let later : List Msg = flat_map guest_closes (closing_of plan phase) ++ guest_from plan (suc phase) in
+          let later : List Msg = guest_moves plan (phase_of plan phase) ++ (flat_map guest_closes (closing_of plan phase) ++ guest_from plan (suc phase)) in
           ap (λ xs. flat_map guest_opens xs ++ later) same_front ∙ ap (λ s. s ++ (flat_map guest_opens (from_first_sub os (place + 1) (drop (place + 1) os)) ++ later)) (sym e);
       heard =
-          let later : List Msg = flat_map host_closes (closing_of plan phase) ++ host_from plan (suc phase) in
+          let later : List Msg = host_moves plan (phase_of plan phase) ++ (flat_map host_closes (closing_of plan phase) ++ host_from plan (suc phase)) in
           (λ i. (map offer_sub (first_subs (here i)) ++ host_opens_all (same_front i)) ++ later)
           ∙ ap (λ b. (map offer_sub (if b then o ∷ first_subs (p ∷ left) else []) ++ host_opens_all (from_first_sub os (place + 1) (drop (place + 1) os))) ++ later) one
           ∙ ap (λ xs. m ∷ ((map offer_sub (first_subs xs) ++ host_opens_all (from_first_sub os (place + 1) (drop (place + 1) os))) ++ later)) here2;
@@ -375,7 +372,7 @@ step_offer_more plan logs v guests phase place done first offered o (p ∷ left)
 -- all of them are, and the first one's page list is sent
 step_offer_last : (plan : BusPlan) (logs : Logs) (v : Version) (guests : List Channel) (phase place : ℕ) (done : List Opening) (first : Opening) (offered : List Opening) (o : Opening) (left : List Opening) → IsPlan plan
     → At plan phase place (done ++ first ∷ offered) o left → is_sub first ≡ false → AreSubs (offered ++ o ∷ [])
-    → Meet plan v guests (offered_by plan phase done [] + length offered) (marked (guest_is Opened) (done ++ first ∷ []) (guest_before plan phase)) → is_of_sub (slice_get left 0) ≡ false
+    → Meet plan v guests (offered_by plan phase done [] + length offered) (marked (guest_is (vps_before plan phase) Opened) (done ++ first ∷ []) (guest_before (vps_before plan phase) plan phase)) → is_of_sub (slice_get left 0) ≡ false
     → GuestStep plan (a_guest plan logs (Some (PhaseStart phase)) (SubOffer place) (Some v) guests) (offer_sub o)
 step_offer_last plan logs v guests phase place done first offered o left planned at is_first subs meet last =
     let g : GuestSeen = a_guest plan logs (Some (PhaseStart phase)) (SubOffer place) (Some v) guests in
@@ -387,7 +384,7 @@ step_offer_last plan logs v guests phase place done first offered o left planned
     let front : List Opening = done ++ first ∷ [] in
     let back : ℕ = place + 1 - o.sub in
     let heard : GuestTurn = heard_so (SubOffer place) v (Offered offered_channel) in
-    let turn : GuestTurn = lists_next heard back (opening_at plan phase back) in
+    let turn : GuestTurn = lists_next g (Some (PhaseStart phase)) heard back (opening_at plan phase back) in
     let other : GuestTurn = record heard { awaits = SubOffer (place + 1) } in
     let next : is_of_sub (opening_at plan phase (place + 1)) ≡ false = ap is_of_sub on.next ∙ last in
     let none = no_first left last in
@@ -398,37 +395,84 @@ step_offer_last plan logs v guests phase place done first offered o left planned
     let halves = length-append (subs_in done) (subs_in (first ∷ [])) in
     let not_first : length (subs_in (first ∷ [])) ≡ 0 = ap (λ b. length (cond b (first ∷ []) [])) is_first in
     let count : (offered_by plan phase done [] + length offered) + 1 ≡ offered_by plan phase front behind = omega (arith, long, sum, parts, halves, not_first) in
-    let after = subst (λ n. Stand (guests ++ offered_channel ∷ []) n (marked (guest_is Opened) front (guest_before plan phase))) count on.stand in
+    let after = subst (λ n. Stand (guests ++ offered_channel ∷ []) n (marked (guest_is (vps_before plan phase) Opened) front (guest_before (vps_before plan phase) plan phase))) count on.stand in
     let one = (all_front (λ q. is_sub q ≡ true) offered (o ∷ []) subs).1.0 in
     let here = spot.here in
     let from = spot.from_first in
+    let onward = next_list plan logs (Some (PhaseStart phase)) v guests phase back front behind (SubOffer place) (SubOffer place) (Offered offered_channel) planned at.in_plan spot.split spot.back (record { agreed = meet.agreed; stand = after })
+    (λ none. let some = ap length none in let both = length-append offered (o ∷ left) in absurd (omega (arith, some, both))) in
     record {
       turn = turn;
       hears = on.hears ∙ ap (λ b. Ok (if b then other else turn)) next;
-      goes = next_list plan v guests phase back front behind (SubOffer place) (Offered offered_channel) at.in_plan spot.split spot.back (record { agreed = meet.agreed; stand = after });
+      goes = onward.goes;
       says = λ sent sends.
           let later : List Msg = flat_map guest_closes (closing_of plan phase) ++ guest_from plan (suc phase) in
-          ap (λ xs. flat_map guest_opens xs ++ later) from ∙ lists_said plan v phase back front behind (SubOffer place) (Offered offered_channel) sent spot.split spot.back sends later;
+          ap (λ xs. flat_map guest_opens xs ++ (guest_moves plan (phase_of plan phase) ++ later)) from ∙ onward.says sent later sends;
       heard =
           let later : List Msg = flat_map host_closes (closing_of plan phase) ++ host_from plan (suc phase) in
-          (λ i. (map offer_sub (first_subs (here i)) ++ host_opens_all (from i)) ++ later)
-          ∙ ap (λ b. (map offer_sub (if b then o ∷ first_subs left else []) ++ host_opens_all behind) ++ later) one
-          ∙ ap (λ xs. m ∷ ((map offer_sub xs ++ host_opens_all behind) ++ later)) none
-          ∙ ap (λ xs. m ∷ (xs ++ later)) (lists_heard plan v phase back front behind (SubOffer place) (Offered offered_channel) spot.split spot.back);
+          let moves : List Msg = host_moves plan (phase_of plan phase) in
+          (λ i. (map offer_sub (first_subs (here i)) ++ host_opens_all (from i)) ++ (moves ++ later))
+          ∙ ap (λ b. (map offer_sub (if b then o ∷ first_subs left else []) ++ host_opens_all behind) ++ (moves ++ later)) one
+          ∙ ap (λ xs. m ∷ ((map offer_sub xs ++ host_opens_all behind) ++ (moves ++ later))) none
+          ∙ ap (λ xs. m ∷ xs) (onward.heard later);
     }
 
 pub step_sub_offered : (plan : BusPlan) (logs : Logs) (v : Version) (guests : List Channel) (phase place : ℕ) (done : List Opening) (first : Opening) (offered : List Opening) (o : Opening) (left : List Opening) → IsPlan plan
     → At plan phase place (done ++ first ∷ offered) o left → is_sub first ≡ false → AreSubs (offered ++ o ∷ [])
-    → Meet plan v guests (offered_by plan phase done [] + length offered) (marked (guest_is Opened) (done ++ first ∷ []) (guest_before plan phase))
+    → Meet plan v guests (offered_by plan phase done [] + length offered) (marked (guest_is (vps_before plan phase) Opened) (done ++ first ∷ []) (guest_before (vps_before plan phase) plan phase))
     → GuestStep plan (a_guest plan logs (Some (PhaseStart phase)) (SubOffer place) (Some v) guests) (offer_sub o)
 step_sub_offered plan logs v guests phase place done first offered o left planned at is_first subs meet =
     by_test {P = GuestStep plan (a_guest plan logs (Some (PhaseStart phase)) (SubOffer place) (Some v) guests) (offer_sub o)} (is_of_sub (slice_get left 0))
     (λ e. step_offer_more plan logs v guests phase place done first offered o left planned at is_first subs meet e)
     (λ e. step_offer_last plan logs v guests phase place done first offered o left planned at is_first subs meet e)
 
+-- MODIFYCHANNEL_RESPONSE: the channel is open again, and the guest waits for the answers that are left
+step_modified : (plan : BusPlan) (logs : Logs) (v : Version) (guests : List Channel) (phase place : ℕ) (done : List Opening) (o : Opening) (left : List Opening) → IsPlan plan
+    → phase < length plan.phases → moved plan (phase_of plan phase) ≡ done ++ o ∷ left → place ≡ length done → answers_modify v.0 ≡ true
+    → Meet plan v guests (offered_before plan (suc phase)) (marked (guest_is (vps_before plan (suc phase)) Modifying) (o ∷ left) (guest_opened plan phase))
+    → GuestStep plan (a_guest plan logs (Some (PhaseStart phase)) (Modified place) (Some v) guests) (modified o.relid)
+step_modified plan logs v guests phase place done o left planned in_plan is at answers meet =
+    let os : List Opening = phase_of plan phase in
+    let g : GuestSeen = a_guest plan logs (Some (PhaseStart phase)) (Modified place) (Some v) guests in
+    let m : Msg = modified o.relid in
+    let count : ℕ = offered_before plan (suc phase) in
+    let so : Opening → Channel = guest_is (vps_before plan (suc phase)) Opened in
+    let asked : Opening → Channel = guest_is (vps_before plan (suc phase)) Modifying in
+    let base : ℕ → Channel = guest_opened plan phase in
+    let Own : Opening → Type 0 = λ q. base q.relid ≡ so q in
+    let has = phase_has plan phase planned in_plan in
+    let known = mid_all (Known count) done o left (subst (AllByRecursion (Known count)) is (moved_all (Known count) plan os (phase_known plan phase planned in_plan))) in
+    let own = mid_all Own done o left (subst (AllByRecursion Own) is (moved_all Own plan os (own_marked so os (guest_before (vps_before plan (suc phase)) plan phase) has.relids))) in
+    let apart = (distinct_mid (λ q. q.relid) done o left (subst (Distinct (λ q. q.relid)) is (moved_distinct (λ q. q.relid) plan os has.relids))).1 in
+    let channels : List Channel = slice_set guests (o.relid - 1) (so o) in
+    let here : by_relid guests o.relid ≡ Some (asked o) = meet.stand.each o.relid known.0 known.1 ∙ ap (λ c. Some c) (marked_here asked o left base) in
+    let after : Stand channels count (marked asked left base) =
+    stand_now guests count (marked asked (o ∷ left) base) (marked asked left base) o.relid (so o) meet.stand known.0 known.1 (marked_apart asked left base o.relid apart ∙ own) (λ q off. sym (marked_there asked o left base q off)) in
+    let there : moved plan os ≡ (done ++ o ∷ []) ++ left = is ∙ sym (append_assoc done (o ∷ []) left) in
+    let heard : Change = Now o.relid (so o) in
+    let test : Opening → Bool = then_in g heard is_modifying in
+    let tests : (q : Opening) → 1 ≤ q.relid → test q ≡ in_state is_modifying (by_relid channels q.relid) = λ q some. ap (in_state is_modifying) (then_now g o.relid q.relid (so o) known.0 (let many = meet.stand.many in let few = known.1 in omega (arith, many, few)) some) in
+    let onward = answers_left plan v channels phase (done ++ o ∷ []) left test planned in_plan there tests answers (record { agreed = meet.agreed; stand = after }) in
+    let turn_with : List Opening → GuestTurn = λ ms. record (heard_so (Modified place) v heard) { awaits = waits_answer (position_from test 0 ms) } in
+    let yes_it_answers : answers_modify (agreed plan) ≡ true = answers_are plan v planned meet.agreed ∙ answers in
+    record {
+      turn = turn_with (moved plan os);
+      hears = ap (on_modified g o.relid) here ∙ ap (λ ms. Ok (turn_with ms)) (movers_are plan v phase planned meet.agreed);
+      goes = onward.goes;
+      says = λ sent e.
+          let later : List Msg = flat_map guest_closes (closing_of plan phase) ++ guest_from plan (suc phase) in
+          let waits : GuestWait = (turn_with (moved plan os)).awaits in
+          onward.says later ∙ ap (λ s. s ++ (start_to_say os waits ++ (moves_to_say plan os waits ++ later))) (sym e);
+      heard =
+          let later : List Msg = flat_map host_closes (closing_of plan phase) ++ host_from plan (suc phase) in
+          let says : List Opening → List Msg = λ ps. map (λ p. modified p.relid) ps in
+          ap (λ n. drop n (host_moves plan os) ++ later) at ∙ ap (λ xs. xs ++ later) (host_rest plan os done (o ∷ left) is) ∙ ap (λ b. (if b then says (o ∷ left) else []) ++ later) yes_it_answers
+          ∙ ap (λ b. m ∷ ((if b then says left else []) ++ later)) (sym yes_it_answers) ∙ ap (λ xs. m ∷ xs) (onward.heard later);
+    }
+
 -- GPADL_TORNDOWN and RESCIND_CHANNELOFFER: the channel of an opening is done with, and the guest goes on
-abbrev heard_end : GuestWait → Version → Opening → Option Msg → GuestTurn
-heard_end waits v o first = heard_with waits v (Now o.relid (guest_ends o)) first
+abbrev heard_end : BusPlan → ℕ → GuestWait → Version → Opening → Option Msg → GuestTurn
+heard_end plan phase waits v o first = heard_with waits v (Now o.relid (guest_ends (vps_before plan (suc phase)) o)) first
 
 abbrev turn_end : BusPlan → List Channel → ℕ → ℕ → GuestTurn → GuestTurn
 turn_end plan guests phase place heard = closes_next heard guests (place + 1) (closing_at plan phase (place + 1))
@@ -439,15 +483,15 @@ record GoesOn (plan : BusPlan) (v : Version) (guests : List Channel) (phase plac
   heard : flat_map host_closes left ≡ end_to_hear (closing_of plan phase) turn.awaits
 
 goes_so : (plan : BusPlan) (v : Version) (guests : List Channel) (phase place : ℕ) (done : List Opening) (o : Opening) (left : List Opening) (waits : GuestWait) (first : Option Msg) → IsPlan plan → EndsAt plan phase place done o left
-    → Stand (changed guests (Now o.relid (guest_ends o))) (offered_before plan (suc phase)) (marked guest_ends (done ++ o ∷ []) (marked (guest_is Opened) left (guest_before plan phase))) → NextIs (guest_is Opened) guests left
-    → GoesOn plan v guests phase place left (turn_end plan guests phase place (heard_end waits v o first)) first (marked guest_ends (done ++ o ∷ []) (guest_next_stands left (guest_before plan phase)))
+    → Stand (changed guests (Now o.relid (guest_ends (vps_before plan (suc phase)) o))) (offered_before plan (suc phase)) (marked (guest_ends (vps_before plan (suc phase))) (done ++ o ∷ []) (marked (guest_is (vps_before plan (suc phase)) Opened) left (guest_before (vps_before plan (suc phase)) plan phase))) → NextIs (guest_is (vps_before plan (suc phase)) Opened) guests left
+    → GoesOn plan v guests phase place left (turn_end plan guests phase place (heard_end plan phase waits v o first)) first (marked (guest_ends (vps_before plan (suc phase))) (done ++ o ∷ []) (guest_next_stands (vps_before plan (suc phase)) left (guest_before (vps_before plan (suc phase)) plan phase)))
 goes_so plan v guests phase place done o left waits first planned at stand next =
     let os : List Opening = closing_of plan phase in
-    let turn : GuestTurn = turn_end plan guests phase place (heard_end waits v o first) in
+    let turn : GuestTurn = turn_end plan guests phase place (heard_end plan phase waits v o first) in
     let later : List Msg = guest_from plan (suc phase) in
     let more = ends_more plan phase place done o left at in
     let behind = ends_place plan phase place done o left at in
-    let ends = guest_goes plan v guests phase (place + 1) (done ++ o ∷ []) left waits (Now o.relid (guest_ends o)) first planned at.in_plan more behind stand next in
+    let ends = guest_goes plan v guests phase (place + 1) (done ++ o ∷ []) left waits (Now o.relid (guest_ends (vps_before plan (suc phase)) o)) first planned at.in_plan more behind stand next in
     let said = ends_said plan phase (place + 1) (done ++ o ∷ []) left at.in_plan more behind in
     record {
       ends = ends;
@@ -462,22 +506,22 @@ goes_so plan v guests phase place done o left waits first planned at stand next 
     }
 
 -- GPADL_TORNDOWN: the channel of an opening is closed
-abbrev closed_turn : Version → ℕ → Opening → GuestTurn
-closed_turn v place o = heard_with (Torn place) v (Now o.relid (guest_is Closed o)) None
+abbrev closed_turn : BusPlan → ℕ → Version → ℕ → Opening → GuestTurn
+closed_turn plan phase v place o = heard_with (Torn place) v (Now o.relid (guest_is (vps_before plan (suc phase)) Closed o)) None
 
 on_torn : (plan : BusPlan) (logs : Logs) (v : Version) (guests : List Channel) (phase place : ℕ) (done : List Opening) (o : Opening) (left : List Opening) → IsPlan plan
-    → EndsAt plan phase place done o left → Meet plan v guests (offered_before plan (suc phase)) (marked guest_ends done (marked (guest_is Closing) (o ∷ []) (marked (guest_is Opened) left (guest_before plan phase))))
-    → guest_hears (a_guest plan logs (Some (PhaseEnd phase)) (Torn place) (Some v) guests) (torndown o.gpadl) ≡ Ok (torn_then (a_guest plan logs (Some (PhaseEnd phase)) (Torn place) (Some v) guests) (closed_turn v place o) place o.relid o)
+    → EndsAt plan phase place done o left → Meet plan v guests (offered_before plan (suc phase)) (marked (guest_ends (vps_before plan (suc phase))) done (marked (guest_is (vps_before plan (suc phase)) Closing) (o ∷ []) (marked (guest_is (vps_before plan (suc phase)) Opened) left (guest_before (vps_before plan (suc phase)) plan phase))))
+    → guest_hears (a_guest plan logs (Some (PhaseEnd phase)) (Torn place) (Some v) guests) (torndown o.gpadl) ≡ Ok (torn_then (a_guest plan logs (Some (PhaseEnd phase)) (Torn place) (Some v) guests) (closed_turn plan phase v place o) place o.relid o)
 on_torn plan logs v guests phase place done o left planned at meet =
     let g : GuestSeen = a_guest plan logs (Some (PhaseEnd phase)) (Torn place) (Some v) guests in
     let fact = end_facts plan phase place done o left planned at in
-    let base : ℕ → Channel = marked (guest_is Opened) left (guest_before plan phase) in
-    let stands : ℕ → Channel = marked guest_ends done (marked (guest_is Closing) (o ∷ []) base) in
-    let heard : ℕ → GuestTurn = λ relid. heard_with (Torn place) v (Now relid (guest_is Closed o)) None in
-    let closing : stands o.relid ≡ guest_is Closing o = marked_apart guest_ends done (marked (guest_is Closing) (o ∷ []) base) o.relid fact.done_apart ∙ marked_here (guest_is Closing) o [] base in
-    let known : slice_get guests (o.relid - 1) ≡ Some (guest_is Closing o) = sym (at_relid guests o.relid fact.fits.named) ∙ meet.stand.each o.relid fact.fits.named fact.known ∙ ap (λ c. Some c) closing in
+    let base : ℕ → Channel = marked (guest_is (vps_before plan (suc phase)) Opened) left (guest_before (vps_before plan (suc phase)) plan phase) in
+    let stands : ℕ → Channel = marked (guest_ends (vps_before plan (suc phase))) done (marked (guest_is (vps_before plan (suc phase)) Closing) (o ∷ []) base) in
+    let heard : ℕ → GuestTurn = λ relid. heard_with (Torn place) v (Now relid (guest_is (vps_before plan (suc phase)) Closed o)) None in
+    let closing : stands o.relid ≡ guest_is (vps_before plan (suc phase)) Closing o = marked_apart (guest_ends (vps_before plan (suc phase))) done (marked (guest_is (vps_before plan (suc phase)) Closing) (o ∷ []) base) o.relid fact.done_apart ∙ marked_here (guest_is (vps_before plan (suc phase)) Closing) o [] base in
+    let known : slice_get guests (o.relid - 1) ≡ Some (guest_is (vps_before plan (suc phase)) Closing o) = sym (at_relid guests o.relid fact.fits.named) ∙ meet.stand.each o.relid fact.fits.named fact.known ∙ ap (λ c. Some c) closing in
     let mine : is_handle o.gpadl (stands o.relid).gpadl ≡ true = ap (λ c. is_handle o.gpadl c.gpadl) closing ∙ same o.gpadl in
-    let found : place_of_list guests o.gpadl ≡ Some (o.relid - 1) = find_list guests (offered_before plan (suc phase)) stands o.relid o.gpadl meet.stand fact.fits.named fact.known mine (closing_handle plan phase done o left fact) in
+    let found : place_of_list guests o.gpadl ≡ Some (o.relid - 1) = find_list guests (offered_before plan (suc phase)) stands o.relid o.gpadl meet.stand fact.fits.named fact.known mine (closing_handle plan (vps_before plan (suc phase)) phase done o left fact) in
     let named = fact.fits.named in
     let back : o.relid - 1 + 1 ≡ o.relid = omega (arith, named) in
     ap (on_torndown g o.gpadl) found ∙ ap (torn_at g o.gpadl (o.relid - 1)) known ∙ ap (λ r. Ok (torn_for g (heard r) place r (closing_at plan phase place))) back
@@ -486,31 +530,31 @@ on_torn plan logs v guests phase place done o left planned at meet =
 -- a first channel is done with then
 step_torn_first : (plan : BusPlan) (logs : Logs) (v : Version) (guests : List Channel) (phase place : ℕ) (done : List Opening) (o : Opening) (left : List Opening) → IsPlan plan
     → EndsAt plan phase place done o left → o.rescinded ≡ false → is_sub o ≡ false
-    → Meet plan v guests (offered_before plan (suc phase)) (marked guest_ends done (marked (guest_is Closing) (o ∷ []) (marked (guest_is Opened) left (guest_before plan phase))))
+    → Meet plan v guests (offered_before plan (suc phase)) (marked (guest_ends (vps_before plan (suc phase))) done (marked (guest_is (vps_before plan (suc phase)) Closing) (o ∷ []) (marked (guest_is (vps_before plan (suc phase)) Opened) left (guest_before (vps_before plan (suc phase)) plan phase))))
     → GuestStep plan (a_guest plan logs (Some (PhaseEnd phase)) (Torn place) (Some v) guests) (torndown o.gpadl)
 step_torn_first plan logs v guests phase place done o left planned at closed is_first meet =
     let g : GuestSeen = a_guest plan logs (Some (PhaseEnd phase)) (Torn place) (Some v) guests in
     let m : Msg = torndown o.gpadl in
     let count : ℕ = offered_before plan (suc phase) in
     let fact = end_facts plan phase place done o left planned at in
-    let base : ℕ → Channel = marked (guest_is Opened) left (guest_before plan phase) in
+    let base : ℕ → Channel = marked (guest_is (vps_before plan (suc phase)) Opened) left (guest_before (vps_before plan (suc phase)) plan phase) in
     let kept : ends_given_back o ≡ false = ap (λ b. b || is_sub o) closed ∙ is_first in
-    let so : guest_ends o ≡ guest_is Closed o = ap (λ b. guest_is (end_state b) o) kept in
-    let turn : GuestTurn = turn_end plan guests phase place (heard_end (Torn place) v o None) in
+    let so : guest_ends (vps_before plan (suc phase)) o ≡ guest_is (vps_before plan (suc phase)) Closed o = ap (λ b. guest_is (vps_before plan (suc phase)) (end_state b) o) kept in
+    let turn : GuestTurn = turn_end plan guests phase place (heard_end plan phase (Torn place) v o None) in
     let heard : Channel → GuestTurn = λ now. heard_with (Torn place) v (Now o.relid now) None in
-    let taken : GuestTurn = record (closed_turn v place o) { awaits = Rescinded place } in
-    let asked : torn_then g (closed_turn v place o) place o.relid o ≡ turn_end plan guests phase place (closed_turn v place o) =
-    ap (λ b. if b && is_sub o then taken else (if b then turn_end plan guests phase place (closed_turn v place o) else closed_turn v place o)) (same o.relid)
-    ∙ ap (λ b. if b then taken else turn_end plan guests phase place (closed_turn v place o)) is_first in
-    let after : Stand (slice_set guests (o.relid - 1) (guest_ends o)) count (marked guest_ends (done ++ o ∷ []) base) =
-    stand_join guests count guest_ends done o (marked (guest_is Closing) (o ∷ []) base) base meet.stand fact.fits.named fact.known fact.done_apart (λ q off. sym (marked_there (guest_is Closing) o [] base q off)) in
-    let next = next_is plan guests phase place guest_ends (guest_is Closing) (guest_is Opened) done o left (guest_before plan phase) planned at meet.stand in
+    let taken : GuestTurn = record (closed_turn plan phase v place o) { awaits = Rescinded place } in
+    let asked : torn_then g (closed_turn plan phase v place o) place o.relid o ≡ turn_end plan guests phase place (closed_turn plan phase v place o) =
+    ap (λ b. if b && is_sub o then taken else (if b then turn_end plan guests phase place (closed_turn plan phase v place o) else closed_turn plan phase v place o)) (same o.relid)
+    ∙ ap (λ b. if b then taken else turn_end plan guests phase place (closed_turn plan phase v place o)) is_first in
+    let after : Stand (slice_set guests (o.relid - 1) (guest_ends (vps_before plan (suc phase)) o)) count (marked (guest_ends (vps_before plan (suc phase))) (done ++ o ∷ []) base) =
+    stand_join guests count (guest_ends (vps_before plan (suc phase))) done o (marked (guest_is (vps_before plan (suc phase)) Closing) (o ∷ []) base) base meet.stand fact.fits.named fact.known fact.done_apart (λ q off. sym (marked_there (guest_is (vps_before plan (suc phase)) Closing) o [] base q off)) in
+    let next = next_is plan guests phase place (guest_ends (vps_before plan (suc phase))) (guest_is (vps_before plan (suc phase)) Closing) (guest_is (vps_before plan (suc phase)) Opened) done o left (guest_before (vps_before plan (suc phase)) plan phase) planned at meet.stand in
     let on = goes_so plan v guests phase place done o left (Torn place) None planned at after next in
     let here = ends_left plan phase place done (o ∷ left) at.closing_is at.place_is in
     record {
       turn = turn;
       hears = on_torn plan logs v guests phase place done o left planned at meet ∙ ap (λ t. Ok t) asked ∙ ap (λ c. Ok (turn_end plan guests phase place (heard c))) (sym so);
-      goes = guest_stands_so plan phase v (Some (PhaseEnd phase)) guests turn (guest_next_awaits (place + 1) left) (marked guest_ends (done ++ o ∷ []) (guest_next_stands left (guest_before plan phase))) (option_to_list None ++ guest_next_sends left) on.ends
+      goes = guest_stands_so plan phase v (Some (PhaseEnd phase)) guests turn (guest_next_awaits (place + 1) left) (marked (guest_ends (vps_before plan (suc phase))) (done ++ o ∷ []) (guest_next_stands (vps_before plan (suc phase)) left (guest_before (vps_before plan (suc phase)) plan phase))) (option_to_list None ++ guest_next_sends left) on.ends
           (guest_next plan v (changed (changed guests turn.heard) turn.wished) phase (place + 1) (done ++ o ∷ []) left planned at.in_plan (ends_more plan phase place done o left at) (ends_place plan phase place done o left at) (record { agreed = meet.agreed; stand = on.ends.guest }));
       says = λ sent sends.
           let later : List Msg = guest_from plan (suc phase) in
@@ -525,25 +569,25 @@ step_torn_first plan logs v guests phase place done o left planned at closed is_
 -- a sub-channel is to be rescinded then
 step_torn_sub : (plan : BusPlan) (logs : Logs) (v : Version) (guests : List Channel) (phase place : ℕ) (done : List Opening) (o : Opening) (left : List Opening) → IsPlan plan
     → EndsAt plan phase place done o left → o.rescinded ≡ false → is_sub o ≡ true
-    → Meet plan v guests (offered_before plan (suc phase)) (marked guest_ends done (marked (guest_is Closing) (o ∷ []) (marked (guest_is Opened) left (guest_before plan phase))))
+    → Meet plan v guests (offered_before plan (suc phase)) (marked (guest_ends (vps_before plan (suc phase))) done (marked (guest_is (vps_before plan (suc phase)) Closing) (o ∷ []) (marked (guest_is (vps_before plan (suc phase)) Opened) left (guest_before (vps_before plan (suc phase)) plan phase))))
     → GuestStep plan (a_guest plan logs (Some (PhaseEnd phase)) (Torn place) (Some v) guests) (torndown o.gpadl)
 step_torn_sub plan logs v guests phase place done o left planned at closed sub meet =
     let g : GuestSeen = a_guest plan logs (Some (PhaseEnd phase)) (Torn place) (Some v) guests in
     let m : Msg = torndown o.gpadl in
     let count : ℕ = offered_before plan (suc phase) in
     let fact = end_facts plan phase place done o left planned at in
-    let base : ℕ → Channel = marked (guest_is Opened) left (guest_before plan phase) in
-    let turn : GuestTurn = record (closed_turn v place o) { awaits = Rescinded place } in
-    let asked : torn_then g (closed_turn v place o) place o.relid o ≡ turn =
-    ap (λ b. if b && is_sub o then turn else (if b then turn_end plan guests phase place (closed_turn v place o) else closed_turn v place o)) (same o.relid)
-    ∙ ap (λ b. if b then turn else turn_end plan guests phase place (closed_turn v place o)) sub in
-    let after : Stand (slice_set guests (o.relid - 1) (guest_is Closed o)) count (marked guest_ends done (marked (guest_is Closed) (o ∷ []) base)) =
-    stand_mark guests count guest_ends (guest_is Closed) done o (marked (guest_is Closing) (o ∷ []) base) base meet.stand fact.fits.named fact.known fact.done_apart (λ q off. sym (marked_there (guest_is Closing) o [] base q off)) in
+    let base : ℕ → Channel = marked (guest_is (vps_before plan (suc phase)) Opened) left (guest_before (vps_before plan (suc phase)) plan phase) in
+    let turn : GuestTurn = record (closed_turn plan phase v place o) { awaits = Rescinded place } in
+    let asked : torn_then g (closed_turn plan phase v place o) place o.relid o ≡ turn =
+    ap (λ b. if b && is_sub o then turn else (if b then turn_end plan guests phase place (closed_turn plan phase v place o) else closed_turn plan phase v place o)) (same o.relid)
+    ∙ ap (λ b. if b then turn else turn_end plan guests phase place (closed_turn plan phase v place o)) sub in
+    let after : Stand (slice_set guests (o.relid - 1) (guest_is (vps_before plan (suc phase)) Closed o)) count (marked (guest_ends (vps_before plan (suc phase))) done (marked (guest_is (vps_before plan (suc phase)) Closed) (o ∷ []) base)) =
+    stand_mark guests count (guest_ends (vps_before plan (suc phase))) (guest_is (vps_before plan (suc phase)) Closed) done o (marked (guest_is (vps_before plan (suc phase)) Closing) (o ∷ []) base) base meet.stand fact.fits.named fact.known fact.done_apart (λ q off. sym (marked_there (guest_is (vps_before plan (suc phase)) Closing) o [] base q off)) in
     let here = ends_left plan phase place done (o ∷ left) at.closing_is at.place_is in
     record {
       turn = turn;
       hears = on_torn plan logs v guests phase place done o left planned at meet ∙ ap (λ t. Ok t) asked;
-      goes = gives_sub_back v (slice_set guests (o.relid - 1) (guest_is Closed o)) phase place done o left at closed sub (record { agreed = meet.agreed; stand = after });
+      goes = gives_sub_back v (slice_set guests (o.relid - 1) (guest_is (vps_before plan (suc phase)) Closed o)) phase place done o left at closed sub (record { agreed = meet.agreed; stand = after });
       says = λ sent e.
           let later : List Msg = guest_from plan (suc phase) in
           ap (λ os. gives_sub os ++ later) here ∙ ap (λ b. ((if b then release o.relid ∷ [] else []) ++ flat_map guest_closes left) ++ later) sub ∙ ap (λ os. gives_one os ++ later) (sym here)
@@ -557,7 +601,7 @@ step_torn_sub plan logs v guests phase place done o left planned at closed sub m
 
 pub step_torn : (plan : BusPlan) (logs : Logs) (v : Version) (guests : List Channel) (phase place : ℕ) (done : List Opening) (o : Opening) (left : List Opening) → IsPlan plan
     → EndsAt plan phase place done o left → o.rescinded ≡ false
-    → Meet plan v guests (offered_before plan (suc phase)) (marked guest_ends done (marked (guest_is Closing) (o ∷ []) (marked (guest_is Opened) left (guest_before plan phase))))
+    → Meet plan v guests (offered_before plan (suc phase)) (marked (guest_ends (vps_before plan (suc phase))) done (marked (guest_is (vps_before plan (suc phase)) Closing) (o ∷ []) (marked (guest_is (vps_before plan (suc phase)) Opened) left (guest_before (vps_before plan (suc phase)) plan phase))))
     → GuestStep plan (a_guest plan logs (Some (PhaseEnd phase)) (Torn place) (Some v) guests) (torndown o.gpadl)
 step_torn plan logs v guests phase place done o left planned at closed meet =
     by_test {P = GuestStep plan (a_guest plan logs (Some (PhaseEnd phase)) (Torn place) (Some v) guests) (torndown o.gpadl)} (is_sub o)
@@ -570,8 +614,8 @@ rescinded_so v place o now = heard_with (Rescinded place) v (Now o.relid now) (S
 
 step_rescinds : (plan : BusPlan) (logs : Logs) (v : Version) (guests : List Channel) (phase place : ℕ) (done : List Opening) (o : Opening) (left : List Opening) (state : State) → IsPlan plan
     → EndsAt plan phase place done o left → ends_given_back o ≡ true
-    → on_rescind (a_guest plan logs (Some (PhaseEnd phase)) (Rescinded place) (Some v) guests) o.relid (Some (guest_is state o)) ≡ Ok (ended_for (a_guest plan logs (Some (PhaseEnd phase)) (Rescinded place) (Some v) guests) (rescinded_so v place o (guest_is Released o)) place o.relid (closing_at plan phase place))
-    → Meet plan v guests (offered_before plan (suc phase)) (marked guest_ends done (marked (guest_is state) (o ∷ []) (marked (guest_is Opened) left (guest_before plan phase))))
+    → on_rescind (a_guest plan logs (Some (PhaseEnd phase)) (Rescinded place) (Some v) guests) o.relid (Some (guest_is (vps_before plan (suc phase)) state o)) ≡ Ok (ended_for (a_guest plan logs (Some (PhaseEnd phase)) (Rescinded place) (Some v) guests) (rescinded_so v place o (guest_is (vps_before plan (suc phase)) Released o)) place o.relid (closing_at plan phase place))
+    → Meet plan v guests (offered_before plan (suc phase)) (marked (guest_ends (vps_before plan (suc phase))) done (marked (guest_is (vps_before plan (suc phase)) state) (o ∷ []) (marked (guest_is (vps_before plan (suc phase)) Opened) left (guest_before (vps_before plan (suc phase)) plan phase))))
     → GuestStep plan (a_guest plan logs (Some (PhaseEnd phase)) (Rescinded place) (Some v) guests) (rescind o.relid)
 step_rescinds plan logs v guests phase place done o left state planned at gone takes meet =
     let g : GuestSeen = a_guest plan logs (Some (PhaseEnd phase)) (Rescinded place) (Some v) guests in
@@ -579,22 +623,22 @@ step_rescinds plan logs v guests phase place done o left state planned at gone t
     let first : Option Msg = Some (release o.relid) in
     let count : ℕ = offered_before plan (suc phase) in
     let fact = end_facts plan phase place done o left planned at in
-    let base : ℕ → Channel = marked (guest_is Opened) left (guest_before plan phase) in
-    let so : guest_ends o ≡ guest_is Released o = ap (λ b. guest_is (end_state b) o) gone in
-    let turn : GuestTurn = turn_end plan guests phase place (heard_end (Rescinded place) v o first) in
-    let known : by_relid guests o.relid ≡ Some (guest_is state o) = stand_at guests count guest_ends done o (marked (guest_is state) (o ∷ []) base) (guest_is state o) meet.stand fact.fits.named fact.known fact.done_apart (marked_here (guest_is state) o [] base) in
-    let asked : ended_for g (rescinded_so v place o (guest_ends o)) place o.relid (Some o) ≡ turn = ap (λ b. if b then turn else rescinded_so v place o (guest_ends o)) (same o.relid) in
-    let after : Stand (slice_set guests (o.relid - 1) (guest_ends o)) count (marked guest_ends (done ++ o ∷ []) base) =
-    stand_join guests count guest_ends done o (marked (guest_is state) (o ∷ []) base) base meet.stand fact.fits.named fact.known fact.done_apart (λ q off. sym (marked_there (guest_is state) o [] base q off)) in
-    let next = next_is plan guests phase place guest_ends (guest_is state) (guest_is Opened) done o left (guest_before plan phase) planned at meet.stand in
+    let base : ℕ → Channel = marked (guest_is (vps_before plan (suc phase)) Opened) left (guest_before (vps_before plan (suc phase)) plan phase) in
+    let so : guest_ends (vps_before plan (suc phase)) o ≡ guest_is (vps_before plan (suc phase)) Released o = ap (λ b. guest_is (vps_before plan (suc phase)) (end_state b) o) gone in
+    let turn : GuestTurn = turn_end plan guests phase place (heard_end plan phase (Rescinded place) v o first) in
+    let known : by_relid guests o.relid ≡ Some (guest_is (vps_before plan (suc phase)) state o) = stand_at guests count (guest_ends (vps_before plan (suc phase))) done o (marked (guest_is (vps_before plan (suc phase)) state) (o ∷ []) base) (guest_is (vps_before plan (suc phase)) state o) meet.stand fact.fits.named fact.known fact.done_apart (marked_here (guest_is (vps_before plan (suc phase)) state) o [] base) in
+    let asked : ended_for g (rescinded_so v place o (guest_ends (vps_before plan (suc phase)) o)) place o.relid (Some o) ≡ turn = ap (λ b. if b then turn else rescinded_so v place o (guest_ends (vps_before plan (suc phase)) o)) (same o.relid) in
+    let after : Stand (slice_set guests (o.relid - 1) (guest_ends (vps_before plan (suc phase)) o)) count (marked (guest_ends (vps_before plan (suc phase))) (done ++ o ∷ []) base) =
+    stand_join guests count (guest_ends (vps_before plan (suc phase))) done o (marked (guest_is (vps_before plan (suc phase)) state) (o ∷ []) base) base meet.stand fact.fits.named fact.known fact.done_apart (λ q off. sym (marked_there (guest_is (vps_before plan (suc phase)) state) o [] base q off)) in
+    let next = next_is plan guests phase place (guest_ends (vps_before plan (suc phase))) (guest_is (vps_before plan (suc phase)) state) (guest_is (vps_before plan (suc phase)) Opened) done o left (guest_before (vps_before plan (suc phase)) plan phase) planned at meet.stand in
     let on = goes_so plan v guests phase place done o left (Rescinded place) first planned at after next in
     let here = ends_left plan phase place done (o ∷ left) at.closing_is at.place_is in
     record {
       turn = turn;
       hears = ap (on_rescind g o.relid) known ∙ takes
           ∙ ap (λ c. Ok (ended_for g (rescinded_so v place o c) place o.relid (closing_at plan phase place))) (sym so)
-          ∙ ap (λ x. Ok (ended_for g (rescinded_so v place o (guest_ends o)) place o.relid x)) (closing_here plan phase place done o left at) ∙ ap (λ t. Ok t) asked;
-      goes = guest_stands_so plan phase v (Some (PhaseEnd phase)) guests turn (guest_next_awaits (place + 1) left) (marked guest_ends (done ++ o ∷ []) (guest_next_stands left (guest_before plan phase))) (option_to_list first ++ guest_next_sends left) on.ends
+          ∙ ap (λ x. Ok (ended_for g (rescinded_so v place o (guest_ends (vps_before plan (suc phase)) o)) place o.relid x)) (closing_here plan phase place done o left at) ∙ ap (λ t. Ok t) asked;
+      goes = guest_stands_so plan phase v (Some (PhaseEnd phase)) guests turn (guest_next_awaits (place + 1) left) (marked (guest_ends (vps_before plan (suc phase))) (done ++ o ∷ []) (guest_next_stands (vps_before plan (suc phase)) left (guest_before (vps_before plan (suc phase)) plan phase))) (option_to_list first ++ guest_next_sends left) on.ends
           (guest_next plan v (changed (changed guests turn.heard) turn.wished) phase (place + 1) (done ++ o ∷ []) left planned at.in_plan (ends_more plan phase place done o left at) (ends_place plan phase place done o left at) (record { agreed = meet.agreed; stand = on.ends.guest }));
       says = λ sent sends. ap (λ os. gives_one os ++ guest_from plan (suc phase)) here ∙ on.says sent sends;
       heard = ap (λ os. takes_one os ++ host_from plan (suc phase)) here ∙ ap (λ xs. m ∷ (xs ++ host_from plan (suc phase))) on.heard;
@@ -602,20 +646,20 @@ step_rescinds plan logs v guests phase place done o left state planned at gone t
 
 pub step_gives : (plan : BusPlan) (logs : Logs) (v : Version) (guests : List Channel) (phase place : ℕ) (done : List Opening) (o : Opening) (left : List Opening) → IsPlan plan
     → EndsAt plan phase place done o left → o.rescinded ≡ true
-    → Meet plan v guests (offered_before plan (suc phase)) (marked guest_ends done (marked (guest_is Opened) (o ∷ left) (guest_before plan phase)))
+    → Meet plan v guests (offered_before plan (suc phase)) (marked (guest_ends (vps_before plan (suc phase))) done (marked (guest_is (vps_before plan (suc phase)) Opened) (o ∷ left) (guest_before (vps_before plan (suc phase)) plan phase)))
     → GuestStep plan (a_guest plan logs (Some (PhaseEnd phase)) (Rescinded place) (Some v) guests) (rescind o.relid)
 step_gives plan logs v guests phase place done o left planned at gone meet =
     step_rescinds plan logs v guests phase place done o left Opened planned at (ap (λ b. b || is_sub o) gone) refl (record { agreed = meet.agreed; stand = meet.stand })
 
 pub step_gives_sub : (plan : BusPlan) (logs : Logs) (v : Version) (guests : List Channel) (phase place : ℕ) (done : List Opening) (o : Opening) (left : List Opening) → IsPlan plan
     → EndsAt plan phase place done o left → o.rescinded ≡ false → is_sub o ≡ true
-    → Meet plan v guests (offered_before plan (suc phase)) (marked guest_ends done (marked (guest_is Closed) (o ∷ []) (marked (guest_is Opened) left (guest_before plan phase))))
+    → Meet plan v guests (offered_before plan (suc phase)) (marked (guest_ends (vps_before plan (suc phase))) done (marked (guest_is (vps_before plan (suc phase)) Closed) (o ∷ []) (marked (guest_is (vps_before plan (suc phase)) Opened) left (guest_before (vps_before plan (suc phase)) plan phase))))
     → GuestStep plan (a_guest plan logs (Some (PhaseEnd phase)) (Rescinded place) (Some v) guests) (rescind o.relid)
 step_gives_sub plan logs v guests phase place done o left planned at closed sub meet =
     step_rescinds plan logs v guests phase place done o left Closed planned at (ap (λ b. b || is_sub o) closed ∙ sub) refl meet
 
 -- UNLOAD_RESPONSE
-step_left : (plan : BusPlan) (logs : Logs) (v : Version) (guests : List Channel) → Meet plan v guests (offered_before plan (length plan.phases)) (guest_before plan (length plan.phases)) → GuestStep plan (a_guest plan logs (Some Unload) Unloaded (Some v) guests) farewell_taken
+step_left : (plan : BusPlan) (logs : Logs) (v : Version) (guests : List Channel) → Meet plan v guests (offered_before plan (length plan.phases)) (guest_before (vps_before plan (length plan.phases)) plan (length plan.phases)) → GuestStep plan (a_guest plan logs (Some Unload) Unloaded (Some v) guests) farewell_taken
 step_left plan logs v guests meet =
     let g : GuestSeen = a_guest plan logs (Some Unload) Unloaded (Some v) guests in
     record {
@@ -650,6 +694,7 @@ guest_step plan logs part awaits version channels planned (contacted v cs meet) 
 guest_step plan logs part awaits version channels planned (IsOffering v cs phase place done first offered o left at is_first subs meet) waits = record { next = offer_sub o; step = step_sub_offered plan logs v cs phase place done first offered o left planned at is_first subs meet }
 guest_step plan logs part awaits version channels planned (lists v cs phase place done o left at meet) waits = record { next = created o.relid o.gpadl; step = step_listed plan logs v cs phase place done o left planned at meet }
 guest_step plan logs part awaits version channels planned (IsOpened v cs phase place done o left at meet) waits = record { next = opened o.relid o.relid; step = step_open plan logs v cs phase place done o left planned at meet }
+guest_step plan logs part awaits version channels planned (moves v cs phase place done o left in_plan is at answers meet) waits = record { next = modified o.relid; step = step_modified plan logs v cs phase place done o left planned in_plan is at answers meet }
 guest_step plan logs part awaits version channels planned (started v cs phase in_plan meet) waits = absurd (cc)
 guest_step plan logs part awaits version channels planned (IsClosing v cs phase place done o left at closed meet) waits = record { next = torndown o.gpadl; step = step_torn plan logs v cs phase place done o left planned at closed meet }
 guest_step plan logs part awaits version channels planned (gives_back v cs phase place done o left at gone meet) waits = record { next = rescind o.relid; step = step_gives plan logs v cs phase place done o left planned at gone meet }

@@ -5,7 +5,7 @@ use Rattle.std.proofs.lemmas.Bool.Decides.{nat_tests}
 use Rattle.std.proofs.lemmas.List.Sums.{position_or_len_is}
 use Rattle.std.proofs.lemmas.Option.{get_or_from_slice_get}
 use Rattle.io_edge.specs.declared.side.Side.TheVariants.{Guest as GuestSide, Host as HostSide}
-use Rattle.chan_state.specs.declared.state.State.TheVariants.{Offered, Opening as IsOpening, Opened, Closing}
+use Rattle.chan_state.specs.declared.state.State.TheVariants.{Opening as IsOpening, Opened, Closing}
 use Rattle.chan_state.specs.declared.event.Event.TheVariants.{WantOpen, OpenSeen}
 use Rattle.chan_state.specs.declared.action.Action.TheVariants.{SendResult}
 use Rattle.chan_state.specs.declared.chan_state.ChanState.{ChanState}
@@ -15,6 +15,7 @@ use Rattle.control_model.specs.Plan.{BusPlan, phase_of}
 use Rattle.control_model.specs.Channels.{lived, row_of, is_handle, place_of_list}
 use Rattle.control_model.specs.Said.{ends_given_back}
 use Rattle.control_model.specs.Guest.{offered_channel}
+use Rattle.control_model.specs.Host.{offered_life}
 use Rattle.control_model.specs.Stand.{marked, before_phase, end_state, guest_is, host_is, guest_ends, host_ends, guest_before, host_before, Stand}
 use Rattle.control_laws.proofs.Marks.{differ, at_relid, marked_has, marked_at, marked_there}
 use Rattle.control_laws.proofs.Plans.{Facts}
@@ -41,21 +42,22 @@ closed_each plan phase relid ended P none then j less =
 
 -- a guest may open it
 abbrev Opens : Channel → Type 0
-Opens c = lived c WantOpen ≡ Ok (record { life = record { side = GuestSide; state = IsOpening }; gpadl = c.gpadl })
+Opens c = lived c WantOpen ≡ Ok (record { life = record { side = GuestSide; state = IsOpening; vp = c.life.vp }; gpadl = c.gpadl })
 
-pub can_open : (plan : BusPlan) (phase relid : ℕ) → NotBefore plan phase relid → lived (guest_before plan phase relid) WantOpen ≡ Ok (record { life = record { side = GuestSide; state = IsOpening }; gpadl = (guest_before plan phase relid).gpadl })
-can_open plan phase relid none =
-    before_has plan guest_ends offered_channel Opens relid refl phase (closed_each plan phase relid (λ b o. guest_is (end_state b) o) Opens none (λ o. refl))
+pub can_open : (plan : BusPlan) (vps : ℕ → ℕ) (phase relid : ℕ) → NotBefore plan phase relid
+    → lived (guest_before vps plan phase relid) WantOpen ≡ Ok (record { life = record { side = GuestSide; state = IsOpening; vp = (guest_before vps plan phase relid).life.vp }; gpadl = (guest_before vps plan phase relid).gpadl })
+can_open plan vps phase relid none =
+    before_has plan (guest_ends vps) offered_channel Opens relid refl phase (closed_each plan phase relid (λ b o. guest_is vps (end_state b) o) Opens none (λ o. refl))
 
 -- a host may open it
 pub record HostOpens (life : ChanState) : Type 0 where
   pub row : row_of life OpenSeen ≡ Some (Opened, SendResult)
   pub side : life.side ≡ HostSide
 
-pub can_open_host : (plan : BusPlan) (phase relid : ℕ) → NotBefore plan phase relid → HostOpens (host_before plan phase relid)
-can_open_host plan phase relid none =
-    before_has plan host_ends (record { side = HostSide; state = Offered }) (λ (life : ChanState). HostOpens life) relid (record { row = refl; side = refl }) phase
-    (closed_each plan phase relid (λ b o. host_is (end_state b) o) (λ (life : ChanState). HostOpens life) none (λ o. record { row = refl; side = refl }))
+pub can_open_host : (plan : BusPlan) (vps : ℕ → ℕ) (phase relid : ℕ) → NotBefore plan phase relid → HostOpens (host_before vps plan phase relid)
+can_open_host plan vps phase relid none =
+    before_has plan (host_ends vps) offered_life (λ (life : ChanState). HostOpens life) relid (record { row = refl; side = refl }) phase
+    (closed_each plan phase relid (λ b o. host_is vps (end_state b) o) (λ (life : ChanState). HostOpens life) none (λ o. record { row = refl; side = refl }))
 
 -- the channel that set up a list, where no other one has its handle
 pub find_list : (guests : List Channel) (count : ℕ) (stands : ℕ → Channel) (relid gpadl : ℕ) → Stand guests count stands → 1 ≤ relid → relid ≤ count → is_handle gpadl (stands relid).gpadl ≡ true → ((q : ℕ) → q ≢ relid → is_handle gpadl (stands q).gpadl ≡ false)
@@ -75,13 +77,13 @@ find_list guests count stands relid gpadl stand one few here there =
     ap (λ n. cond (nat_lt n (length guests)) (Some n) None) first ∙ (rw fits refl)
 
 -- while the channel of an opening is being closed, no other one has its handle
-pub closing_handle : (plan : BusPlan) (phase : ℕ) (done : List Opening) (o : Opening) (left : List Opening) → Facts plan phase done o left
-    → (q : ℕ) → q ≢ o.relid → is_handle o.gpadl (marked guest_ends done (marked (guest_is Closing) (o ∷ []) (marked (guest_is Opened) left (guest_before plan phase))) q).gpadl ≡ false
-closing_handle plan phase done o left fact q off =
+pub closing_handle : (plan : BusPlan) (vps : ℕ → ℕ) (phase : ℕ) (done : List Opening) (o : Opening) (left : List Opening) → Facts plan phase done o left
+    → (q : ℕ) → q ≢ o.relid → is_handle o.gpadl (marked (guest_ends vps) done (marked (guest_is vps Closing) (o ∷ []) (marked (guest_is vps Opened) left (guest_before vps plan phase))) q).gpadl ≡ false
+closing_handle plan vps phase done o left fact q off =
     let P : Channel → Type 0 = λ c. is_handle o.gpadl c.gpadl ≡ false in
-    let behind : P (marked (guest_is Opened) left (guest_before plan phase) q) = marked_has (guest_is Opened) P left (guest_before plan phase) q (others left fact.left_handles) (fact.before_handles q) in
-    let here : P (marked (guest_is Closing) (o ∷ []) (marked (guest_is Opened) left (guest_before plan phase)) q) = subst P (sym (marked_there (guest_is Closing) o [] (marked (guest_is Opened) left (guest_before plan phase)) q off)) behind in
-    marked_has guest_ends P done (marked (guest_is Closing) (o ∷ []) (marked (guest_is Opened) left (guest_before plan phase))) q (others done fact.done_handles) here
+    let behind : P (marked (guest_is vps Opened) left (guest_before vps plan phase) q) = marked_has (guest_is vps Opened) P left (guest_before vps plan phase) q (others left fact.left_handles) (fact.before_handles vps q) in
+    let here : P (marked (guest_is vps Closing) (o ∷ []) (marked (guest_is vps Opened) left (guest_before vps plan phase)) q) = subst P (sym (marked_there (guest_is vps Closing) o [] (marked (guest_is vps Opened) left (guest_before vps plan phase)) q off)) behind in
+    marked_has (guest_ends vps) P done (marked (guest_is vps Closing) (o ∷ []) (marked (guest_is vps Opened) left (guest_before vps plan phase))) q (others done fact.done_handles) here
   where
     others : (os : List Opening) → AllByRecursion (λ p. p.gpadl ≢ o.gpadl) os → AllByRecursion (λ p. (p.gpadl == o.gpadl) ≡ false) os
     others [] all = tt

@@ -16,21 +16,21 @@ use Rattle.control_model.specs.declared.opening.Opening.{Opening}
 use Rattle.control_model.specs.declared.burst.Burst.TheVariants.{One}
 use Rattle.control_model.specs.declared.host_wait.HostWait.{HostWait}
 use Rattle.control_model.specs.declared.host_wait.HostWait.TheVariants.{List as AwaitsList, Open as AwaitsOpen}
-use Rattle.control_model.specs.Plan.{BusPlan, opening_at, IsPlan, phase_of, closing_of}
+use Rattle.control_model.specs.Plan.{BusPlan, opening_at, IsPlan, phase_of, closing_of, vp_for}
 use Rattle.control_model.specs.Channels.{by_relid}
-use Rattle.control_model.specs.Messages.{propose, request, pages_from, created, open_on, close, teardown, release, farewell}
-use Rattle.control_model.specs.Said.{host_opens_all, host_closes, guest_closes}
+use Rattle.control_model.specs.Messages.{propose, request, pages_from, created, open_on, modify, close, teardown, release, farewell}
+use Rattle.control_model.specs.Said.{guest_moves, host_moves, host_opens_all, host_closes, guest_closes}
 use Rattle.control_model.specs.Host.{HostSeen, HostTurn, host_waits_for_nothing, at_rest, on_header, on_piece, listed as listed_for, lists_by, is_of, host_hears}
-use Rattle.control_model.specs.Stand.{At, offered_by, marked, host_is, host_before, Meet, handles}
+use Rattle.control_model.specs.Stand.{At, offered_by, marked, host_is, host_before, Meet, handles, vps_before}
 use Rattle.control_model.specs.GuestAt.{guest_from, host_from, opens_listed, answers_open}
 use Rattle.control_model.specs.HostAt.{live_ones, ListComes, HostStands}
-use Rattle.control_model.specs.HostAt.HostStands.{fresh, answers, accepts, contacted, lists, listed, started, closes, tears, takes_back, ended, leaves, is_over}
+use Rattle.control_model.specs.HostAt.HostStands.{fresh, answers, accepts, contacted, lists, listed, moves, started, closes, tears, takes_back, ended, leaves, is_over}
 use Rattle.control_laws.proofs.Marks.{by_test, same, stand_at}
 use Rattle.control_laws.proofs.Plans.{facts, opening_here, offered_here}
-use Rattle.control_laws.proofs.Logs.{Logs}
+use Rattle.control_laws.proofs.Logs.{Logs, a_host}
 use Rattle.control_laws.proofs.Pieces.{IsPieceFor, list_of, Piecewise, piece_built, is_last, comes, after_more}
 use Rattle.control_laws.proofs.Saying.{left_at}
-use Rattle.control_laws.proofs.HostSteps.{a_host, HostStep, step_proposes, step_asks, step_opens, step_closes, step_tears, step_releases, step_leaves}
+use Rattle.control_laws.proofs.HostSteps.{HostStep, step_proposes, step_asks, step_opens, step_moves, step_closes, step_tears, step_releases, step_leaves}
 
 -- what comes of a piece
 heard : (h : HostSeen) (life : ChanState) (relid : ℕ) (m : Msg) → IsPieceFor relid m → by_relid h.channels relid ≡ Some life → fault_of h.lists m ≡ None → host_hears h m ≡ Ok (lists_by h (next h.lists m) (built h.lists.building m))
@@ -43,7 +43,7 @@ module _ (plan : BusPlan) (logs : Logs) (v : Version) (hosts : List ChanState) (
   host_at = a_host plan logs (Some (PhaseStart phase)) (AwaitsList place) (Some v) hosts s
 
   abbrev AreOpen : Type 0
-  AreOpen = Meet plan v hosts (offered_by plan phase done (o ∷ left)) (marked (host_is Opened) done (host_before plan phase))
+  AreOpen = Meet plan v hosts (offered_by plan phase done (o ∷ left)) (marked (host_is (vps_before plan phase) Opened) done (host_before (vps_before plan phase) plan phase))
 
   abbrev HeardSo : Msg → Partial → Type 0
   HeardSo m p = host_hears host_at m ≡ Ok (lists_by host_at (next s m) (Some p))
@@ -66,10 +66,10 @@ module _ (plan : BusPlan) (logs : Logs) (v : Version) (hosts : List ChanState) (
         pieces_then = [];
         goes = listed v hosts phase place done o left at meet;
         says = λ sent f.
-            let later : List Msg = flat_map host_closes (closing_of plan phase) ++ host_from plan (suc phase) in
+            let later : List Msg = host_moves plan (phase_of plan phase) ++ (flat_map host_closes (closing_of plan phase) ++ host_from plan (suc phase)) in
             ap (λ os. host_opens_all os ++ later) here ∙ ap (λ os. created o.relid o.gpadl ∷ (answers_open os ++ later)) (sym here)
             ∙ ap (λ xs. xs ++ (answers_open (drop place (phase_of plan phase)) ++ later)) (sym f);
-        heard = ap (λ xs. m ∷ ((xs ++ opens_listed (drop place (phase_of plan phase))) ++ (flat_map guest_closes (closing_of plan phase) ++ guest_from plan (suc phase)))) last.empty;
+        heard = ap (λ xs. m ∷ ((xs ++ opens_listed (drop place (phase_of plan phase))) ++ (guest_moves plan (phase_of plan phase) ++ (flat_map guest_closes (closing_of plan phase) ++ guest_from plan (suc phase))))) last.empty;
       }
 
   -- frames are missing
@@ -91,7 +91,7 @@ module _ (plan : BusPlan) (logs : Logs) (v : Version) (hosts : List ChanState) (
           whole = whole_is ∙ sym (append_assoc came (m ∷ []) (n ∷ ms));
           lists_are = ap (λ (t : Assembly). next t m) so_far ∙ sym (after_more (live_ones (handles done)) came m);
         });
-        says = λ sent f. ap (λ xs. xs ++ (host_opens_all (drop place (phase_of plan phase)) ++ (flat_map host_closes (closing_of plan phase) ++ host_from plan (suc phase)))) (sym f);
+        says = λ sent f. ap (λ xs. xs ++ (host_opens_all (drop place (phase_of plan phase)) ++ (host_moves plan (phase_of plan phase) ++ (flat_map host_closes (closing_of plan phase) ++ host_from plan (suc phase))))) (sym f);
         heard = refl;
       }
 
@@ -100,8 +100,8 @@ module _ (plan : BusPlan) (logs : Logs) (v : Version) (hosts : List ChanState) (
       let fact = facts plan phase place done o left planned at in
       let pieces : Piecewise o done s m ms = subst (λ (t : Assembly). Piecewise o done t m ms) (sym list.lists_are) (comes o done list.came m ms fact.fits fact.done_handles list.whole) in
       let fine = pieces.assemble.taken.0 in
-      let life : ChanState = host_before plan phase o.relid in
-      let known : by_relid hosts o.relid ≡ Some life = stand_at hosts (offered_by plan phase done (o ∷ left)) (host_is Opened) done o (host_before plan phase) life meet.stand fact.fits.named (offered_here plan phase place done o left planned at) fact.done_apart refl in
+      let life : ChanState = host_before (vps_before plan phase) plan phase o.relid in
+      let known : by_relid hosts o.relid ≡ Some life = stand_at hosts (offered_by plan phase done (o ∷ left)) (host_is (vps_before plan phase) Opened) done o (host_before (vps_before plan phase) plan phase) life meet.stand fact.fits.named (offered_here plan phase place done o left planned at) fact.done_apart refl in
       let made = piece_built s m o.relid pieces.first fine in
       let heard_so : HeardSo m made.list = heard host_at life o.relid m pieces.first known fine ∙ ap (λ b. Ok (lists_by host_at (next s m) b)) made.is in
       by_test {P = HostStep plan host_at [] m (m ∷ ms)} (length made.list.pages == made.list.want)
@@ -122,6 +122,7 @@ host_step plan logs part awaits version channels assembly tried pieces planned (
 host_step plan logs part awaits version channels assembly tried pieces planned (contacted v cs meet) waits = absurd (cc)
 host_step plan logs part awaits version channels assembly tried pieces planned (lists v cs phase place done o left s m ms at meet list) waits = record { next = m; step = step_lists plan logs v cs phase place done o left s m ms planned at meet list }
 host_step plan logs part awaits version channels assembly tried pieces planned (listed v cs phase place done o left at meet) waits = record { next = open_on o; step = step_opens plan logs v cs phase place done o left planned at meet }
+host_step plan logs part awaits version channels assembly tried pieces planned (moves v cs phase place done o left in_plan is at meet) waits = record { next = modify o.relid (vp_for o); step = step_moves plan logs v cs phase place done o left planned in_plan is at meet }
 host_step plan logs part awaits version channels assembly tried pieces planned (started v cs phase in_plan meet) waits = absurd (cc)
 host_step plan logs part awaits version channels assembly tried pieces planned (closes v cs phase place done o left at closed meet) waits = record { next = close o.relid; step = step_closes plan logs v cs phase place done o left planned at closed meet }
 host_step plan logs part awaits version channels assembly tried pieces planned (tears v cs phase place done o left at closed meet) waits = record { next = teardown o; step = step_tears plan logs v cs phase place done o left planned at closed meet }

@@ -1,5 +1,5 @@
 -- A host takes the next message that its guest says.
-use Rattle.std.proofs.Common.{◌≡◌, ◌≢◌, ◌∙◌, ℕ, suc, ◌+◌, ◌-◌, ◌<◌, ◌≤◌, ◌==◌, ◌&&◌, ◌||◌, nat_le, true, false, filter, List, [], ◌∷◌, ◌++◌, length, map, drop, slice_set, Option, Some, None, Ok, Err, if◌then◌else◌, refl, sym, ap, subst, append_assoc, arith}
+use Rattle.std.proofs.Common.{◌≡◌, ◌≢◌, ◌∙◌, ℕ, suc, ◌+◌, ◌-◌, ◌<◌, ◌≤◌, ◌&&◌, ◌||◌, nat_le, Bool, true, false, filter, List, [], ◌∷◌, ◌++◌, length, map, drop, slice_get, slice_set, Option, Some, None, Ok, Err, if◌then◌else◌, refl, sym, ap, subst, append_assoc, length-append, arith}
 use Rattle.std.specs.Option.{option_to_list}
 use Rattle.std.specs.List.{AllByRecursion, flat_map}
 use Rattle.std.proofs.lemmas.Bool.Decides.{nat_tests}
@@ -7,57 +7,49 @@ use Rattle.std.proofs.lemmas.List.Concat.{flat_map-cons}
 use Rattle.contact.specs.declared.version.Version.{Version}
 use Rattle.contact.specs.declared.kind.Kind.{Kind}
 use Rattle.contact.specs.declared.part.Part.{Part}
-use Rattle.contact.specs.Versions.{versions_tried}
+use Rattle.contact.specs.Versions.{versions_tried, has_modify, answers_modify}
 use Rattle.contact.specs.declared.part.Part.TheVariants.{Contact, PhaseStart, PhaseEnd, Unload}
 use Rattle.contact.specs.Classes.{offers_from}
-use Rattle.io_edge.specs.declared.side.Side.TheVariants.{Host as HostSide}
-use Rattle.chan_state.specs.declared.state.State.TheVariants.{Offered as IsOffered, Opened, Closing, Closed, Rescinded as IsRescinded, Released}
+use Rattle.chan_state.specs.declared.state.State.TheVariants.{Opened, Closing, Closed, Rescinded as IsRescinded, Released}
+use Rattle.chan_state.specs.declared.action.Action.TheVariants.{Nothing, SendModified}
+use Rattle.chan_state.specs.declared.event.Event.TheVariants.{ModifySeen}
 use Rattle.chan_state.specs.declared.chan_state.ChanState.{ChanState}
 use Rattle.gpadl.specs.Assembly.{Assembly, is_live}
 use Rattle.vmbus_msg.specs.declared.msg.Msg.{Msg}
 use Rattle.control_model.specs.declared.opening.Opening.{Opening}
-use Rattle.control_model.specs.declared.burst.Burst.TheVariants.{One, Two, Opens}
+use Rattle.control_model.specs.declared.burst.Burst.TheVariants.{Empty, One, Two, Opens}
 use Rattle.control_model.specs.declared.fault.ControlFault.TheVariants.{Gpadl}
 use Rattle.gpadl.specs.declared.fault.GpadlFault.TheVariants.{Handle}
 use Rattle.control_model.specs.declared.host_wait.HostWait.{HostWait}
-use Rattle.control_model.specs.declared.host_wait.HostWait.TheVariants.{Contact as AwaitsContact, Request, Open as AwaitsOpen, Close as AwaitsClose, Teardown as AwaitsTeardown, Release as AwaitsRelease, Unload as AwaitsUnload}
+use Rattle.control_model.specs.declared.host_wait.HostWait.TheVariants.{Contact as AwaitsContact, Request, Open as AwaitsOpen, Modify as AwaitsModify, Close as AwaitsClose, Teardown as AwaitsTeardown, Release as AwaitsRelease, Unload as AwaitsUnload}
 use Rattle.control_model.specs.declared.host_next.HostNext.{HostNext}
-use Rattle.control_model.specs.Plan.{BusPlan, is_sub, subs_next, subs_behind, opening_at, closing_at, IsPlan, phase_of, closing_of}
-use Rattle.control_model.specs.Channels.{by_relid, stands}
-use Rattle.control_model.specs.Messages.{propose, respond, request, delivered, open_on, opened, offer_sub, close, teardown, torndown, rescind, release, farewell, Sends}
-use Rattle.control_model.specs.Host.{HostSeen, HostTurn, at_rest, on_request, offered_life, with_offers, subs_offered, with_subs, opened_then, open_by, on_open, on_close, torn_one, torn_for, on_teardown, on_release, is_of, waits_list, stays, next_end, without, wants_rescind, rescinded_among, and_rescind, goes_next, on_unload, host_hears}
-use Rattle.control_model.specs.Stand.{At, EndsAt, offered_before, offered_by, marked, end_state, host_is, host_ends, host_before, Stand, Tries, Agreed, Meet, handles}
-use Rattle.control_model.specs.Said.{answer_to, host_closes, guest_closes, only_sub, ends_given_back}
+use Rattle.control_model.specs.Plan.{BusPlan, is_sub, subs_next, subs_behind, opening_at, closing_at, IsPlan, phase_of, closing_of, movers_in, vp_for}
+use Rattle.control_model.specs.Channels.{by_relid, stands, goes_by}
+use Rattle.control_model.specs.Messages.{propose, respond, request, delivered, open_on, opened, modify, modified, offer_sub, close, teardown, torndown, rescind, release, farewell, Sends}
+use Rattle.control_model.specs.Host.{HostSeen, HostTurn, at_rest, on_request, offered_life, with_offers, subs_offered, with_subs, opened_then, open_by, on_open, on_close, torn_for, on_teardown, on_release, is_of, waits_list, waits_move, modify_by, moved_then, on_modify, stays, next_end, without, wants_rescind, rescinded_among, and_rescind, goes_next, on_unload, host_hears}
+use Rattle.control_model.specs.Stand.{At, EndsAt, offered_before, offered_by, marked, end_state, host_is, host_ends, host_before, Stand, Tries, Agreed, Meet, handles, vps_before}
+use Rattle.control_model.specs.Guest.{is_answered}
+use Rattle.control_model.specs.Said.{answer_to, moved, guest_moves, host_moves, host_opens_all, host_closes, guest_closes, only_sub, ends_given_back}
 use Rattle.control_model.specs.GuestAt.{guest_from, host_from, opens_listed, answers_open, gives_one}
-use Rattle.control_model.specs.HostAt.{host_start_to_say, tears_down, host_end_to_say, host_end_to_hear, host_to_say, host_to_hear, live_ones, lists_but, HostStands}
+use Rattle.control_model.specs.HostAt.{host_start_to_say, host_moves_to_say, tears_down, host_end_to_say, host_end_to_hear, host_to_say, host_to_hear, live_ones, lists_but, HostStands}
 use Rattle.control_model.specs.HostAt.HostStands.{answers, accepts as IsAccepting, contacted, tears, takes_back, is_over}
 use Rattle.control_laws.proofs.NextOne.{host_next_awaits, host_next_stands, host_next_done, host_next_sends}
-use Rattle.control_laws.proofs.Logs.{Logs}
-use Rattle.control_laws.proofs.Next.{pieces_of, next_wait}
+use Rattle.control_laws.proofs.Logs.{Logs, a_host}
+use Rattle.control_laws.proofs.Vps.{marked_alike, before_alike, host_alike, vp_known, moved_all, moved_distinct, movers_are, answers_are, own_marked, host_says, guest_rest, host_rest}
+use Rattle.control_laws.proofs.Next.{pieces_of}
+use Rattle.control_laws.proofs.Moving.{Known, phase_known, next_wait, host_moving, moves_left}
 use Rattle.control_laws.proofs.Tried.{one_tried, next_tried}
-use Rattle.control_laws.proofs.Saying.{left_at, waits_so, ends_left, ends_behind, host_ends_said, host_ends_heard}
-use Rattle.control_laws.proofs.Marks.{by_test, same, marked_apart, marked_here, marked_there, stand_mark, stand_join, stand_add, stand_at}
-use Rattle.control_laws.proofs.Cutting.{all_weaker}
+use Rattle.control_laws.proofs.Saying.{left_at, ends_left, ends_behind, host_ends_said, host_ends_heard}
+use Rattle.control_laws.proofs.Marks.{by_test, same, marked_apart, marked_like, marked_append, marked_here, marked_there, stand_now, stand_mark, stand_join, stand_add, stand_at}
+use Rattle.control_laws.proofs.Closing.{Distinct, distinct_mid}
+use Rattle.control_laws.proofs.Cutting.{all_weaker, mid_all}
 use Rattle.control_laws.proofs.Counts.{count_next, done_known, unopened}
-use Rattle.control_laws.proofs.Plans.{facts, opening_here, offered_here, done_more, place_more, end_facts, closing_here, ends_more, ends_place}
+use Rattle.control_laws.proofs.Plans.{get_from, phase_has, facts, opening_here, offered_here, done_more, place_more, end_facts, closing_here, ends_more, ends_place}
 use Rattle.control_laws.proofs.NextEnd.{next_is, HostEnds, host_goes, host_stands_so, host_next}
 use Rattle.control_laws.proofs.Lower.{lower_one, accepts_it, refuses_it}
 use Rattle.control_laws.proofs.Offering.{all_mapped}
 use Rattle.control_laws.proofs.Handles.{can_open_host}
 use Rattle.control_laws.proofs.Live.{keeps, let_go, let_go_again, still_live}
-
--- a host
-abbrev pub a_host : BusPlan → Logs → Option Part → HostWait → Option Version → List ChanState → Assembly → HostSeen
-a_host plan logs part awaits version channels lists = record {
-  plan = plan;
-  part = part;
-  awaits = awaits;
-  version = version;
-  channels = channels;
-  lists = lists;
-  posted = logs.posted;
-  fed = logs.fed;
-}
 
 -- a message is taken, and the host goes on
 pub record HostStep (plan : BusPlan) (h : HostSeen) (tried : List ℕ) (m : Msg) (pieces : List Msg) : Type 0 where
@@ -118,7 +110,7 @@ step_proposes plan logs v planned tries =
 pub step_asks : (plan : BusPlan) (logs : Logs) (v : Version) → Agreed plan v → HostStep plan (a_host plan logs (Some Contact) Request (Some v) [] (live_ones [])) [] request []
 step_asks plan logs v agreed =
     let h : HostSeen = a_host plan logs (Some Contact) Request (Some v) [] (live_ones []) in
-    let life : ChanState = record { side = HostSide; state = IsOffered } in
+    let life : ChanState = offered_life in
     let hosts : List ChanState = map (λ (kind : Kind). life) plan.kinds in
     record {
       turn = on_request h Request;
@@ -132,7 +124,7 @@ step_asks plan logs v agreed =
 
 -- OPENCHANNEL: behind a device's first channel its sub-channels are offered
 pub step_opens : (plan : BusPlan) (logs : Logs) (v : Version) (hosts : List ChanState) (phase place : ℕ) (done : List Opening) (o : Opening) (left : List Opening) → IsPlan plan
-    → At plan phase place done o left → Meet plan v hosts (offered_by plan phase done (o ∷ left)) (marked (host_is Opened) done (host_before plan phase))
+    → At plan phase place done o left → Meet plan v hosts (offered_by plan phase done (o ∷ left)) (marked (host_is (vps_before plan phase) Opened) done (host_before (vps_before plan phase) plan phase))
     → HostStep plan (a_host plan logs (Some (PhaseStart phase)) (AwaitsOpen place) (Some v) hosts (live_ones (handles (done ++ o ∷ [])))) [] (open_on o) []
 step_opens plan logs v hosts phase place done o left planned at meet =
     let h : HostSeen = a_host plan logs (Some (PhaseStart phase)) (AwaitsOpen place) (Some v) hosts (live_ones (handles (done ++ o ∷ []))) in
@@ -143,66 +135,135 @@ step_opens plan logs v hosts phase place done o left planned at meet =
     let count : ℕ = offered_by plan phase done (o ∷ left) in
     let fact = facts plan phase place done o left planned at in
     let mine_known = offered_here plan phase place done o left planned at in
-    let life : ChanState = host_before plan phase o.relid in
-    let can = can_open_host plan phase o.relid fact.not_before in
-    let now : ChanState = host_is Opened o in
-    let later : HostWait = waits_list (place + 1) (opening_at plan phase (place + 1)) in
+    let life : ChanState = host_before (vps_before plan phase) plan phase o.relid in
+    let can = can_open_host plan (vps_before plan phase) phase o.relid fact.not_before in
+    let vp_is : life.vp ≡ vps_before plan phase o.relid = vp_known plan (λ (l : ChanState). l.vp) (host_ends (vps_before plan phase)) offered_life phase o.relid (λ p. refl) refl in
+    let now : ChanState = host_is (vps_before plan phase) Opened o in
+    let later : HostWait = waits_list h part (place + 1) (opening_at plan phase (place + 1)) in
     let here : drop place (phase_of plan phase) ≡ o ∷ left = left_at plan phase place done (o ∷ left) at.phase_is at.place_is in
     let open_now : List ChanState = slice_set hosts (o.relid - 1) now in
     let turn : HostTurn = record (at_rest h) { awaits = later; channels = with_subs open_now subs; burst = Opens answer part place } in
-    let known : by_relid hosts o.relid ≡ Some life = stand_at hosts count (host_is Opened) done o (host_before plan phase) life meet.stand fact.fits.named mine_known fact.done_apart refl in
+    let known : by_relid hosts o.relid ≡ Some life = stand_at hosts count (host_is (vps_before plan phase) Opened) done o (host_before (vps_before plan phase) plan phase) life meet.stand fact.fits.named mine_known fact.done_apart refl in
     let mine : is_of o.relid (opening_at plan phase place) ≡ true = ap (is_of o.relid) (opening_here plan phase place done o left at) ∙ same o.relid in
     let waits : opened_then h (AwaitsOpen place) o.relid ≡ later = ap (λ b. if b then later else AwaitsOpen place) mine in
-    let stood : stands life Opened ≡ now = (λ i. record { side = can.side i; state = Opened }) in
+    let stood : stands life Opened ≡ now = (λ i. record { side = can.side i; state = Opened; vp = vp_is i }) in
     let offers : subs_offered h (AwaitsOpen place) o.relid ≡ subs = ap (λ b. if b then subs_behind plan part place else []) mine ∙ ap subs_next here in
     let sends : with_offers h (AwaitsOpen place) o.relid answer ≡ Opens answer part place = ap (λ b. if b then Opens answer part place else One answer) mine in
-    let joined : Stand open_now count (marked (host_is Opened) (done ++ o ∷ []) (host_before plan phase)) =
-    stand_join hosts count (host_is Opened) done o (host_before plan phase) (host_before plan phase) meet.stand fact.fits.named mine_known fact.done_apart (λ q off. refl) in
+    let joined : Stand open_now count (marked (host_is (vps_before plan phase) Opened) (done ++ o ∷ []) (host_before (vps_before plan phase) plan phase)) =
+    stand_join hosts count (host_is (vps_before plan phase) Opened) done o (host_before (vps_before plan phase) plan phase) (host_before (vps_before plan phase) plan phase) meet.stand fact.fits.named mine_known fact.done_apart (λ q off. refl) in
     let all_known = join_all (λ p. p.relid ≤ count) done o (done_known plan phase place done o left planned at) mine_known in
-    let fresh : (q : ℕ) → count < q → q ≤ count + length subs → marked (host_is Opened) (done ++ o ∷ []) (host_before plan phase) q ≡ offered_life = λ q above few.
-    marked_apart (host_is Opened) (done ++ o ∷ []) (host_before plan phase) q (all_weaker (λ p. p.relid ≤ count) (λ p. p.relid ≢ q) (λ p l e. absurd (omega (arith, l, e, above))) (done ++ o ∷ []) all_known)
-    ∙ unopened plan host_ends offered_life phase q planned (let less = at.in_plan in omega (arith, less)) (omega (arith, above)) in
-    let more : Stand (with_subs open_now subs) (offered_by plan phase (done ++ o ∷ []) left) (marked (host_is Opened) (done ++ o ∷ []) (host_before plan phase)) =
-    subst (λ n. Stand (with_subs open_now subs) n (marked (host_is Opened) (done ++ o ∷ []) (host_before plan phase))) (count_next plan phase done o left) (stand_add open_now count (length subs) (marked (host_is Opened) (done ++ o ∷ []) (host_before plan phase)) offered_life joined fresh) in
-    let goes_on = waits_so plan phase (place + 1) (done ++ o ∷ []) left (done_more plan phase place done o left at) (place_more plan phase place done o left at) in
+    let fresh : (q : ℕ) → count < q → q ≤ count + length subs → marked (host_is (vps_before plan phase) Opened) (done ++ o ∷ []) (host_before (vps_before plan phase) plan phase) q ≡ offered_life = λ q above few.
+    marked_apart (host_is (vps_before plan phase) Opened) (done ++ o ∷ []) (host_before (vps_before plan phase) plan phase) q (all_weaker (λ p. p.relid ≤ count) (λ p. p.relid ≢ q) (λ p l e. absurd (omega (arith, l, e, above))) (done ++ o ∷ []) all_known)
+    ∙ unopened plan (host_ends (vps_before plan phase)) offered_life phase q planned (let less = at.in_plan in omega (arith, less)) (omega (arith, above)) in
+    let more : Stand (with_subs open_now subs) (offered_by plan phase (done ++ o ∷ []) left) (marked (host_is (vps_before plan phase) Opened) (done ++ o ∷ []) (host_before (vps_before plan phase) plan phase)) =
+    subst (λ n. Stand (with_subs open_now subs) n (marked (host_is (vps_before plan phase) Opened) (done ++ o ∷ []) (host_before (vps_before plan phase) plan phase))) (count_next plan phase done o left) (stand_add open_now count (length subs) (marked (host_is (vps_before plan phase) Opened) (done ++ o ∷ []) (host_before (vps_before plan phase) plan phase)) offered_life joined fresh) in
+    let onward = next_wait plan logs part v hosts (with_subs open_now subs) (live_ones (handles (done ++ o ∷ []))) phase (place + 1) (done ++ o ∷ []) left (AwaitsOpen place) planned at.in_plan (done_more plan phase place done o left at) (place_more plan phase place done o left at) (record { agreed = meet.agreed; stand = more }) in
     record {
       turn = turn;
       hears = ap (on_open h o.relid o.relid) known ∙ ap (open_by h o.relid o.relid life) can.row
           ∙ (λ i. Ok (record (at_rest h) { awaits = waits i; channels = with_subs (slice_set hosts (o.relid - 1) (stood i)) (offers i); burst = sends i }));
       tried_then = [];
       pieces_then = pieces_of (opening_at plan phase (place + 1));
-      goes = next_wait plan v (with_subs open_now subs) phase (place + 1) (done ++ o ∷ []) left planned at.in_plan (done_more plan phase place done o left at) (place_more plan phase place done o left at) (record { agreed = meet.agreed; stand = more });
+      goes = onward.goes;
       says = λ sent e.
           let rest : List Msg = flat_map host_closes (closing_of plan phase) ++ host_from plan (suc phase) in
+          let moves : List Msg = host_moves plan (phase_of plan phase) in
           let sent_is : sent ≡ answer ∷ map offer_sub subs = e ∙ ap (λ os. answer ∷ map offer_sub (subs_next os)) here in
-          ap (λ os. answers_open os ++ rest) here ∙ ap (λ xs. (answer ∷ (map offer_sub subs ++ xs)) ++ rest) goes_on.0
-          ∙ append_assoc (answer ∷ map offer_sub subs) (host_start_to_say (phase_of plan phase) later) rest
-          ∙ ap (λ xs. xs ++ (host_start_to_say (phase_of plan phase) later ++ rest)) (sym sent_is);
+          ap (λ os. answers_open os ++ (moves ++ rest)) here ∙ append_assoc (answer ∷ map offer_sub subs) (host_opens_all left) (moves ++ rest) ∙ ap (λ xs. (answer ∷ map offer_sub subs) ++ xs) (onward.says rest)
+          ∙ ap (λ xs. xs ++ (host_start_to_say (phase_of plan phase) later ++ (host_moves_to_say plan (phase_of plan phase) later ++ rest))) (sym sent_is);
       heard =
           let rest : List Msg = flat_map guest_closes (closing_of plan phase) ++ guest_from plan (suc phase) in
-          ap (λ os. opens_listed os ++ rest) here ∙ ap (λ xs. m ∷ (xs ++ rest)) goes_on.1;
+          ap (λ os. opens_listed os ++ (guest_moves plan (phase_of plan phase) ++ rest)) here ∙ ap (λ xs. m ∷ xs) (onward.hears rest);
     }
   where
     join_all : (P : Opening → Type 0) (done : List Opening) (o : Opening) → AllByRecursion P done → P o → AllByRecursion P (done ++ o ∷ [])
     join_all P [] o all here = (here, tt)
     join_all P (p ∷ done) o all here = (all.0, join_all P done o all.1 here)
 
+-- MODIFYCHANNEL: the channel is moved, and the host waits for the next one that is
+takes_move : (h : HostSeen) (relid vp : ℕ) (life : ChanState) (answered : Bool) → modify_by h relid vp life (if answered then Some (Opened, SendModified) else Some (Opened, Nothing))
+    ≡ Ok (record (at_rest h) { awaits = moved_then h h.awaits relid; channels = slice_set h.channels (relid - 1) (goes_by life (ModifySeen vp (is_answered h.version)) Opened); burst = if answered then One (modified relid) else Empty })
+takes_move h relid vp life true = refl
+takes_move h relid vp life false = refl
+
+says_move : (plan : BusPlan) (o : Opening) (left : List Opening) (sent : List Msg) (answered : Bool) → Sends plan (if answered then One (modified o.relid) else Empty) sent
+    → (if answered then map (λ (p : Opening). modified p.relid) (o ∷ left) else []) ≡ sent ++ (if answered then map (λ (p : Opening). modified p.relid) left else [])
+says_move plan o left sent true e = ap (λ s. s ++ map (λ (p : Opening). modified p.relid) left) (sym e)
+says_move plan o left sent false e = ap (λ s. s ++ []) (sym e)
+
+pub step_moves : (plan : BusPlan) (logs : Logs) (v : Version) (hosts : List ChanState) (phase place : ℕ) (done : List Opening) (o : Opening) (left : List Opening) → IsPlan plan
+    → phase < length plan.phases → moved plan (phase_of plan phase) ≡ done ++ o ∷ left → place ≡ length done → Meet plan v hosts (offered_before plan (suc phase)) (host_moving plan phase done)
+    → HostStep plan (a_host plan logs (Some (PhaseStart phase)) (AwaitsModify place) (Some v) hosts (live_ones (handles (phase_of plan phase)))) [] (modify o.relid (vp_for o)) []
+step_moves plan logs v hosts phase place done o left planned in_plan is at meet =
+    let os : List Opening = phase_of plan phase in
+    let h : HostSeen = a_host plan logs (Some (PhaseStart phase)) (AwaitsModify place) (Some v) hosts (live_ones (handles os)) in
+    let m : Msg = modify o.relid (vp_for o) in
+    let more : List Opening = done ++ o ∷ [] in
+    let count : ℕ = offered_before plan (suc phase) in
+    let old : ℕ → ℕ = vps_before plan phase in
+    let vps : ℕ → ℕ = marked vp_for done old in
+    let ups : ℕ → ℕ = marked vp_for more old in
+    let now : ChanState = host_is (λ relid. vp_for o) Opened o in
+    let has = phase_has plan phase planned in_plan in
+    let apart = (distinct_mid (λ q. q.relid) done o left (subst (Distinct (λ q. q.relid)) is (moved_distinct (λ q. q.relid) plan os has.relids))).0 in
+    let known = mid_all (Known count) done o left (subst (AllByRecursion (Known count)) is (moved_all (Known count) plan os (phase_known plan phase planned in_plan))) in
+    let own_by : (ds : List Opening) → host_moving plan phase ds o.relid ≡ host_is (marked vp_for ds old) Opened o = λ ds.
+    let so : Opening → ChanState = host_is (marked vp_for ds old) Opened in
+    let Own : Opening → Type 0 = λ q. host_moving plan phase ds q.relid ≡ so q in
+    mid_all Own done o left (subst (AllByRecursion Own) is (moved_all Own plan os (own_marked so os (host_before (marked vp_for ds old) plan phase) has.relids))) in
+    let here : by_relid hosts o.relid ≡ Some (host_is vps Opened o) = meet.stand.each o.relid known.0 known.1 ∙ ap (λ c. Some c) (own_by done) in
+    let channels : List ChanState = slice_set hosts (o.relid - 1) now in
+    let vp_is : ups o.relid ≡ vp_for o = marked_append vp_for done (o ∷ []) old o.relid ∙ marked_apart vp_for done (marked vp_for (o ∷ []) old) o.relid apart ∙ marked_here vp_for o [] old in
+    let moved_so : host_moving plan phase more o.relid ≡ now = own_by more ∙ host_alike ups (λ relid. vp_for o) Opened o.relid vp_is o refl in
+    let others : (q : ℕ) → q ≢ o.relid → host_moving plan phase more q ≡ host_moving plan phase done q = λ q off.
+    let same_vp : ups q ≡ vps q = marked_append vp_for done (o ∷ []) old q ∙ marked_like vp_for done (marked vp_for (o ∷ []) old) old q (marked_there vp_for o [] old q off) in
+    marked_alike (host_is ups Opened) (host_is vps Opened) os (host_before ups plan phase) (host_before vps plan phase) q (host_alike ups vps Opened q same_vp)
+    (before_alike plan (host_ends ups) (host_ends vps) offered_life phase q (λ p e. host_alike ups vps (end_state (ends_given_back p)) q same_vp p e)) in
+    let after : Stand channels count (host_moving plan phase more) = stand_now hosts count (host_moving plan phase done) (host_moving plan phase more) o.relid now meet.stand known.0 known.1 moved_so others in
+    let there : moved plan os ≡ more ++ left = is ∙ sym (append_assoc done (o ∷ []) left) in
+    let long = length-append done (o ∷ []) in
+    let next_place : place + 1 ≡ length more = omega (arith, at, long) in
+    let onward = moves_left plan v channels phase (place + 1) more left in_plan there next_place (record { agreed = meet.agreed; stand = after }) in
+    let first : slice_get (moved plan os) place ≡ Some o = (λ i. slice_get (is i) (at i)) ∙ get_from done (o ∷ left) in
+    let second : slice_get (moved plan os) (place + 1) ≡ slice_get left 0 = (λ i. slice_get (there i) (next_place i)) ∙ get_from more left in
+    let waits_with : List Opening → HostWait = λ ms. if is_of o.relid (slice_get ms place) then waits_move (place + 1) (slice_get ms (place + 1)) else AwaitsModify place in
+    let later : HostWait = waits_move (place + 1) (slice_get left 0) in
+    let waits : waits_with (movers_in plan (Some (PhaseStart phase)) (has_modify v.0)) ≡ later =
+    ap waits_with (movers_are plan v phase planned meet.agreed) ∙ (λ i. if is_of o.relid (first i) then waits_move (place + 1) (second i) else AwaitsModify place) ∙ ap (λ b. if b then later else AwaitsModify place) (same o.relid) in
+    let turn_with : HostWait → HostTurn = λ w. record (at_rest h) { awaits = w; channels = channels; burst = if answers_modify v.0 then One (modified o.relid) else Empty } in
+    record {
+      turn = turn_with later;
+      hears = ap (on_modify h o.relid (vp_for o)) here ∙ takes_move h o.relid (vp_for o) (host_is vps Opened o) (answers_modify v.0) ∙ ap (λ w. Ok (turn_with w)) waits;
+      tried_then = [];
+      pieces_then = [];
+      goes = onward.goes;
+      says = λ sent sends.
+          let rest : List Msg = flat_map host_closes (closing_of plan phase) ++ host_from plan (suc phase) in
+          let says : List Opening → List Msg = λ ps. map (λ (p : Opening). modified p.relid) ps in
+          let answers = answers_are plan v planned meet.agreed in
+          ap (λ n. drop n (host_moves plan os) ++ rest) at ∙ ap (λ xs. xs ++ rest) (host_rest plan os done (o ∷ left) is ∙ ap (λ b. if b then says (o ∷ left) else []) answers ∙ says_move plan o left sent (answers_modify v.0) sends)
+          ∙ ap (λ b. (sent ++ (if b then says left else [])) ++ rest) (sym answers) ∙ append_assoc sent (host_says plan left) rest ∙ ap (λ xs. sent ++ xs) (onward.says rest);
+      heard =
+          let rest : List Msg = flat_map guest_closes (closing_of plan phase) ++ guest_from plan (suc phase) in
+          ap (λ n. drop n (guest_moves plan os) ++ rest) at ∙ ap (λ xs. xs ++ rest) (guest_rest plan os done (o ∷ left) is) ∙ ap (λ xs. m ∷ xs) (onward.hears rest);
+    }
+
 -- CLOSECHANNEL
 pub step_closes : (plan : BusPlan) (logs : Logs) (v : Version) (hosts : List ChanState) (phase place : ℕ) (done : List Opening) (o : Opening) (left : List Opening) → IsPlan plan
     → EndsAt plan phase place done o left → o.rescinded ≡ false
-    → Meet plan v hosts (offered_before plan (suc phase)) (marked host_ends done (marked (host_is Opened) (o ∷ left) (host_before plan phase)))
+    → Meet plan v hosts (offered_before plan (suc phase)) (marked (host_ends (vps_before plan (suc phase))) done (marked (host_is (vps_before plan (suc phase)) Opened) (o ∷ left) (host_before (vps_before plan (suc phase)) plan phase)))
     → HostStep plan (a_host plan logs (Some (PhaseEnd phase)) (AwaitsClose place) (Some v) hosts (lists_but done (phase_of plan phase))) [] (close o.relid) []
 step_closes plan logs v hosts phase place done o left planned at closed meet =
     let h : HostSeen = a_host plan logs (Some (PhaseEnd phase)) (AwaitsClose place) (Some v) hosts (lists_but done (phase_of plan phase)) in
     let m : Msg = close o.relid in
     let fact = end_facts plan phase place done o left planned at in
-    let base : ℕ → ChanState = marked (host_is Opened) left (host_before plan phase) in
-    let now : ChanState = host_is Closing o in
+    let base : ℕ → ChanState = marked (host_is (vps_before plan (suc phase)) Opened) left (host_before (vps_before plan (suc phase)) plan phase) in
+    let now : ChanState = host_is (vps_before plan (suc phase)) Closing o in
     let turn : HostTurn = record (at_rest h) { awaits = AwaitsTeardown place; channels = slice_set hosts (o.relid - 1) now } in
-    let known : by_relid hosts o.relid ≡ Some (host_is Opened o) = stand_at hosts (offered_before plan (suc phase)) host_ends done o (marked (host_is Opened) (o ∷ left) (host_before plan phase)) (host_is Opened o) meet.stand fact.fits.named fact.known fact.done_apart (marked_here (host_is Opened) o left (host_before plan phase)) in
+    let known : by_relid hosts o.relid ≡ Some (host_is (vps_before plan (suc phase)) Opened o) = stand_at hosts (offered_before plan (suc phase)) (host_ends (vps_before plan (suc phase))) done o (marked (host_is (vps_before plan (suc phase)) Opened) (o ∷ left) (host_before (vps_before plan (suc phase)) plan phase)) (host_is (vps_before plan (suc phase)) Opened o) meet.stand fact.fits.named fact.known fact.done_apart (marked_here (host_is (vps_before plan (suc phase)) Opened) o left (host_before (vps_before plan (suc phase)) plan phase)) in
     let mine : is_of o.relid (closing_at plan phase place) ≡ true = ap (is_of o.relid) (closing_here plan phase place done o left at) ∙ same o.relid in
-    let next : Stand (slice_set hosts (o.relid - 1) now) (offered_before plan (suc phase)) (marked host_ends done (marked (host_is Closing) (o ∷ []) base)) =
-    stand_mark hosts (offered_before plan (suc phase)) host_ends (host_is Closing) done o (marked (host_is Opened) (o ∷ left) (host_before plan phase)) base meet.stand fact.fits.named fact.known fact.done_apart (λ q off. sym (marked_there (host_is Opened) o left (host_before plan phase) q off)) in
+    let next : Stand (slice_set hosts (o.relid - 1) now) (offered_before plan (suc phase)) (marked (host_ends (vps_before plan (suc phase))) done (marked (host_is (vps_before plan (suc phase)) Closing) (o ∷ []) base)) =
+    stand_mark hosts (offered_before plan (suc phase)) (host_ends (vps_before plan (suc phase))) (host_is (vps_before plan (suc phase)) Closing) done o (marked (host_is (vps_before plan (suc phase)) Opened) (o ∷ left) (host_before (vps_before plan (suc phase)) plan phase)) base meet.stand fact.fits.named fact.known fact.done_apart (λ q off. sym (marked_there (host_is (vps_before plan (suc phase)) Opened) o left (host_before (vps_before plan (suc phase)) plan phase) q off)) in
     record {
       turn = turn;
       hears = ap (on_close h o.relid) known ∙ ap (λ b. Ok (record (at_rest h) { awaits = if b then AwaitsTeardown place else AwaitsClose place; channels = slice_set hosts (o.relid - 1) now })) mine;
@@ -224,7 +285,7 @@ record EndsSo (plan : BusPlan) (phase : ℕ) (left : List Opening) (next : HostN
   heard : flat_map guest_closes left ≡ host_end_to_hear (closing_of plan phase) next.awaits
 
 ends_so : (plan : BusPlan) (v : Version) (hosts : List ChanState) (phase place : ℕ) (done left : List Opening) (next : HostNext) → phase < length plan.phases → closing_of plan phase ≡ done ++ left → place ≡ length done
-    → HostEnds plan phase hosts (lists_but done (phase_of plan phase)) next (host_next_awaits place left) (marked host_ends done (host_next_stands left (host_before plan phase))) (lists_but (host_next_done done left) (phase_of plan phase)) (host_next_sends left) → EndsSo plan phase left next
+    → HostEnds plan phase hosts (lists_but done (phase_of plan phase)) next (host_next_awaits place left) (marked (host_ends (vps_before plan (suc phase))) done (host_next_stands (vps_before plan (suc phase)) left (host_before (vps_before plan (suc phase)) plan phase))) (lists_but (host_next_done done left) (phase_of plan phase)) (host_next_sends left) → EndsSo plan phase left next
 ends_so plan v hosts phase place done left next in_plan is at ends =
     let os : List Opening = closing_of plan phase in
     let later : List Msg = host_from plan (suc phase) in
@@ -241,7 +302,7 @@ ends_so plan v hosts phase place done left next in_plan is at ends =
 -- GPADL_TEARDOWN: a first channel is done with then
 step_tears_first : (plan : BusPlan) (logs : Logs) (v : Version) (hosts : List ChanState) (phase place : ℕ) (done : List Opening) (o : Opening) (left : List Opening) → IsPlan plan
     → EndsAt plan phase place done o left → o.rescinded ≡ false → is_sub o ≡ false
-    → Meet plan v hosts (offered_before plan (suc phase)) (marked host_ends done (marked (host_is Closing) (o ∷ []) (marked (host_is Opened) left (host_before plan phase))))
+    → Meet plan v hosts (offered_before plan (suc phase)) (marked (host_ends (vps_before plan (suc phase))) done (marked (host_is (vps_before plan (suc phase)) Closing) (o ∷ []) (marked (host_is (vps_before plan (suc phase)) Opened) left (host_before (vps_before plan (suc phase)) plan phase))))
     → HostStep plan (a_host plan logs (Some (PhaseEnd phase)) (AwaitsTeardown place) (Some v) hosts (lists_but done (phase_of plan phase))) [] (teardown o) []
 step_tears_first plan logs v hosts phase place done o left planned at closed is_first meet =
     let os : List Opening = phase_of plan phase in
@@ -249,39 +310,39 @@ step_tears_first plan logs v hosts phase place done o left planned at closed is_
     let m : Msg = teardown o in
     let count : ℕ = offered_before plan (suc phase) in
     let fact = end_facts plan phase place done o left planned at in
-    let base : ℕ → ChanState = marked (host_is Opened) left (host_before plan phase) in
+    let base : ℕ → ChanState = marked (host_is (vps_before plan (suc phase)) Opened) left (host_before (vps_before plan (suc phase)) plan phase) in
     let kept : ends_given_back o ≡ false = ap (λ b. b || is_sub o) closed ∙ is_first in
-    let so : host_ends o ≡ host_is Closed o = ap (λ b. host_is (end_state b) o) kept in
+    let so : host_ends (vps_before plan (suc phase)) o ≡ host_is (vps_before plan (suc phase)) Closed o = ap (λ b. host_is (vps_before plan (suc phase)) (end_state b) o) kept in
     let back = sym so in
     let later : HostNext = next_end hosts (place + 1) (closing_at plan phase (place + 1)) in
-    let after : List ChanState = slice_set hosts (o.relid - 1) (host_ends o) in
+    let after : List ChanState = slice_set hosts (o.relid - 1) (host_ends (vps_before plan (suc phase)) o) in
     let turn_with : ChanState → Assembly → HostNext → HostTurn = λ now lists next. goes_next (record (at_rest h) { channels = slice_set hosts (o.relid - 1) now; lists = lists }) (Some (torndown o.gpadl)) next in
-    let turn : HostTurn = turn_with (host_ends o) (lists_but (done ++ o ∷ []) os) later in
-    let known : by_relid hosts o.relid ≡ Some (host_is Closing o) = stand_at hosts count host_ends done o (marked (host_is Closing) (o ∷ []) base) (host_is Closing o) meet.stand fact.fits.named fact.known fact.done_apart (marked_here (host_is Closing) o [] base) in
+    let turn : HostTurn = turn_with (host_ends (vps_before plan (suc phase)) o) (lists_but (done ++ o ∷ []) os) later in
+    let known : by_relid hosts o.relid ≡ Some (host_is (vps_before plan (suc phase)) Closing o) = stand_at hosts count (host_ends (vps_before plan (suc phase))) done o (marked (host_is (vps_before plan (suc phase)) Closing) (o ∷ []) base) (host_is (vps_before plan (suc phase)) Closing o) meet.stand fact.fits.named fact.known fact.done_apart (marked_here (host_is (vps_before plan (suc phase)) Closing) o [] base) in
     let here_is = closing_here plan phase place done o left at in
     let mine : is_of o.relid (closing_at plan phase place) ≡ true = ap (is_of o.relid) here_is ∙ same o.relid in
-    let taken : HostNext = record { awaits = AwaitsRelease place; rescinds = wants_rescind o (Some (host_is Closed o)) } in
-    let goes : torn_for h place o.relid (host_is Closed o) (closing_at plan phase place) ≡ later =
-    ap (torn_for h place o.relid (host_is Closed o)) here_is
+    let taken : HostNext = record { awaits = AwaitsRelease place; rescinds = wants_rescind o (Some (host_is (vps_before plan (suc phase)) Closed o)) } in
+    let goes : torn_for h place o.relid (host_is (vps_before plan (suc phase)) Closed o) (closing_at plan phase place) ≡ later =
+    ap (torn_for h place o.relid (host_is (vps_before plan (suc phase)) Closed o)) here_is
     ∙ ap (λ b. if b && is_sub o then taken else (if is_of o.relid (closing_at plan phase place) then later else stays h)) (same o.relid)
     ∙ ap (λ b. if b then taken else (if is_of o.relid (closing_at plan phase place) then later else stays h)) is_first
     ∙ ap (λ b. if b then later else stays h) mine in
     let live : is_live (filter (keeps done) (handles os)) o.gpadl ≡ true = still_live plan phase place done o left planned at in
     let gone = let_go done o os in
-    let stood : Stand after count (marked host_ends (done ++ o ∷ []) base) =
-    stand_join hosts count host_ends done o (marked (host_is Closing) (o ∷ []) base) base meet.stand fact.fits.named fact.known fact.done_apart (λ q off. sym (marked_there (host_is Closing) o [] base q off)) in
-    let next = next_is plan hosts phase place host_ends (host_is Closing) (host_is Opened) done o left (host_before plan phase) planned at meet.stand in
+    let stood : Stand after count (marked (host_ends (vps_before plan (suc phase))) (done ++ o ∷ []) base) =
+    stand_join hosts count (host_ends (vps_before plan (suc phase))) done o (marked (host_is (vps_before plan (suc phase)) Closing) (o ∷ []) base) base meet.stand fact.fits.named fact.known fact.done_apart (λ q off. sym (marked_there (host_is (vps_before plan (suc phase)) Closing) o [] base q off)) in
+    let next = next_is plan hosts phase place (host_ends (vps_before plan (suc phase))) (host_is (vps_before plan (suc phase)) Closing) (host_is (vps_before plan (suc phase)) Opened) done o left (host_before (vps_before plan (suc phase)) plan phase) planned at meet.stand in
     let ends = host_goes plan after hosts phase (place + 1) (done ++ o ∷ []) left planned at.in_plan (ends_more plan phase place done o left at) (ends_place plan phase place done o left at) stood next in
     let on = ends_so plan v after phase (place + 1) (done ++ o ∷ []) left later at.in_plan (ends_more plan phase place done o left at) (ends_place plan phase place done o left at) ends in
     let here = ends_left plan phase place done (o ∷ left) at.closing_is at.place_is in
     record {
       turn = turn;
       hears = ap (on_teardown h o.relid o.gpadl) known
-          ∙ ap (λ b. if b then Ok (turn_with (host_is Closed o) (without (lists_but done os) o.gpadl) (torn_for h place o.relid (host_is Closed o) (closing_at plan phase place))) else Err (Gpadl (Handle o.gpadl))) live
+          ∙ ap (λ b. if b then Ok (turn_with (host_is (vps_before plan (suc phase)) Closed o) (without (lists_but done os) o.gpadl) (torn_for h place o.relid (host_is (vps_before plan (suc phase)) Closed o) (closing_at plan phase place))) else Err (Gpadl (Handle o.gpadl))) live
           ∙ (λ i. Ok (turn_with (back i) (gone i) (goes i)));
       tried_then = [];
       pieces_then = [];
-      goes = host_stands_so plan phase v (Some (PhaseEnd phase)) after (lists_but (done ++ o ∷ []) os) later (host_next_awaits (place + 1) left) (marked host_ends (done ++ o ∷ []) (host_next_stands left (host_before plan phase))) (lists_but (host_next_done (done ++ o ∷ []) left) os) (host_next_sends left) ends
+      goes = host_stands_so plan phase v (Some (PhaseEnd phase)) after (lists_but (done ++ o ∷ []) os) later (host_next_awaits (place + 1) left) (marked (host_ends (vps_before plan (suc phase))) (done ++ o ∷ []) (host_next_stands (vps_before plan (suc phase)) left (host_before (vps_before plan (suc phase)) plan phase))) (lists_but (host_next_done (done ++ o ∷ []) left) os) (host_next_sends left) ends
           (host_next plan v (rescinded_among after later.rescinds) phase (place + 1) (done ++ o ∷ []) left planned at.in_plan (ends_more plan phase place done o left at) (ends_place plan phase place done o left at) (record { agreed = meet.agreed; stand = ends.host }));
       says = λ sent sends.
           let rest : List Msg = host_from plan (suc phase) in
@@ -296,7 +357,7 @@ step_tears_first plan logs v hosts phase place done o left planned at closed is_
 -- a sub-channel is rescinded then
 step_tears_sub : (plan : BusPlan) (logs : Logs) (v : Version) (hosts : List ChanState) (phase place : ℕ) (done : List Opening) (o : Opening) (left : List Opening) → IsPlan plan
     → EndsAt plan phase place done o left → o.rescinded ≡ false → is_sub o ≡ true
-    → Meet plan v hosts (offered_before plan (suc phase)) (marked host_ends done (marked (host_is Closing) (o ∷ []) (marked (host_is Opened) left (host_before plan phase))))
+    → Meet plan v hosts (offered_before plan (suc phase)) (marked (host_ends (vps_before plan (suc phase))) done (marked (host_is (vps_before plan (suc phase)) Closing) (o ∷ []) (marked (host_is (vps_before plan (suc phase)) Opened) left (host_before (vps_before plan (suc phase)) plan phase))))
     → HostStep plan (a_host plan logs (Some (PhaseEnd phase)) (AwaitsTeardown place) (Some v) hosts (lists_but done (phase_of plan phase))) [] (teardown o) []
 step_tears_sub plan logs v hosts phase place done o left planned at closed sub meet =
     let os : List Opening = phase_of plan phase in
@@ -304,31 +365,31 @@ step_tears_sub plan logs v hosts phase place done o left planned at closed sub m
     let m : Msg = teardown o in
     let count : ℕ = offered_before plan (suc phase) in
     let fact = end_facts plan phase place done o left planned at in
-    let base : ℕ → ChanState = marked (host_is Opened) left (host_before plan phase) in
-    let taken : HostNext = record { awaits = AwaitsRelease place; rescinds = wants_rescind o (Some (host_is Closed o)) } in
-    let once : List ChanState = slice_set hosts (o.relid - 1) (host_is Closed o) in
-    let after : List ChanState = slice_set once (o.relid - 1) (host_is IsRescinded o) in
+    let base : ℕ → ChanState = marked (host_is (vps_before plan (suc phase)) Opened) left (host_before (vps_before plan (suc phase)) plan phase) in
+    let taken : HostNext = record { awaits = AwaitsRelease place; rescinds = wants_rescind o (Some (host_is (vps_before plan (suc phase)) Closed o)) } in
+    let once : List ChanState = slice_set hosts (o.relid - 1) (host_is (vps_before plan (suc phase)) Closed o) in
+    let after : List ChanState = slice_set once (o.relid - 1) (host_is (vps_before plan (suc phase)) IsRescinded o) in
     let turn_with : Assembly → HostNext → HostTurn = λ lists next. goes_next (record (at_rest h) { channels = once; lists = lists }) (Some (torndown o.gpadl)) next in
     let whole : Assembly → HostTurn = λ lists. record { awaits = AwaitsRelease place; version = Some v; channels = after; lists = lists; burst = Two (torndown o.gpadl) (rescind o.relid) } in
     let turn : HostTurn = whole (lists_but (done ++ o ∷ []) os) in
-    let known : by_relid hosts o.relid ≡ Some (host_is Closing o) = stand_at hosts count host_ends done o (marked (host_is Closing) (o ∷ []) base) (host_is Closing o) meet.stand fact.fits.named fact.known fact.done_apart (marked_here (host_is Closing) o [] base) in
+    let known : by_relid hosts o.relid ≡ Some (host_is (vps_before plan (suc phase)) Closing o) = stand_at hosts count (host_ends (vps_before plan (suc phase))) done o (marked (host_is (vps_before plan (suc phase)) Closing) (o ∷ []) base) (host_is (vps_before plan (suc phase)) Closing o) meet.stand fact.fits.named fact.known fact.done_apart (marked_here (host_is (vps_before plan (suc phase)) Closing) o [] base) in
     let here_is = closing_here plan phase place done o left at in
     let later : HostNext = next_end hosts (place + 1) (closing_at plan phase (place + 1)) in
-    let goes : torn_for h place o.relid (host_is Closed o) (closing_at plan phase place) ≡ taken =
-    ap (torn_for h place o.relid (host_is Closed o)) here_is
+    let goes : torn_for h place o.relid (host_is (vps_before plan (suc phase)) Closed o) (closing_at plan phase place) ≡ taken =
+    ap (torn_for h place o.relid (host_is (vps_before plan (suc phase)) Closed o)) here_is
     ∙ ap (λ b. if b && is_sub o then taken else (if is_of o.relid (closing_at plan phase place) then later else stays h)) (same o.relid)
     ∙ ap (λ b. if b then taken else (if is_of o.relid (closing_at plan phase place) then later else stays h)) sub in
     let live : is_live (filter (keeps done) (handles os)) o.gpadl ≡ true = still_live plan phase place done o left planned at in
     let gone = let_go_again done o os in
-    let closed_so : Stand once count (marked host_ends done (marked (host_is Closed) (o ∷ []) base)) =
-    stand_mark hosts count host_ends (host_is Closed) done o (marked (host_is Closing) (o ∷ []) base) base meet.stand fact.fits.named fact.known fact.done_apart (λ q off. sym (marked_there (host_is Closing) o [] base q off)) in
-    let stood : Stand after count (marked host_ends done (marked (host_is IsRescinded) (o ∷ []) base)) =
-    stand_mark once count host_ends (host_is IsRescinded) done o (marked (host_is Closed) (o ∷ []) base) base closed_so fact.fits.named fact.known fact.done_apart (λ q off. sym (marked_there (host_is Closed) o [] base q off)) in
+    let closed_so : Stand once count (marked (host_ends (vps_before plan (suc phase))) done (marked (host_is (vps_before plan (suc phase)) Closed) (o ∷ []) base)) =
+    stand_mark hosts count (host_ends (vps_before plan (suc phase))) (host_is (vps_before plan (suc phase)) Closed) done o (marked (host_is (vps_before plan (suc phase)) Closing) (o ∷ []) base) base meet.stand fact.fits.named fact.known fact.done_apart (λ q off. sym (marked_there (host_is (vps_before plan (suc phase)) Closing) o [] base q off)) in
+    let stood : Stand after count (marked (host_ends (vps_before plan (suc phase))) done (marked (host_is (vps_before plan (suc phase)) IsRescinded) (o ∷ []) base)) =
+    stand_mark once count (host_ends (vps_before plan (suc phase))) (host_is (vps_before plan (suc phase)) IsRescinded) done o (marked (host_is (vps_before plan (suc phase)) Closed) (o ∷ []) base) base closed_so fact.fits.named fact.known fact.done_apart (λ q off. sym (marked_there (host_is (vps_before plan (suc phase)) Closed) o [] base q off)) in
     let here = ends_left plan phase place done (o ∷ left) at.closing_is at.place_is in
     record {
       turn = turn;
       hears = ap (on_teardown h o.relid o.gpadl) known
-          ∙ ap (λ b. if b then Ok (turn_with (without (lists_but done os) o.gpadl) (torn_for h place o.relid (host_is Closed o) (closing_at plan phase place))) else Err (Gpadl (Handle o.gpadl))) live
+          ∙ ap (λ b. if b then Ok (turn_with (without (lists_but done os) o.gpadl) (torn_for h place o.relid (host_is (vps_before plan (suc phase)) Closed o) (closing_at plan phase place))) else Err (Gpadl (Handle o.gpadl))) live
           ∙ ap (λ n. Ok (turn_with (without (lists_but done os) o.gpadl) n)) goes ∙ ap (λ l. Ok (whole l)) gone;
       tried_then = [];
       pieces_then = [];
@@ -347,7 +408,7 @@ step_tears_sub plan logs v hosts phase place done o left planned at closed sub m
 
 pub step_tears : (plan : BusPlan) (logs : Logs) (v : Version) (hosts : List ChanState) (phase place : ℕ) (done : List Opening) (o : Opening) (left : List Opening) → IsPlan plan
     → EndsAt plan phase place done o left → o.rescinded ≡ false
-    → Meet plan v hosts (offered_before plan (suc phase)) (marked host_ends done (marked (host_is Closing) (o ∷ []) (marked (host_is Opened) left (host_before plan phase))))
+    → Meet plan v hosts (offered_before plan (suc phase)) (marked (host_ends (vps_before plan (suc phase))) done (marked (host_is (vps_before plan (suc phase)) Closing) (o ∷ []) (marked (host_is (vps_before plan (suc phase)) Opened) left (host_before (vps_before plan (suc phase)) plan phase))))
     → HostStep plan (a_host plan logs (Some (PhaseEnd phase)) (AwaitsTeardown place) (Some v) hosts (lists_but done (phase_of plan phase))) [] (teardown o) []
 step_tears plan logs v hosts phase place done o left planned at closed meet =
     by_test {P = HostStep plan (a_host plan logs (Some (PhaseEnd phase)) (AwaitsTeardown place) (Some v) hosts (lists_but done (phase_of plan phase))) [] (teardown o) []} (is_sub o)
@@ -357,24 +418,24 @@ step_tears plan logs v hosts phase place done o left planned at closed meet =
 -- RELID_RELEASED
 pub step_releases : (plan : BusPlan) (logs : Logs) (v : Version) (hosts : List ChanState) (phase place : ℕ) (done : List Opening) (o : Opening) (left : List Opening) → IsPlan plan
     → EndsAt plan phase place done o left → ends_given_back o ≡ true
-    → Meet plan v hosts (offered_before plan (suc phase)) (marked host_ends done (marked (host_is IsRescinded) (o ∷ []) (marked (host_is Opened) left (host_before plan phase))))
+    → Meet plan v hosts (offered_before plan (suc phase)) (marked (host_ends (vps_before plan (suc phase))) done (marked (host_is (vps_before plan (suc phase)) IsRescinded) (o ∷ []) (marked (host_is (vps_before plan (suc phase)) Opened) left (host_before (vps_before plan (suc phase)) plan phase))))
     → HostStep plan (a_host plan logs (Some (PhaseEnd phase)) (AwaitsRelease place) (Some v) hosts (lists_but (done ++ o ∷ []) (phase_of plan phase))) [] (release o.relid) []
 step_releases plan logs v hosts phase place done o left planned at gone meet =
     let h : HostSeen = a_host plan logs (Some (PhaseEnd phase)) (AwaitsRelease place) (Some v) hosts (lists_but (done ++ o ∷ []) (phase_of plan phase)) in
     let m : Msg = release o.relid in
     let fact = end_facts plan phase place done o left planned at in
-    let base : ℕ → ChanState = marked (host_is Opened) left (host_before plan phase) in
-    let so : host_ends o ≡ host_is Released o = ap (λ b. host_is (end_state b) o) gone in
+    let base : ℕ → ChanState = marked (host_is (vps_before plan (suc phase)) Opened) left (host_before (vps_before plan (suc phase)) plan phase) in
+    let so : host_ends (vps_before plan (suc phase)) o ≡ host_is (vps_before plan (suc phase)) Released o = ap (λ b. host_is (vps_before plan (suc phase)) (end_state b) o) gone in
     let back = sym so in
     let later : HostNext = next_end hosts (place + 1) (closing_at plan phase (place + 1)) in
-    let after : List ChanState = slice_set hosts (o.relid - 1) (host_ends o) in
+    let after : List ChanState = slice_set hosts (o.relid - 1) (host_ends (vps_before plan (suc phase)) o) in
     let turn_with : ChanState → HostNext → HostTurn = λ now next. goes_next (record (at_rest h) { channels = slice_set hosts (o.relid - 1) now }) None next in
-    let turn : HostTurn = turn_with (host_ends o) later in
-    let known : by_relid hosts o.relid ≡ Some (host_is IsRescinded o) = stand_at hosts (offered_before plan (suc phase)) host_ends done o (marked (host_is IsRescinded) (o ∷ []) base) (host_is IsRescinded o) meet.stand fact.fits.named fact.known fact.done_apart (marked_here (host_is IsRescinded) o [] base) in
+    let turn : HostTurn = turn_with (host_ends (vps_before plan (suc phase)) o) later in
+    let known : by_relid hosts o.relid ≡ Some (host_is (vps_before plan (suc phase)) IsRescinded o) = stand_at hosts (offered_before plan (suc phase)) (host_ends (vps_before plan (suc phase))) done o (marked (host_is (vps_before plan (suc phase)) IsRescinded) (o ∷ []) base) (host_is (vps_before plan (suc phase)) IsRescinded o) meet.stand fact.fits.named fact.known fact.done_apart (marked_here (host_is (vps_before plan (suc phase)) IsRescinded) o [] base) in
     let mine : is_of o.relid (closing_at plan phase place) ≡ true = ap (is_of o.relid) (closing_here plan phase place done o left at) ∙ same o.relid in
-    let stood : Stand after (offered_before plan (suc phase)) (marked host_ends (done ++ o ∷ []) base) =
-    stand_join hosts (offered_before plan (suc phase)) host_ends done o (marked (host_is IsRescinded) (o ∷ []) base) base meet.stand fact.fits.named fact.known fact.done_apart (λ q off. sym (marked_there (host_is IsRescinded) o [] base q off)) in
-    let next = next_is plan hosts phase place host_ends (host_is IsRescinded) (host_is Opened) done o left (host_before plan phase) planned at meet.stand in
+    let stood : Stand after (offered_before plan (suc phase)) (marked (host_ends (vps_before plan (suc phase))) (done ++ o ∷ []) base) =
+    stand_join hosts (offered_before plan (suc phase)) (host_ends (vps_before plan (suc phase))) done o (marked (host_is (vps_before plan (suc phase)) IsRescinded) (o ∷ []) base) base meet.stand fact.fits.named fact.known fact.done_apart (λ q off. sym (marked_there (host_is (vps_before plan (suc phase)) IsRescinded) o [] base q off)) in
+    let next = next_is plan hosts phase place (host_ends (vps_before plan (suc phase))) (host_is (vps_before plan (suc phase)) IsRescinded) (host_is (vps_before plan (suc phase)) Opened) done o left (host_before (vps_before plan (suc phase)) plan phase) planned at meet.stand in
     let ends = host_goes plan after hosts phase (place + 1) (done ++ o ∷ []) left planned at.in_plan (ends_more plan phase place done o left at) (ends_place plan phase place done o left at) stood next in
     let on = ends_so plan v after phase (place + 1) (done ++ o ∷ []) left later at.in_plan (ends_more plan phase place done o left at) (ends_place plan phase place done o left at) ends in
     record {
@@ -382,7 +443,7 @@ step_releases plan logs v hosts phase place done o left planned at gone meet =
       hears = ap (on_release h o.relid) known ∙ (λ i. Ok (turn_with (back i) (if mine i then later else stays h)));
       tried_then = [];
       pieces_then = [];
-      goes = host_stands_so plan phase v (Some (PhaseEnd phase)) after (lists_but (done ++ o ∷ []) (phase_of plan phase)) later (host_next_awaits (place + 1) left) (marked host_ends (done ++ o ∷ []) (host_next_stands left (host_before plan phase))) (lists_but (host_next_done (done ++ o ∷ []) left) (phase_of plan phase)) (host_next_sends left) ends
+      goes = host_stands_so plan phase v (Some (PhaseEnd phase)) after (lists_but (done ++ o ∷ []) (phase_of plan phase)) later (host_next_awaits (place + 1) left) (marked (host_ends (vps_before plan (suc phase))) (done ++ o ∷ []) (host_next_stands (vps_before plan (suc phase)) left (host_before (vps_before plan (suc phase)) plan phase))) (lists_but (host_next_done (done ++ o ∷ []) left) (phase_of plan phase)) (host_next_sends left) ends
           (host_next plan v (rescinded_among after later.rescinds) phase (place + 1) (done ++ o ∷ []) left planned at.in_plan (ends_more plan phase place done o left at) (ends_place plan phase place done o left at) (record { agreed = meet.agreed; stand = ends.host }));
       says = λ sent sends.
           let rest : List Msg = host_from plan (suc phase) in
@@ -393,7 +454,7 @@ step_releases plan logs v hosts phase place done o left planned at gone meet =
     }
 
 -- UNLOAD
-pub step_leaves : (plan : BusPlan) (logs : Logs) (v : Version) (hosts : List ChanState) → Meet plan v hosts (offered_before plan (length plan.phases)) (host_before plan (length plan.phases)) → HostStep plan (a_host plan logs (Some Unload) AwaitsUnload (Some v) hosts (live_ones [])) [] farewell []
+pub step_leaves : (plan : BusPlan) (logs : Logs) (v : Version) (hosts : List ChanState) → Meet plan v hosts (offered_before plan (length plan.phases)) (host_before (vps_before plan (length plan.phases)) plan (length plan.phases)) → HostStep plan (a_host plan logs (Some Unload) AwaitsUnload (Some v) hosts (live_ones [])) [] farewell []
 step_leaves plan logs v hosts meet =
     let h : HostSeen = a_host plan logs (Some Unload) AwaitsUnload (Some v) hosts (live_ones []) in
     record {

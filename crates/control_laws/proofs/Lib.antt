@@ -28,3 +28,5 @@ pub mod Going
 pub mod Counting
 pub mod Never
 pub mod PlainPhases
+pub mod Vps
+pub mod Moving

@@ -3,14 +3,14 @@ use Rattle.std.proofs.Common.{◌≢◌, ℕ, zero, suc, ◌+◌, Bool, true, fa
 use Rattle.std.specs.List.{AllByRecursion, flat_map}
 use Rattle.std.proofs.lemmas.List.Concat.{flat_map-cons}
 use Rattle.contact.specs.declared.kind.Kind.{Kind}
-use Rattle.contact.specs.Versions.{versions_tried}
+use Rattle.contact.specs.Versions.{versions_tried, answers_modify}
 use Rattle.contact.specs.Classes.{offers_from}
 use Rattle.gpadl.specs.Cut.{bodies, cut}
 use Rattle.vmbus_msg.specs.declared.msg.Msg.{Msg}
 use Rattle.control_model.specs.declared.opening.Opening.{Opening}
-use Rattle.control_model.specs.Messages.{propose, delivered, request, pages_from, offer_sub, open_on, close, teardown, torndown, rescind, release, farewell, farewell_taken}
-use Rattle.control_model.specs.Plan.{is_sub, subs_next, in_closing_order}
-use Rattle.control_model.specs.Said.{answer_to, guest_opens, host_opens, host_opens_all, guest_closes, host_closes, only_sub, guest_in_phase, host_in_phase, from_3_0}
+use Rattle.control_model.specs.Messages.{propose, delivered, request, pages_from, offer_sub, open_on, modify, modified, close, teardown, torndown, rescind, release, farewell, farewell_taken}
+use Rattle.control_model.specs.Plan.{BusPlan, is_sub, subs_next, in_closing_order, vp_for}
+use Rattle.control_model.specs.Said.{agreed, answer_to, moved, guest_moves, host_moves, guest_opens, host_opens, host_opens_all, guest_closes, host_closes, only_sub, guest_in_phase, host_in_phase, from_3_0}
 use Rattle.control_laws.specs.Sides.{GuestIsCut, HostIsCut}
 
 abbrev Never : Msg → List Msg → Type 0
@@ -46,20 +46,25 @@ opens (o ∷ os) =
 sub_closes : (m n : Msg) (o : Opening) → n ≢ m → Never m (only_sub o n)
 sub_closes m n o off = only_if m (is_sub o) (n ∷ []) [] (off, tt) tt
 
-host_phase : (os : List Opening) → Never farewell (host_in_phase os)
-host_phase os = both farewell (host_opens_all os) (flat_map host_closes (in_closing_order os)) (opens os)
-    (each farewell host_closes (in_closing_order os) (λ o. only_if farewell o.rescinded (rescind o.relid ∷ []) (torndown o.gpadl ∷ only_sub o (rescind o.relid)) ((λ e. absurd (cc)), tt) ((λ e. absurd (cc)), sub_closes farewell (rescind o.relid) o (λ e. absurd (cc)))))
+answers : (plan : BusPlan) (os : List Opening) → Never farewell (host_moves plan os)
+answers plan os = only_if farewell (answers_modify (agreed plan)) (map (λ o. modified o.relid) (moved plan os)) [] (mapped farewell (λ (o : Opening). modified o.relid) (moved plan os) (λ o e. absurd (cc))) tt
+
+host_phase : (plan : BusPlan) (os : List Opening) → Never farewell (host_in_phase plan os)
+host_phase plan os =
+    let closes : List Msg = flat_map host_closes (in_closing_order os) in
+    both farewell (host_opens_all os) (host_moves plan os ++ closes) (opens os) (both farewell (host_moves plan os) closes (answers plan os)
+    (each farewell host_closes (in_closing_order os) (λ o. only_if farewell o.rescinded (rescind o.relid ∷ []) (torndown o.gpadl ∷ only_sub o (rescind o.relid)) ((λ e. absurd (cc)), tt) ((λ e. absurd (cc)), sub_closes farewell (rescind o.relid) o (λ e. absurd (cc))))))
 
 pub guest_is_cut : GuestIsCut
 guest_is_cut = (
   λ plan.
       let last : List Msg = from_3_0 plan (farewell_taken ∷ []) in
-      let middle : List Msg = flat_map host_in_phase plan.phases in
+      let middle : List Msg = flat_map (host_in_phase plan) plan.phases in
       let offered : List Msg = offers_from 1 plan.kinds ++ delivered ∷ [] in
       let answers : List Msg = map (answer_to plan) (versions_tried plan.guest.0 plan.host.0) in
       both farewell (answers ++ offered) (middle ++ last)
       (both farewell answers offered (mapped farewell (answer_to plan) (versions_tried plan.guest.0 plan.host.0) (λ v e. absurd (cc))) (both farewell (offers_from 1 plan.kinds) (delivered ∷ []) (offers 1 plan.kinds) ((λ e. absurd (cc)), tt)))
-      (both farewell middle last (each farewell host_in_phase plan.phases host_phase) (only_if farewell _ (farewell_taken ∷ []) [] ((λ e. absurd (cc)), tt) tt)),
+      (both farewell middle last (each farewell (host_in_phase plan) plan.phases (host_phase plan)) (only_if farewell _ (farewell_taken ∷ []) [] ((λ e. absurd (cc)), tt) tt)),
   λ g. refl,
 )
 
@@ -73,19 +78,22 @@ no_cut : (relid handle : ℕ) (pages : List ℕ) → Never farewell_taken (cut r
 no_cut relid handle [] = tt
 no_cut relid handle (page ∷ pages) = ((λ e. absurd (cc)), no_body (length pages) handle 0 (drop 26 (page ∷ pages)))
 
-guest_phase : (os : List Opening) → Never farewell_taken (guest_in_phase os)
-guest_phase os = both farewell_taken (flat_map guest_opens os) (flat_map guest_closes (in_closing_order os))
+guest_phase : (plan : BusPlan) (os : List Opening) → Never farewell_taken (guest_in_phase plan os)
+guest_phase plan os =
+    let closes : List Msg = flat_map guest_closes (in_closing_order os) in
+    both farewell_taken (flat_map guest_opens os) (guest_moves plan os ++ closes)
     (each farewell_taken guest_opens os (λ o. both farewell_taken (cut o.relid o.gpadl (pages_from o)) (open_on o ∷ []) (no_cut o.relid o.gpadl (pages_from o)) ((λ e. absurd (cc)), tt)))
-    (each farewell_taken guest_closes (in_closing_order os) (λ o. only_if farewell_taken o.rescinded (release o.relid ∷ []) (close o.relid ∷ teardown o ∷ only_sub o (release o.relid)) ((λ e. absurd (cc)), tt) ((λ e. absurd (cc)), ((λ e. absurd (cc)), sub_closes farewell_taken (release o.relid) o (λ e. absurd (cc))))))
+    (both farewell_taken (guest_moves plan os) closes (mapped farewell_taken (λ (o : Opening). modify o.relid (vp_for o)) (moved plan os) (λ o e. absurd (cc)))
+    (each farewell_taken guest_closes (in_closing_order os) (λ o. only_if farewell_taken o.rescinded (release o.relid ∷ []) (close o.relid ∷ teardown o ∷ only_sub o (release o.relid)) ((λ e. absurd (cc)), tt) ((λ e. absurd (cc)), ((λ e. absurd (cc)), sub_closes farewell_taken (release o.relid) o (λ e. absurd (cc)))))))
 
 pub host_is_cut : HostIsCut
 host_is_cut = (
   λ plan.
       let last : List Msg = from_3_0 plan (farewell ∷ []) in
-      let middle : List Msg = flat_map guest_in_phase plan.phases in
+      let middle : List Msg = flat_map (guest_in_phase plan) plan.phases in
       let tried : List Msg = map propose (versions_tried plan.guest.0 plan.host.0) in
       both farewell_taken (tried ++ request ∷ []) (middle ++ last)
       (both farewell_taken tried (request ∷ []) (mapped farewell_taken propose (versions_tried plan.guest.0 plan.host.0) (λ v e. absurd (cc))) ((λ e. absurd (cc)), tt))
-      (both farewell_taken middle last (each farewell_taken guest_in_phase plan.phases guest_phase) (only_if farewell_taken _ (farewell ∷ []) [] ((λ e. absurd (cc)), tt) tt)),
+      (both farewell_taken middle last (each farewell_taken (guest_in_phase plan) plan.phases (guest_phase plan)) (only_if farewell_taken _ (farewell ∷ []) [] ((λ e. absurd (cc)), tt) tt)),
   λ h. refl,
 )

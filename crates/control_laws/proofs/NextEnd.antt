@@ -1,7 +1,6 @@
 -- At the end of a phase each side goes on with the opening at a place, if there is one.
-use Rattle.std.proofs.Common.{◌≡◌, ◌≢◌, ◌∙◌, ℕ, suc, ◌+◌, ◌-◌, ◌<◌, ◌==◌, ◌||◌, not, Bool, true, false, List, [], ◌∷◌, ◌++◌, filter, length, slice_get, slice_set, Option, Some, None, refl, sym, ap, subst}
+use Rattle.std.proofs.Common.{◌≡◌, ◌≢◌, ◌∙◌, ℕ, suc, ◌+◌, ◌-◌, ◌<◌, ◌||◌, Bool, true, false, List, [], ◌∷◌, ◌++◌, length, slice_get, slice_set, Option, Some, None, refl, sym, ap, subst}
 use Rattle.std.specs.Option.{option_to_list}
-use Rattle.std.specs.List.{AllByRecursion}
 use Rattle.std.proofs.lemmas.List.{append-nil}
 use Rattle.contact.specs.declared.version.Version.{Version}
 use Rattle.contact.specs.declared.part.Part.{Part}
@@ -27,14 +26,14 @@ use Rattle.control_model.specs.Plan.{BusPlan, is_sub, closing_of, closing_at, Is
 use Rattle.control_model.specs.Channels.{by_relid, changed}
 use Rattle.control_model.specs.Messages.{close, teardown, rescind, Sends}
 use Rattle.control_model.specs.Guest.{and_close, closes, ends_one, closes_next}
-use Rattle.control_model.specs.Host.{without, wants_rescind, one_next, next_end, rescinded_among, without_its, and_rescind}
-use Rattle.control_model.specs.Stand.{EndsAt, offered_before, marked, guest_is, host_is, guest_ends, host_ends, guest_before, host_before, Stand, Meet, handles}
+use Rattle.control_model.specs.Host.{wants_rescind, one_next, next_end, rescinded_among, without_its, and_rescind}
+use Rattle.control_model.specs.Stand.{EndsAt, offered_before, marked, guest_is, host_is, guest_ends, host_ends, guest_before, host_before, Stand, Meet, vps_before}
 use Rattle.control_model.specs.GuestAt.{GuestStands}
 use Rattle.control_model.specs.GuestAt.GuestStands.{closes as GuestCloses, gives_back, ended as GuestEnded}
 use Rattle.control_model.specs.HostAt.{HostStands, lists_but}
 use Rattle.control_model.specs.HostAt.HostStands.{closes as HostCloses, takes_back, ended as HostEnded}
 use Rattle.control_laws.proofs.NextOne.{guest_waits, guest_next_awaits, guest_marks, guest_next_stands, guest_sends, guest_next_sends, host_waits, host_next_awaits, host_marks, host_next_stands, host_done, host_next_done, host_sends, host_next_sends}
-use Rattle.control_laws.proofs.Marks.{same, differ, stand_like, stand_mark, stand_at, marked_here, marked_there}
+use Rattle.control_laws.proofs.Marks.{stand_like, stand_mark, stand_at, marked_here, marked_there}
 use Rattle.control_laws.proofs.Closing.{marked_closing}
 use Rattle.control_laws.proofs.Relids.{phase_relids}
 use Rattle.control_laws.proofs.Plans.{end_facts, ends_more, ends_place, closing_from}
@@ -88,33 +87,33 @@ answers_close plan None o sent e = e
 answers_close plan (Some m) o sent e = e
 
 guest_one : (plan : BusPlan) (v : Version) (guests : List Channel) (phase place : ℕ) (done : List Opening) (o : Opening) (left : List Opening) (awaits : GuestWait) (heard : Change) (first : Option Msg) (b : Bool) → IsPlan plan → EndsAt plan phase place done o left
-    → Stand (changed guests heard) (offered_before plan (suc phase)) (marked guest_ends done (marked (guest_is Opened) (o ∷ left) (guest_before plan phase))) → by_relid guests o.relid ≡ Some (guest_is Opened o)
-    → GuestEnds plan phase v guests (ends_one (heard_with awaits v heard first) guests place o b) (guest_waits place b) (marked guest_ends done (guest_marks o left (guest_before plan phase) b)) (option_to_list first ++ guest_sends o b)
+    → Stand (changed guests heard) (offered_before plan (suc phase)) (marked (guest_ends (vps_before plan (suc phase))) done (marked (guest_is (vps_before plan (suc phase)) Opened) (o ∷ left) (guest_before (vps_before plan (suc phase)) plan phase))) → by_relid guests o.relid ≡ Some (guest_is (vps_before plan (suc phase)) Opened o)
+    → GuestEnds plan phase v guests (ends_one (heard_with awaits v heard first) guests place o b) (guest_waits place b) (marked (guest_ends (vps_before plan (suc phase))) done (guest_marks (vps_before plan (suc phase)) o left (guest_before (vps_before plan (suc phase)) plan phase) b)) (option_to_list first ++ guest_sends o b)
 guest_one plan v guests phase place done o left awaits heard first true planned at stand next = record { awaits = refl; version = refl; guest = stand; said = answers plan first }
 guest_one plan v guests phase place done o left awaits heard first false planned at stand next =
     let fact = end_facts plan phase place done o left planned at in
-    let before : ℕ → Channel = guest_before plan phase in
+    let before : ℕ → Channel = guest_before (vps_before plan (suc phase)) plan phase in
     let turn : Option Channel → GuestTurn = λ c. closes (record (heard_with awaits v heard first) { awaits = Torn place }) o c in
-    let marks : ℕ → Channel = marked guest_ends done (marked (guest_is Closing) (o ∷ []) (marked (guest_is Opened) left before)) in
-    let there : Stand (slice_set (changed guests heard) (o.relid - 1) (guest_is Closing o)) (offered_before plan (suc phase)) marks =
-    stand_mark (changed guests heard) (offered_before plan (suc phase)) guest_ends (guest_is Closing) done o (marked (guest_is Opened) (o ∷ left) before) (marked (guest_is Opened) left before) stand fact.fits.named fact.known fact.done_apart
-    (λ q off. sym (marked_there (guest_is Opened) o left before q off)) in
+    let marks : ℕ → Channel = marked (guest_ends (vps_before plan (suc phase))) done (marked (guest_is (vps_before plan (suc phase)) Closing) (o ∷ []) (marked (guest_is (vps_before plan (suc phase)) Opened) left before)) in
+    let there : Stand (slice_set (changed guests heard) (o.relid - 1) (guest_is (vps_before plan (suc phase)) Closing o)) (offered_before plan (suc phase)) marks =
+    stand_mark (changed guests heard) (offered_before plan (suc phase)) (guest_ends (vps_before plan (suc phase))) (guest_is (vps_before plan (suc phase)) Closing) done o (marked (guest_is (vps_before plan (suc phase)) Opened) (o ∷ left) before) (marked (guest_is (vps_before plan (suc phase)) Opened) left before) stand fact.fits.named fact.known fact.done_apart
+    (λ q off. sym (marked_there (guest_is (vps_before plan (suc phase)) Opened) o left before q off)) in
     subst (λ c. GuestEnds plan phase v guests (turn c) (Torn place) marks (option_to_list first ++ (close o.relid ∷ teardown o ∷ []))) (sym next)
     (record { awaits = refl; version = refl; guest = there; said = answers_close plan first o })
 
 guest_from_left : (plan : BusPlan) (v : Version) (guests : List Channel) (phase place : ℕ) (done left : List Opening) (awaits : GuestWait) (heard : Change) (first : Option Msg) → IsPlan plan → phase < length plan.phases → closing_of plan phase ≡ done ++ left → place ≡ length done
-    → Stand (changed guests heard) (offered_before plan (suc phase)) (marked guest_ends done (marked (guest_is Opened) left (guest_before plan phase))) → NextIs (guest_is Opened) guests left
-    → GuestEnds plan phase v guests (closes_next (heard_with awaits v heard first) guests place (slice_get left 0)) (guest_next_awaits place left) (marked guest_ends done (guest_next_stands left (guest_before plan phase))) (option_to_list first ++ guest_next_sends left)
+    → Stand (changed guests heard) (offered_before plan (suc phase)) (marked (guest_ends (vps_before plan (suc phase))) done (marked (guest_is (vps_before plan (suc phase)) Opened) left (guest_before (vps_before plan (suc phase)) plan phase))) → NextIs (guest_is (vps_before plan (suc phase)) Opened) guests left
+    → GuestEnds plan phase v guests (closes_next (heard_with awaits v heard first) guests place (slice_get left 0)) (guest_next_awaits place left) (marked (guest_ends (vps_before plan (suc phase))) done (guest_next_stands (vps_before plan (suc phase)) left (guest_before (vps_before plan (suc phase)) plan phase))) (option_to_list first ++ guest_next_sends left)
 guest_from_left plan v guests phase place done [] awaits heard first planned in_plan is at stand next = record { awaits = refl; version = refl; guest = stand; said = answers plan first }
 guest_from_left plan v guests phase place done (o ∷ left) awaits heard first planned in_plan is at stand next =
     guest_one plan v guests phase place done o left awaits heard first o.rescinded planned (record { in_plan = in_plan; closing_is = is; place_is = at }) stand next
 
 -- a guest goes on
 pub guest_goes : (plan : BusPlan) (v : Version) (guests : List Channel) (phase place : ℕ) (done left : List Opening) (awaits : GuestWait) (heard : Change) (first : Option Msg) → IsPlan plan → phase < length plan.phases → closing_of plan phase ≡ done ++ left → place ≡ length done
-    → Stand (changed guests heard) (offered_before plan (suc phase)) (marked guest_ends done (marked (guest_is Opened) left (guest_before plan phase))) → NextIs (guest_is Opened) guests left
-    → GuestEnds plan phase v guests (closes_next (heard_with awaits v heard first) guests place (closing_at plan phase place)) (guest_next_awaits place left) (marked guest_ends done (guest_next_stands left (guest_before plan phase))) (option_to_list first ++ guest_next_sends left)
+    → Stand (changed guests heard) (offered_before plan (suc phase)) (marked (guest_ends (vps_before plan (suc phase))) done (marked (guest_is (vps_before plan (suc phase)) Opened) left (guest_before (vps_before plan (suc phase)) plan phase))) → NextIs (guest_is (vps_before plan (suc phase)) Opened) guests left
+    → GuestEnds plan phase v guests (closes_next (heard_with awaits v heard first) guests place (closing_at plan phase place)) (guest_next_awaits place left) (marked (guest_ends (vps_before plan (suc phase))) done (guest_next_stands (vps_before plan (suc phase)) left (guest_before (vps_before plan (suc phase)) plan phase))) (option_to_list first ++ guest_next_sends left)
 guest_goes plan v guests phase place done left awaits heard first planned in_plan is at stand next =
-    subst (λ x. GuestEnds plan phase v guests (closes_next (heard_with awaits v heard first) guests place x) (guest_next_awaits place left) (marked guest_ends done (guest_next_stands left (guest_before plan phase))) (option_to_list first ++ guest_next_sends left))
+    subst (λ x. GuestEnds plan phase v guests (closes_next (heard_with awaits v heard first) guests place x) (guest_next_awaits place left) (marked (guest_ends (vps_before plan (suc phase))) done (guest_next_stands (vps_before plan (suc phase)) left (guest_before (vps_before plan (suc phase)) plan phase))) (option_to_list first ++ guest_next_sends left))
     (sym (closing_from plan phase place done left is at)) (guest_from_left plan v guests phase place done left awaits heard first planned in_plan is at stand next)
 
 -- and stands so
@@ -125,15 +124,15 @@ guest_stands_so plan phase v part guests turn waits stands says ends there =
     subst (λ w. GuestStands plan part w turn.version channels) (sym ends.awaits) (subst (λ u. GuestStands plan part waits u channels) (sym ends.version) there)
 
 guest_next_one : (plan : BusPlan) (v : Version) (guests : List Channel) (phase place : ℕ) (done : List Opening) (o : Opening) (left : List Opening) (b : Bool) → o.rescinded ≡ b → EndsAt plan phase place done o left
-    → Meet plan v guests (offered_before plan (suc phase)) (marked guest_ends done (guest_marks o left (guest_before plan phase) b)) → GuestStands plan (Some (PhaseEnd phase)) (guest_waits place b) (Some v) guests
+    → Meet plan v guests (offered_before plan (suc phase)) (marked (guest_ends (vps_before plan (suc phase))) done (guest_marks (vps_before plan (suc phase)) o left (guest_before (vps_before plan (suc phase)) plan phase) b)) → GuestStands plan (Some (PhaseEnd phase)) (guest_waits place b) (Some v) guests
 guest_next_one plan v guests phase place done o left true is at meet = gives_back v guests phase place done o left at is meet
 guest_next_one plan v guests phase place done o left false is at meet = GuestCloses v guests phase place done o left at is meet
 
 pub guest_next : (plan : BusPlan) (v : Version) (guests : List Channel) (phase place : ℕ) (done left : List Opening) → IsPlan plan → phase < length plan.phases → closing_of plan phase ≡ done ++ left → place ≡ length done
-    → Meet plan v guests (offered_before plan (suc phase)) (marked guest_ends done (guest_next_stands left (guest_before plan phase))) → GuestStands plan (Some (PhaseEnd phase)) (guest_next_awaits place left) (Some v) guests
+    → Meet plan v guests (offered_before plan (suc phase)) (marked (guest_ends (vps_before plan (suc phase))) done (guest_next_stands (vps_before plan (suc phase)) left (guest_before (vps_before plan (suc phase)) plan phase))) → GuestStands plan (Some (PhaseEnd phase)) (guest_next_awaits place left) (Some v) guests
 guest_next plan v guests phase place done [] planned in_plan is at meet =
     let full : closing_of plan phase ≡ done = is ∙ append-nil done in
-    GuestEnded v guests phase in_plan (record { agreed = meet.agreed; stand = all_done plan guests guest_ends phase done (guest_before plan phase) planned in_plan full meet.stand })
+    GuestEnded v guests phase in_plan (record { agreed = meet.agreed; stand = all_done plan guests (guest_ends (vps_before plan (suc phase))) phase done (guest_before (vps_before plan (suc phase)) plan phase) planned in_plan full meet.stand })
 guest_next plan v guests phase place done (o ∷ left) planned in_plan is at meet = guest_next_one plan v guests phase place done o left o.rescinded refl (record { in_plan = in_plan; closing_is = is; place_is = at }) meet
 
 -- how a host stands that goes on so
@@ -152,34 +151,34 @@ host_answers_too plan r None sent e = e
 host_answers_too plan r (Some m) sent e = e
 
 host_one : (plan : BusPlan) (hosts channels : List ChanState) (phase place : ℕ) (done : List Opening) (o : Opening) (left : List Opening) (b : Bool) → IsPlan plan → EndsAt plan phase place done o left
-    → Stand hosts (offered_before plan (suc phase)) (marked host_ends done (marked (host_is Opened) (o ∷ left) (host_before plan phase))) → by_relid channels o.relid ≡ Some (host_is Opened o)
-    → HostEnds plan phase hosts (lists_but done (phase_of plan phase)) (one_next channels place o b) (host_waits place b) (marked host_ends done (host_marks o left (host_before plan phase) b)) (lists_but (host_done done o b) (phase_of plan phase)) (host_sends o b)
+    → Stand hosts (offered_before plan (suc phase)) (marked (host_ends (vps_before plan (suc phase))) done (marked (host_is (vps_before plan (suc phase)) Opened) (o ∷ left) (host_before (vps_before plan (suc phase)) plan phase))) → by_relid channels o.relid ≡ Some (host_is (vps_before plan (suc phase)) Opened o)
+    → HostEnds plan phase hosts (lists_but done (phase_of plan phase)) (one_next channels place o b) (host_waits place b) (marked (host_ends (vps_before plan (suc phase))) done (host_marks (vps_before plan (suc phase)) o left (host_before (vps_before plan (suc phase)) plan phase) b)) (lists_but (host_done done o b) (phase_of plan phase)) (host_sends o b)
 host_one plan hosts channels phase place done o left false planned at stand next = record { awaits = refl; host = stand; lists_are = refl; said = host_answers plan }
 host_one plan hosts channels phase place done o left true planned at stand next =
     let fact = end_facts plan phase place done o left planned at in
-    let before : ℕ → ChanState = host_before plan phase in
-    let r : Rescind = record { relid = o.relid; life = host_is IsRescinded o; gpadl = o.gpadl } in
-    let marks : ℕ → ChanState = marked host_ends done (marked (host_is IsRescinded) (o ∷ []) (marked (host_is Opened) left before)) in
-    let there : Stand (slice_set hosts (o.relid - 1) (host_is IsRescinded o)) (offered_before plan (suc phase)) marks =
-    stand_mark hosts (offered_before plan (suc phase)) host_ends (host_is IsRescinded) done o (marked (host_is Opened) (o ∷ left) before) (marked (host_is Opened) left before) stand fact.fits.named fact.known fact.done_apart
-    (λ q off. sym (marked_there (host_is Opened) o left before q off)) in
+    let before : ℕ → ChanState = host_before (vps_before plan (suc phase)) plan phase in
+    let r : Rescind = record { relid = o.relid; life = host_is (vps_before plan (suc phase)) IsRescinded o; gpadl = o.gpadl } in
+    let marks : ℕ → ChanState = marked (host_ends (vps_before plan (suc phase))) done (marked (host_is (vps_before plan (suc phase)) IsRescinded) (o ∷ []) (marked (host_is (vps_before plan (suc phase)) Opened) left before)) in
+    let there : Stand (slice_set hosts (o.relid - 1) (host_is (vps_before plan (suc phase)) IsRescinded o)) (offered_before plan (suc phase)) marks =
+    stand_mark hosts (offered_before plan (suc phase)) (host_ends (vps_before plan (suc phase))) (host_is (vps_before plan (suc phase)) IsRescinded) done o (marked (host_is (vps_before plan (suc phase)) Opened) (o ∷ left) before) (marked (host_is (vps_before plan (suc phase)) Opened) left before) stand fact.fits.named fact.known fact.done_apart
+    (λ q off. sym (marked_there (host_is (vps_before plan (suc phase)) Opened) o left before q off)) in
     let way : Option ChanState → HostNext = λ c. record { awaits = Release place; rescinds = wants_rescind o c } in
     subst (λ c. HostEnds plan phase hosts (lists_but done (phase_of plan phase)) (way c) (Release place) marks (lists_but (done ++ o ∷ []) (phase_of plan phase)) (rescind o.relid ∷ [])) (sym next)
     (record { awaits = refl; host = there; lists_are = let_go done o (phase_of plan phase); said = host_answers_too plan r })
 
 host_from_left : (plan : BusPlan) (hosts channels : List ChanState) (phase place : ℕ) (done left : List Opening) → IsPlan plan → phase < length plan.phases → closing_of plan phase ≡ done ++ left → place ≡ length done
-    → Stand hosts (offered_before plan (suc phase)) (marked host_ends done (marked (host_is Opened) left (host_before plan phase))) → NextIs (host_is Opened) channels left
-    → HostEnds plan phase hosts (lists_but done (phase_of plan phase)) (next_end channels place (slice_get left 0)) (host_next_awaits place left) (marked host_ends done (host_next_stands left (host_before plan phase))) (lists_but (host_next_done done left) (phase_of plan phase)) (host_next_sends left)
+    → Stand hosts (offered_before plan (suc phase)) (marked (host_ends (vps_before plan (suc phase))) done (marked (host_is (vps_before plan (suc phase)) Opened) left (host_before (vps_before plan (suc phase)) plan phase))) → NextIs (host_is (vps_before plan (suc phase)) Opened) channels left
+    → HostEnds plan phase hosts (lists_but done (phase_of plan phase)) (next_end channels place (slice_get left 0)) (host_next_awaits place left) (marked (host_ends (vps_before plan (suc phase))) done (host_next_stands (vps_before plan (suc phase)) left (host_before (vps_before plan (suc phase)) plan phase))) (lists_but (host_next_done done left) (phase_of plan phase)) (host_next_sends left)
 host_from_left plan hosts channels phase place done [] planned in_plan is at stand next = record { awaits = refl; host = stand; lists_are = refl; said = host_answers plan }
 host_from_left plan hosts channels phase place done (o ∷ left) planned in_plan is at stand next =
     host_one plan hosts channels phase place done o left o.rescinded planned (record { in_plan = in_plan; closing_is = is; place_is = at }) stand next
 
 -- a host goes on
 pub host_goes : (plan : BusPlan) (hosts channels : List ChanState) (phase place : ℕ) (done left : List Opening) → IsPlan plan → phase < length plan.phases → closing_of plan phase ≡ done ++ left → place ≡ length done
-    → Stand hosts (offered_before plan (suc phase)) (marked host_ends done (marked (host_is Opened) left (host_before plan phase))) → NextIs (host_is Opened) channels left
-    → HostEnds plan phase hosts (lists_but done (phase_of plan phase)) (next_end channels place (closing_at plan phase place)) (host_next_awaits place left) (marked host_ends done (host_next_stands left (host_before plan phase))) (lists_but (host_next_done done left) (phase_of plan phase)) (host_next_sends left)
+    → Stand hosts (offered_before plan (suc phase)) (marked (host_ends (vps_before plan (suc phase))) done (marked (host_is (vps_before plan (suc phase)) Opened) left (host_before (vps_before plan (suc phase)) plan phase))) → NextIs (host_is (vps_before plan (suc phase)) Opened) channels left
+    → HostEnds plan phase hosts (lists_but done (phase_of plan phase)) (next_end channels place (closing_at plan phase place)) (host_next_awaits place left) (marked (host_ends (vps_before plan (suc phase))) done (host_next_stands (vps_before plan (suc phase)) left (host_before (vps_before plan (suc phase)) plan phase))) (lists_but (host_next_done done left) (phase_of plan phase)) (host_next_sends left)
 host_goes plan hosts channels phase place done left planned in_plan is at stand next =
-    subst (λ x. HostEnds plan phase hosts (lists_but done (phase_of plan phase)) (next_end channels place x) (host_next_awaits place left) (marked host_ends done (host_next_stands left (host_before plan phase))) (lists_but (host_next_done done left) (phase_of plan phase)) (host_next_sends left))
+    subst (λ x. HostEnds plan phase hosts (lists_but done (phase_of plan phase)) (next_end channels place x) (host_next_awaits place left) (marked (host_ends (vps_before plan (suc phase))) done (host_next_stands (vps_before plan (suc phase)) left (host_before (vps_before plan (suc phase)) plan phase))) (lists_but (host_next_done done left) (phase_of plan phase)) (host_next_sends left))
     (sym (closing_from plan phase place done left is at)) (host_from_left plan hosts channels phase place done left planned in_plan is at stand next)
 
 -- and stands so
@@ -190,14 +189,14 @@ host_stands_so plan phase v part hosts live next waits stands lists says ends th
     subst (λ w. HostStands plan part w (Some v) channels (without_its live next.rescinds) [] []) (sym ends.awaits) (subst (λ l. HostStands plan part waits (Some v) channels l [] []) (sym ends.lists_are) there)
 
 host_next_one : (plan : BusPlan) (v : Version) (hosts : List ChanState) (phase place : ℕ) (done : List Opening) (o : Opening) (left : List Opening) (b : Bool) → o.rescinded ≡ b → EndsAt plan phase place done o left
-    → Meet plan v hosts (offered_before plan (suc phase)) (marked host_ends done (host_marks o left (host_before plan phase) b)) → HostStands plan (Some (PhaseEnd phase)) (host_waits place b) (Some v) hosts (lists_but (host_done done o b) (phase_of plan phase)) [] []
+    → Meet plan v hosts (offered_before plan (suc phase)) (marked (host_ends (vps_before plan (suc phase))) done (host_marks (vps_before plan (suc phase)) o left (host_before (vps_before plan (suc phase)) plan phase) b)) → HostStands plan (Some (PhaseEnd phase)) (host_waits place b) (Some v) hosts (lists_but (host_done done o b) (phase_of plan phase)) [] []
 host_next_one plan v hosts phase place done o left true is at meet = takes_back v hosts phase place done o left at (ap (λ b. b || is_sub o) is) meet
 host_next_one plan v hosts phase place done o left false is at meet = HostCloses v hosts phase place done o left at is meet
 
 pub host_next : (plan : BusPlan) (v : Version) (hosts : List ChanState) (phase place : ℕ) (done left : List Opening) → IsPlan plan → phase < length plan.phases → closing_of plan phase ≡ done ++ left → place ≡ length done
-    → Meet plan v hosts (offered_before plan (suc phase)) (marked host_ends done (host_next_stands left (host_before plan phase))) → HostStands plan (Some (PhaseEnd phase)) (host_next_awaits place left) (Some v) hosts (lists_but (host_next_done done left) (phase_of plan phase)) [] []
+    → Meet plan v hosts (offered_before plan (suc phase)) (marked (host_ends (vps_before plan (suc phase))) done (host_next_stands (vps_before plan (suc phase)) left (host_before (vps_before plan (suc phase)) plan phase))) → HostStands plan (Some (PhaseEnd phase)) (host_next_awaits place left) (Some v) hosts (lists_but (host_next_done done left) (phase_of plan phase)) [] []
 host_next plan v hosts phase place done [] planned in_plan is at meet =
     let full : closing_of plan phase ≡ done = is ∙ append-nil done in
     subst (λ l. HostStands plan (Some (PhaseEnd phase)) (host_next_awaits place []) (Some v) hosts l [] []) (sym (none_live plan phase done is))
-    (HostEnded v hosts phase in_plan (record { agreed = meet.agreed; stand = all_done plan hosts host_ends phase done (host_before plan phase) planned in_plan full meet.stand }))
+    (HostEnded v hosts phase in_plan (record { agreed = meet.agreed; stand = all_done plan hosts (host_ends (vps_before plan (suc phase))) phase done (host_before (vps_before plan (suc phase)) plan phase) planned in_plan full meet.stand }))
 host_next plan v hosts phase place done (o ∷ left) planned in_plan is at meet = host_next_one plan v hosts phase place done o left o.rescinded refl (record { in_plan = in_plan; closing_is = is; place_is = at }) meet

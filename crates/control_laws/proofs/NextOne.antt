@@ -21,13 +21,13 @@ abbrev pub guest_next_awaits : ℕ → List Opening → GuestWait
 guest_next_awaits place [] = Nothing
 guest_next_awaits place (o ∷ left) = guest_waits place o.rescinded
 
-abbrev pub guest_marks : Opening → List Opening → (ℕ → Channel) → Bool → ℕ → Channel
-guest_marks o left before true = marked (guest_is Opened) (o ∷ left) before
-guest_marks o left before false = marked (guest_is Closing) (o ∷ []) (marked (guest_is Opened) left before)
+abbrev pub guest_marks : (ℕ → ℕ) → Opening → List Opening → (ℕ → Channel) → Bool → ℕ → Channel
+guest_marks vps o left before true = marked (guest_is vps Opened) (o ∷ left) before
+guest_marks vps o left before false = marked (guest_is vps Closing) (o ∷ []) (marked (guest_is vps Opened) left before)
 
-abbrev pub guest_next_stands : List Opening → (ℕ → Channel) → ℕ → Channel
-guest_next_stands [] before = before
-guest_next_stands (o ∷ left) before = guest_marks o left before o.rescinded
+abbrev pub guest_next_stands : (ℕ → ℕ) → List Opening → (ℕ → Channel) → ℕ → Channel
+guest_next_stands vps [] before = before
+guest_next_stands vps (o ∷ left) before = guest_marks vps o left before o.rescinded
 
 abbrev pub guest_sends : Opening → Bool → List Msg
 guest_sends o true = []
@@ -46,13 +46,13 @@ abbrev pub host_next_awaits : ℕ → List Opening → HostWait
 host_next_awaits place [] = HostNothing
 host_next_awaits place (o ∷ left) = host_waits place o.rescinded
 
-abbrev pub host_marks : Opening → List Opening → (ℕ → ChanState) → Bool → ℕ → ChanState
-host_marks o left before true = marked (host_is IsRescinded) (o ∷ []) (marked (host_is Opened) left before)
-host_marks o left before false = marked (host_is Opened) (o ∷ left) before
+abbrev pub host_marks : (ℕ → ℕ) → Opening → List Opening → (ℕ → ChanState) → Bool → ℕ → ChanState
+host_marks vps o left before true = marked (host_is vps IsRescinded) (o ∷ []) (marked (host_is vps Opened) left before)
+host_marks vps o left before false = marked (host_is vps Opened) (o ∷ left) before
 
-abbrev pub host_next_stands : List Opening → (ℕ → ChanState) → ℕ → ChanState
-host_next_stands [] before = before
-host_next_stands (o ∷ left) before = host_marks o left before o.rescinded
+abbrev pub host_next_stands : (ℕ → ℕ) → List Opening → (ℕ → ChanState) → ℕ → ChanState
+host_next_stands vps [] before = before
+host_next_stands vps (o ∷ left) before = host_marks vps o left before o.rescinded
 
 abbrev pub host_done : List Opening → Opening → Bool → List Opening
 host_done done o true = done ++ o ∷ []

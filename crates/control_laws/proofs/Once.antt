@@ -8,14 +8,14 @@ use Rattle.std.proofs.lemmas.List.{append-nil, map-append}
 use Rattle.std.proofs.lemmas.List.Concat.{flat_map-cons}
 use Rattle.std.proofs.lemmas.List.Elements.{filter-append}
 use Rattle.contact.specs.declared.kind.Kind.{Kind}
-use Rattle.contact.specs.Versions.{versions_tried}
+use Rattle.contact.specs.Versions.{versions_tried, answers_modify}
 use Rattle.contact.specs.Classes.{offer, offers_from}
 use Rattle.vmbus_msg.specs.declared.msg.Msg.{Msg}
 use Rattle.gpadl.specs.Cut.{bodies, cut}
 use Rattle.control_model.specs.declared.opening.Opening.{Opening}
-use Rattle.control_model.specs.Plan.{BusPlan, is_sub, first_subs, subs_next, subs_in, in_closing_order, opening_at, IsPlan, phase_of, closing_of}
-use Rattle.control_model.specs.Messages.{propose, request, delivered, pages_from, open_on, offer_sub, close, teardown, torndown, rescind, release, farewell, farewell_taken}
-use Rattle.control_model.specs.Said.{answer_to, guest_contacts, host_contacts, guest_opens, host_opens_all, guest_closes, host_closes, only_sub, guest_in_phase, host_in_phase, from_3_0, ends_given_back}
+use Rattle.control_model.specs.Plan.{BusPlan, is_sub, first_subs, subs_next, subs_in, in_closing_order, opening_at, IsPlan, phase_of, closing_of, vp_for}
+use Rattle.control_model.specs.Messages.{propose, request, delivered, pages_from, open_on, modify, modified, offer_sub, close, teardown, torndown, rescind, release, farewell, farewell_taken}
+use Rattle.control_model.specs.Said.{agreed, answer_to, moved, guest_moves, host_moves, guest_contacts, host_contacts, guest_opens, host_opens_all, guest_closes, host_closes, guest_in_phase, host_in_phase, from_3_0, ends_given_back}
 use Rattle.control_model.specs.Stand.{offered_before, EndsAt}
 use Rattle.control_laws.specs.Laws.{is_rescind_of, is_release_of, is_offer_of, RescindedOnce, SubsOnce}
 use Rattle.control_laws.proofs.Marks.{by_test, same, differ}
@@ -107,12 +107,12 @@ other_gives plan phase place j done o left planned is in_plan gone few off =
 apart_gives : (relid : ℕ) (os : List Opening) → AllByRecursion (λ p. p.relid ≢ relid) os → AllByRecursion (λ q. Gives relid q ≡ false) os
 apart_gives relid os apart = all_weaker (λ p. p.relid ≢ relid) (λ q. Gives relid q ≡ false) (λ q off. ap (λ b. b && ends_given_back q) (differ q.relid relid off)) os apart
 
-given_once : (plan : BusPlan) (phase place : ℕ) (o : Opening) (p : Msg → Bool) (starts : List Opening → List Msg) (ends : Opening → List Msg) (taken : Msg) → IsPlan plan → opening_at plan phase place ≡ Some o → ends_given_back o ≡ true
-    → ((os : List Opening) → filter p (starts os) ≡ []) → ((q : Opening) → filter p (ends q) ≡ cond (Gives o.relid q) (taken ∷ []) [])
-    → filter p (flat_map (λ os. starts os ++ flat_map ends (in_closing_order os)) plan.phases) ≡ taken ∷ []
-given_once plan phase place o p starts ends taken planned is gone none_starts passes =
+given_once : (plan : BusPlan) (phase place : ℕ) (o : Opening) (p : Msg → Bool) (starts moves : List Opening → List Msg) (ends : Opening → List Msg) (taken : Msg) → IsPlan plan → opening_at plan phase place ≡ Some o → ends_given_back o ≡ true
+    → ((os : List Opening) → filter p (starts os) ≡ []) → ((os : List Opening) → filter p (moves os) ≡ []) → ((q : Opening) → filter p (ends q) ≡ cond (Gives o.relid q) (taken ∷ []) [])
+    → filter p (flat_map (λ os. starts os ++ (moves os ++ flat_map ends (in_closing_order os))) plan.phases) ≡ taken ∷ []
+given_once plan phase place o p starts moves ends taken planned is gone none_starts none_moves passes =
     let cut = cut_at plan phase place o is in
-    let says : List Opening → List Msg = λ os. starts os ++ flat_map ends (in_closing_order os) in
+    let says : List Opening → List Msg = λ os. starts os ++ (moves os ++ flat_map ends (in_closing_order os)) in
     let in_plan = cut.at.in_plan in
     let mid = closing_mid cut.done o cut.left in
     let closing : closing_of plan phase ≡ mid.done ++ o ∷ mid.left = ap in_closing_order cut.at.phase_is ∙ mid.is in
@@ -120,13 +120,29 @@ given_once plan phase place o p starts ends taken planned is gone none_starts pa
     let fact = end_facts plan phase (length mid.done) mid.done o mid.left planned there in
     let here : Gives o.relid o ≡ true = ap (λ b. b && ends_given_back o) (same o.relid) ∙ gone in
     let one = one_end o.relid p ends taken passes mid.done o mid.left (apart_gives o.relid mid.done fact.done_apart) (apart_gives o.relid mid.left fact.left_apart) here in
+    let parts : (os : List Opening) → filter p (says os) ≡ filter p (flat_map ends (in_closing_order os)) = λ os.
+    let none = none_starts os in
+    let still = none_moves os in
+    filter-append p (starts os) (moves os ++ flat_map ends (in_closing_order os)) ∙ ap (λ xs. xs ++ filter p (moves os ++ flat_map ends (in_closing_order os))) none ∙ filter-append p (moves os) (flat_map ends (in_closing_order os))
+    ∙ ap (λ xs. xs ++ filter p (flat_map ends (in_closing_order os))) still in
     phases_once p says (taken ∷ []) plan.phases phase in_plan
-    (λ j few off.
-    let none = none_starts (phase_of plan j) in
-    let rest = none_ends o.relid p ends taken passes (closing_of plan j) (all_closing (λ q. Gives o.relid q ≡ false) (phase_of plan j) (other_gives plan phase place j cut.done o cut.left planned cut.at.phase_is in_plan gone few off)) in
-    filter-append p (starts (phase_of plan j)) (flat_map ends (closing_of plan j)) ∙ (λ i. none i ++ rest i))
-    (let none = none_starts (phase_of plan phase) in
-    filter-append p (starts (phase_of plan phase)) (flat_map ends (closing_of plan phase)) ∙ (λ i. none i ++ filter p (flat_map ends (closing i))) ∙ one)
+    (λ j few off. parts (phase_of plan j) ∙ none_ends o.relid p ends taken passes (closing_of plan j) (all_closing (λ q. Gives o.relid q ≡ false) (phase_of plan j) (other_gives plan phase place j cut.done o cut.left planned cut.at.phase_is in_plan gone few off)))
+    (parts (phase_of plan phase) ∙ ap (λ os. filter p (flat_map ends os)) closing ∙ one)
+
+-- of those that move channels
+moves_none : (p : Msg → Bool) (f : Opening → Msg) (os : List Opening) → ((o : Opening) → p (f o) ≡ false) → filter p (map f os) ≡ []
+moves_none p f [] none = refl
+moves_none p f (o ∷ os) none = rw (none o) (moves_none p f os none)
+
+guest_moves_none : (p : Msg → Bool) (plan : BusPlan) (os : List Opening) → ((o : Opening) → p (modify o.relid (vp_for o)) ≡ false) → filter p (guest_moves plan os) ≡ []
+guest_moves_none p plan os none = moves_none p (λ o. modify o.relid (vp_for o)) (moved plan os) none
+
+host_moves_none : (p : Msg → Bool) (plan : BusPlan) (os : List Opening) → ((o : Opening) → p (modified o.relid) ≡ false) → filter p (host_moves plan os) ≡ []
+host_moves_none p plan os none = one (answers_modify (agreed plan))
+  where
+    one : (b : Bool) → filter p (if b then map (λ o. modified o.relid) (moved plan os) else []) ≡ []
+    one true = moves_none p (λ o. modified o.relid) (moved plan os) none
+    one false = refl
 
 -- between the contact and the farewell
 between : (p : Msg → Bool) (front mid back whole : List Msg) → filter p front ≡ [] → filter p back ≡ [] → filter p mid ≡ whole → filter p (front ++ (mid ++ back)) ≡ whole ++ []
@@ -203,23 +219,23 @@ guest_passes relid o true c = it_passes o.relid relid release
 guest_passes relid o false true = it_passes o.relid relid release
 guest_passes relid o false false = none_passes o.relid relid (release relid)
 
-host_once : (plan : BusPlan) (phase place : ℕ) (o : Opening) → IsPlan plan → opening_at plan phase place ≡ Some o → ends_given_back o ≡ true → filter (is_rescind_of o.relid) (flat_map host_in_phase plan.phases) ≡ rescind o.relid ∷ []
-host_once plan phase place o planned is gone = given_once plan phase place o (is_rescind_of o.relid) host_opens_all host_closes (rescind o.relid) planned is gone (host_starts o.relid) (λ q. host_passes o.relid q q.rescinded (is_sub q))
+host_once : (plan : BusPlan) (phase place : ℕ) (o : Opening) → IsPlan plan → opening_at plan phase place ≡ Some o → ends_given_back o ≡ true → filter (is_rescind_of o.relid) (flat_map (host_in_phase plan) plan.phases) ≡ rescind o.relid ∷ []
+host_once plan phase place o planned is gone = given_once plan phase place o (is_rescind_of o.relid) host_opens_all (host_moves plan) host_closes (rescind o.relid) planned is gone (host_starts o.relid) (λ os. host_moves_none (is_rescind_of o.relid) plan os (λ q. refl)) (λ q. host_passes o.relid q q.rescinded (is_sub q))
 
-guest_once : (plan : BusPlan) (phase place : ℕ) (o : Opening) → IsPlan plan → opening_at plan phase place ≡ Some o → ends_given_back o ≡ true → filter (is_release_of o.relid) (flat_map guest_in_phase plan.phases) ≡ release o.relid ∷ []
+guest_once : (plan : BusPlan) (phase place : ℕ) (o : Opening) → IsPlan plan → opening_at plan phase place ≡ Some o → ends_given_back o ≡ true → filter (is_release_of o.relid) (flat_map (guest_in_phase plan) plan.phases) ≡ release o.relid ∷ []
 guest_once plan phase place o planned is gone =
-    given_once plan phase place o (is_release_of o.relid) (flat_map guest_opens) guest_closes (release o.relid) planned is gone (λ os. none_of_each (is_release_of o.relid) guest_opens os (guest_starts o.relid)) (λ q. guest_passes o.relid q q.rescinded (is_sub q))
+    given_once plan phase place o (is_release_of o.relid) (flat_map guest_opens) (guest_moves plan) guest_closes (release o.relid) planned is gone (λ os. none_of_each (is_release_of o.relid) guest_opens os (guest_starts o.relid)) (λ os. guest_moves_none (is_release_of o.relid) plan os (λ q. refl)) (λ q. guest_passes o.relid q q.rescinded (is_sub q))
 
-host_said_once : (plan : BusPlan) (phase place : ℕ) (o : Opening) (posted : List Msg) → IsPlan plan → opening_at plan phase place ≡ Some o → ends_given_back o ≡ true → posted ≡ host_contacts plan ++ (flat_map host_in_phase plan.phases ++ from_3_0 plan (farewell_taken ∷ []))
+host_said_once : (plan : BusPlan) (phase place : ℕ) (o : Opening) (posted : List Msg) → IsPlan plan → opening_at plan phase place ≡ Some o → ends_given_back o ≡ true → posted ≡ host_contacts plan ++ (flat_map (host_in_phase plan) plan.phases ++ from_3_0 plan (farewell_taken ∷ []))
     → filter (is_rescind_of o.relid) posted ≡ rescind o.relid ∷ []
 host_said_once plan phase place o posted planned is gone said =
-    ap (filter (is_rescind_of o.relid)) said ∙ between (is_rescind_of o.relid) (host_contacts plan) (flat_map host_in_phase plan.phases) (from_3_0 plan (farewell_taken ∷ [])) (rescind o.relid ∷ []) (host_contact o.relid plan)
+    ap (filter (is_rescind_of o.relid)) said ∙ between (is_rescind_of o.relid) (host_contacts plan) (flat_map (host_in_phase plan) plan.phases) (from_3_0 plan (farewell_taken ∷ [])) (rescind o.relid ∷ []) (host_contact o.relid plan)
     (if_said (is_rescind_of o.relid) farewell_taken _ refl) (host_once plan phase place o planned is gone)
 
-guest_said_once : (plan : BusPlan) (phase place : ℕ) (o : Opening) (posted : List Msg) → IsPlan plan → opening_at plan phase place ≡ Some o → ends_given_back o ≡ true → posted ≡ guest_contacts plan ++ (flat_map guest_in_phase plan.phases ++ from_3_0 plan (farewell ∷ []))
+guest_said_once : (plan : BusPlan) (phase place : ℕ) (o : Opening) (posted : List Msg) → IsPlan plan → opening_at plan phase place ≡ Some o → ends_given_back o ≡ true → posted ≡ guest_contacts plan ++ (flat_map (guest_in_phase plan) plan.phases ++ from_3_0 plan (farewell ∷ []))
     → filter (is_release_of o.relid) posted ≡ release o.relid ∷ []
 guest_said_once plan phase place o posted planned is gone said =
-    ap (filter (is_release_of o.relid)) said ∙ between (is_release_of o.relid) (guest_contacts plan) (flat_map guest_in_phase plan.phases) (from_3_0 plan (farewell ∷ [])) (release o.relid ∷ []) (guest_contact o.relid plan)
+    ap (filter (is_release_of o.relid)) said ∙ between (is_release_of o.relid) (guest_contacts plan) (flat_map (guest_in_phase plan) plan.phases) (from_3_0 plan (farewell ∷ [])) (release o.relid ∷ []) (guest_contact o.relid plan)
     (if_said (is_release_of o.relid) farewell _ refl) (guest_once plan phase place o planned is gone)
 
 pub once_law : RescindedOnce
@@ -294,13 +310,15 @@ module _ (relid : ℕ) where
       ∙ ap (λ b. offers_in (subs_in done) ++ offers_in (cond b (o ∷ subs_in left) (subs_in left))) sub ∙ ap (λ t. offers_in (subs_in done) ++ cond t (offer_sub o ∷ offers_in (subs_in left)) (offers_in (subs_in left))) here
       ∙ (λ i. a i ++ (offer_sub o ∷ c i))
 
-  phase_offers : (plan : BusPlan) (j : ℕ) → IsPlan plan → j < length plan.phases → filter (is_offer_of relid) (host_in_phase (phase_of plan j)) ≡ offers_in (subs_in (phase_of plan j)) ++ []
+  phase_offers : (plan : BusPlan) (j : ℕ) → IsPlan plan → j < length plan.phases → filter (is_offer_of relid) (host_in_phase plan (phase_of plan j)) ≡ offers_in (subs_in (phase_of plan j)) ++ []
   phase_offers plan j planned few =
       let os : List Opening = phase_of plan j in
       let none = starts_first os (phase_seated plan j planned few) in
       let starts : offers_all os ≡ offers_in (subs_in os) = sym (ap (λ xs. offers_in xs ++ offers_all os) none) ∙ offers_so os in
       let ends = none_of_each (is_offer_of relid) host_closes (closing_of plan j) (λ q. no_offer relid q q.rescinded (is_sub q)) in
-      filter-append (is_offer_of relid) (host_opens_all os) (flat_map host_closes (closing_of plan j)) ∙ (λ i. starts i ++ ends i)
+      let moves = host_moves_none (is_offer_of relid) plan os (λ q. refl) in
+      filter-append (is_offer_of relid) (host_opens_all os) (host_moves plan os ++ flat_map host_closes (closing_of plan j)) ∙ ap (λ xs. filter (is_offer_of relid) (host_opens_all os) ++ xs) (filter-append (is_offer_of relid) (host_moves plan os) (flat_map host_closes (closing_of plan j)))
+      ∙ (λ i. starts i ++ (moves i ++ ends i))
 
 -- no other sub-channel has its relid
 other_relids : (plan : BusPlan) (phase j : ℕ) (o : Opening) → IsPlan plan → phase < length plan.phases → offered_before plan phase < o.relid → o.relid ≤ offered_before plan (suc phase) → j < length plan.phases → j ≢ phase
@@ -317,7 +335,7 @@ other_relids plan phase j o planned in_plan low high few off =
     all_weaker (λ p. (is_sub p ≡ false → p.relid ≤ length plan.kinds) × (is_sub p ≡ true → offered_before plan j < p.relid)) (λ q. is_sub q ≡ true → q.relid ≢ o.relid)
     (λ q fresh sub is. let far = fresh.1 sub in absurd (omega (arith, far, up, high, is))) (phase_of plan j) (phase_relids plan j planned few).fresh)
 
-offered_once : (plan : BusPlan) (phase place : ℕ) (o : Opening) → IsPlan plan → opening_at plan phase place ≡ Some o → is_sub o ≡ true → (length plan.kinds < o.relid) × (filter (is_offer_of o.relid) (flat_map host_in_phase plan.phases) ≡ offer_sub o ∷ [])
+offered_once : (plan : BusPlan) (phase place : ℕ) (o : Opening) → IsPlan plan → opening_at plan phase place ≡ Some o → is_sub o ≡ true → (length plan.kinds < o.relid) × (filter (is_offer_of o.relid) (flat_map (host_in_phase plan) plan.phases) ≡ offer_sub o ∷ [])
 offered_once plan phase place o planned is sub =
     let cut = cut_at plan phase place o is in
     let in_plan = cut.at.in_plan in
@@ -328,7 +346,7 @@ offered_once plan phase place o planned is sub =
     let apart : (os : List Opening) → AllByRecursion (λ p. p.relid ≢ o.relid) os → AllByRecursion (λ q. is_sub q ≡ true → q.relid ≢ o.relid) os = λ os all. all_weaker (λ p. p.relid ≢ o.relid) (λ q. is_sub q ≡ true → q.relid ≢ o.relid) (λ q off it. off) os all in
     let one = one_sub o.relid cut.done o cut.left refl sub (apart cut.done fact.done_apart) (apart cut.left fact.left_apart) in (
       omega (arith, low),
-      phases_once (is_offer_of o.relid) host_in_phase (offer_sub o ∷ []) plan.phases phase in_plan
+      phases_once (is_offer_of o.relid) (host_in_phase plan) (offer_sub o ∷ []) plan.phases phase in_plan
           (λ j few off.
           let none = no_subs o.relid (phase_of plan j) (other_relids plan phase j o planned in_plan low fact.known few off) in
           phase_offers o.relid plan j planned few ∙ (λ i. none i ++ []))
@@ -339,7 +357,7 @@ pub subs_once_law : SubsOnce
 subs_once_law plan g h phase place o planned over is sub =
     let given : ends_given_back o ≡ true = ap (λ b. o.rescinded || b) sub ∙ or_true o.rescinded in
     let offers = offered_once plan phase place o planned is sub in (
-      ap (filter (is_offer_of o.relid)) over.host_said ∙ between (is_offer_of o.relid) (host_contacts plan) (flat_map host_in_phase plan.phases) (from_3_0 plan (farewell_taken ∷ [])) (offer_sub o ∷ []) (offers_contact o.relid plan offers.0)
+      ap (filter (is_offer_of o.relid)) over.host_said ∙ between (is_offer_of o.relid) (host_contacts plan) (flat_map (host_in_phase plan) plan.phases) (from_3_0 plan (farewell_taken ∷ [])) (offer_sub o ∷ []) (offers_contact o.relid plan offers.0)
           (if_said (is_offer_of o.relid) farewell_taken _ refl) offers.1,
       host_said_once plan phase place o h.posted planned is given over.host_said,
       guest_said_once plan phase place o g.posted planned is given over.guest_said,

@@ -1,12 +1,11 @@
 -- Plans without sub-channels.
-use Rattle.std.proofs.Common.{◌≡◌, ◌∙◌, ℕ, suc, ◌+◌, Bool, true, false, cond, List, [], ◌∷◌, ◌++◌, length, map, if◌then◌else◌, refl, sym, ap, arith}
+use Rattle.std.proofs.Common.{◌≡◌, ◌∙◌, false, cond, List, [], ◌∷◌, ◌++◌, length, map, if◌then◌else◌, refl, sym, ap, arith}
 use Rattle.std.specs.List.{flat_map}
 use Rattle.std.proofs.lemmas.List.Concat.{flat_map-cons}
-use Rattle.vmbus_msg.specs.declared.msg.Msg.{Msg}
 use Rattle.control_model.specs.declared.opening.Opening.{Opening}
-use Rattle.control_model.specs.Plan.{BusPlan, is_sub, first_subs, subs_next, subs_in, behind_subs, in_closing_order, all_openings}
+use Rattle.control_model.specs.Plan.{is_sub, first_subs, subs_next, subs_in, behind_subs, in_closing_order, all_openings}
 use Rattle.control_model.specs.Messages.{offer_sub, close, teardown, torndown, rescind, release}
-use Rattle.control_model.specs.Said.{guest_opens, host_opens, host_opens_all, guest_closes, host_closes, only_sub, guest_in_phase, host_in_phase, channel_count}
+use Rattle.control_model.specs.Said.{guest_opens, host_opens, host_opens_all, guest_closes, host_closes, guest_moves, host_moves}
 use Rattle.control_laws.specs.Plain.{NoSubs, guest_closes_one, host_closes_one, PlainGuest, PlainHost, PlainCount}
 
 -- they are closed in the order in which they were opened
@@ -53,13 +52,13 @@ host_all (o ∷ os) none =
     flat_map-cons host_closes o os ∙ (λ i. one i ++ rest i) ∙ sym (flat_map-cons host_closes_one o os)
 
 pub plain_guest : PlainGuest
-plain_guest os none = ap (λ xs. flat_map guest_opens os ++ flat_map guest_closes xs) (same_order os none) ∙ ap (λ xs. flat_map guest_opens os ++ xs) (guest_all os none)
+plain_guest plan os none = ap (λ xs. flat_map guest_opens os ++ (guest_moves plan os ++ flat_map guest_closes xs)) (same_order os none) ∙ ap (λ xs. flat_map guest_opens os ++ (guest_moves plan os ++ xs)) (guest_all os none)
 
 pub plain_host : PlainHost
-plain_host os none =
+plain_host plan os none =
     let opens = opens_plain os none in
     let closes : flat_map host_closes (in_closing_order os) ≡ flat_map host_closes_one os = ap (flat_map host_closes) (same_order os none) ∙ host_all os none in
-    (λ i. opens i ++ closes i)
+    (λ i. opens i ++ (host_moves plan os ++ closes i))
 
 none_in : (os : List Opening) → NoSubs os → subs_in os ≡ []
 none_in [] none = refl

@@ -1,7 +1,6 @@
 -- What a plan says of an opening at its place.
 use Rattle.std.proofs.Common.{◌≡◌, ◌≢◌, ◌∙◌, ℕ, zero, suc, ◌+◌, ◌<◌, ◌≤◌, ◌||◌, Bool, true, false, cond, if◌then◌else◌, List, [], ◌∷◌, ◌++◌, length, map, take, drop, get_or, slice_get, slice_index_or, Option, Some, None, All, refl, sym, ap, subst, append_assoc, length-append, arith}
 use Rattle.std.specs.List.{AllByRecursion, range_with_len}
-use Rattle.std.proofs.lemmas.List.{append-nil}
 use Rattle.std.proofs.lemmas.List.Elements.{All-get_or}
 use Rattle.control_model.specs.declared.opening.Opening.{Opening}
 use Rattle.control_model.specs.declared.channel.Channel.{Channel}
@@ -121,16 +120,16 @@ low_more : (n m : ℕ) (h : Option ℕ) → n ≤ m → IsLow n h → IsLow m h
 low_more n m None less low = tt
 low_more n m (Some h) less low = omega (arith, less, low)
 
-lows : (plan : BusPlan) (k : ℕ) (relid : ℕ) → IsPlan plan → k ≤ length plan.phases → IsLow (first_of plan k) (guest_before plan k relid).gpadl
-lows plan zero relid planned few = tt
-lows plan (suc k) relid planned few =
+lows : (plan : BusPlan) (vps : ℕ → ℕ) (k : ℕ) (relid : ℕ) → IsPlan plan → k ≤ length plan.phases → IsLow (first_of plan k) (guest_before vps plan k relid).gpadl
+lows plan vps zero relid planned few = tt
+lows plan vps (suc k) relid planned few =
     let less : k < length plan.phases = omega (arith, few) in
     let more = first_more plan k less in
     let here = phase_follows plan k planned less in
     let mine = within (first_of plan k) (first_of plan (suc k)) (first_of plan k) here.page (phase_of plan k) (omega arith) (omega (arith, more)) here.follows in
-    marked_has guest_ends (λ (c : Channel). IsLow (first_of plan (suc k)) c.gpadl) (phase_of plan k) (guest_before plan k) relid
+    marked_has (guest_ends vps) (λ (c : Channel). IsLow (first_of plan (suc k)) c.gpadl) (phase_of plan k) (guest_before vps plan k) relid
     (all_weaker (λ p. (first_of plan k ≤ p.gpadl) × (p.gpadl < first_of plan (suc k))) (λ p. p.gpadl < first_of plan (suc k)) (λ p b. b.1) (phase_of plan k) mine)
-    (low_more (first_of plan k) (first_of plan (suc k)) (guest_before plan k relid).gpadl (omega (arith, more)) (lows plan k relid planned (omega (arith, less))))
+    (low_more (first_of plan k) (first_of plan (suc k)) (guest_before vps plan k relid).gpadl (omega (arith, more)) (lows plan vps k relid planned (omega (arith, less))))
 
 not_low : (n m : ℕ) (h : Option ℕ) → n ≤ m → IsLow n h → is_handle m h ≡ false
 not_low n m None less low = refl
@@ -167,7 +166,7 @@ pub record PhaseHas (plan : BusPlan) (phase : ℕ) (os : List Opening) : Type 0 
   pub relids : Distinct (λ p. p.relid) os
   pub handles : Distinct (λ p. p.gpadl) os
   pub not_before : (j : ℕ) → j < phase → AllByRecursion (λ q. AllByRecursion (λ p. p.relid ≡ q.relid → ends_given_back q ≡ false) os) (phase_of plan j)
-  pub before_handles : AllByRecursion (λ p. (relid : ℕ) → is_handle p.gpadl (guest_before plan phase relid).gpadl ≡ false) os
+  pub before_handles : AllByRecursion (λ p. (vps : ℕ → ℕ) (relid : ℕ) → is_handle p.gpadl (guest_before vps plan phase relid).gpadl ≡ false) os
 
 -- a sub-channel's relid isn't that of an opening of a later phase
 or_false : (a b : Bool) → a ≡ false → b ≡ false → (a || b) ≡ false
@@ -203,8 +202,8 @@ phase_has plan phase planned less =
       relids = ids.distinct;
       handles = handles_distinct (first_of plan phase) here.page (phase_of plan phase) here.follows;
       not_before = λ j before. not_given_back plan j phase planned before less;
-      before_handles = all_weaker (λ p. (first_of plan phase ≤ p.gpadl) × (p.gpadl < first_of plan phase + length (phase_of plan phase))) (λ p. (relid : ℕ) → is_handle p.gpadl (guest_before plan phase relid).gpadl ≡ false)
-          (λ p b relid. let low = b.0 in not_low (first_of plan phase) p.gpadl (guest_before plan phase relid).gpadl (omega (arith, low)) (lows plan phase relid planned (omega (arith, less)))) (phase_of plan phase) mine;
+      before_handles = all_weaker (λ p. (first_of plan phase ≤ p.gpadl) × (p.gpadl < first_of plan phase + length (phase_of plan phase))) (λ p. (vps : ℕ → ℕ) (relid : ℕ) → is_handle p.gpadl (guest_before vps plan phase relid).gpadl ≡ false)
+          (λ p b vps relid. let low = b.0 in not_low (first_of plan phase) p.gpadl (guest_before vps plan phase relid).gpadl (omega (arith, low)) (lows plan vps phase relid planned (omega (arith, less)))) (phase_of plan phase) mine;
     }
 
 pub closing_has : (plan : BusPlan) (phase : ℕ) → IsPlan plan → phase < length plan.phases → PhaseHas plan phase (closing_of plan phase)
@@ -217,7 +216,7 @@ closing_has plan phase planned less =
       relids = distinct_closing (λ p. p.relid) os has.relids;
       handles = distinct_closing (λ p. p.gpadl) os has.handles;
       not_before = λ j before. all_weaker (λ q. AllByRecursion (λ p. p.relid ≡ q.relid → ends_given_back q ≡ false) os) (λ q. AllByRecursion (λ p. p.relid ≡ q.relid → ends_given_back q ≡ false) (in_closing_order os)) (λ q all. all_closing (λ p. p.relid ≡ q.relid → ends_given_back q ≡ false) os all) (phase_of plan j) (has.not_before j before);
-      before_handles = all_closing (λ p. (relid : ℕ) → is_handle p.gpadl (guest_before plan phase relid).gpadl ≡ false) os has.before_handles;
+      before_handles = all_closing (λ p. (vps : ℕ → ℕ) (relid : ℕ) → is_handle p.gpadl (guest_before vps plan phase relid).gpadl ≡ false) os has.before_handles;
     }
 
 -- all that a plan says of an opening
@@ -229,7 +228,7 @@ pub record Facts (plan : BusPlan) (phase : ℕ) (done : List Opening) (o : Openi
   pub done_handles : AllByRecursion (λ p. p.gpadl ≢ o.gpadl) done
   pub left_handles : AllByRecursion (λ p. p.gpadl ≢ o.gpadl) left
   pub not_before : (j : ℕ) → j < phase → AllByRecursion (λ q. q.relid ≡ o.relid → ends_given_back q ≡ false) (phase_of plan j)
-  pub before_handles : (relid : ℕ) → is_handle o.gpadl (guest_before plan phase relid).gpadl ≡ false
+  pub before_handles : (vps : ℕ → ℕ) (relid : ℕ) → is_handle o.gpadl (guest_before vps plan phase relid).gpadl ≡ false
 
 facts_in : (plan : BusPlan) (phase : ℕ) (done : List Opening) (o : Opening) (left : List Opening) → PhaseHas plan phase (done ++ o ∷ left) → Facts plan phase done o left
 facts_in plan phase done o left has =
@@ -243,7 +242,7 @@ facts_in plan phase done o left has =
       done_handles = other.0;
       left_handles = other.1;
       not_before = λ j less. all_weaker (λ q. AllByRecursion (λ p. p.relid ≡ q.relid → ends_given_back q ≡ false) (done ++ o ∷ left)) (λ q. q.relid ≡ o.relid → ends_given_back q ≡ false) (λ q all e. mid_all (λ p. p.relid ≡ q.relid → ends_given_back q ≡ false) done o left all (sym e)) (phase_of plan j) (has.not_before j less);
-      before_handles = mid_all (λ p. (relid : ℕ) → is_handle p.gpadl (guest_before plan phase relid).gpadl ≡ false) done o left has.before_handles;
+      before_handles = mid_all (λ p. (vps : ℕ → ℕ) (relid : ℕ) → is_handle p.gpadl (guest_before vps plan phase relid).gpadl ≡ false) done o left has.before_handles;
     }
 
 pub facts : (plan : BusPlan) (phase place : ℕ) (done : List Opening) (o : Opening) (left : List Opening) → IsPlan plan → At plan phase place done o left → Facts plan phase done o left

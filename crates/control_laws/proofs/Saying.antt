@@ -1,26 +1,18 @@
 -- What a side has still to say and to hear, as it goes on.
-use Rattle.std.proofs.Common.{◌≡◌, ◌∙◌, ℕ, zero, suc, ◌<◌, Bool, true, false, if◌then◌else◌, List, [], ◌∷◌, ◌++◌, length, drop, slice_get, slice_index_or, Option, refl, sym, ap, subst, append_assoc, length-append, arith}
+use Rattle.std.proofs.Common.{◌≡◌, ◌∙◌, ℕ, zero, suc, ◌<◌, Bool, true, false, if◌then◌else◌, List, [], ◌∷◌, ◌++◌, length, drop, slice_index_or, refl, sym, ap, append_assoc, length-append, arith}
 use Rattle.std.specs.List.{flat_map}
 use Rattle.std.proofs.lemmas.List.Concat.{flat_map-cons}
-use Rattle.contact.specs.declared.version.Version.{Version}
 use Rattle.vmbus_msg.specs.declared.msg.Msg.{Msg}
 use Rattle.gpadl.specs.Cut.{cut}
-use Rattle.gpadl.proofs.Cutting.{cuts_so}
 use Rattle.control_model.specs.declared.opening.Opening.{Opening}
-use Rattle.control_model.specs.declared.change.Change.{Change}
-use Rattle.control_model.specs.declared.guest_wait.GuestWait.{GuestWait}
-use Rattle.control_model.specs.declared.guest_turn.GuestTurn.{GuestTurn}
-use Rattle.control_model.specs.Plan.{BusPlan, in_closing_order, opening_at, phase_of, closing_of}
-use Rattle.control_model.specs.Messages.{pages_from, open_on, close, teardown, torndown, rescind, release, farewell, farewell_taken, Sends}
-use Rattle.control_model.specs.Said.{guest_opens, host_opens_all, guest_closes, host_closes, only_sub, guest_in_phase, host_in_phase, from_3_0}
-use Rattle.control_model.specs.GuestAt.{guest_from, host_from, opens_listed, start_to_say, start_to_hear, gives_sub, gives_one, takes_one, end_to_say, end_to_hear}
-use Rattle.control_model.specs.HostAt.{host_start_to_say, host_start_to_hear, host_end_to_say, host_end_to_hear}
-use Rattle.control_model.specs.Guest.{lists_next}
-use Rattle.control_model.specs.Host.{waits_list}
+use Rattle.control_model.specs.Plan.{BusPlan, in_closing_order, phase_of, closing_of}
+use Rattle.control_model.specs.Messages.{pages_from, open_on, close, teardown, torndown, rescind, release, farewell, farewell_taken}
+use Rattle.control_model.specs.Said.{guest_opens, host_opens_all, guest_closes, host_closes, only_sub, guest_moves, host_moves, guest_in_phase, host_in_phase, from_3_0}
+use Rattle.control_model.specs.GuestAt.{guest_from, host_from, opens_listed, gives_sub, gives_one, takes_one, end_to_say, end_to_hear}
+use Rattle.control_model.specs.HostAt.{host_end_to_say, host_end_to_hear}
 use Rattle.control_model.specs.Stand.{At, EndsAt}
 use Rattle.control_laws.proofs.NextOne.{guest_waits, guest_next_awaits, guest_sends, guest_next_sends, host_waits, host_next_awaits, host_sends, host_next_sends}
-use Rattle.control_laws.proofs.Plans.{opening_from, done_more, ends_more}
-use Rattle.control_laws.proofs.Next.{heard_so, pieces_of}
+use Rattle.control_laws.proofs.Plans.{done_more, ends_more}
 
 -- behind those that are done, the others are left
 pub drop_done : {X : Type 0} (xs ys : List X) → drop (length xs) (xs ++ ys) ≡ ys
@@ -44,53 +36,10 @@ left_behind plan phase place done o left at =
     left_at plan phase (suc place) (done ++ o ∷ []) left (done_more plan phase place done o left at) (omega (arith, at.place_is, length-append done (o ∷ [])))
 
 -- a guest lists the pages of the next channel, if there is one
-opens_more : (o : Opening) (os : List Opening) (later : List Msg) → flat_map guest_opens (o ∷ os) ++ later ≡ cut o.relid o.gpadl (pages_from o) ++ (opens_listed (o ∷ os) ++ later)
+pub opens_more : (o : Opening) (os : List Opening) (later : List Msg) → flat_map guest_opens (o ∷ os) ++ later ≡ cut o.relid o.gpadl (pages_from o) ++ (opens_listed (o ∷ os) ++ later)
 opens_more o os later =
     let list : List Msg = cut o.relid o.gpadl (pages_from o) in
     ap (λ xs. xs ++ later) (flat_map-cons guest_opens o os) ∙ append_assoc (list ++ open_on o ∷ []) (flat_map guest_opens os) later ∙ append_assoc list (open_on o ∷ []) (flat_map guest_opens os ++ later)
-
-abbrev ListsSaid : BusPlan → ℕ → List Opening → List Msg → GuestTurn → Type 0
-ListsSaid plan phase left sent turn = Sends plan turn.burst sent → (later : List Msg) → flat_map guest_opens left ++ later ≡ sent ++ (start_to_say (phase_of plan phase) turn.awaits ++ later)
-
-lists_said_from : (plan : BusPlan) (v : Version) (phase place : ℕ) (done left : List Opening) (awaits : GuestWait) (heard : Change) (sent : List Msg) → phase_of plan phase ≡ done ++ left → place ≡ length done
-    → ListsSaid plan phase left sent (lists_next (heard_so awaits v heard) place (slice_get left 0))
-lists_said_from plan v phase place done [] awaits heard sent is at = λ e later. ap (λ s. s ++ later) (sym e)
-lists_said_from plan v phase place done (o ∷ left) awaits heard sent is at = λ sends later.
-    let here = sym (left_at plan phase place done (o ∷ left) is at) in
-    let whole = sym (cuts_so o.relid o.gpadl (pages_from o) sent sends) in
-    opens_more o left later ∙ (λ i. whole i ++ (opens_listed (here i) ++ later))
-
-pub lists_said : (plan : BusPlan) (v : Version) (phase place : ℕ) (done left : List Opening) (awaits : GuestWait) (heard : Change) (sent : List Msg) → phase_of plan phase ≡ done ++ left → place ≡ length done
-    → ListsSaid plan phase left sent (lists_next (heard_so awaits v heard) place (opening_at plan phase place))
-lists_said plan v phase place done left awaits heard sent is at =
-    subst (λ x. ListsSaid plan phase left sent (lists_next (heard_so awaits v heard) place x)) (sym (opening_from plan phase place done left is at)) (lists_said_from plan v phase place done left awaits heard sent is at)
-
-abbrev ListsHeard : BusPlan → ℕ → List Opening → GuestTurn → Type 0
-ListsHeard plan phase left turn = host_opens_all left ≡ start_to_hear (phase_of plan phase) turn.awaits
-
-lists_heard_from : (plan : BusPlan) (v : Version) (phase place : ℕ) (done left : List Opening) (awaits : GuestWait) (heard : Change) → phase_of plan phase ≡ done ++ left → place ≡ length done
-    → ListsHeard plan phase left (lists_next (heard_so awaits v heard) place (slice_get left 0))
-lists_heard_from plan v phase place done [] awaits heard is at = refl
-lists_heard_from plan v phase place done (o ∷ left) awaits heard is at = ap host_opens_all (sym (left_at plan phase place done (o ∷ left) is at))
-
-pub lists_heard : (plan : BusPlan) (v : Version) (phase place : ℕ) (done left : List Opening) (awaits : GuestWait) (heard : Change) → phase_of plan phase ≡ done ++ left → place ≡ length done
-    → ListsHeard plan phase left (lists_next (heard_so awaits v heard) place (opening_at plan phase place))
-lists_heard plan v phase place done left awaits heard is at =
-    subst (λ x. ListsHeard plan phase left (lists_next (heard_so awaits v heard) place x)) (sym (opening_from plan phase place done left is at)) (lists_heard_from plan v phase place done left awaits heard is at)
-
--- a host waits for the page list of the next channel, if there is one
-abbrev Waits : BusPlan → ℕ → ℕ → List Opening → Option Opening → Type 0
-Waits plan phase place left x = (host_opens_all left ≡ host_start_to_say (phase_of plan phase) (waits_list place x)) × (flat_map guest_opens left ≡ host_start_to_hear (phase_of plan phase) (waits_list place x) (pieces_of x))
-
-waits_from : (plan : BusPlan) (phase place : ℕ) (done left : List Opening) → phase_of plan phase ≡ done ++ left → place ≡ length done → Waits plan phase place left (slice_get left 0)
-waits_from plan phase place done [] is at = (refl, refl)
-waits_from plan phase place done (o ∷ left) is at =
-    let here = sym (left_at plan phase place done (o ∷ left) is at) in
-    let list : List Msg = cut o.relid o.gpadl (pages_from o) in
-    (ap host_opens_all here, flat_map-cons guest_opens o left ∙ append_assoc list (open_on o ∷ []) (flat_map guest_opens left) ∙ ap (λ os. list ++ opens_listed os) here)
-
-pub waits_so : (plan : BusPlan) (phase place : ℕ) (done left : List Opening) → phase_of plan phase ≡ done ++ left → place ≡ length done → Waits plan phase place left (opening_at plan phase place)
-waits_so plan phase place done left is at = subst (Waits plan phase place left) (sym (opening_from plan phase place done left is at)) (waits_from plan phase place done left is at)
 
 -- in the order in which the channels are closed
 pub ends_left : (plan : BusPlan) (phase place : ℕ) (done left : List Opening) → closing_of plan phase ≡ done ++ left → place ≡ length done → drop place (closing_of plan phase) ≡ left
@@ -145,25 +94,33 @@ ends_heard plan phase place done [] is at = refl
 ends_heard plan phase place done (o ∷ left) is at = heard_one plan phase place done o left o.rescinded refl is at
 
 -- what is said and heard from a phase on
-pub guest_from_phase : (plan : BusPlan) (phase : ℕ) → phase < length plan.phases → guest_from plan phase ≡ flat_map guest_opens (phase_of plan phase) ++ (flat_map guest_closes (closing_of plan phase) ++ guest_from plan (suc phase))
+pub guest_from_phase : (plan : BusPlan) (phase : ℕ) → phase < length plan.phases
+    → guest_from plan phase ≡ flat_map guest_opens (phase_of plan phase) ++ (guest_moves plan (phase_of plan phase) ++ (flat_map guest_closes (closing_of plan phase) ++ guest_from plan (suc phase)))
 guest_from_phase plan phase less =
     let os : List Opening = phase_of plan phase in
     let last : List Msg = from_3_0 plan (farewell ∷ []) in
-    let rest : List Msg = flat_map guest_in_phase (drop (suc phase) plan.phases) in
-    ap (λ ps. flat_map guest_in_phase ps ++ last) (drop_one plan.phases phase [] less) ∙ ap (λ xs. xs ++ last) (flat_map-cons guest_in_phase os (drop (suc phase) plan.phases))
-    ∙ append_assoc (guest_in_phase os) rest last ∙ append_assoc (flat_map guest_opens os) (flat_map guest_closes (in_closing_order os)) (rest ++ last)
+    let says : List Opening → List Msg = guest_in_phase plan in
+    let rest : List Msg = flat_map says (drop (suc phase) plan.phases) in
+    let moves : List Msg = guest_moves plan os in
+    let closes : List Msg = flat_map guest_closes (in_closing_order os) in
+    ap (λ ps. flat_map says ps ++ last) (drop_one plan.phases phase [] less) ∙ ap (λ xs. xs ++ last) (flat_map-cons says os (drop (suc phase) plan.phases))
+    ∙ append_assoc (says os) rest last ∙ append_assoc (flat_map guest_opens os) (moves ++ closes) (rest ++ last) ∙ ap (λ xs. flat_map guest_opens os ++ xs) (append_assoc moves closes (rest ++ last))
 
-pub host_from_phase : (plan : BusPlan) (phase : ℕ) → phase < length plan.phases → host_from plan phase ≡ host_opens_all (phase_of plan phase) ++ (flat_map host_closes (closing_of plan phase) ++ host_from plan (suc phase))
+pub host_from_phase : (plan : BusPlan) (phase : ℕ) → phase < length plan.phases
+    → host_from plan phase ≡ host_opens_all (phase_of plan phase) ++ (host_moves plan (phase_of plan phase) ++ (flat_map host_closes (closing_of plan phase) ++ host_from plan (suc phase)))
 host_from_phase plan phase less =
     let os : List Opening = phase_of plan phase in
     let last : List Msg = from_3_0 plan (farewell_taken ∷ []) in
-    let rest : List Msg = flat_map host_in_phase (drop (suc phase) plan.phases) in
-    ap (λ ps. flat_map host_in_phase ps ++ last) (drop_one plan.phases phase [] less) ∙ ap (λ xs. xs ++ last) (flat_map-cons host_in_phase os (drop (suc phase) plan.phases))
-    ∙ append_assoc (host_in_phase os) rest last ∙ append_assoc (host_opens_all os) (flat_map host_closes (in_closing_order os)) (rest ++ last)
+    let says : List Opening → List Msg = host_in_phase plan in
+    let rest : List Msg = flat_map says (drop (suc phase) plan.phases) in
+    let moves : List Msg = host_moves plan os in
+    let closes : List Msg = flat_map host_closes (in_closing_order os) in
+    ap (λ ps. flat_map says ps ++ last) (drop_one plan.phases phase [] less) ∙ ap (λ xs. xs ++ last) (flat_map-cons says os (drop (suc phase) plan.phases))
+    ∙ append_assoc (says os) rest last ∙ append_assoc (host_opens_all os) (moves ++ closes) (rest ++ last) ∙ ap (λ xs. host_opens_all os ++ xs) (append_assoc moves closes (rest ++ last))
 
 -- behind the last phase only the farewell is left
 pub guest_at_last : (plan : BusPlan) → guest_from plan (length plan.phases) ≡ from_3_0 plan (farewell ∷ [])
-guest_at_last plan = ap (λ ps. flat_map guest_in_phase ps ++ from_3_0 plan (farewell ∷ [])) (drop_all plan.phases)
+guest_at_last plan = ap (λ ps. flat_map (guest_in_phase plan) ps ++ from_3_0 plan (farewell ∷ [])) (drop_all plan.phases)
 
 pub host_at_last : (plan : BusPlan) → host_from plan (length plan.phases) ≡ from_3_0 plan (farewell_taken ∷ [])
-host_at_last plan = ap (λ ps. flat_map host_in_phase ps ++ from_3_0 plan (farewell_taken ∷ [])) (drop_all plan.phases)
+host_at_last plan = ap (λ ps. flat_map (host_in_phase plan) ps ++ from_3_0 plan (farewell_taken ∷ [])) (drop_all plan.phases)

@@ -8,7 +8,6 @@ use Rattle.control_model.specs.Plan.{BusPlan, IsPlan, Seated, is_sub, is_of_sub,
 use Rattle.control_model.specs.GuestAt.{from_first_sub}
 use Rattle.control_model.specs.Stand.{At, offered_before, offered_by}
 use Rattle.control_laws.proofs.Marks.{by_test}
-use Rattle.control_laws.proofs.Cutting.{all_weaker}
 use Rattle.control_laws.proofs.Relids.{relids, phase_relids, sub_place}
 use Rattle.control_laws.proofs.Plans.{offered_here}
 use Rattle.control_laws.proofs.Counts.{done_known}

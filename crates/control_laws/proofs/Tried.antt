@@ -82,7 +82,7 @@ pub next_tried : (plan : BusPlan) (v : Version) → IsPlan plan → Tries plan v
 unfolding listed
 next_tried plan v planned tries above low =
     next_ones v.0 low.lower.0 plan.host.0 versions falling tries.listed low.less (low.greatest plan.host.0 planned.host above)
-    (low.greatest (version 5 2) refl, (low.greatest (version 5 1) refl, (low.greatest (version 5 0) refl, (low.greatest (version 4 1) refl, (low.greatest (version 4 0) refl, (low.greatest (version 3 0) refl, (low.greatest (version 2 4) refl, tt)))))))
+    (low.greatest (version 5 3) refl, (low.greatest (version 5 2) refl, (low.greatest (version 5 1) refl, (low.greatest (version 5 0) refl, (low.greatest (version 4 1) refl, (low.greatest (version 4 0) refl, (low.greatest (version 3 0) refl, (low.greatest (version 2 4) refl, tt))))))))
 
 -- the first version that is tried, from one on, is that one
 pub first_tried : (plan : BusPlan) (v : Version) → IsPlan plan → Tries plan v → versions_tried v.0 plan.host.0 ≡ v.0 ∷ drop 1 (versions_tried v.0 plan.host.0)

@@ -5,7 +5,7 @@ use Rattle.vmbus_msg.specs.declared.msg.Msg.{Msg}
 use Rattle.control_model.specs.declared.opening.Opening.{Opening}
 use Rattle.control_model.specs.Plan.{BusPlan, is_sub, all_openings}
 use Rattle.control_model.specs.Messages.{close, teardown, torndown, rescind, release}
-use Rattle.control_model.specs.Said.{guest_opens, host_opens, guest_in_phase, host_in_phase, channel_count}
+use Rattle.control_model.specs.Said.{guest_opens, host_opens, guest_moves, host_moves, guest_in_phase, host_in_phase, channel_count}
 
 -- none of these is of a sub-channel
 abbrev pub NoSubs : List Opening → Type 0
@@ -18,12 +18,12 @@ guest_closes_one o = if o.rescinded then release o.relid ∷ [] else close o.rel
 abbrev pub host_closes_one : Opening → List Msg
 host_closes_one o = if o.rescinded then rescind o.relid ∷ [] else torndown o.gpadl ∷ []
 
--- a phase opens its channels at its start, and closes them or gives them back at its end, both in order of offer
+-- a phase opens its channels at its start and moves them, and closes them or gives them back at its end, all in order of offer
 abbrev pub PlainGuest : Type 0
-PlainGuest = (os : List Opening) → NoSubs os → guest_in_phase os ≡ flat_map guest_opens os ++ flat_map guest_closes_one os
+PlainGuest = (plan : BusPlan) (os : List Opening) → NoSubs os → guest_in_phase plan os ≡ flat_map guest_opens os ++ (guest_moves plan os ++ flat_map guest_closes_one os)
 
 abbrev pub PlainHost : Type 0
-PlainHost = (os : List Opening) → NoSubs os → host_in_phase os ≡ flat_map host_opens os ++ flat_map host_closes_one os
+PlainHost = (plan : BusPlan) (os : List Opening) → NoSubs os → host_in_phase plan os ≡ flat_map host_opens os ++ (host_moves plan os ++ flat_map host_closes_one os)
 
 -- and there is a channel for each device
 abbrev pub PlainCount : Type 0

@@ -1,5 +1,5 @@
 -- What both sides say over small plans.
-use Rattle.std.specs.Prelude.{◌≡◌, ℕ, ◌+◌, ◌*◌, Bool, true, false, not, List, [], ◌∷◌, ◌++◌}
+use Rattle.std.specs.Prelude.{◌≡◌, ℕ, ◌+◌, ◌*◌, Bool, true, false, not, List, [], ◌∷◌, ◌++◌, Option, Some, None}
 use Rattle.contact.specs.Versions.{version}
 use Rattle.contact.specs.Classes.{offer}
 use Rattle.contact.specs.declared.kind.Kind.TheVariants.{Beat, Disk}
@@ -8,12 +8,13 @@ use Rattle.vmbus_msg.specs.declared.msg.Msg.{Msg}
 use Rattle.gpadl.specs.Cut.{header}
 use Rattle.control_model.specs.declared.opening.Opening.{Opening}
 use Rattle.control_model.specs.Plan.{BusPlan, first_gpadl}
-use Rattle.control_model.specs.Messages.{propose, respond, request, delivered, created, open_on, opened, close, teardown, torndown, rescind, release, farewell, farewell_taken}
+use Rattle.control_model.specs.Messages.{propose, respond, request, delivered, created, open_on, opened, modify, modified, close, teardown, torndown, rescind, release, farewell, farewell_taken}
 use Rattle.control_model.specs.Said.{said_by_guest, said_by_host, at_end}
+use Rattle.control_laws.specs.Over.{vps_at_end}
 
 -- a disk and a heartbeat are offered; one phase opens the disk, with rings of one data page
 abbrev pub disk_of : Opening
-disk_of = record { relid = 1; sub = 0; ring_pages = 1; gpadl = first_gpadl; first_page = 0; rescinded = false }
+disk_of = record { relid = 1; sub = 0; ring_pages = 1; gpadl = first_gpadl; first_page = 0; rescinded = false; vp = None }
 
 abbrev pub small_plan : ℕ → ℕ → BusPlan
 small_plan guest host = record { guest = record { 0 = guest }; host = record { 0 = host }; kinds = Disk ∷ Beat ∷ []; phases = (disk_of ∷ []) ∷ [] }
@@ -36,10 +37,10 @@ HostSaysNone = said_by_host (small_plan (version 2 4) (version 5 2)) ≡ respond
 
 -- two disks, of which the host rescinds the first one, or the second one, at the end of the phase; the other one is closed
 abbrev pub first_of : Bool → Opening
-first_of rescinded = record { relid = 1; sub = 0; ring_pages = 1; gpadl = first_gpadl; first_page = 0; rescinded = rescinded }
+first_of rescinded = record { relid = 1; sub = 0; ring_pages = 1; gpadl = first_gpadl; first_page = 0; rescinded = rescinded; vp = None }
 
 abbrev pub second_of : Bool → Opening
-second_of rescinded = record { relid = 2; sub = 0; ring_pages = 1; gpadl = first_gpadl + 1; first_page = 4; rescinded = rescinded }
+second_of rescinded = record { relid = 2; sub = 0; ring_pages = 1; gpadl = first_gpadl + 1; first_page = 4; rescinded = rescinded; vp = None }
 
 abbrev pub mixed_plan : Bool → BusPlan
 mixed_plan first = record { guest = record { 0 = version 5 2 }; host = record { 0 = version 5 2 }; kinds = Disk ∷ Disk ∷ []; phases = (first_of first ∷ second_of (not first) ∷ []) ∷ [] }
@@ -64,7 +65,7 @@ HostTakesSecond = said_by_host (mixed_plan false)
 
 -- a disk with two sub-channels and a heartbeat are offered; a phase opens the disk, which is closed at its end, or rescinded
 abbrev pub seat_of : Bool → ℕ → ℕ → ℕ → Opening
-seat_of rescinded relid sub turn = record { relid = relid; sub = sub; ring_pages = 1; gpadl = first_gpadl + turn; first_page = 4 * turn; rescinded = rescinded }
+seat_of rescinded relid sub turn = record { relid = relid; sub = sub; ring_pages = 1; gpadl = first_gpadl + turn; first_page = 4 * turn; rescinded = rescinded; vp = None }
 
 abbrev pub subs_plan : Bool → BusPlan
 subs_plan rescinded = record {
@@ -104,3 +105,39 @@ SubStates = (at_end (subs_plan false) ≡ Closed ∷ Offered ∷ Released ∷ Re
 -- a channel that is rescinded is given back at the end, one that is closed is closed, and one that no phase opens is offered
 abbrev pub EndStates : Type 0
 EndStates = (at_end (mixed_plan true) ≡ Released ∷ Closed ∷ []) × (at_end (mixed_plan false) ≡ Closed ∷ Released ∷ []) × (at_end (small_plan (version 5 0) (version 4 0)) ≡ Closed ∷ Offered ∷ [])
+
+-- a disk and a heartbeat, both opened in a phase that moves the one to processor 5 and the other to processor 3
+abbrev pub moved_of : ℕ → ℕ → Option ℕ → Opening
+moved_of relid place vp = record { relid = relid; sub = 0; ring_pages = 1; gpadl = first_gpadl + place; first_page = 4 * place; rescinded = false; vp = vp }
+
+abbrev pub moving_plan : ℕ → ℕ → BusPlan
+moving_plan guest host = record { guest = record { 0 = guest }; host = record { 0 = host }; kinds = Disk ∷ Beat ∷ []; phases = (moved_of 1 0 (Some 5) ∷ moved_of 2 1 (Some 3) ∷ []) ∷ [] }
+
+abbrev pub guest_starts_both : List Msg
+guest_starts_both = header 1 first_gpadl 0 (1 ∷ 2 ∷ 3 ∷ []) ∷ open_on (moved_of 1 0 (Some 5)) ∷ header 2 (first_gpadl + 1) 4 (5 ∷ 6 ∷ 7 ∷ []) ∷ open_on (moved_of 2 1 (Some 3)) ∷ []
+
+abbrev pub guest_ends_both : List Msg
+guest_ends_both = close 1 ∷ teardown (moved_of 1 0 (Some 5)) ∷ close 2 ∷ teardown (moved_of 2 1 (Some 3)) ∷ farewell ∷ []
+
+abbrev pub host_starts_both : List Msg
+host_starts_both = respond 1 ∷ offer Disk 1 0 ∷ offer Beat 2 0 ∷ delivered ∷ created 1 first_gpadl ∷ opened 1 1 ∷ created 2 (first_gpadl + 1) ∷ opened 2 2 ∷ []
+
+abbrev pub host_ends_both : List Msg
+host_ends_both = torndown first_gpadl ∷ torndown (first_gpadl + 1) ∷ farewell_taken ∷ []
+
+-- the guest moves them from 4.1 on, once both are open
+abbrev pub GuestMoves : Type 0
+GuestMoves = (said_by_guest (moving_plan (version 5 3) (version 5 3)) ≡ propose (version 5 3) ∷ request ∷ (guest_starts_both ++ (modify 1 5 ∷ modify 2 3 ∷ guest_ends_both)))
+    × (said_by_guest (moving_plan (version 4 1) (version 5 3)) ≡ propose (version 4 1) ∷ request ∷ (guest_starts_both ++ (modify 1 5 ∷ modify 2 3 ∷ guest_ends_both)))
+    × (said_by_guest (moving_plan (version 4 0) (version 5 3)) ≡ propose (version 4 0) ∷ request ∷ (guest_starts_both ++ guest_ends_both))
+
+-- and the host answers from 5.3 on
+abbrev pub HostAnswers : Type 0
+HostAnswers = (said_by_host (moving_plan (version 5 3) (version 5 3)) ≡ host_starts_both ++ (modified 1 ∷ modified 2 ∷ host_ends_both)) × (said_by_host (moving_plan (version 5 2) (version 5 3)) ≡ host_starts_both ++ host_ends_both)
+
+-- a second phase moves the disk to processor 7: that one it has at the end, and the heartbeat the one from before; below 4.1 none is moved
+abbrev pub twice_moving : ℕ → BusPlan
+twice_moving guest = record { guest = record { 0 = guest }; host = record { 0 = version 5 3 }; kinds = Disk ∷ Beat ∷ []; phases = (moved_of 1 0 (Some 5) ∷ moved_of 2 1 (Some 3) ∷ []) ∷ (moved_of 1 2 (Some 7) ∷ moved_of 2 3 None ∷ []) ∷ [] }
+
+abbrev pub EndVps : Type 0
+EndVps = (vps_at_end (twice_moving (version 4 1)) ≡ 7 ∷ 3 ∷ []) × (vps_at_end (twice_moving (version 4 0)) ≡ 0 ∷ 0 ∷ [])

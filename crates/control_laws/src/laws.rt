@@ -3,7 +3,7 @@
 ghost use Rattle.control_laws.specs.Sides.{NewOnesStand, GuestStarts, HostStarts, GuestHears, HostHears, GuestFronts, HostFronts, GuestIsCut, HostIsCut, BothOver};
 ghost use Rattle.control_laws.specs.Laws.{NewOnesAgree, BothBegin, HostGoesOn, GuestGoesOn, BothDone, FewOnTheirWay, EndsWell, EndTellsEach, RescindedAreReleased, RescindedOnce, SubsAreReleased, SubsOnce, EndsAtLower};
 ghost use Rattle.control_laws.specs.Plain.{PlainGuest, PlainHost, PlainCount};
-ghost use Rattle.control_laws.specs.Rows.{GuestSays, HostSays, GuestSaysNone, HostSaysNone, GuestGivesFirst, HostTakesFirst, GuestGivesSecond, HostTakesSecond, GuestClosesSubs, HostClosesSubs, GuestGivesSubs, HostTakesSubs, EndStates, SubStates};
+ghost use Rattle.control_laws.specs.Rows.{GuestSays, HostSays, GuestSaysNone, HostSaysNone, GuestGivesFirst, HostTakesFirst, GuestGivesSecond, HostTakesSecond, GuestClosesSubs, HostClosesSubs, GuestGivesSubs, HostTakesSubs, EndStates, SubStates, GuestMoves, HostAnswers, EndVps};
 
 /// A side that was made from a plan stands at the start.
 pub fn new_ones_stand()
@@ -92,7 +92,8 @@ pub fn ends_well()
 
 /// At the end there is a channel for each device and for each sub-channel that a phase opened, and it
 /// stands alike at both sides: one that was rescinded is given back, and so is each sub-channel; each
-/// other one that was ever opened is closed, and each one that wasn't is offered.
+/// other one that was ever opened is closed, and each one that wasn't is offered. Its processor is the
+/// last one that a phase moved it to, and 0 where none did.
 pub fn end_tells_each()
     ensures { EndTellsEach }
 {}
@@ -134,7 +135,8 @@ pub fn ends_at_lower()
 /// What both say over small plans: versions, the offers, a channel that is opened and closed, and a
 /// farewell, which isn't said below 3.0; and of two channels, one that is rescinded and one that is
 /// closed at the end of a phase, in both orders, and how they stand then; and of a disk with two
-/// sub-channels that is closed at the end of a phase, or rescinded.
+/// sub-channels that is closed at the end of a phase, or rescinded; and of two channels that are moved to
+/// other processors, which isn't said below 4.1 and isn't answered below 5.3.
 pub fn say_so()
     ensures guest { GuestSays }
     ensures host { HostSays }
@@ -150,4 +152,7 @@ pub fn say_so()
     ensures host_takes_subs { HostTakesSubs }
     ensures states { EndStates }
     ensures sub_states { SubStates }
+    ensures guest_moves { GuestMoves }
+    ensures host_answers { HostAnswers }
+    ensures vps { EndVps }
 {}

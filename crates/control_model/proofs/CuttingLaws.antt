@@ -6,7 +6,7 @@ use Rattle.std.proofs.lemmas.Bool.Decides.{nat_tests}
 use Rattle.std.specs.List.{onto_first, list_any}
 use Rattle.script_lines.specs.declared.line.Line.{Line}
 use Rattle.script_lines.specs.declared.line.What.{What}
-use Rattle.script_lines.specs.declared.line.What.TheVariants.{Contact as IsContact, Offer as IsOffer, Bad as IsBad, RingSize as IsRingSize, Window as IsWindow, Ask as IsAsk, Rescind as IsRescind, Shut as IsShut, Phase as IsPhase}
+use Rattle.script_lines.specs.declared.line.What.TheVariants.{Contact as IsContact, Offer as IsOffer, Bad as IsBad, RingSize as IsRingSize, Window as IsWindow, Ask as IsAsk, Rescind as IsRescind, Shut as IsShut, Modify as IsModify, Phase as IsPhase}
 use Rattle.script_lines.specs.Lines.{is_phase}
 use Rattle.script_lines.specs.Parts.{parts, ends_part}
 use Rattle.control_model.specs.Dealing.{ends, rest_of}
@@ -90,6 +90,7 @@ phase_ends device (IsWindow d size) e = refl
 phase_ends device (IsAsk d ask) e = refl
 phase_ends device (IsRescind d after held) e = absurd (let wrong : false ≡ true = e in cc)
 phase_ends device (IsShut d) e = absurd (let wrong : false ≡ true = e in cc)
+phase_ends device (IsModify d vp) e = refl
 phase_ends device IsPhase e = refl
 
 or_none : (a b : Bool) → b ≡ false → (a || b) ≡ a

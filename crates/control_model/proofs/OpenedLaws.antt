@@ -9,8 +9,9 @@ use Rattle.script_lines.specs.declared.line.DeviceSpec.TheVariants.{Beat, Down, 
 use Rattle.script_lines.specs.Parts.{channels_of}
 use Rattle.script_phases.specs.Openings.{Opening as PhaseOpening, subs_of, subs_from, channels_from, opened_from, others}
 use Rattle.control_model.specs.declared.opening.Opening.{Opening}
+use Rattle.control_model.specs.declared.planning.Fate.{Fate}
 use Rattle.control_model.specs.Plan.{IsOpening, Seated, Rising, Follows, is_sub, firsts, subs_in, list_pages, most_channels}
-use Rattle.control_model.specs.Openings.{openings_from, pages_in}
+use Rattle.control_model.specs.Openings.{openings_from, pages_in, vp_at}
 use Rattle.control_model.proofs.DealingLaws.{channels_others, other_one}
 use Rattle.control_model.proofs.SubLaws.{by_test, none_by}
 
@@ -105,101 +106,101 @@ named p count low past c is few some room =
 
 -- their openings
 
-abbrev pub opening : (ℕ → ℕ) → (ℕ → Bool) → ℕ → ℕ → PhaseOpening → Opening
-opening sizes rescinded gpadl page c = record { relid = c.relid; sub = c.sub; ring_pages = sizes c.device; gpadl = gpadl; first_page = page; rescinded = rescinded c.device }
+abbrev pub opening : (ℕ → ℕ) → (ℕ → Fate) → ℕ → ℕ → PhaseOpening → Opening
+opening sizes fates gpadl page c = record { relid = c.relid; sub = c.sub; ring_pages = sizes c.device; gpadl = gpadl; first_page = page; rescinded = (fates c.device).rescinded; vp = vp_at (fates c.device).vp c.sub }
 
-pub many_from : (sizes : ℕ → ℕ) (rescinded : ℕ → Bool) (gpadl page : ℕ) (cs : List PhaseOpening) → length (openings_from sizes rescinded gpadl page cs) ≡ length cs
-many_from sizes rescinded gpadl page [] = refl
-many_from sizes rescinded gpadl page (c ∷ cs) = ap (λ n. suc n) (many_from sizes rescinded (gpadl + 1) (page + list_pages (sizes c.device)) cs)
+pub many_from : (sizes : ℕ → ℕ) (fates : ℕ → Fate) (gpadl page : ℕ) (cs : List PhaseOpening) → length (openings_from sizes fates gpadl page cs) ≡ length cs
+many_from sizes fates gpadl page [] = refl
+many_from sizes fates gpadl page (c ∷ cs) = ap (λ n. suc n) (many_from sizes fates (gpadl + 1) (page + list_pages (sizes c.device)) cs)
 
-pub each_from : (sizes : ℕ → ℕ) (rescinded : ℕ → Bool) (P : Opening → Type 0) (Q : PhaseOpening → Type 0) → ((c : PhaseOpening) (g q : ℕ) → Q c → P (opening sizes rescinded g q c)) → (gpadl page : ℕ) (cs : List PhaseOpening) → AllByRecursion Q cs
-    → All P (openings_from sizes rescinded gpadl page cs)
-each_from sizes rescinded P Q so gpadl page [] all = All-nil P
-each_from sizes rescinded P Q so gpadl page (c ∷ cs) all =
-    All-cons P (opening sizes rescinded gpadl page c) (openings_from sizes rescinded (gpadl + 1) (page + list_pages (sizes c.device)) cs) (so c gpadl page all.0) (each_from sizes rescinded P Q so (gpadl + 1) (page + list_pages (sizes c.device)) cs all.1)
+pub each_from : (sizes : ℕ → ℕ) (fates : ℕ → Fate) (P : Opening → Type 0) (Q : PhaseOpening → Type 0) → ((c : PhaseOpening) (g q : ℕ) → Q c → P (opening sizes fates g q c)) → (gpadl page : ℕ) (cs : List PhaseOpening) → AllByRecursion Q cs
+    → All P (openings_from sizes fates gpadl page cs)
+each_from sizes fates P Q so gpadl page [] all = All-nil P
+each_from sizes fates P Q so gpadl page (c ∷ cs) all =
+    All-cons P (opening sizes fates gpadl page c) (openings_from sizes fates (gpadl + 1) (page + list_pages (sizes c.device)) cs) (so c gpadl page all.0) (each_from sizes fates P Q so (gpadl + 1) (page + list_pages (sizes c.device)) cs all.1)
 
-pub fits_from : (sizes : ℕ → ℕ) (rescinded : ℕ → Bool) (gpadl page : ℕ) (cs : List PhaseOpening) → ((d : ℕ) → IsSize (sizes d)) → AllByRecursion (λ c. (1 ≤ c.relid) × (c.relid ≤ most_channels)) cs → page + 34 * length cs < 2 ^ 64
-    → All (λ o. IsOpening o) (openings_from sizes rescinded gpadl page cs)
-fits_from sizes rescinded gpadl page [] sized relids room = All-nil (λ o. IsOpening o)
-fits_from sizes rescinded gpadl page (c ∷ cs) sized relids room =
+pub fits_from : (sizes : ℕ → ℕ) (fates : ℕ → Fate) (gpadl page : ℕ) (cs : List PhaseOpening) → ((d : ℕ) → IsSize (sizes d)) → AllByRecursion (λ c. (1 ≤ c.relid) × (c.relid ≤ most_channels)) cs → page + 34 * length cs < 2 ^ 64
+    → All (λ o. IsOpening o) (openings_from sizes fates gpadl page cs)
+fits_from sizes fates gpadl page [] sized relids room = All-nil (λ o. IsOpening o)
+fits_from sizes fates gpadl page (c ∷ cs) sized relids room =
     let size = sized c.device in
-    let one : IsOpening (opening sizes rescinded gpadl page c) = record {
+    let one : IsOpening (opening sizes fates gpadl page c) = record {
       named = relids.0.0;
       few = relids.0.1;
       some_pages = size.0;
       few_pages = size.1;
       numbered = omega (arith, size.1, room);
     } in
-    All-cons (λ o. IsOpening o) (opening sizes rescinded gpadl page c) (openings_from sizes rescinded (gpadl + 1) (page + list_pages (sizes c.device)) cs) one
-    (fits_from sizes rescinded (gpadl + 1) (page + list_pages (sizes c.device)) cs sized relids.1 (omega (arith, size.1, room)))
+    All-cons (λ o. IsOpening o) (opening sizes fates gpadl page c) (openings_from sizes fates (gpadl + 1) (page + list_pages (sizes c.device)) cs) one
+    (fits_from sizes fates (gpadl + 1) (page + list_pages (sizes c.device)) cs sized relids.1 (omega (arith, size.1, room)))
 
 pub pages_few : (sizes : ℕ → ℕ) (cs : List PhaseOpening) → ((d : ℕ) → IsSize (sizes d)) → pages_in sizes cs ≤ 34 * length cs
 pages_few sizes [] sized = omega arith
 pages_few sizes (c ∷ cs) sized = let rest = pages_few sizes cs sized in let size = sized c.device in omega (arith, rest, size.1)
 
-pub follow_from : (sizes : ℕ → ℕ) (rescinded : ℕ → Bool) (gpadl page : ℕ) (cs : List PhaseOpening) (os : List Opening) → Follows (gpadl + length cs) (page + pages_in sizes cs) os → Follows gpadl page (openings_from sizes rescinded gpadl page cs ++ os)
-follow_from sizes rescinded gpadl page [] os rest =
+pub follow_from : (sizes : ℕ → ℕ) (fates : ℕ → Fate) (gpadl page : ℕ) (cs : List PhaseOpening) (os : List Opening) → Follows (gpadl + length cs) (page + pages_in sizes cs) os → Follows gpadl page (openings_from sizes fates gpadl page cs ++ os)
+follow_from sizes fates gpadl page [] os rest =
     let g : gpadl + 0 ≡ gpadl = omega arith in
     let p : page + 0 ≡ page = omega arith in
     subst (λ k. Follows k page os) g (subst (λ k. Follows (gpadl + 0) k os) p rest)
-follow_from sizes rescinded gpadl page (c ∷ cs) os rest =
+follow_from sizes fates gpadl page (c ∷ cs) os rest =
     let d = c.device in
     let g : gpadl + suc (length cs) ≡ (gpadl + 1) + length cs = omega arith in
     let p : page + (list_pages (sizes d) + pages_in sizes cs) ≡ (page + list_pages (sizes d)) + pages_in sizes cs = omega arith in
-    (refl, refl, follow_from sizes rescinded (gpadl + 1) (page + list_pages (sizes d)) cs os (subst (λ k. Follows k ((page + list_pages (sizes d)) + pages_in sizes cs) os) g (subst (λ k. Follows (gpadl + suc (length cs)) k os) p rest)))
+    (refl, refl, follow_from sizes fates (gpadl + 1) (page + list_pages (sizes d)) cs os (subst (λ k. Follows k ((page + list_pages (sizes d)) + pages_in sizes cs) os) g (subst (λ k. Follows (gpadl + suc (length cs)) k os) p rest)))
 
 -- those of first channels alone are offered from the start
-pub offered_from : (sizes : ℕ → ℕ) (rescinded : ℕ → Bool) (p : ℕ → Bool) (count low past gpadl page : ℕ) (cs : List PhaseOpening) → AllByRecursion (IsChannel p count low past) cs
-    → All (λ o. is_sub o ≡ false → o.relid ≤ count) (openings_from sizes rescinded gpadl page cs)
-offered_from sizes rescinded p count low past gpadl page cs are =
-    each_from sizes rescinded (λ o. is_sub o ≡ false → o.relid ≤ count) (IsChannel p count low past) (λ c g q is first. let relid = is.first (none_by c.sub first) in let below = is.below in omega (arith, relid, below)) gpadl page cs are
+pub offered_from : (sizes : ℕ → ℕ) (fates : ℕ → Fate) (p : ℕ → Bool) (count low past gpadl page : ℕ) (cs : List PhaseOpening) → AllByRecursion (IsChannel p count low past) cs
+    → All (λ o. is_sub o ≡ false → o.relid ≤ count) (openings_from sizes fates gpadl page cs)
+offered_from sizes fates p count low past gpadl page cs are =
+    each_from sizes fates (λ o. is_sub o ≡ false → o.relid ≤ count) (IsChannel p count low past) (λ c g q is first. let relid = is.first (none_by c.sub first) in let below = is.below in omega (arith, relid, below)) gpadl page cs are
 
 -- each sub-channel has its number
-seats_from : (sizes : ℕ → ℕ) (rescinded : ℕ → Bool) (gpadl page device sub relid n : ℕ) (spec : DeviceSpec) (on : List PhaseOpening) → ((m g q : ℕ) → Seated m (openings_from sizes rescinded g q on))
-    → Seated sub (openings_from sizes rescinded gpadl page (subs_from device spec sub relid n ++ on))
-seats_from sizes rescinded gpadl page device sub relid zero spec on rest = rest sub gpadl page
-seats_from sizes rescinded gpadl page device sub relid (suc n) spec on rest = (λ is. refl, seats_from sizes rescinded (gpadl + 1) (page + list_pages (sizes device)) device (sub + 1) (relid + 1) n spec on rest)
+seats_from : (sizes : ℕ → ℕ) (fates : ℕ → Fate) (gpadl page device sub relid n : ℕ) (spec : DeviceSpec) (on : List PhaseOpening) → ((m g q : ℕ) → Seated m (openings_from sizes fates g q on))
+    → Seated sub (openings_from sizes fates gpadl page (subs_from device spec sub relid n ++ on))
+seats_from sizes fates gpadl page device sub relid zero spec on rest = rest sub gpadl page
+seats_from sizes fates gpadl page device sub relid (suc n) spec on rest = (λ is. refl, seats_from sizes fates (gpadl + 1) (page + list_pages (sizes device)) device (sub + 1) (relid + 1) n spec on rest)
 
-seated_if : (sizes : ℕ → ℕ) (rescinded : ℕ → Bool) (m gpadl page device next : ℕ) (spec : DeviceSpec) (on off : List PhaseOpening) (b : Bool) → ((m g q : ℕ) → Seated m (openings_from sizes rescinded g q on)) → ((m g q : ℕ) → Seated m (openings_from sizes rescinded g q off))
-    → Seated m (openings_from sizes rescinded gpadl page (if b then channels_from device spec next ++ on else off))
-seated_if sizes rescinded m gpadl page device next spec on off true on_so off_so =
-    (λ is. absurd (let wrong : false ≡ true = is in cc), seats_from sizes rescinded (gpadl + 1) (page + list_pages (sizes device)) device 1 next (subs_of spec) spec on on_so)
-seated_if sizes rescinded m gpadl page device next spec on off false on_so off_so = off_so m gpadl page
+seated_if : (sizes : ℕ → ℕ) (fates : ℕ → Fate) (m gpadl page device next : ℕ) (spec : DeviceSpec) (on off : List PhaseOpening) (b : Bool) → ((m g q : ℕ) → Seated m (openings_from sizes fates g q on)) → ((m g q : ℕ) → Seated m (openings_from sizes fates g q off))
+    → Seated m (openings_from sizes fates gpadl page (if b then channels_from device spec next ++ on else off))
+seated_if sizes fates m gpadl page device next spec on off true on_so off_so =
+    (λ is. absurd (let wrong : false ≡ true = is in cc), seats_from sizes fates (gpadl + 1) (page + list_pages (sizes device)) device 1 next (subs_of spec) spec on on_so)
+seated_if sizes fates m gpadl page device next spec on off false on_so off_so = off_so m gpadl page
 
-pub seated_from : (sizes : ℕ → ℕ) (rescinded p : ℕ → Bool) (m gpadl page device next : ℕ) (specs : List DeviceSpec) → Seated m (openings_from sizes rescinded gpadl page (opened_from p device next specs))
-seated_from sizes rescinded p m gpadl page device next [] = tt
-seated_from sizes rescinded p m gpadl page device next (spec ∷ specs) =
-    seated_if sizes rescinded m gpadl page device next spec (opened_from p (device + 1) (next + subs_of spec) specs) (opened_from p (device + 1) next specs) (p device)
-    (λ k g q. seated_from sizes rescinded p k g q (device + 1) (next + subs_of spec) specs) (λ k g q. seated_from sizes rescinded p k g q (device + 1) next specs)
+pub seated_from : (sizes : ℕ → ℕ) (fates : ℕ → Fate) (p : ℕ → Bool) (m gpadl page device next : ℕ) (specs : List DeviceSpec) → Seated m (openings_from sizes fates gpadl page (opened_from p device next specs))
+seated_from sizes fates p m gpadl page device next [] = tt
+seated_from sizes fates p m gpadl page device next (spec ∷ specs) =
+    seated_if sizes fates m gpadl page device next spec (opened_from p (device + 1) (next + subs_of spec) specs) (opened_from p (device + 1) next specs) (p device)
+    (λ k g q. seated_from sizes fates p k g q (device + 1) (next + subs_of spec) specs) (λ k g q. seated_from sizes fates p k g q (device + 1) next specs)
 
 -- the relids of first channels rise
 passed : (b : Bool) (least : ℕ) (o : Opening) (os : List Opening) → b ≡ false → Rising least os → Rising least (cond b (o ∷ os) os)
 passed true least o os is rise = absurd (cc)
 passed false least o os is rise = rise
 
-subs_passed : (sizes : ℕ → ℕ) (rescinded : ℕ → Bool) (least gpadl page device sub relid n : ℕ) (spec : DeviceSpec) (on : List PhaseOpening) → 1 ≤ sub → ((g q : ℕ) → Rising least (firsts (openings_from sizes rescinded g q on)))
-    → Rising least (firsts (openings_from sizes rescinded gpadl page (subs_from device spec sub relid n ++ on)))
-subs_passed sizes rescinded least gpadl page device sub relid zero spec on some rest = rest gpadl page
-subs_passed sizes rescinded least gpadl page device sub relid (suc n) spec on some rest =
+subs_passed : (sizes : ℕ → ℕ) (fates : ℕ → Fate) (least gpadl page device sub relid n : ℕ) (spec : DeviceSpec) (on : List PhaseOpening) → 1 ≤ sub → ((g q : ℕ) → Rising least (firsts (openings_from sizes fates g q on)))
+    → Rising least (firsts (openings_from sizes fates gpadl page (subs_from device spec sub relid n ++ on)))
+subs_passed sizes fates least gpadl page device sub relid zero spec on some rest = rest gpadl page
+subs_passed sizes fates least gpadl page device sub relid (suc n) spec on some rest =
     let c : PhaseOpening = record { relid = relid; device = device; spec = spec; sub = sub } in
-    passed (sub == 0) least (opening sizes rescinded gpadl page c) (firsts (openings_from sizes rescinded (gpadl + 1) (page + list_pages (sizes device)) (subs_from device spec (sub + 1) (relid + 1) n ++ on))) (grind (arith, nat_tests, some))
-    (subs_passed sizes rescinded least (gpadl + 1) (page + list_pages (sizes device)) device (sub + 1) (relid + 1) n spec on (omega arith) rest)
+    passed (sub == 0) least (opening sizes fates gpadl page c) (firsts (openings_from sizes fates (gpadl + 1) (page + list_pages (sizes device)) (subs_from device spec (sub + 1) (relid + 1) n ++ on))) (grind (arith, nat_tests, some))
+    (subs_passed sizes fates least (gpadl + 1) (page + list_pages (sizes device)) device (sub + 1) (relid + 1) n spec on (omega arith) rest)
 
 rising_less : (least more : ℕ) (os : List Opening) → least ≤ more → Rising more os → Rising least os
 rising_less least more [] less rise = tt
 rising_less least more (o ∷ os) less rise = (omega (arith, less, rise.0), rise.1)
 
-rising_if : (sizes : ℕ → ℕ) (rescinded : ℕ → Bool) (gpadl page device next : ℕ) (spec : DeviceSpec) (on off : List PhaseOpening) (b : Bool) → ((g q : ℕ) → Rising ((device + 1) + 1) (firsts (openings_from sizes rescinded g q on))) → ((g q : ℕ) → Rising ((device + 1) + 1) (firsts (openings_from sizes rescinded g q off)))
-    → Rising (device + 1) (firsts (openings_from sizes rescinded gpadl page (if b then channels_from device spec next ++ on else off)))
-rising_if sizes rescinded gpadl page device next spec on off true on_so off_so =
-    (omega arith, subs_passed sizes rescinded ((device + 1) + 1) (gpadl + 1) (page + list_pages (sizes device)) device 1 next (subs_of spec) spec on (omega arith) on_so)
-rising_if sizes rescinded gpadl page device next spec on off false on_so off_so = rising_less (device + 1) ((device + 1) + 1) (firsts (openings_from sizes rescinded gpadl page off)) (omega arith) (off_so gpadl page)
+rising_if : (sizes : ℕ → ℕ) (fates : ℕ → Fate) (gpadl page device next : ℕ) (spec : DeviceSpec) (on off : List PhaseOpening) (b : Bool) → ((g q : ℕ) → Rising ((device + 1) + 1) (firsts (openings_from sizes fates g q on))) → ((g q : ℕ) → Rising ((device + 1) + 1) (firsts (openings_from sizes fates g q off)))
+    → Rising (device + 1) (firsts (openings_from sizes fates gpadl page (if b then channels_from device spec next ++ on else off)))
+rising_if sizes fates gpadl page device next spec on off true on_so off_so =
+    (omega arith, subs_passed sizes fates ((device + 1) + 1) (gpadl + 1) (page + list_pages (sizes device)) device 1 next (subs_of spec) spec on (omega arith) on_so)
+rising_if sizes fates gpadl page device next spec on off false on_so off_so = rising_less (device + 1) ((device + 1) + 1) (firsts (openings_from sizes fates gpadl page off)) (omega arith) (off_so gpadl page)
 
-pub rising_from : (sizes : ℕ → ℕ) (rescinded p : ℕ → Bool) (gpadl page device next : ℕ) (specs : List DeviceSpec) → Rising (device + 1) (firsts (openings_from sizes rescinded gpadl page (opened_from p device next specs)))
-rising_from sizes rescinded p gpadl page device next [] = tt
-rising_from sizes rescinded p gpadl page device next (spec ∷ specs) =
-    rising_if sizes rescinded gpadl page device next spec (opened_from p (device + 1) (next + subs_of spec) specs) (opened_from p (device + 1) next specs) (p device)
-    (λ g q. rising_from sizes rescinded p g q (device + 1) (next + subs_of spec) specs) (λ g q. rising_from sizes rescinded p g q (device + 1) next specs)
+pub rising_from : (sizes : ℕ → ℕ) (fates : ℕ → Fate) (p : ℕ → Bool) (gpadl page device next : ℕ) (specs : List DeviceSpec) → Rising (device + 1) (firsts (openings_from sizes fates gpadl page (opened_from p device next specs)))
+rising_from sizes fates p gpadl page device next [] = tt
+rising_from sizes fates p gpadl page device next (spec ∷ specs) =
+    rising_if sizes fates gpadl page device next spec (opened_from p (device + 1) (next + subs_of spec) specs) (opened_from p (device + 1) next specs) (p device)
+    (λ g q. rising_from sizes fates p g q (device + 1) (next + subs_of spec) specs) (λ g q. rising_from sizes fates p g q (device + 1) next specs)
 
 -- the relids of sub-channels are those of the channels
 keep_one : (b : Bool) (o : Opening) (c : PhaseOpening) (os : List Opening) (cs : List PhaseOpening) → o.relid ≡ c.relid → map (λ (x : Opening). x.relid) os ≡ map (λ (x : PhaseOpening). x.relid) cs
@@ -207,18 +208,18 @@ keep_one : (b : Bool) (o : Opening) (c : PhaseOpening) (os : List Opening) (cs :
 keep_one true o c os cs here rest = (λ i. here i ∷ rest i)
 keep_one false o c os cs here rest = rest
 
-pub subs_made : (sizes : ℕ → ℕ) (rescinded : ℕ → Bool) (gpadl page : ℕ) (cs : List PhaseOpening) → map (λ (x : Opening). x.relid) (subs_in (openings_from sizes rescinded gpadl page cs)) ≡ map (λ (x : PhaseOpening). x.relid) (others cs)
-subs_made sizes rescinded gpadl page [] = refl
-subs_made sizes rescinded gpadl page (c ∷ cs) =
-    let rest = subs_made sizes rescinded (gpadl + 1) (page + list_pages (sizes c.device)) cs in
-    keep_one (not (c.sub == 0)) (opening sizes rescinded gpadl page c) c (subs_in (openings_from sizes rescinded (gpadl + 1) (page + list_pages (sizes c.device)) cs)) (others cs) refl rest
+pub subs_made : (sizes : ℕ → ℕ) (fates : ℕ → Fate) (gpadl page : ℕ) (cs : List PhaseOpening) → map (λ (x : Opening). x.relid) (subs_in (openings_from sizes fates gpadl page cs)) ≡ map (λ (x : PhaseOpening). x.relid) (others cs)
+subs_made sizes fates gpadl page [] = refl
+subs_made sizes fates gpadl page (c ∷ cs) =
+    let rest = subs_made sizes fates (gpadl + 1) (page + list_pages (sizes c.device)) cs in
+    keep_one (not (c.sub == 0)) (opening sizes fates gpadl page c) c (subs_in (openings_from sizes fates (gpadl + 1) (page + list_pages (sizes c.device)) cs)) (others cs) refl rest
 
 -- sizes that are the same for their devices give the same openings
-pub openings_same : (s t : ℕ → ℕ) (rescinded : ℕ → Bool) (gpadl page : ℕ) (cs : List PhaseOpening) → AllByRecursion (λ c. s c.device ≡ t c.device) cs → openings_from s rescinded gpadl page cs ≡ openings_from t rescinded gpadl page cs
-openings_same s t rescinded gpadl page [] same = refl
-openings_same s t rescinded gpadl page (c ∷ cs) same =
-    let O : ℕ → List Opening = λ n. record { relid = c.relid; sub = c.sub; ring_pages = n; gpadl = gpadl; first_page = page; rescinded = rescinded c.device } ∷ openings_from s rescinded (gpadl + 1) (page + list_pages n) cs in
-    ap O same.0 ∙ ap (λ os. opening t rescinded gpadl page c ∷ os) (openings_same s t rescinded (gpadl + 1) (page + list_pages (t c.device)) cs same.1)
+pub openings_same : (s t : ℕ → ℕ) (fates : ℕ → Fate) (gpadl page : ℕ) (cs : List PhaseOpening) → AllByRecursion (λ c. s c.device ≡ t c.device) cs → openings_from s fates gpadl page cs ≡ openings_from t fates gpadl page cs
+openings_same s t fates gpadl page [] same = refl
+openings_same s t fates gpadl page (c ∷ cs) same =
+    let O : ℕ → List Opening = λ n. record { relid = c.relid; sub = c.sub; ring_pages = n; gpadl = gpadl; first_page = page; rescinded = (fates c.device).rescinded; vp = vp_at (fates c.device).vp c.sub } ∷ openings_from s fates (gpadl + 1) (page + list_pages n) cs in
+    ap O same.0 ∙ ap (λ os. opening t fates gpadl page c ∷ os) (openings_same s t fates (gpadl + 1) (page + list_pages (t c.device)) cs same.1)
 
 pub pages_same : (s t : ℕ → ℕ) (cs : List PhaseOpening) → AllByRecursion (λ c. s c.device ≡ t c.device) cs → pages_in s cs ≡ pages_in t cs
 pages_same s t [] same = refl

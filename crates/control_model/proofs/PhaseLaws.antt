@@ -1,22 +1,29 @@
 -- The openings of all phases, one phase after the other.
-use Rattle.std.proofs.Common.{◌≡◌, ◌∙◌, ℕ, zero, suc, ◌+◌, ◌-◌, ◌<◌, ◌≤◌, Bool, true, false, cond, not, ◌&&◌, ◌||◌, nat_lt, nat_le, List, [], ◌∷◌, ◌++◌, length, map, if◌then◌else◌, take, drop, get_or, slice_range, Some, None, refl, sym, ap, arith, append_assoc}
+use Rattle.std.proofs.Common.{◌≡◌, ◌∙◌, ℕ, zero, suc, ◌+◌, ◌-◌, ◌<◌, ◌≤◌, Bool, true, false, cond, not, ◌&&◌, ◌||◌, ◌==◌, nat_lt, nat_le, List, [], ◌∷◌, ◌++◌, length, map, if◌then◌else◌, take, drop, get_or, slice_get, slice_range, Some, None, refl, sym, ap, arith, append_assoc}
 use Rattle.std.proofs.lemmas.List.{take-take, drop-take, take-append-drop}
 use Rattle.std.proofs.lemmas.List.FromFn.{get_or-map-range_with_len}
 use Rattle.std.proofs.lemmas.List.Folds.{list_any-append}
 use Rattle.std.proofs.lemmas.Bool.Decides.{nat_tests}
-use Rattle.std.specs.List.{list_any, position, position_or_len, range_with_len}
+use Rattle.std.proofs.lemmas.Grind.{flat_map-append}
+use Rattle.std.specs.List.{flat_map, list_any, position, position_or_len, range_with_len}
 use Rattle.script_lines.specs.declared.line.Line.{Line}
+use Rattle.script_lines.specs.declared.line.What.{What}
+use Rattle.script_lines.specs.declared.line.What.TheVariants.{Contact as IsContact, Offer as IsOffer, Bad as IsBad, RingSize as IsRingSize, Window as IsWindow, Ask as IsAsk, Rescind as IsRescind, Shut as IsShut, Modify as IsModify, Phase as IsPhase}
 use Rattle.script_lines.specs.declared.line.DeviceSpec.{DeviceSpec}
+use Rattle.script_lines.specs.Lines.{said}
 use Rattle.script_lines.specs.Parts.{parts, offered}
-use Rattle.script_phases.specs.Says.{is_rescinded}
+use Rattle.script_phases.specs.Agreed.{agreed_in}
+use Rattle.script_phases.specs.Says.{is_rescinded, moves, heard_by, said_to, vp_of}
 use Rattle.script_phases.specs.Openings.{Opening as PhaseOpening, Phase, is_opened, subs_of, channels_from, opened_from, others, phases, phases_from}
 use Rattle.script_phases.proofs.Saying.{rescind_same, opened_by_lines}
 use Rattle.control_model.specs.declared.opening.Opening.{Opening}
+use Rattle.control_model.specs.declared.planning.Fate.{Fate}
 use Rattle.control_model.specs.declared.planning.Next.{Next}
 use Rattle.control_model.specs.declared.planning.Served.{Served}
 use Rattle.control_model.specs.Plan.{first_gpadl}
-use Rattle.control_model.specs.Openings.{openings_from, pages_in, numbered}
-use Rattle.control_model.specs.Dealing.{served_of, speaks_to, ends, ended_before, rescinded_in, opens, opens_one, size_in, no_device, rest_of}
+use Rattle.control_model.specs.Openings.{openings_from, pages_in, numbered, fate_of}
+use Rattle.control_model.specs.Dealing.{served_of, speaks_to, ends, ended_before, rescinded_in, vp_by, vp_in, fate_in, opens, opens_one, size_in, no_device, rest_of}
+use Rattle.control_model.proofs.SubLaws.{by_test}
 
 -- a test that passes among the first n, by the place of the first one that passes
 and_none : (a b : Bool) → b ≡ false → (a && b) ≡ false
@@ -61,7 +68,7 @@ same_opened p q device next (k ∷ specs) same =
 
 -- the phases that are left
 abbrev pub left : List Line → ℕ → ℕ → ℕ → List Line → List Phase
-left lines start number next earlier = phases_from (offered lines) number next earlier (rest_of lines start)
+left lines start number next earlier = phases_from (agreed_in lines) (offered lines) number next earlier (rest_of lines start)
 
 -- what was made so far, and what is left
 pub record SoFar (lines : List Line) (devices : List Served) (start : ℕ) (made : List (List Opening)) (next : Next) : Type 0 where
@@ -77,7 +84,7 @@ none_so_far lines devices made relid none is =
     record {
       number = 0;
       earlier = [];
-      all = ap (λ r. numbered (size_in devices) first_gpadl 0 (phases_from (offered lines) 0 (length (offered lines) + 1) [] r)) (sym whole)
+      all = ap (λ r. numbered (size_in devices) first_gpadl 0 (phases_from (agreed_in lines) (offered lines) 0 (length (offered lines) + 1) [] r)) (sym whole)
           ∙ ap (λ l. l ++ numbered (size_in devices) first_gpadl 0 (left lines 0 0 (length (offered lines) + 1) [])) (sym none)
           ∙ ap (λ r. made ++ numbered (size_in devices) first_gpadl 0 (left lines 0 0 r [])) (sym is);
       ended = λ device. refl;
@@ -100,12 +107,32 @@ range_join lines start end from =
     ∙ ap (λ l. l ++ drop start (take end lines)) (take-take start end lines from)
     ∙ ap (λ l. take start lines ++ l) (ap (λ k. drop start (take k lines)) (sym sum) ∙ drop-take start (end - start) lines)
 
+-- what a phase does to a device
+vp_one : (device : ℕ) (what : What) → flat_map moves (heard_by device (said what)) ≡ vp_by device what
+vp_one device (IsContact guest host) = refl
+vp_one device (IsOffer name spec) = refl
+vp_one device (IsBad d lba) = refl
+vp_one device (IsRingSize d pages) = refl
+vp_one device (IsWindow d size) = refl
+vp_one device (IsAsk d ask) = by_test {P = flat_map moves (heard_by device (said (IsAsk d ask))) ≡ []} (d == device) (λ e. rw e refl) (λ e. rw e refl)
+vp_one device (IsRescind d after held) = by_test {P = flat_map moves (heard_by device (said (IsRescind d after held))) ≡ []} (d == device) (λ e. rw e refl) (λ e. rw e refl)
+vp_one device (IsShut d) = by_test {P = flat_map moves (heard_by device (said (IsShut d))) ≡ []} (d == device) (λ e. rw e refl) (λ e. rw e refl)
+vp_one device (IsModify d vp) = by_test {P = flat_map moves (heard_by device (said (IsModify d vp))) ≡ vp_by device (IsModify d vp)} (d == device) (λ e. rw e refl) (λ e. rw e refl)
+vp_one device IsPhase = refl
+
+vps_same : (device : ℕ) (part : List Line) → flat_map moves (said_to device part) ≡ flat_map (λ l. vp_by device l.what) part
+vps_same device [] = refl
+vps_same device (l ∷ part) = flat_map-append moves (heard_by device (said l.what)) (said_to device part) ∙ (λ i. vp_one device l.what i ++ vps_same device part i)
+
+fate_same : (device : ℕ) (part : List Line) → fate_of device part ≡ fate_in part device
+fate_same device part = let vp = ap (λ (vs : List ℕ). slice_get vs 0) (vps_same device part) in (λ i. record { rescinded = rescind_same device part i; vp = vp i })
+
 -- one phase more
 pub phase_on : (lines : List Line) (specs : List DeviceSpec) (devices : List Served) (start end : ℕ) (made : List (List Opening)) (next next' : Next) (os : List Opening)
     → specs ≡ offered lines → length devices ≡ length specs → devices ≡ map (served_of lines) (range_with_len 0 (length devices)) → SoFar lines devices start made next → start ≤ end
     → rest_of lines start ≡ slice_range lines start end ∷ rest_of lines (end + 1)
     → ((device : ℕ) → list_any (λ l. ends device l.what) (take (end + 1) lines) ≡ list_any (λ l. ends device l.what) (take end lines))
-    → os ≡ openings_from (size_in devices) (rescinded_in (slice_range lines start end)) next.gpadl next.page (opened_from (opens devices (slice_range lines start end) start) 0 next.relid specs)
+    → os ≡ openings_from (size_in devices) (fate_in (slice_range lines start end)) next.gpadl next.page (opened_from (opens devices (slice_range lines start end) start) 0 next.relid specs)
     → next'.gpadl ≡ next.gpadl + length (opened_from (opens devices (slice_range lines start end) start) 0 next.relid specs)
     → next'.page ≡ next.page + pages_in (size_in devices) (opened_from (opens devices (slice_range lines start end) start) 0 next.relid specs)
     → next'.relid ≡ next.relid + length (others (opened_from (opens devices (slice_range lines start end) start) 0 next.relid specs))
@@ -118,14 +145,13 @@ phase_on lines specs devices start end made next next' os specs_are count table 
     let same : meant ≡ coded = sym (opened_same lines part so_far.earlier devices start next.relid (count ∙ ap length specs_are) table so_far.ended) ∙ ap (opened_from (opens devices part start) 0 next.relid) (sym specs_are) in
     let later : ℕ = next.relid + length (others meant) in
     let rest : ℕ → List Phase = λ r. left lines (end + 1) (so_far.number + 1) r (so_far.earlier ++ part) in
-    let coded_gone : ℕ → Bool = rescinded_in part in
-    let meant_gone : ℕ → Bool = λ device. is_rescinded device part in
-    let one : openings_from S meant_gone next.gpadl next.page meant ≡ os = (λ i. openings_from S (λ device. rescind_same device part i) next.gpadl next.page (same i)) ∙ sym is in
+    let meant_fate : ℕ → Fate = λ device. fate_of device part in
+    let one : openings_from S meant_fate next.gpadl next.page meant ≡ os = (λ i. openings_from S (λ device. fate_same device part i) next.gpadl next.page (same i)) ∙ sym is in
     let g : next.gpadl + length meant ≡ next'.gpadl = ap (λ (cs : List PhaseOpening). next.gpadl + length cs) same ∙ sym gpadl in
     let p : next.page + pages_in S meant ≡ next'.page = ap (λ (cs : List PhaseOpening). next.page + pages_in S cs) same ∙ sym page in
     let r : later ≡ next'.relid = ap (λ (cs : List PhaseOpening). next.relid + length (others cs)) same ∙ sym relid in
     let here : numbered S next.gpadl next.page (left lines start so_far.number next.relid so_far.earlier) ≡ os ∷ numbered S next'.gpadl next'.page (rest next'.relid) =
-    ap (λ xs. numbered S next.gpadl next.page (phases_from (offered lines) so_far.number next.relid so_far.earlier xs)) cut
+    ap (λ xs. numbered S next.gpadl next.page (phases_from (agreed_in lines) (offered lines) so_far.number next.relid so_far.earlier xs)) cut
     ∙ (λ i. one i ∷ numbered S (g i) (p i) (rest (r i))) in
     record {
       number = so_far.number + 1;

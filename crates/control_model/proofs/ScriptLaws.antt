@@ -12,7 +12,7 @@ use Rattle.contact.specs.declared.version.Version.{Version}
 use Rattle.contact.specs.Versions.{IsVersion}
 use Rattle.script_lines.specs.declared.line.Line.{Line}
 use Rattle.script_lines.specs.declared.line.What.{What}
-use Rattle.script_lines.specs.declared.line.What.TheVariants.{Contact as IsContact, Offer as IsOffer, Bad as IsBad, RingSize as IsRingSize, Window as IsWindow, Ask as IsAsk, Rescind as IsRescind, Shut as IsShut, Phase as IsPhase}
+use Rattle.script_lines.specs.declared.line.What.TheVariants.{Contact as IsContact, Offer as IsOffer, Bad as IsBad, RingSize as IsRingSize, Window as IsWindow, Ask as IsAsk, Rescind as IsRescind, Shut as IsShut, Modify as IsModify, Phase as IsPhase}
 use Rattle.script_lines.specs.declared.line.DeviceSpec.{DeviceSpec}
 use Rattle.script_lines.specs.declared.line.DeviceSpec.TheVariants.{Beat, Down, Disk, Net}
 use Rattle.script_lines.specs.Lines.{is_rescind, said}
@@ -23,10 +23,12 @@ use Rattle.script_phases.specs.Openings.{Opening as PhaseOpening, Phase, is_ende
 use Rattle.script_phases.specs.Laws.{later_channels}
 use Rattle.script_phases.proofs.Following.{next_relids_lem}
 use Rattle.control_model.specs.declared.planning.Served.{Served}
+use Rattle.control_model.specs.declared.planning.Fate.{Fate}
 use Rattle.control_model.specs.declared.opening.Opening.{Opening}
 use Rattle.control_model.specs.Dealing.{served_of, size_in, no_device, HasSizes}
 use Rattle.control_model.specs.Plan.{BusPlan, IsPlan, IsOpening, Rising, Follows, OpensAgain, RescindsEnd, is_sub, firsts as firsts_of, subs_in, Seated, all_openings, first_gpadl, most_channels}
-use Rattle.control_model.specs.Openings.{plan_of, guest_in, host_in, guest_by, host_by, openings_from, pages_in, numbered}
+use Rattle.script_phases.specs.Agreed.{guest_in, host_in, guest_by, host_by, agreed_in}
+use Rattle.control_model.specs.Openings.{plan_of, openings_from, pages_in, numbered, fate_of}
 use Rattle.control_model.proofs.SubLaws.{by_test, none_by, some_by}
 use Rattle.control_model.proofs.OpenedLaws.{IsSize, IsChannel, all_so, channels_are, channels_few, others_few, named, opening, many_from, each_from, fits_from, pages_few, follow_from, offered_from, seated_from, rising_from, subs_made, openings_same, pages_same}
 
@@ -39,6 +41,7 @@ guest_right kinds (IsWindow d size) right = refl
 guest_right kinds (IsAsk d ask) right = refl
 guest_right kinds (IsRescind d after held) right = refl
 guest_right kinds (IsShut d) right = refl
+guest_right kinds (IsModify d vp) right = refl
 guest_right kinds IsPhase right = refl
 
 host_right : (kinds : List DeviceSpec) (what : What) → IsRight kinds what → IsVersion (host_by what).0
@@ -50,6 +53,7 @@ host_right kinds (IsWindow d size) right = refl
 host_right kinds (IsAsk d ask) right = refl
 host_right kinds (IsRescind d after held) right = refl
 host_right kinds (IsShut d) right = refl
+host_right kinds (IsModify d vp) right = refl
 host_right kinds IsPhase right = refl
 
 guest_version : (kinds : List DeviceSpec) (lines : List Line) → AllRight kinds lines → IsVersion (guest_in lines).0
@@ -73,6 +77,7 @@ size_by kinds device (IsWindow d size) more right rest = rest
 size_by kinds device (IsAsk d ask) more right rest = rest
 size_by kinds device (IsRescind d after held) more right rest = rest
 size_by kinds device (IsShut d) more right rest = rest
+size_by kinds device (IsModify d vp) more right rest = rest
 size_by kinds device IsPhase more right rest = rest
 
 pub size_of : (kinds : List DeviceSpec) (device : ℕ) (lines : List Line) → AllRight kinds lines → IsSize (ring_pages_of device lines)
@@ -107,8 +112,8 @@ pub record Unharmed (lines : List Line) (count from : ℕ) (o : Opening) : Type 
   pub first : is_sub o ≡ false → (o.relid ≤ count) × ((d : ℕ) → o.relid ≡ d + 1 → is_rescinded d lines ≡ false)
   pub other : is_sub o ≡ true → from ≤ o.relid
 
-unharmed : (sizes : ℕ → ℕ) (rescinded p : ℕ → Bool) (lines : List Line) (count from low past g q : ℕ) (c : PhaseOpening) → from ≤ low → ((d : ℕ) → p d ≡ true → is_rescinded d lines ≡ false) → IsChannel p count low past c → Unharmed lines count from (opening sizes rescinded g q c)
-unharmed sizes rescinded p lines count from low past g q c less within is = record {
+unharmed : (sizes : ℕ → ℕ) (fates : ℕ → Fate) (p : ℕ → Bool) (lines : List Line) (count from low past g q : ℕ) (c : PhaseOpening) → from ≤ low → ((d : ℕ) → p d ≡ true → is_rescinded d lines ≡ false) → IsChannel p count low past c → Unharmed lines count from (opening sizes fates g q c)
+unharmed sizes fates p lines count from low past g q c less within is = record {
   first = λ e.
       let relid = is.first (none_by c.sub e) in
       let below = is.below in
@@ -117,18 +122,18 @@ unharmed sizes rescinded p lines count from low past g q c less within is = reco
   other = λ e. let relid = is.other (some_by c.sub e) in omega (arith, relid.0, less);
 }
 
-no_more : (sizes : ℕ → ℕ) (specs : List DeviceSpec) (number from next gpadl page : ℕ) (earlier lines : List Line) (ps : List (List Line)) → from ≤ next → ((d : ℕ) → is_rescinded d earlier ≡ false → is_rescinded d lines ≡ false)
-    → All (λ os. All (Unharmed lines (length specs) from) os) (numbered sizes gpadl page (phases_from specs number next earlier ps))
-no_more sizes specs number from next gpadl page earlier lines [] less within = All-nil (λ os. All (Unharmed lines (length specs) from) os)
-no_more sizes specs number from next gpadl page earlier lines (part ∷ ps) less within =
+no_more : (sizes : ℕ → ℕ) (v : ℕ) (specs : List DeviceSpec) (number from next gpadl page : ℕ) (earlier lines : List Line) (ps : List (List Line)) → from ≤ next → ((d : ℕ) → is_rescinded d earlier ≡ false → is_rescinded d lines ≡ false)
+    → All (λ os. All (Unharmed lines (length specs) from) os) (numbered sizes gpadl page (phases_from v specs number next earlier ps))
+no_more sizes v specs number from next gpadl page earlier lines [] less within = All-nil (λ os. All (Unharmed lines (length specs) from) os)
+no_more sizes v specs number from next gpadl page earlier lines (part ∷ ps) less within =
     let p = is_opened earlier part in
     let cs = opened_from p 0 next specs in
-    let rescinded : ℕ → Bool = λ device. is_rescinded device part in
+    let fates : ℕ → Fate = λ device. fate_of device part in
     let relid = next + length (others cs) in
     let are = channels_are p (length specs) next relid 0 next specs (omega arith) (omega arith) (omega arith) in
-    All-cons (λ os. All (Unharmed lines (length specs) from) os) (openings_from sizes rescinded gpadl page cs) (numbered sizes (gpadl + length cs) (page + pages_in sizes cs) (phases_from specs (number + 1) relid (earlier ++ part) ps))
-    (each_from sizes rescinded (Unharmed lines (length specs) from) (IsChannel p (length specs) next relid) (λ c g q is. unharmed sizes rescinded p lines (length specs) from next relid g q c less (λ d e. within d (opened_not earlier part d e)) is) gpadl page cs are)
-    (no_more sizes specs (number + 1) from relid (gpadl + length cs) (page + pages_in sizes cs) (earlier ++ part) lines ps (omega (arith, less)) (λ d e. within d (or_left (is_rescinded d earlier) (is_rescinded d part) (sym (said_more d earlier part) ∙ e))))
+    All-cons (λ os. All (Unharmed lines (length specs) from) os) (openings_from sizes fates gpadl page cs) (numbered sizes (gpadl + length cs) (page + pages_in sizes cs) (phases_from v specs (number + 1) relid (earlier ++ part) ps))
+    (each_from sizes fates (Unharmed lines (length specs) from) (IsChannel p (length specs) next relid) (λ c g q is. unharmed sizes fates p lines (length specs) from next relid g q c less (λ d e. within d (opened_not earlier part d e)) is) gpadl page cs are)
+    (no_more sizes v specs (number + 1) from relid (gpadl + length cs) (page + pages_in sizes cs) (earlier ++ part) lines ps (omega (arith, less)) (λ d e. within d (or_left (is_rescinded d earlier) (is_rescinded d part) (sym (said_more d earlier part) ∙ e))))
 
 -- no later phase opens a channel that is rescinded: it would be a device's first one, whose device these lines rescind
 again_one : (p : ℕ → Bool) (part : List Line) (count low past : ℕ) (c : PhaseOpening) (o : Opening) → IsChannel p count low past c → count < low → low ≤ past → Unharmed part count past o → o.relid ≡ c.relid → is_rescinded c.device part ≡ false
@@ -142,9 +147,9 @@ again_one p part count low past c o is over up fine same =
     (λ no. let more : 1 ≤ c.sub = grind (arith, nat_tests, no) in let relid = is.other more in let few = there.0 in absurd (omega (arith, few, same, relid.0, over))))
 
 none_opened_again : (sizes : ℕ → ℕ) (p : ℕ → Bool) (part : List Line) (count low past gpadl page : ℕ) (cs : List PhaseOpening) (later : List (List Opening)) → AllByRecursion (IsChannel p count low past) cs → count < low → low ≤ past
-    → All (λ os. All (Unharmed part count past) os) later → All (OpensAgain later) (openings_from sizes (λ device. is_rescinded device part) gpadl page cs)
+    → All (λ os. All (Unharmed part count past) os) later → All (OpensAgain later) (openings_from sizes (λ device. fate_of device part) gpadl page cs)
 none_opened_again sizes p part count low past gpadl page cs later are over up fine =
-    each_from sizes (λ device. is_rescinded device part) (OpensAgain later) (IsChannel p count low past)
+    each_from sizes (λ device. fate_of device part) (OpensAgain later) (IsChannel p count low past)
     (λ c g q is i os in_phases j o in_os same. again_one p part count low past c (get_or (get_or later i os) j o) is over up (fine i os in_phases j o in_os) same) gpadl page cs are
 
 -- the openings of all phases
@@ -158,9 +163,9 @@ pub record Phases (count gpadl page : ℕ) (phases : List (List Opening)) : Type
   pub ends : RescindsEnd phases
 
 -- each of them opens 16 channels at most, and takes no more relids
-all_phases : (sizes : ℕ → ℕ) (specs : List DeviceSpec) (number next gpadl page : ℕ) (earlier : List Line) (ps : List (List Line)) → ((d : ℕ) → IsSize (sizes d)) → length specs ≤ 16 → sum_by channels_of specs ≤ 16 → length specs < next → next + 16 * length ps ≤ most_channels + 1 → page + 544 * length ps < 2 ^ 64
-    → Phases (length specs) gpadl page (numbered sizes gpadl page (phases_from specs number next earlier ps))
-all_phases sizes specs number next gpadl page earlier [] sized few narrow over relids room = record {
+all_phases : (sizes : ℕ → ℕ) (v : ℕ) (specs : List DeviceSpec) (number next gpadl page : ℕ) (earlier : List Line) (ps : List (List Line)) → ((d : ℕ) → IsSize (sizes d)) → length specs ≤ 16 → sum_by channels_of specs ≤ 16 → length specs < next → next + 16 * length ps ≤ most_channels + 1 → page + 544 * length ps < 2 ^ 64
+    → Phases (length specs) gpadl page (numbered sizes gpadl page (phases_from v specs number next earlier ps))
+all_phases sizes v specs number next gpadl page earlier [] sized few narrow over relids room = record {
   fits = All-nil (λ os. All (λ o. IsOpening o) os);
   offered = All-nil (λ os. All (λ o. is_sub o ≡ false → o.relid ≤ length specs) os);
   rising = All-nil (λ os. Rising 1 (firsts_of os));
@@ -169,29 +174,29 @@ all_phases sizes specs number next gpadl page earlier [] sized few narrow over r
   follow = tt;
   ends = tt;
 }
-all_phases sizes specs number next gpadl page earlier (part ∷ ps) sized few narrow over relids room =
+all_phases sizes v specs number next gpadl page earlier (part ∷ ps) sized few narrow over relids room =
     let count = length specs in
     let p = is_opened earlier part in
     let cs = opened_from p 0 next specs in
-    let rescinded : ℕ → Bool = λ device. is_rescinded device part in
+    let fates : ℕ → Fate = λ device. fate_of device part in
     let some : length cs ≤ 16 = let h = channels_few p 0 next specs in omega (arith, h, narrow) in
     let fresh : length (others cs) ≤ 16 = let h = others_few cs in omega (arith, h, some) in
     let pages : pages_in sizes cs ≤ 34 * length cs = pages_few sizes cs sized in
     let relid = next + length (others cs) in
     let are = channels_are p count next relid 0 next specs (omega arith) (omega arith) (omega arith) in
-    let rest = all_phases sizes specs (number + 1) relid (gpadl + length cs) (page + pages_in sizes cs) (earlier ++ part) ps sized few narrow (omega (arith, over)) (omega (arith, relids, fresh)) (omega (arith, room, pages, some)) in
-    let here = openings_from sizes rescinded gpadl page cs in
-    let later = numbered sizes (gpadl + length cs) (page + pages_in sizes cs) (phases_from specs (number + 1) relid (earlier ++ part) ps) in
+    let rest = all_phases sizes v specs (number + 1) relid (gpadl + length cs) (page + pages_in sizes cs) (earlier ++ part) ps sized few narrow (omega (arith, over)) (omega (arith, relids, fresh)) (omega (arith, room, pages, some)) in
+    let here = openings_from sizes fates gpadl page cs in
+    let later = numbered sizes (gpadl + length cs) (page + pages_in sizes cs) (phases_from v specs (number + 1) relid (earlier ++ part) ps) in
     let all_named = all_so (IsChannel p count next relid) (λ c. (1 ≤ c.relid) × (c.relid ≤ most_channels)) (λ c is. named p count next relid c is few (omega (arith, over)) (omega (arith, relids, fresh))) cs are in
     record {
-      fits = All-cons (λ os. All (λ o. IsOpening o) os) here later (fits_from sizes rescinded gpadl page cs sized all_named (omega (arith, room, some))) rest.fits;
-      offered = All-cons (λ os. All (λ o. is_sub o ≡ false → o.relid ≤ count) os) here later (offered_from sizes rescinded p count next relid gpadl page cs are) rest.offered;
-      rising = All-cons (λ os. Rising 1 (firsts_of os)) here later (rising_from sizes rescinded p gpadl page 0 next specs) rest.rising;
-      seated = All-cons (λ os. Seated 0 os) here later (seated_from sizes rescinded p 0 gpadl page 0 next specs) rest.seated;
-      small = All-cons (λ os. length os ≤ 16) here later (let many = many_from sizes rescinded gpadl page cs in omega (arith, many, some)) rest.small;
-      follow = follow_from sizes rescinded gpadl page cs (all_openings later) rest.follow;
+      fits = All-cons (λ os. All (λ o. IsOpening o) os) here later (fits_from sizes fates gpadl page cs sized all_named (omega (arith, room, some))) rest.fits;
+      offered = All-cons (λ os. All (λ o. is_sub o ≡ false → o.relid ≤ count) os) here later (offered_from sizes fates p count next relid gpadl page cs are) rest.offered;
+      rising = All-cons (λ os. Rising 1 (firsts_of os)) here later (rising_from sizes fates p gpadl page 0 next specs) rest.rising;
+      seated = All-cons (λ os. Seated 0 os) here later (seated_from sizes fates p 0 gpadl page 0 next specs) rest.seated;
+      small = All-cons (λ os. length os ≤ 16) here later (let many = many_from sizes fates gpadl page cs in omega (arith, many, some)) rest.small;
+      follow = follow_from sizes fates gpadl page cs (all_openings later) rest.follow;
       ends = (
-        none_opened_again sizes p part count next relid gpadl page cs later are over (omega arith) (no_more sizes specs (number + 1) relid relid (gpadl + length cs) (page + pages_in sizes cs) (earlier ++ part) part ps (omega arith) (λ d. later_rescinds earlier part d)),
+        none_opened_again sizes p part count next relid gpadl page cs later are over (omega arith) (no_more sizes v specs (number + 1) relid relid (gpadl + length cs) (page + pages_in sizes cs) (earlier ++ part) part ps (omega arith) (λ d. later_rescinds earlier part d)),
         rest.ends,
       );
     }
@@ -200,10 +205,10 @@ all_phases sizes specs number next gpadl page earlier (part ∷ ps) sized few na
 subs_later : (sizes : ℕ → ℕ) (gpadl page : ℕ) (phases : List Phase) → map (λ (x : Opening). x.relid) (subs_in (all_openings (numbered sizes gpadl page phases))) ≡ map (λ (x : PhaseOpening). x.relid) (flat_map (λ p. others p.opened) phases)
 subs_later sizes gpadl page [] = refl
 subs_later sizes gpadl page (p ∷ phases) =
-    let rescinded : ℕ → Bool = λ device. is_rescinded device p.part in
-    let here = openings_from sizes rescinded gpadl page p.opened in
+    let fates : ℕ → Fate = λ device. fate_of device p.part in
+    let here = openings_from sizes fates gpadl page p.opened in
     let later = all_openings (numbered sizes (gpadl + length p.opened) (page + pages_in sizes p.opened) phases) in
-    let mine = subs_made sizes rescinded gpadl page p.opened in
+    let mine = subs_made sizes fates gpadl page p.opened in
     let rest = subs_later sizes (gpadl + length p.opened) (page + pages_in sizes p.opened) phases in
     ap (map (λ (x : Opening). x.relid)) (filter-append is_sub here later) ∙ map-append (λ (x : Opening). x.relid) (subs_in here) (subs_in later)
     ∙ (λ i. mine i ++ rest i) ∙ sym (map-append (λ (x : PhaseOpening). x.relid) (others p.opened) (flat_map (λ p. others p.opened) phases))
@@ -231,15 +236,15 @@ numbered_length : (sizes : ℕ → ℕ) (gpadl page : ℕ) (phases : List Phase)
 numbered_length sizes gpadl page [] = refl
 numbered_length sizes gpadl page (p ∷ phases) = ap (λ n. suc n) (numbered_length sizes (gpadl + length p.opened) (page + pages_in sizes p.opened) phases)
 
-opened_length : (specs : List DeviceSpec) (number next : ℕ) (earlier : List Line) (ps : List (List Line)) → length (phases_from specs number next earlier ps) ≡ length ps
-opened_length specs number next earlier [] = refl
-opened_length specs number next earlier (part ∷ ps) =
-    ap (λ n. suc n) (opened_length specs (number + 1) (next + length (others (opened_from (is_opened earlier part) 0 next specs))) (earlier ++ part) ps)
+opened_length : (v : ℕ) (specs : List DeviceSpec) (number next : ℕ) (earlier : List Line) (ps : List (List Line)) → length (phases_from v specs number next earlier ps) ≡ length ps
+opened_length v specs number next earlier [] = refl
+opened_length v specs number next earlier (part ∷ ps) =
+    ap (λ n. suc n) (opened_length v specs (number + 1) (next + length (others (opened_from (is_opened earlier part) 0 next specs))) (earlier ++ part) ps)
 
 -- a script's plan has its phases
 pub phases_are : (lines : List Line) → length (plan_of lines).phases ≡ length (parts lines)
 phases_are lines =
-    numbered_length (λ d. ring_pages_of d lines) first_gpadl 0 (phases_of lines) ∙ opened_length (offered lines) 0 (length (offered lines) + 1) [] (parts lines)
+    numbered_length (λ d. ring_pages_of d lines) first_gpadl 0 (phases_of lines) ∙ opened_length (agreed_in lines) (offered lines) 0 (length (offered lines) + 1) [] (parts lines)
 
 pub plan_is : (lines : List Line) → IsScript lines → IsPlan (plan_of lines)
 plan_is lines script =
@@ -249,7 +254,7 @@ plan_is lines script =
     let each : length (map kind_of kinds) ≡ count = length-map kinds kind_of in
     let many = parts_count lines in
     let long = phases_are lines in
-    let phases = all_phases sizes kinds 0 (count + 1) first_gpadl 0 [] (parts lines) (λ d. size_of kinds d lines script.right) script.few script.channels (omega arith) (omega (arith, many.1, script.short, script.few)) (omega (arith, many.1, script.short)) in
+    let phases = all_phases sizes (agreed_in lines) kinds 0 (count + 1) first_gpadl 0 [] (parts lines) (λ d. size_of kinds d lines script.right) script.few script.channels (omega arith) (omega (arith, many.1, script.short, script.few)) (omega (arith, many.1, script.short)) in
     record {
       guest = guest_version kinds lines script.right;
       host = host_version kinds lines script.right;
@@ -267,22 +272,22 @@ plan_is lines script =
     }
 
 -- sizes that are the same for all devices give the same openings
-numbered_same : (s t : ℕ → ℕ) (specs : List DeviceSpec) (number next gpadl page : ℕ) (earlier : List Line) (ps : List (List Line)) → ((d : ℕ) → d < length specs → s d ≡ t d)
-    → numbered s gpadl page (phases_from specs number next earlier ps) ≡ numbered t gpadl page (phases_from specs number next earlier ps)
-numbered_same s t specs number next gpadl page earlier [] same = refl
-numbered_same s t specs number next gpadl page earlier (part ∷ ps) same =
+numbered_same : (s t : ℕ → ℕ) (v : ℕ) (specs : List DeviceSpec) (number next gpadl page : ℕ) (earlier : List Line) (ps : List (List Line)) → ((d : ℕ) → d < length specs → s d ≡ t d)
+    → numbered s gpadl page (phases_from v specs number next earlier ps) ≡ numbered t gpadl page (phases_from v specs number next earlier ps)
+numbered_same s t v specs number next gpadl page earlier [] same = refl
+numbered_same s t v specs number next gpadl page earlier (part ∷ ps) same =
     let count = length specs in
     let p = is_opened earlier part in
     let cs = opened_from p 0 next specs in
     let relid = next + length (others cs) in
     let each = all_so (IsChannel p count next relid) (λ c. s c.device ≡ t c.device) (λ c is. same c.device is.below) cs (channels_are p count next relid 0 next specs (omega arith) (omega arith) (omega arith)) in
-    let rescinded : ℕ → Bool = λ device. is_rescinded device part in
-    let here : openings_from s rescinded gpadl page cs ≡ openings_from t rescinded gpadl page cs = openings_same s t rescinded gpadl page cs each in
+    let fates : ℕ → Fate = λ device. fate_of device part in
+    let here : openings_from s fates gpadl page cs ≡ openings_from t fates gpadl page cs = openings_same s t fates gpadl page cs each in
     let pages : pages_in s cs ≡ pages_in t cs = pages_same s t cs each in
-    let rest = phases_from specs (number + 1) relid (earlier ++ part) ps in
+    let rest = phases_from v specs (number + 1) relid (earlier ++ part) ps in
     ap (λ os. os ∷ numbered s (gpadl + length cs) (page + pages_in s cs) rest) here
-    ∙ (ap (λ k. openings_from t rescinded gpadl page cs ∷ numbered s (gpadl + length cs) (page + k) rest) pages
-    ∙ ap (λ l. openings_from t rescinded gpadl page cs ∷ l) (numbered_same s t specs (number + 1) relid (gpadl + length cs) (page + pages_in t cs) (earlier ++ part) ps same))
+    ∙ (ap (λ k. openings_from t fates gpadl page cs ∷ numbered s (gpadl + length cs) (page + k) rest) pages
+    ∙ ap (λ l. openings_from t fates gpadl page cs ∷ l) (numbered_same s t v specs (number + 1) relid (gpadl + length cs) (page + pages_in t cs) (earlier ++ part) ps same))
 
 -- the table of devices
 pub table_item : (lines : List Line) (devices : List Served) (count d : ℕ) (e : Served) → devices ≡ map (served_of lines) (range_with_len 0 count) → d < count → get_or devices d e ≡ served_of lines d
@@ -300,7 +305,7 @@ table_sizes lines devices count script table k e below =
 phases_same : (lines : List Line) (devices : List Served) (count : ℕ) → IsScript lines → devices ≡ map (served_of lines) (range_with_len 0 count) → count ≡ length (offered lines)
     → numbered (size_in devices) first_gpadl 0 (phases_of lines) ≡ (plan_of lines).phases
 phases_same lines devices count script table is =
-    numbered_same (size_in devices) (λ d. ring_pages_of d lines) (offered lines) 0 (length (offered lines) + 1) first_gpadl 0 [] (parts lines)
+    numbered_same (size_in devices) (λ d. ring_pages_of d lines) (agreed_in lines) (offered lines) 0 (length (offered lines) + 1) first_gpadl 0 [] (parts lines)
     (λ d below. ap (λ (s : Served). s.ring_pages) (table_item lines devices count d no_device table (omega (arith, is, below))))
 
 -- the parts of a plan make it
@@ -327,6 +332,7 @@ subs_offered kinds (IsWindow d size) right = All-nil (λ spec. subs_of spec ≤ 
 subs_offered kinds (IsAsk d ask) right = All-nil (λ spec. subs_of spec ≤ 3)
 subs_offered kinds (IsRescind d after held) right = All-nil (λ spec. subs_of spec ≤ 3)
 subs_offered kinds (IsShut d) right = All-nil (λ spec. subs_of spec ≤ 3)
+subs_offered kinds (IsModify d vp) right = All-nil (λ spec. subs_of spec ≤ 3)
 subs_offered kinds IsPhase right = All-nil (λ spec. subs_of spec ≤ 3)
 
 pub few_subs : (kinds : List DeviceSpec) (lines : List Line) → AllRight kinds lines → All (λ spec. subs_of spec ≤ 3) (offered lines)

@@ -52,4 +52,4 @@ below_from v u (x ∷ xs) any less falls all =
 -- what next_version ensures of its answer leaves no other one
 pub below_is : (v : Version) (r : Option Version) → IsVersion v.0 → (IsNone r ↔ (v.0 ≡ oldest)) → IfSome r (λ u. IsVersion u.0 × (u.0 < v.0)) → IfSome r (λ u. All (λ w. w < v.0 → w ≤ u.0) versions) → r ≡ version_below v
 below_is v None is last lower next = let old = last.0 refl in sym (ap (λ w. first_below w versions) old)
-below_is v (Some u) is last lower next = sym (below_from v.0 u.0 versions lower.0 lower.1 (refl, (refl, (refl, (refl, (refl, (refl, (refl, tt))))))) next)
+below_is v (Some u) is last lower next = sym (below_from v.0 u.0 versions lower.0 lower.1 (refl, (refl, (refl, (refl, (refl, (refl, (refl, (refl, tt)))))))) next)

@@ -9,14 +9,16 @@ use Rattle.contact.specs.declared.kind.Kind.{Kind}
 use Rattle.contact.specs.declared.kind.Kind.TheVariants.{Beat, Down, Disk, Net}
 use Rattle.chan_state.specs.declared.state.State.{State}
 use Rattle.chan_state.specs.declared.event.Event.{Event}
+use Rattle.chan_state.specs.declared.event.Event.TheVariants.{WantModify}
 use Rattle.chan_state.specs.declared.action.Action.{Action}
 use Rattle.chan_state.specs.declared.chan_state.ChanState.{ChanState}
-use Rattle.chan_state.specs.Life.{transition}
+use Rattle.chan_state.specs.Life.{transition, vp_after}
 use Rattle.control_model.specs.declared.channel.Channel.{Channel}
 use Rattle.control_model.specs.declared.fault.ControlFault.{ControlFault}
 use Rattle.control_model.specs.declared.fault.ControlFault.TheVariants.{State as StateRefused}
 use Rattle.control_model.specs.declared.change.Change.{Change}
-use Rattle.control_model.specs.declared.change.Change.TheVariants.{Same, Offered, Now}
+use Rattle.control_model.specs.declared.change.Change.TheVariants.{Same, Offered, Now, Moved}
+use Rattle.control_model.specs.declared.moves.Move.{Move}
 
 -- the greatest version below this one
 abbrev pub first_below : ℕ → List ℕ → Option Version
@@ -60,21 +62,39 @@ row_of life e = transition life.side life.state e
 
 -- a channel in another state
 abbrev pub stands : ChanState → State → ChanState
-stands life state = record { side = life.side; state = state }
+stands life state = record { side = life.side; state = state; vp = life.vp }
+
+-- a channel after an event that has a row
+abbrev pub goes_by : ChanState → Event → State → ChanState
+goes_by life e state = record { side = life.side; state = state; vp = vp_after life.vp e }
 
 -- a guest's channel after an event, or the refusal where the table has no row
 abbrev pub lived_by : Channel → Event → Option (State × Action) → Result Channel ControlFault
 lived_by c e None = Err (StateRefused (record { state = c.life.state; event = e }))
-lived_by c e (Some row) = Ok (record { life = stands c.life row.0; gpadl = c.gpadl })
+lived_by c e (Some row) = Ok (record { life = goes_by c.life e row.0; gpadl = c.gpadl })
 
 abbrev pub lived : Channel → Event → Result Channel ControlFault
 lived c e = lived_by c e (row_of c.life e)
+
+-- the guest moves a channel, where the table of its life has a row for that
+abbrev pub put_moved : List Channel → ℕ → Result Channel ControlFault → List Channel
+put_moved channels relid (Err fault) = channels
+put_moved channels relid (Ok now) = slice_set channels (relid - 1) now
+
+abbrev pub move_at : List Channel → Bool → Move → Option Channel → List Channel
+move_at channels answered m None = channels
+move_at channels answered m (Some c) = put_moved channels m.relid (lived c (WantModify m.vp answered))
+
+abbrev pub move_all : List Channel → Bool → List Move → List Channel
+move_all channels answered [] = channels
+move_all channels answered (m ∷ moves) = move_all (move_at channels answered m (by_relid channels m.relid)) answered moves
 
 -- what becomes of a guest's channels
 abbrev pub changed : List Channel → Change → List Channel
 changed channels Same = channels
 changed channels (Offered channel) = channels ++ channel ∷ []
 changed channels (Now relid channel) = slice_set channels (relid - 1) channel
+changed channels (Moved moves answered) = move_all channels answered moves
 
 -- the page list that a channel set up has this handle
 abbrev pub is_handle : ℕ → Option ℕ → Bool

@@ -1,8 +1,9 @@
 -- The tables by which a script's plan is made in one pass over its lines, and by which its openings are found.
-use Rattle.std.specs.Prelude.{◌≡◌, ℕ, ◌+◌, ◌-◌, ◌≤◌, ◌==◌, Bool, false, ◌++◌, not, ◌&&◌, ◌||◌, List, [], length, All, slice_index_or, drop, nat_lt, nat_le, if◌then◌else◌, Option, Some, None, is_some, slice_get}
-use Rattle.std.specs.List.{list_any, position}
+use Rattle.std.specs.Prelude.{◌≡◌, ℕ, ◌+◌, ◌-◌, ◌≤◌, ◌==◌, Bool, false, ◌++◌, not, ◌&&◌, ◌||◌, List, [], ◌∷◌, length, All, slice_index_or, drop, nat_lt, nat_le, if◌then◌else◌, Option, Some, None, is_some, slice_get}
+use Rattle.std.specs.List.{flat_map, list_any, position}
 use Rattle.script_lines.specs.declared.line.Line.{Line}
 use Rattle.script_lines.specs.declared.line.What.{What}
+use Rattle.script_lines.specs.declared.line.What.TheVariants.{Modify}
 use Rattle.script_lines.specs.declared.line.DeviceSpec.{DeviceSpec}
 use Rattle.script_lines.specs.Lines.{said}
 use Rattle.script_lines.specs.Parts.{parts, ring_pages_of, rescinds, shuts}
@@ -11,6 +12,7 @@ use Rattle.script_phases.specs.Openings.{Opening as PhaseOpening, channels_from,
 use Rattle.control_model.specs.Openings.{openings_from, pages_in}
 use Rattle.control_model.specs.declared.planning.Served.{Served}
 use Rattle.control_model.specs.declared.planning.Next.{Next}
+use Rattle.control_model.specs.declared.planning.Fate.{Fate}
 use Rattle.control_model.specs.declared.opening.Opening.{Opening}
 use Rattle.control_model.specs.Plan.{is_of_sub}
 
@@ -30,6 +32,19 @@ ended_before (Some place) start = nat_lt place start
 -- one of these lines rescinds a device
 abbrev pub rescinded_in : List Line → ℕ → Bool
 rescinded_in part device = list_any (λ l. rescinds device l.what) part
+
+-- the processor that a line moves a device to
+abbrev pub vp_by : ℕ → What → List ℕ
+vp_by device (Modify d vp) = if d == device then vp ∷ [] else []
+vp_by device what = []
+
+-- the first one in these lines
+abbrev pub vp_in : List Line → ℕ → Option ℕ
+vp_in part device = slice_get (flat_map (λ l. vp_by device l.what) part) 0
+
+-- what these lines do to a device
+abbrev pub fate_in : List Line → ℕ → Fate
+fate_in part device = record { rescinded = rescinded_in part device; vp = vp_in part device }
 
 -- a line speaks to a device
 abbrev pub speaks_to : ℕ → What → Bool
@@ -58,8 +73,8 @@ abbrev pub HasSizes : List Served → Type 0
 HasSizes devices = All (λ d. (1 ≤ d.ring_pages) × (d.ring_pages ≤ 16)) devices
 
 -- these channels of a device were opened: each took the next handle and the next pages, and each sub-channel the next relid
-pub record Dealt (channels : List PhaseOpening) (ring_pages : ℕ) (rescinded : Bool) (before : List Opening) (next : Next) (after : List Opening) (later : Next) : Type 0 where
-  pub openings : after ≡ before ++ openings_from (λ d. ring_pages) (λ d. rescinded) next.gpadl next.page channels
+pub record Dealt (channels : List PhaseOpening) (ring_pages : ℕ) (fate : Fate) (before : List Opening) (next : Next) (after : List Opening) (later : Next) : Type 0 where
+  pub openings : after ≡ before ++ openings_from (λ d. ring_pages) (λ d. fate) next.gpadl next.page channels
   pub gpadl : later.gpadl ≡ next.gpadl + length channels
   pub page : later.page ≡ next.page + pages_in (λ d. ring_pages) channels
   pub relid : later.relid ≡ next.relid + length (others channels)

@@ -1,32 +1,34 @@
 -- A guest's control: what it waits for, what it does about each message, and what it refuses.
-use Rattle.std.specs.Prelude.{◌≡◌, ℕ, ◌+◌, ◌-◌, ◌==◌, ◌<◌, Bool, true, false, not, ◌&&◌, ◌||◌, List, [], ◌∷◌, ◌++◌, length, slice_get, nat_le, Option, Some, None, is_some, Result, Ok, Err, if◌then◌else◌}
+use Rattle.std.specs.Prelude.{◌≡◌, ℕ, ◌+◌, ◌-◌, ◌==◌, ◌<◌, Bool, true, false, not, ◌&&◌, ◌||◌, List, [], ◌∷◌, ◌++◌, length, slice_get, nat_le, Option, Some, None, is_some, filter, map, Result, Ok, Err, if◌then◌else◌}
+use Rattle.std.specs.List.{position_from}
 use Rattle.contact.specs.declared.version.Version.{Version}
 use Rattle.contact.specs.declared.part.Part.{Part}
 use Rattle.contact.specs.declared.part.Part.TheVariants.{Contact, PhaseStart, PhaseEnd, Unload}
 use Rattle.contact.specs.declared.kind.Kind.{Kind}
 use Rattle.contact.specs.declared.kind.Kind.TheVariants.{Disk}
 use Rattle.contact.specs.declared.channel_offer.OfferFault.TheVariants.{Class}
-use Rattle.contact.specs.Versions.{version, IsVersion}
+use Rattle.contact.specs.Versions.{version, IsVersion, has_modify, answers_modify}
 use Rattle.io_edge.specs.declared.side.Side.TheVariants.{Guest as GuestSide}
 use Rattle.chan_state.specs.declared.state.State.{State}
-use Rattle.chan_state.specs.declared.state.State.TheVariants.{Offered as IsOffered}
-use Rattle.chan_state.specs.declared.event.Event.TheVariants.{WantOpen, WantClose, WantRelease, ResultSeen, TorndownSeen, RescindSeen}
+use Rattle.chan_state.specs.declared.state.State.TheVariants.{Offered as IsOffered, Opened as IsOpened, Modifying as IsModifying}
+use Rattle.chan_state.specs.declared.event.Event.TheVariants.{WantOpen, WantClose, WantRelease, ResultSeen, ModifiedSeen, TorndownSeen, RescindSeen}
 use Rattle.gpadl.specs.declared.fault.GpadlFault.TheVariants.{Handle}
 use Rattle.vmbus_msg.specs.Grammar.{type_of}
 use Rattle.vmbus_msg.specs.declared.msg.Msg.{Msg}
-use Rattle.vmbus_msg.specs.declared.msg.Msg.TheVariants.{OfferChannel, RescindChannelOffer, AllOffersDelivered, OpenChannelResult, GpadlCreated, GpadlTorndown, VersionResponse, UnloadResponse}
+use Rattle.vmbus_msg.specs.declared.msg.Msg.TheVariants.{OfferChannel, RescindChannelOffer, AllOffersDelivered, OpenChannelResult, GpadlCreated, GpadlTorndown, VersionResponse, UnloadResponse, ModifyChannelResponse}
 use Rattle.control_model.specs.declared.opening.Opening.{Opening}
 use Rattle.control_model.specs.declared.channel.Channel.{Channel}
 use Rattle.control_model.specs.declared.change.Change.{Change}
-use Rattle.control_model.specs.declared.change.Change.TheVariants.{Same, Offered, Now}
+use Rattle.control_model.specs.declared.change.Change.TheVariants.{Same, Offered, Now, Moved}
+use Rattle.control_model.specs.declared.moves.Move.{Move}
 use Rattle.control_model.specs.declared.burst.Burst.{Burst}
-use Rattle.control_model.specs.declared.burst.Burst.TheVariants.{Empty, One, Two, Three, PageList}
+use Rattle.control_model.specs.declared.burst.Burst.TheVariants.{Empty, One, Two, Three, PageList, Moves}
 use Rattle.control_model.specs.declared.fault.ControlFault.{ControlFault}
 use Rattle.control_model.specs.declared.fault.ControlFault.TheVariants.{Gpadl, Relid, Offer, Unasked, Memory}
 use Rattle.control_model.specs.declared.guest_wait.GuestWait.{GuestWait}
-use Rattle.control_model.specs.declared.guest_wait.GuestWait.TheVariants.{Nothing, Response, Offers, SubOffer, Created, Opened, Torn, Rescinded, Unloaded}
+use Rattle.control_model.specs.declared.guest_wait.GuestWait.TheVariants.{Nothing, Response, Offers, SubOffer, Created, Opened, Modified, Torn, Rescinded, Unloaded}
 use Rattle.control_model.specs.declared.guest_turn.GuestTurn.{GuestTurn}
-use Rattle.control_model.specs.Plan.{BusPlan, opening_in, is_sub, is_of_sub, most_channels}
+use Rattle.control_model.specs.Plan.{BusPlan, opening_in, is_sub, is_of_sub, movers_in, vp_for, most_channels}
 use Rattle.control_model.specs.Messages.{propose, request, open_on, close, teardown, release, farewell, Sends, Fits}
 use Rattle.control_model.specs.Channels.{version_below, kind_with, same_kind, is_kind, by_relid, lived, changed, place_of_list}
 
@@ -72,10 +74,62 @@ idle g = record { awaits = g.awaits; version = g.version; heard = Same; wished =
 abbrev pub opening_of : GuestSeen → ℕ → Option Opening
 opening_of g place = opening_in g.plan g.part place
 
--- goes on with the opening at a place, if there is one: its page list is sent
-abbrev pub lists_next : GuestTurn → ℕ → Option Opening → GuestTurn
-lists_next turn place None = record turn { awaits = Nothing }
-lists_next turn place (Some o) = record turn { awaits = Created place; burst = PageList o }
+-- from 4.1 on channels are moved to other processors, and from 5.3 on the host answers that
+abbrev pub can_modify : Option Version → Bool
+can_modify None = false
+can_modify (Some v) = has_modify v.0
+
+abbrev pub is_answered : Option Version → Bool
+is_answered None = false
+is_answered (Some v) = answers_modify v.0
+
+-- of a phase that starts, the openings whose channels are moved
+abbrev pub movers_of : GuestSeen → Option Part → List Opening
+movers_of g part = movers_in g.plan part (can_modify g.version)
+
+-- the channel with this relid is open; it is moved, and the host hasn't answered
+abbrev pub is_opened : State → Bool
+is_opened IsOpened = true
+is_opened _ = false
+
+abbrev pub is_modifying : State → Bool
+is_modifying IsModifying = true
+is_modifying _ = false
+
+abbrev pub in_state : (State → Bool) → Option Channel → Bool
+in_state is None = false
+in_state is (Some c) = is c.life.state
+
+-- the channel with a relid, as the message that came leaves it
+abbrev pub channel_then : GuestSeen → Change → ℕ → Option Channel
+channel_then g (Now named channel) relid = if named == relid then Some channel else by_relid g.channels relid
+channel_then g heard relid = by_relid g.channels relid
+
+abbrev pub then_in : GuestSeen → Change → (State → Bool) → Opening → Bool
+then_in g heard is o = in_state is (channel_then g heard o.relid)
+
+-- all channels of a phase are open: those that the phase moves are moved, but for any that isn't open any more, and the guest waits for the answers, where there
+-- are some
+abbrev pub move_of : Opening → Move
+move_of o = record { relid = o.relid; vp = vp_for o }
+
+abbrev pub moves_of : GuestSeen → Change → List Opening → List Move
+moves_of g heard os = map move_of (filter (then_in g heard is_opened) os)
+
+abbrev pub waits_moved : Bool → List Move → GuestWait
+waits_moved true (m ∷ moves) = Modified 0
+waits_moved _ _ = Nothing
+
+abbrev pub moves_with : GuestTurn → Bool → List Move → GuestTurn
+moves_with turn answered moves = record turn { awaits = waits_moved answered moves; wished = Moved moves answered; burst = Moves moves }
+
+abbrev pub moves_all : GuestSeen → Option Part → GuestTurn → GuestTurn
+moves_all g part turn = moves_with turn (is_answered g.version) (moves_of g turn.heard (movers_of g part))
+
+-- goes on with the opening at a place, if there is one: its page list is sent; behind the last one the channels are moved
+abbrev pub lists_next : GuestSeen → Option Part → GuestTurn → ℕ → Option Opening → GuestTurn
+lists_next g part turn place None = moves_all g part turn
+lists_next g part turn place (Some o) = record turn { awaits = Created place; burst = PageList o }
 
 -- CLOSECHANNEL and GPADL_TEARDOWN, behind the one message, if any, that is sent before them
 abbrev pub and_close : Burst → Opening → Burst
@@ -112,7 +166,7 @@ proposal g v = record (idle g) { awaits = Response v; burst = One (propose v.0) 
 -- what the guest sends unasked at the start of a part
 abbrev pub guest_begins : GuestSeen → Part → GuestTurn
 guest_begins g Contact = proposal g g.plan.guest
-guest_begins g (PhaseStart phase) = lists_next (idle g) 0 (opening_in g.plan (Some (PhaseStart phase)) 0)
+guest_begins g (PhaseStart phase) = lists_next g (Some (PhaseStart phase)) (idle g) 0 (opening_in g.plan (Some (PhaseStart phase)) 0)
 guest_begins g (PhaseEnd phase) = closes_next (idle g) g.channels 0 (opening_in g.plan (Some (PhaseEnd phase)) 0)
 guest_begins g Unload =
     if can_unload g.version then record (idle g) { awaits = Unloaded; burst = One farewell } else record (idle g) { awaits = Nothing }
@@ -133,7 +187,7 @@ on_response g _ supported = idle g
 
 -- OFFERCHANNEL: while devices are offered, the next device's, of its kind, with the next relid
 abbrev pub offered_channel : Channel
-offered_channel = record { life = record { side = GuestSide; state = IsOffered }; gpadl = None }
+offered_channel = record { life = record { side = GuestSide; state = IsOffered; vp = 0 }; gpadl = None }
 
 abbrev pub awaits_offers : GuestWait → Bool
 awaits_offers Offers = true
@@ -153,7 +207,7 @@ is_sub_offer g o kind sub relid = (relid == length g.channels + 1) && (relid == 
 -- once all of them came, the guest goes on with the first one: its page list is sent
 abbrev pub goes_behind : GuestSeen → GuestTurn → ℕ → Opening → GuestTurn
 goes_behind g turn place o =
-    if is_of_sub (opening_of g (place + 1)) then record turn { awaits = SubOffer (place + 1) } else lists_next turn (place + 1 - o.sub) (opening_of g (place + 1 - o.sub))
+    if is_of_sub (opening_of g (place + 1)) then record turn { awaits = SubOffer (place + 1) } else lists_next g g.part turn (place + 1 - o.sub) (opening_of g (place + 1 - o.sub))
 
 abbrev pub sub_offered : GuestSeen → ℕ → Kind → ℕ → ℕ → Option Opening → GuestTurn
 sub_offered g place kind sub relid None = idle g
@@ -194,13 +248,13 @@ on_created g relid gpadl status (Some c) = Ok (created_while g g.awaits relid gp
 
 -- OPENCHANNEL_RESULT: the channel is open with status 0, and the guest goes on with the next opening; behind a device's first channel the offers of its
 -- sub-channels come before
-abbrev pub opens_next : GuestTurn → ℕ → Opening → Option Opening → GuestTurn
-opens_next turn place o next = if not (is_sub o) && is_of_sub next then record turn { awaits = SubOffer (place + 1) } else lists_next turn (place + 1) next
+abbrev pub opens_next : GuestSeen → GuestTurn → ℕ → Opening → Option Opening → GuestTurn
+opens_next g turn place o next = if not (is_sub o) && is_of_sub next then record turn { awaits = SubOffer (place + 1) } else lists_next g g.part turn (place + 1) next
 
 abbrev pub opened_for : GuestSeen → GuestTurn → ℕ → ℕ → ℕ → Option Opening → GuestTurn
 opened_for g turn place relid status None = turn
 opened_for g turn place relid status (Some o) =
-    if (o.relid == relid) && (status == 0) then opens_next turn place o (opening_of g (place + 1)) else turn
+    if (o.relid == relid) && (status == 0) then opens_next g turn place o (opening_of g (place + 1)) else turn
 
 abbrev pub opened_while : GuestSeen → GuestTurn → GuestWait → ℕ → ℕ → GuestTurn
 opened_while g turn (Opened place) relid status = opened_for g turn place relid status (opening_of g place)
@@ -213,6 +267,26 @@ result_by g relid status (Ok now) = Ok (opened_while g (record (idle g) { heard 
 abbrev pub on_result : GuestSeen → ℕ → ℕ → Option Channel → Result GuestTurn ControlFault
 on_result g relid status None = Err (Relid relid)
 on_result g relid status (Some c) = result_by g relid status (lived c (ResultSeen status))
+
+-- MODIFYCHANNEL_RESPONSE: the channel is open again, and the guest waits for the answers from that of the first one on that has none yet
+abbrev pub waits_answer : Option ℕ → GuestWait
+waits_answer None = Nothing
+waits_answer (Some place) = Modified place
+
+abbrev pub waits_on : GuestSeen → GuestTurn → GuestTurn
+waits_on g turn = record turn { awaits = waits_answer (position_from (then_in g turn.heard is_modifying) 0 (movers_of g g.part)) }
+
+abbrev pub modified_while : GuestSeen → GuestTurn → GuestWait → GuestTurn
+modified_while g turn (Modified place) = waits_on g turn
+modified_while g turn _ = turn
+
+abbrev pub modified_by : GuestSeen → ℕ → Result Channel ControlFault → Result GuestTurn ControlFault
+modified_by g relid (Err fault) = Err fault
+modified_by g relid (Ok now) = Ok (modified_while g (record (idle g) { heard = Now relid now }) g.awaits)
+
+abbrev pub on_modified : GuestSeen → ℕ → Option Channel → Result GuestTurn ControlFault
+on_modified g relid None = Err (Relid relid)
+on_modified g relid (Some c) = modified_by g relid (lived c ModifiedSeen)
 
 -- the channel of the opening at a place is done with, where it is this one, and the guest goes on with the next opening
 abbrev pub ended_for : GuestSeen → GuestTurn → ℕ → ℕ → Option Opening → GuestTurn
@@ -243,13 +317,14 @@ abbrev pub on_torndown : GuestSeen → ℕ → Option ℕ → Result GuestTurn C
 on_torndown g gpadl None = Err (Gpadl (Handle gpadl))
 on_torndown g gpadl (Some place) = torn_at g gpadl place (slice_get g.channels place)
 
--- RESCIND_CHANNELOFFER: the guest settles, gives the channel back, and goes on with the next opening
+-- RESCIND_CHANNELOFFER: the guest settles, gives the channel back, and goes on with the next opening; of a channel that is moved no answer is waited for then
 abbrev pub releases : GuestSeen → ℕ → Channel → Result Channel ControlFault → GuestTurn
 releases g relid seen (Err fault) = record (idle g) { heard = Now relid seen }
 releases g relid seen (Ok now) = record (idle g) { heard = Now relid now; burst = One (release relid) }
 
 abbrev pub rescinded_while : GuestSeen → GuestTurn → GuestWait → ℕ → GuestTurn
 rescinded_while g turn (Rescinded place) relid = ended_for g turn place relid (opening_of g place)
+rescinded_while g turn (Modified place) relid = waits_on g turn
 rescinded_while g turn _ relid = turn
 
 abbrev pub rescind_by : GuestSeen → ℕ → Result Channel ControlFault → Result GuestTurn ControlFault
@@ -271,6 +346,7 @@ guest_hears g (OfferChannel padding if_type if_instance reserved1 reserved2 chn_
 guest_hears g (RescindChannelOffer padding relid) = on_rescind g relid (by_relid g.channels relid)
 guest_hears g (AllOffersDelivered padding) = Ok (on_delivered g)
 guest_hears g (OpenChannelResult padding relid openid status) = on_result g relid status (by_relid g.channels relid)
+guest_hears g (ModifyChannelResponse padding relid status) = on_modified g relid (by_relid g.channels relid)
 guest_hears g (GpadlCreated padding relid gpadl status) = on_created g relid gpadl status (by_relid g.channels relid)
 guest_hears g (GpadlTorndown padding gpadl) = on_torndown g gpadl (place_of_list g.channels gpadl)
 guest_hears g (VersionResponse padding supported state padding2 conn) = Ok (on_response g g.awaits supported)

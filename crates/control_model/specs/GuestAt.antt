@@ -4,26 +4,26 @@ use Rattle.std.specs.List.{AllByRecursion, flat_map}
 use Rattle.contact.specs.declared.version.Version.{Version}
 use Rattle.contact.specs.declared.part.Part.{Part}
 use Rattle.contact.specs.declared.part.Part.TheVariants.{Contact, PhaseStart, PhaseEnd, Unload}
-use Rattle.contact.specs.Versions.{versions_tried}
+use Rattle.contact.specs.Versions.{versions_tried, answers_modify}
 use Rattle.contact.specs.Classes.{offers_from}
-use Rattle.chan_state.specs.declared.state.State.TheVariants.{Opening as IsOpening, Opened as IsOpened, Closing, Closed as IsClosed}
+use Rattle.chan_state.specs.declared.state.State.TheVariants.{Opening as IsOpening, Opened as IsOpened, Modifying as IsModifying, Closing, Closed as IsClosed}
 use Rattle.vmbus_msg.specs.declared.msg.Msg.{Msg}
 use Rattle.control_model.specs.declared.opening.Opening.{Opening}
 use Rattle.control_model.specs.declared.channel.Channel.{Channel}
 use Rattle.control_model.specs.declared.guest_wait.GuestWait.{GuestWait}
-use Rattle.control_model.specs.declared.guest_wait.GuestWait.TheVariants.{Nothing, Response, Offers, SubOffer, Created, Opened, Torn, Rescinded, Unloaded}
+use Rattle.control_model.specs.declared.guest_wait.GuestWait.TheVariants.{Nothing, Response, Offers, SubOffer, Created, Opened, Modified, Torn, Rescinded, Unloaded}
 use Rattle.control_model.specs.Plan.{BusPlan, phase_of, closing_of, is_sub, first_subs, subs_next}
 use Rattle.control_model.specs.Messages.{propose, request, delivered, open_on, opened, offer_sub, release, rescind, farewell, farewell_taken}
-use Rattle.control_model.specs.Said.{answer_to, guest_opens, host_opens_all, guest_closes, host_closes, only_sub, guest_in_phase, host_in_phase, from_3_0, said_by_guest, said_by_host}
+use Rattle.control_model.specs.Said.{answer_to, guest_opens, host_opens_all, guest_closes, host_closes, only_sub, moved, guest_moves, host_moves, guest_in_phase, host_in_phase, from_3_0, said_by_guest, said_by_host}
 use Rattle.control_model.specs.Guest.{GuestSeen, offered_channel}
-use Rattle.control_model.specs.Stand.{At, EndsAt, offered_before, offered_by, marked, guest_is, guest_ends, guest_before, Tries, Agreed, Meet}
+use Rattle.control_model.specs.Stand.{At, EndsAt, offered_before, offered_by, marked, vps_before, guest_is, guest_ends, guest_before, Tries, Agreed, Meet}
 
 -- from a phase on: the phases that are left, and the farewell
 abbrev pub guest_from : BusPlan → ℕ → List Msg
-guest_from plan phase = flat_map guest_in_phase (drop phase plan.phases) ++ from_3_0 plan (farewell ∷ [])
+guest_from plan phase = flat_map (guest_in_phase plan) (drop phase plan.phases) ++ from_3_0 plan (farewell ∷ [])
 
 abbrev pub host_from : BusPlan → ℕ → List Msg
-host_from plan phase = flat_map host_in_phase (drop phase plan.phases) ++ from_3_0 plan (farewell_taken ∷ [])
+host_from plan phase = flat_map (host_in_phase plan) (drop phase plan.phases) ++ from_3_0 plan (farewell_taken ∷ [])
 
 -- of the contact: after the proposal of a version, those of the lower ones that are tried
 abbrev pub contact_to_say : BusPlan → GuestWait → List Msg
@@ -62,6 +62,17 @@ start_to_hear os (Opened place) = answers_open (drop place os)
 start_to_hear os (SubOffer place) = map offer_sub (first_subs (drop place os)) ++ host_opens_all (from_first_sub os place (drop place os))
 start_to_hear os awaits = []
 
+-- behind its openings the channels are moved: the guest says all of that at once, and hears the answers one by one
+abbrev pub moves_to_say : BusPlan → List Opening → GuestWait → List Msg
+moves_to_say plan os Nothing = []
+moves_to_say plan os (Modified place) = []
+moves_to_say plan os awaits = guest_moves plan os
+
+abbrev pub moves_to_hear : BusPlan → List Opening → GuestWait → List Msg
+moves_to_hear plan os Nothing = []
+moves_to_hear plan os (Modified place) = drop place (host_moves plan os)
+moves_to_hear plan os awaits = host_moves plan os
+
 -- of a phase's end, whose openings stand in closing order: a channel that was closed is given back where it is a sub-channel; one is taken back, and given back
 abbrev pub gives_sub : List Opening → List Msg
 gives_sub [] = []
@@ -94,7 +105,7 @@ unload_to_hear awaits = []
 abbrev pub to_say : BusPlan → Option Part → GuestWait → List Msg
 to_say plan None awaits = said_by_guest plan
 to_say plan (Some Contact) awaits = contact_to_say plan awaits ++ guest_from plan 0
-to_say plan (Some (PhaseStart phase)) awaits = start_to_say (phase_of plan phase) awaits ++ (flat_map guest_closes (closing_of plan phase) ++ guest_from plan (suc phase))
+to_say plan (Some (PhaseStart phase)) awaits = start_to_say (phase_of plan phase) awaits ++ (moves_to_say plan (phase_of plan phase) awaits ++ (flat_map guest_closes (closing_of plan phase) ++ guest_from plan (suc phase)))
 to_say plan (Some (PhaseEnd phase)) awaits = end_to_say (closing_of plan phase) awaits ++ guest_from plan (suc phase)
 to_say plan (Some Unload) awaits = []
 
@@ -102,7 +113,7 @@ to_say plan (Some Unload) awaits = []
 abbrev pub to_hear : BusPlan → Option Part → GuestWait → ℕ → List Msg
 to_hear plan None awaits channels = said_by_host plan
 to_hear plan (Some Contact) awaits channels = contact_to_hear plan awaits channels ++ host_from plan 0
-to_hear plan (Some (PhaseStart phase)) awaits channels = start_to_hear (phase_of plan phase) awaits ++ (flat_map host_closes (closing_of plan phase) ++ host_from plan (suc phase))
+to_hear plan (Some (PhaseStart phase)) awaits channels = start_to_hear (phase_of plan phase) awaits ++ (moves_to_hear plan (phase_of plan phase) awaits ++ (flat_map host_closes (closing_of plan phase) ++ host_from plan (suc phase)))
 to_hear plan (Some (PhaseEnd phase)) awaits channels = end_to_hear (closing_of plan phase) awaits ++ host_from plan (suc phase)
 to_hear plan (Some Unload) awaits channels = unload_to_hear awaits
 
@@ -113,29 +124,33 @@ pub data GuestStands (plan : BusPlan) : Option Part → GuestWait → Option Ver
   -- a version is proposed; the offers come; all came
   proposes : (v : Version) → Tries plan v → GuestStands plan (Some Contact) (Response v) None []
   asks : (v : Version) (n : ℕ) → Agreed plan v → n ≤ length plan.kinds → GuestStands plan (Some Contact) Offers (Some v) (replicate n offered_channel)
-  contacted : (v : Version) (channels : List Channel) → Meet plan v channels (offered_before plan 0) (guest_before plan 0) → GuestStands plan (Some Contact) Nothing (Some v) channels
-  -- a device's first channel is open, and some of its sub-channels were offered; a channel's page list was sent; the channel is to be opened; all channels of the phase are open
+  contacted : (v : Version) (channels : List Channel) → Meet plan v channels (offered_before plan 0) (guest_before (vps_before plan 0) plan 0) → GuestStands plan (Some Contact) Nothing (Some v) channels
+  -- a device's first channel is open, and some of its sub-channels were offered; a channel's page list was sent; the channel is to be opened; all channels of the phase are
+  -- open, and some of those that it moves are still to be answered; all are
   offers : (v : Version) (channels : List Channel) (phase place : ℕ) (done : List Opening) (first : Opening) (offered : List Opening) (o : Opening) (left : List Opening)
       → At plan phase place (done ++ first ∷ offered) o left → is_sub first ≡ false → AllByRecursion (λ p. is_sub p ≡ true) (offered ++ o ∷ [])
-      → Meet plan v channels (offered_by plan phase done [] + length offered) (marked (guest_is IsOpened) (done ++ first ∷ []) (guest_before plan phase))
+      → Meet plan v channels (offered_by plan phase done [] + length offered) (marked (guest_is (vps_before plan phase) IsOpened) (done ++ first ∷ []) (guest_before (vps_before plan phase) plan phase))
       → GuestStands plan (Some (PhaseStart phase)) (SubOffer place) (Some v) channels
   lists : (v : Version) (channels : List Channel) (phase place : ℕ) (done : List Opening) (o : Opening) (left : List Opening) → At plan phase place done o left
-      → Meet plan v channels (offered_by plan phase done (o ∷ left)) (marked (guest_is IsOpened) done (guest_before plan phase)) → GuestStands plan (Some (PhaseStart phase)) (Created place) (Some v) channels
+      → Meet plan v channels (offered_by plan phase done (o ∷ left)) (marked (guest_is (vps_before plan phase) IsOpened) done (guest_before (vps_before plan phase) plan phase)) → GuestStands plan (Some (PhaseStart phase)) (Created place) (Some v) channels
   opens : (v : Version) (channels : List Channel) (phase place : ℕ) (done : List Opening) (o : Opening) (left : List Opening) → At plan phase place done o left
-      → Meet plan v channels (offered_by plan phase done (o ∷ left)) (marked (guest_is IsOpened) done (marked (guest_is IsOpening) (o ∷ []) (guest_before plan phase))) → GuestStands plan (Some (PhaseStart phase)) (Opened place) (Some v) channels
+      → Meet plan v channels (offered_by plan phase done (o ∷ left)) (marked (guest_is (vps_before plan phase) IsOpened) done (marked (guest_is (vps_before plan phase) IsOpening) (o ∷ []) (guest_before (vps_before plan phase) plan phase))) → GuestStands plan (Some (PhaseStart phase)) (Opened place) (Some v) channels
+  moves : (v : Version) (channels : List Channel) (phase place : ℕ) (done : List Opening) (o : Opening) (left : List Opening) → phase < length plan.phases → moved plan (phase_of plan phase) ≡ done ++ o ∷ left → place ≡ length done → answers_modify v.0 ≡ true
+      → Meet plan v channels (offered_before plan (suc phase)) (marked (guest_is (vps_before plan (suc phase)) IsModifying) (o ∷ left) (marked (guest_is (vps_before plan (suc phase)) IsOpened) (phase_of plan phase) (guest_before (vps_before plan (suc phase)) plan phase)))
+      → GuestStands plan (Some (PhaseStart phase)) (Modified place) (Some v) channels
   started : (v : Version) (channels : List Channel) (phase : ℕ) → phase < length plan.phases
-      → Meet plan v channels (offered_before plan (suc phase)) (marked (guest_is IsOpened) (phase_of plan phase) (guest_before plan phase)) → GuestStands plan (Some (PhaseStart phase)) Nothing (Some v) channels
+      → Meet plan v channels (offered_before plan (suc phase)) (marked (guest_is (vps_before plan (suc phase)) IsOpened) (phase_of plan phase) (guest_before (vps_before plan (suc phase)) plan phase)) → GuestStands plan (Some (PhaseStart phase)) Nothing (Some v) channels
   -- a channel is being closed; one is to be rescinded; a sub-channel is closed, and to be rescinded; all channels of the phase are done with
   closes : (v : Version) (channels : List Channel) (phase place : ℕ) (done : List Opening) (o : Opening) (left : List Opening) → EndsAt plan phase place done o left → o.rescinded ≡ false
-      → Meet plan v channels (offered_before plan (suc phase)) (marked guest_ends done (marked (guest_is Closing) (o ∷ []) (marked (guest_is IsOpened) left (guest_before plan phase)))) → GuestStands plan (Some (PhaseEnd phase)) (Torn place) (Some v) channels
+      → Meet plan v channels (offered_before plan (suc phase)) (marked (guest_ends (vps_before plan (suc phase))) done (marked (guest_is (vps_before plan (suc phase)) Closing) (o ∷ []) (marked (guest_is (vps_before plan (suc phase)) IsOpened) left (guest_before (vps_before plan (suc phase)) plan phase)))) → GuestStands plan (Some (PhaseEnd phase)) (Torn place) (Some v) channels
   gives_back : (v : Version) (channels : List Channel) (phase place : ℕ) (done : List Opening) (o : Opening) (left : List Opening) → EndsAt plan phase place done o left → o.rescinded ≡ true
-      → Meet plan v channels (offered_before plan (suc phase)) (marked guest_ends done (marked (guest_is IsOpened) (o ∷ left) (guest_before plan phase))) → GuestStands plan (Some (PhaseEnd phase)) (Rescinded place) (Some v) channels
+      → Meet plan v channels (offered_before plan (suc phase)) (marked (guest_ends (vps_before plan (suc phase))) done (marked (guest_is (vps_before plan (suc phase)) IsOpened) (o ∷ left) (guest_before (vps_before plan (suc phase)) plan phase))) → GuestStands plan (Some (PhaseEnd phase)) (Rescinded place) (Some v) channels
   gives_sub_back : (v : Version) (channels : List Channel) (phase place : ℕ) (done : List Opening) (o : Opening) (left : List Opening) → EndsAt plan phase place done o left → o.rescinded ≡ false → is_sub o ≡ true
-      → Meet plan v channels (offered_before plan (suc phase)) (marked guest_ends done (marked (guest_is IsClosed) (o ∷ []) (marked (guest_is IsOpened) left (guest_before plan phase)))) → GuestStands plan (Some (PhaseEnd phase)) (Rescinded place) (Some v) channels
-  ended : (v : Version) (channels : List Channel) (phase : ℕ) → phase < length plan.phases → Meet plan v channels (offered_before plan (suc phase)) (guest_before plan (suc phase)) → GuestStands plan (Some (PhaseEnd phase)) Nothing (Some v) channels
+      → Meet plan v channels (offered_before plan (suc phase)) (marked (guest_ends (vps_before plan (suc phase))) done (marked (guest_is (vps_before plan (suc phase)) IsClosed) (o ∷ []) (marked (guest_is (vps_before plan (suc phase)) IsOpened) left (guest_before (vps_before plan (suc phase)) plan phase)))) → GuestStands plan (Some (PhaseEnd phase)) (Rescinded place) (Some v) channels
+  ended : (v : Version) (channels : List Channel) (phase : ℕ) → phase < length plan.phases → Meet plan v channels (offered_before plan (suc phase)) (guest_before (vps_before plan (suc phase)) plan (suc phase)) → GuestStands plan (Some (PhaseEnd phase)) Nothing (Some v) channels
   -- the farewell is said; it is over
-  leaves : (v : Version) (channels : List Channel) → Meet plan v channels (offered_before plan (length plan.phases)) (guest_before plan (length plan.phases)) → GuestStands plan (Some Unload) Unloaded (Some v) channels
-  is_over : (v : Version) (channels : List Channel) → Meet plan v channels (offered_before plan (length plan.phases)) (guest_before plan (length plan.phases)) → GuestStands plan (Some Unload) Nothing (Some v) channels
+  leaves : (v : Version) (channels : List Channel) → Meet plan v channels (offered_before plan (length plan.phases)) (guest_before (vps_before plan (length plan.phases)) plan (length plan.phases)) → GuestStands plan (Some Unload) Unloaded (Some v) channels
+  is_over : (v : Version) (channels : List Channel) → Meet plan v channels (offered_before plan (length plan.phases)) (guest_before (vps_before plan (length plan.phases)) plan (length plan.phases)) → GuestStands plan (Some Unload) Nothing (Some v) channels
 
 -- a guest stands so, said the front of all that it says, and heard the front of all that its host says; where it stands tells what is left of both
 pub record GuestAt (plan : BusPlan) (g : GuestSeen) : Type 0 where

@@ -1,14 +1,14 @@
 -- A host's control: what it waits for, what it does about each message, and what it refuses.
-use Rattle.std.specs.Prelude.{◌≡◌, ℕ, ◌+◌, ◌==◌, Bool, true, false, not, ◌&&◌, ◌||◌, List, [], ◌∷◌, ◌++◌, filter, length, map, replicate, slice_set, ◌-◌, Option, Some, None, is_some, Result, Ok, Err, if◌then◌else◌}
+use Rattle.std.specs.Prelude.{◌≡◌, ℕ, ◌+◌, ◌==◌, Bool, true, false, not, ◌&&◌, ◌||◌, List, [], ◌∷◌, ◌++◌, filter, length, map, replicate, slice_get, slice_set, ◌-◌, Option, Some, None, is_some, Result, Ok, Err, if◌then◌else◌}
 use Rattle.contact.specs.declared.version.Version.{Version}
 use Rattle.contact.specs.declared.part.Part.{Part}
 use Rattle.contact.specs.declared.part.Part.TheVariants.{Contact, PhaseStart, PhaseEnd, Unload}
 use Rattle.io_edge.specs.declared.side.Side.TheVariants.{Host as HostSide}
 use Rattle.chan_state.specs.declared.state.State.{State}
 use Rattle.chan_state.specs.declared.state.State.TheVariants.{Offered as IsOffered, Rescinded as IsRescinded}
-use Rattle.chan_state.specs.declared.event.Event.TheVariants.{OpenSeen, CloseSeen, TeardownSeen, ReleaseSeen, WantRescind}
+use Rattle.chan_state.specs.declared.event.Event.TheVariants.{OpenSeen, ModifySeen, CloseSeen, TeardownSeen, ReleaseSeen, WantRescind}
 use Rattle.chan_state.specs.declared.action.Action.{Action}
-use Rattle.chan_state.specs.declared.action.Action.TheVariants.{SendResult, SendTorndown}
+use Rattle.chan_state.specs.declared.action.Action.TheVariants.{SendResult, SendModified, SendTorndown}
 use Rattle.chan_state.specs.declared.chan_state.ChanState.{ChanState}
 use Rattle.gpadl.specs.declared.fault.GpadlFault.{GpadlFault}
 use Rattle.gpadl.specs.declared.fault.GpadlFault.TheVariants.{Handle}
@@ -16,20 +16,20 @@ use Rattle.gpadl.specs.Assembly.{Partial, Assembly, is_live, built, fault_of}
 use Rattle.gpadl.specs.Whole.{next}
 use Rattle.vmbus_msg.specs.Grammar.{type_of}
 use Rattle.vmbus_msg.specs.declared.msg.Msg.{Msg}
-use Rattle.vmbus_msg.specs.declared.msg.Msg.TheVariants.{RequestOffers, OpenChannel, CloseChannel, GpadlHeader, GpadlBody, GpadlTeardown, RelidReleased, InitiateContact, Unload as UnloadSeen}
+use Rattle.vmbus_msg.specs.declared.msg.Msg.TheVariants.{RequestOffers, OpenChannel, CloseChannel, GpadlHeader, GpadlBody, GpadlTeardown, RelidReleased, InitiateContact, Unload as UnloadSeen, ModifyChannel}
 use Rattle.control_model.specs.declared.opening.Opening.{Opening}
 use Rattle.control_model.specs.declared.burst.Burst.{Burst}
 use Rattle.control_model.specs.declared.burst.Burst.TheVariants.{Empty, One, Two, Offers, Opens}
 use Rattle.control_model.specs.declared.fault.ControlFault.{ControlFault}
 use Rattle.control_model.specs.declared.fault.ControlFault.TheVariants.{State as StateFault, Gpadl, Relid, Unasked}
 use Rattle.control_model.specs.declared.host_wait.HostWait.{HostWait}
-use Rattle.control_model.specs.declared.host_wait.HostWait.TheVariants.{Nothing, Contact as AwaitsContact, Request, List as AwaitsList, Open, Close, Teardown, Release, Unload as AwaitsUnload}
+use Rattle.control_model.specs.declared.host_wait.HostWait.TheVariants.{Nothing, Contact as AwaitsContact, Request, List as AwaitsList, Open, Modify, Close, Teardown, Release, Unload as AwaitsUnload}
 use Rattle.control_model.specs.declared.host_next.HostNext.{HostNext}
 use Rattle.control_model.specs.declared.host_next.Rescind.{Rescind}
-use Rattle.control_model.specs.Plan.{BusPlan, opening_in, is_sub, subs_behind}
-use Rattle.control_model.specs.Messages.{respond, created, opened, torndown, rescind, farewell_taken, Sends}
-use Rattle.control_model.specs.Channels.{accepts, by_relid, row_of, stands}
-use Rattle.control_model.specs.Guest.{can_unload}
+use Rattle.control_model.specs.Plan.{BusPlan, opening_in, is_sub, subs_behind, movers_in}
+use Rattle.control_model.specs.Messages.{respond, created, opened, modified, torndown, rescind, farewell_taken, Sends}
+use Rattle.control_model.specs.Channels.{accepts, by_relid, row_of, stands, goes_by}
+use Rattle.control_model.specs.Guest.{can_unload, can_modify, is_answered}
 
 -- all that contracts see of a host's control
 pub record HostSeen : Type 0 where
@@ -82,10 +82,19 @@ at_rest h = record { awaits = h.awaits; version = h.version; channels = h.channe
 abbrev pub opening_for : HostSeen → ℕ → Option Opening
 opening_for h place = opening_in h.plan h.part place
 
--- waits for the opening at a place, if there is one
-abbrev pub waits_list : ℕ → Option Opening → HostWait
-waits_list place None = Nothing
-waits_list place (Some o) = AwaitsList place
+-- of a phase that starts, the opening with this place among those whose channels are moved
+abbrev pub mover_in : HostSeen → Option Part → ℕ → Option Opening
+mover_in h part place = slice_get (movers_in h.plan part (can_modify h.version)) place
+
+-- waits for it to be moved, if there is one
+abbrev pub waits_move : ℕ → Option Opening → HostWait
+waits_move place None = Nothing
+waits_move place (Some o) = Modify place
+
+-- waits for the opening at a place, if there is one; behind the last one the channels are moved
+abbrev pub waits_list : HostSeen → Option Part → ℕ → Option Opening → HostWait
+waits_list h part place None = waits_move 0 (mover_in h part 0)
+waits_list h part place (Some o) = AwaitsList place
 
 -- it waits, and rescinds no channel
 abbrev pub waits : HostWait → HostNext
@@ -141,7 +150,7 @@ goes_next turn answer next = record {
 -- be rescinded
 abbrev pub first_next : HostSeen → Part → HostNext
 first_next h Contact = waits AwaitsContact
-first_next h (PhaseStart phase) = waits (waits_list 0 (opening_in h.plan (Some (PhaseStart phase)) 0))
+first_next h (PhaseStart phase) = waits (waits_list h (Some (PhaseStart phase)) 0 (opening_in h.plan (Some (PhaseStart phase)) 0))
 first_next h (PhaseEnd phase) = next_end h.channels 0 (opening_in h.plan (Some (PhaseEnd phase)) 0)
 first_next h Unload = waits (if can_unload h.version then AwaitsUnload else Nothing)
 
@@ -155,7 +164,7 @@ is_of relid (Some o) = o.relid == relid
 
 -- a channel that is offered
 abbrev pub offered_life : ChanState
-offered_life = record { side = HostSide; state = IsOffered }
+offered_life = record { side = HostSide; state = IsOffered; vp = 0 }
 
 -- INITIATE_CONTACT: answered by 1 where the host has the version, and by 0 otherwise
 abbrev pub on_contact : HostSeen → HostWait → ℕ → HostTurn
@@ -196,7 +205,7 @@ goes_on h relid life state = slice_set h.channels (relid - 1) (stands life state
 -- OPENCHANNEL, answered by status 0 where the table says so; behind the answer the sub-channels of the device are offered, where this is its first channel and
 -- the host waited for it
 abbrev pub opened_then : HostSeen → HostWait → ℕ → HostWait
-opened_then h (Open place) relid = if is_of relid (opening_for h place) then waits_list (place + 1) (opening_for h (place + 1)) else Open place
+opened_then h (Open place) relid = if is_of relid (opening_for h place) then waits_list h h.part (place + 1) (opening_for h (place + 1)) else Open place
 opened_then h awaits relid = awaits
 
 abbrev pub with_offers : HostSeen → HostWait → ℕ → Msg → Burst
@@ -229,6 +238,24 @@ open_by h relid openid life (Some row) = Ok (open_turn h relid openid (stands li
 abbrev pub on_open : HostSeen → ℕ → ℕ → Option ChanState → Result HostTurn ControlFault
 on_open h relid openid None = Err (Relid relid)
 on_open h relid openid (Some life) = open_by h relid openid life (row_of life OpenSeen)
+
+-- MODIFYCHANNEL, answered by status 0 where the table says so; the host goes on with the next channel that is moved, where it waited for this one
+abbrev pub moved_then : HostSeen → HostWait → ℕ → HostWait
+moved_then h (Modify place) relid = if is_of relid (mover_in h h.part place) then waits_move (place + 1) (mover_in h h.part (place + 1)) else Modify place
+moved_then h awaits relid = awaits
+
+abbrev pub moved_burst : ℕ → Action → Burst
+moved_burst relid SendModified = One (modified relid)
+moved_burst relid _ = Empty
+
+abbrev pub modify_by : HostSeen → ℕ → ℕ → ChanState → Option (State × Action) → Result HostTurn ControlFault
+modify_by h relid vp life None = Err (StateFault (record { state = life.state; event = ModifySeen vp (is_answered h.version) }))
+modify_by h relid vp life (Some row) =
+    Ok (record (at_rest h) { awaits = moved_then h h.awaits relid; channels = slice_set h.channels (relid - 1) (goes_by life (ModifySeen vp (is_answered h.version)) row.0); burst = moved_burst relid row.1 })
+
+abbrev pub on_modify : HostSeen → ℕ → ℕ → Option ChanState → Result HostTurn ControlFault
+on_modify h relid vp None = Err (Relid relid)
+on_modify h relid vp (Some life) = modify_by h relid vp life (row_of life (ModifySeen vp (is_answered h.version)))
 
 -- CLOSECHANNEL
 abbrev pub closed_then : HostSeen → HostWait → ℕ → HostWait
@@ -309,6 +336,7 @@ on_unload h _ = at_rest h
 abbrev pub host_hears : HostSeen → Msg → Result HostTurn ControlFault
 host_hears h (RequestOffers padding) = Ok (on_request h h.awaits)
 host_hears h (OpenChannel padding relid openid gpadl target_vp downstream user) = on_open h relid openid (by_relid h.channels relid)
+host_hears h (ModifyChannel padding relid target_vp) = on_modify h relid target_vp (by_relid h.channels relid)
 host_hears h (CloseChannel padding relid) = on_close h relid (by_relid h.channels relid)
 host_hears h (GpadlHeader header) = on_header h header.relid (GpadlHeader header) (by_relid h.channels header.relid)
 host_hears h (GpadlBody body) = on_piece h (GpadlBody body) (fault_of h.lists (GpadlBody body))

@@ -14,12 +14,12 @@ use Rattle.gpadl.specs.Cut.{cut}
 use Rattle.vmbus_msg.specs.declared.msg.Msg.{Msg}
 use Rattle.control_model.specs.declared.opening.Opening.{Opening}
 use Rattle.control_model.specs.declared.host_wait.HostWait.{HostWait}
-use Rattle.control_model.specs.declared.host_wait.HostWait.TheVariants.{Nothing, Contact as AwaitsContact, Request, List as AwaitsList, Open, Close, Teardown, Release, Unload as AwaitsUnload}
-use Rattle.control_model.specs.Plan.{BusPlan, phase_of, closing_of}
+use Rattle.control_model.specs.declared.host_wait.HostWait.TheVariants.{Nothing, Contact as AwaitsContact, Request, List as AwaitsList, Open, Modify, Close, Teardown, Release, Unload as AwaitsUnload}
+use Rattle.control_model.specs.Plan.{BusPlan, phase_of, closing_of, vp_for}
 use Rattle.control_model.specs.Messages.{propose, request, delivered, pages_from, teardown, release, farewell, farewell_taken}
-use Rattle.control_model.specs.Said.{answer_to, host_opens_all, guest_closes, host_closes, only_sub, ends_given_back, said_by_guest, said_by_host}
+use Rattle.control_model.specs.Said.{answer_to, host_opens_all, moved, guest_moves, host_moves, guest_closes, host_closes, only_sub, ends_given_back, said_by_guest, said_by_host}
 use Rattle.control_model.specs.Host.{HostSeen}
-use Rattle.control_model.specs.Stand.{At, EndsAt, offered_before, offered_by, marked, host_is, host_ends, host_before, Tries, Agreed, Meet, handles}
+use Rattle.control_model.specs.Stand.{At, EndsAt, offered_before, offered_by, marked, vps_before, host_is, host_ends, host_before, Tries, Agreed, Meet, handles}
 use Rattle.control_model.specs.GuestAt.{guest_from, host_from, opens_listed, answers_open, gives_one}
 
 -- of the contact, where these versions are still to be tried
@@ -43,6 +43,17 @@ abbrev pub host_start_to_hear : List Opening → HostWait → List Msg → List 
 host_start_to_hear os (AwaitsList place) pieces = pieces ++ opens_listed (drop place os)
 host_start_to_hear os (Open place) pieces = opens_listed (drop place os)
 host_start_to_hear os awaits pieces = []
+
+-- behind its openings the channels are moved, one by one
+abbrev pub host_moves_to_say : BusPlan → List Opening → HostWait → List Msg
+host_moves_to_say plan os Nothing = []
+host_moves_to_say plan os (Modify place) = drop place (host_moves plan os)
+host_moves_to_say plan os awaits = host_moves plan os
+
+abbrev pub host_moves_to_hear : BusPlan → List Opening → HostWait → List Msg
+host_moves_to_hear plan os Nothing = []
+host_moves_to_hear plan os (Modify place) = drop place (guest_moves plan os)
+host_moves_to_hear plan os awaits = guest_moves plan os
 
 -- of a phase's end: a channel that was closed has its page list torn down, and is given back where it is a sub-channel
 abbrev pub tears_down : List Opening → List Msg
@@ -74,7 +85,7 @@ unload_to_answer awaits = []
 abbrev pub host_to_say : BusPlan → Option Part → HostWait → List ℕ → List Msg
 host_to_say plan None awaits tried = said_by_host plan
 host_to_say plan (Some Contact) awaits tried = host_contact_to_say plan awaits tried ++ host_from plan 0
-host_to_say plan (Some (PhaseStart phase)) awaits tried = host_start_to_say (phase_of plan phase) awaits ++ (flat_map host_closes (closing_of plan phase) ++ host_from plan (suc phase))
+host_to_say plan (Some (PhaseStart phase)) awaits tried = host_start_to_say (phase_of plan phase) awaits ++ (host_moves_to_say plan (phase_of plan phase) awaits ++ (flat_map host_closes (closing_of plan phase) ++ host_from plan (suc phase)))
 host_to_say plan (Some (PhaseEnd phase)) awaits tried = host_end_to_say (closing_of plan phase) awaits ++ host_from plan (suc phase)
 host_to_say plan (Some Unload) awaits tried = unload_to_answer awaits
 
@@ -82,7 +93,7 @@ host_to_say plan (Some Unload) awaits tried = unload_to_answer awaits
 abbrev pub host_to_hear : BusPlan → Option Part → HostWait → List ℕ → List Msg → List Msg
 host_to_hear plan None awaits tried pieces = said_by_guest plan
 host_to_hear plan (Some Contact) awaits tried pieces = host_contact_to_hear awaits tried ++ guest_from plan 0
-host_to_hear plan (Some (PhaseStart phase)) awaits tried pieces = host_start_to_hear (phase_of plan phase) awaits pieces ++ (flat_map guest_closes (closing_of plan phase) ++ guest_from plan (suc phase))
+host_to_hear plan (Some (PhaseStart phase)) awaits tried pieces = host_start_to_hear (phase_of plan phase) awaits pieces ++ (host_moves_to_hear plan (phase_of plan phase) awaits ++ (flat_map guest_closes (closing_of plan phase) ++ guest_from plan (suc phase)))
 host_to_hear plan (Some (PhaseEnd phase)) awaits tried pieces = host_end_to_hear (closing_of plan phase) awaits ++ guest_from plan (suc phase)
 host_to_hear plan (Some Unload) awaits tried pieces = unload_to_take awaits
 
@@ -108,25 +119,29 @@ pub data HostStands (plan : BusPlan) : Option Part → HostWait → Option Versi
   -- a version is to be proposed; one was accepted, and the offers are to be asked for; all were sent
   answers : (v : Version) → Tries plan v → HostStands plan (Some Contact) AwaitsContact None [] (live_ones []) (versions_tried v.0 plan.host.0) []
   accepts : (v : Version) → Agreed plan v → HostStands plan (Some Contact) Request (Some v) [] (live_ones []) [] []
-  contacted : (v : Version) (channels : List ChanState) → Meet plan v channels (offered_before plan 0) (host_before plan 0) → HostStands plan (Some Contact) Nothing (Some v) channels (live_ones []) [] []
-  -- a channel's page list comes; the channel is to be opened; all channels of the phase are open
+  contacted : (v : Version) (channels : List ChanState) → Meet plan v channels (offered_before plan 0) (host_before (vps_before plan 0) plan 0) → HostStands plan (Some Contact) Nothing (Some v) channels (live_ones []) [] []
+  -- a channel's page list comes; the channel is to be opened; all channels of the phase are open, and some of those that it moves are still
+  -- to be moved; all are
   lists : (v : Version) (channels : List ChanState) (phase place : ℕ) (done : List Opening) (o : Opening) (left : List Opening) (assembly : Assembly) (m : Msg) (ms : List Msg) → At plan phase place done o left
-      → Meet plan v channels (offered_by plan phase done (o ∷ left)) (marked (host_is Opened) done (host_before plan phase)) → ListComes done o assembly (m ∷ ms) → HostStands plan (Some (PhaseStart phase)) (AwaitsList place) (Some v) channels assembly [] (m ∷ ms)
+      → Meet plan v channels (offered_by plan phase done (o ∷ left)) (marked (host_is (vps_before plan phase) Opened) done (host_before (vps_before plan phase) plan phase)) → ListComes done o assembly (m ∷ ms) → HostStands plan (Some (PhaseStart phase)) (AwaitsList place) (Some v) channels assembly [] (m ∷ ms)
   listed : (v : Version) (channels : List ChanState) (phase place : ℕ) (done : List Opening) (o : Opening) (left : List Opening) → At plan phase place done o left
-      → Meet plan v channels (offered_by plan phase done (o ∷ left)) (marked (host_is Opened) done (host_before plan phase)) → HostStands plan (Some (PhaseStart phase)) (Open place) (Some v) channels (live_ones (handles (done ++ o ∷ []))) [] []
+      → Meet plan v channels (offered_by plan phase done (o ∷ left)) (marked (host_is (vps_before plan phase) Opened) done (host_before (vps_before plan phase) plan phase)) → HostStands plan (Some (PhaseStart phase)) (Open place) (Some v) channels (live_ones (handles (done ++ o ∷ []))) [] []
+  moves : (v : Version) (channels : List ChanState) (phase place : ℕ) (done : List Opening) (o : Opening) (left : List Opening) → phase < length plan.phases → moved plan (phase_of plan phase) ≡ done ++ o ∷ left → place ≡ length done
+      → Meet plan v channels (offered_before plan (suc phase)) (marked (host_is (marked vp_for done (vps_before plan phase)) Opened) (phase_of plan phase) (host_before (marked vp_for done (vps_before plan phase)) plan phase))
+      → HostStands plan (Some (PhaseStart phase)) (Modify place) (Some v) channels (live_ones (handles (phase_of plan phase))) [] []
   started : (v : Version) (channels : List ChanState) (phase : ℕ) → phase < length plan.phases
-      → Meet plan v channels (offered_before plan (suc phase)) (marked (host_is Opened) (phase_of plan phase) (host_before plan phase)) → HostStands plan (Some (PhaseStart phase)) Nothing (Some v) channels (live_ones (handles (phase_of plan phase))) [] []
+      → Meet plan v channels (offered_before plan (suc phase)) (marked (host_is (vps_before plan (suc phase)) Opened) (phase_of plan phase) (host_before (vps_before plan (suc phase)) plan phase)) → HostStands plan (Some (PhaseStart phase)) Nothing (Some v) channels (live_ones (handles (phase_of plan phase))) [] []
   -- a channel is to be closed; its page list is to be torn down; one is rescinded, with its page list, and to be given back; all channels of the phase are done with
   closes : (v : Version) (channels : List ChanState) (phase place : ℕ) (done : List Opening) (o : Opening) (left : List Opening) → EndsAt plan phase place done o left → o.rescinded ≡ false
-      → Meet plan v channels (offered_before plan (suc phase)) (marked host_ends done (marked (host_is Opened) (o ∷ left) (host_before plan phase))) → HostStands plan (Some (PhaseEnd phase)) (Close place) (Some v) channels (lists_but done (phase_of plan phase)) [] []
+      → Meet plan v channels (offered_before plan (suc phase)) (marked (host_ends (vps_before plan (suc phase))) done (marked (host_is (vps_before plan (suc phase)) Opened) (o ∷ left) (host_before (vps_before plan (suc phase)) plan phase))) → HostStands plan (Some (PhaseEnd phase)) (Close place) (Some v) channels (lists_but done (phase_of plan phase)) [] []
   tears : (v : Version) (channels : List ChanState) (phase place : ℕ) (done : List Opening) (o : Opening) (left : List Opening) → EndsAt plan phase place done o left → o.rescinded ≡ false
-      → Meet plan v channels (offered_before plan (suc phase)) (marked host_ends done (marked (host_is Closing) (o ∷ []) (marked (host_is Opened) left (host_before plan phase)))) → HostStands plan (Some (PhaseEnd phase)) (Teardown place) (Some v) channels (lists_but done (phase_of plan phase)) [] []
+      → Meet plan v channels (offered_before plan (suc phase)) (marked (host_ends (vps_before plan (suc phase))) done (marked (host_is (vps_before plan (suc phase)) Closing) (o ∷ []) (marked (host_is (vps_before plan (suc phase)) Opened) left (host_before (vps_before plan (suc phase)) plan phase)))) → HostStands plan (Some (PhaseEnd phase)) (Teardown place) (Some v) channels (lists_but done (phase_of plan phase)) [] []
   takes_back : (v : Version) (channels : List ChanState) (phase place : ℕ) (done : List Opening) (o : Opening) (left : List Opening) → EndsAt plan phase place done o left → ends_given_back o ≡ true
-      → Meet plan v channels (offered_before plan (suc phase)) (marked host_ends done (marked (host_is Rescinded) (o ∷ []) (marked (host_is Opened) left (host_before plan phase)))) → HostStands plan (Some (PhaseEnd phase)) (Release place) (Some v) channels (lists_but (done ++ o ∷ []) (phase_of plan phase)) [] []
-  ended : (v : Version) (channels : List ChanState) (phase : ℕ) → phase < length plan.phases → Meet plan v channels (offered_before plan (suc phase)) (host_before plan (suc phase)) → HostStands plan (Some (PhaseEnd phase)) Nothing (Some v) channels (live_ones []) [] []
+      → Meet plan v channels (offered_before plan (suc phase)) (marked (host_ends (vps_before plan (suc phase))) done (marked (host_is (vps_before plan (suc phase)) Rescinded) (o ∷ []) (marked (host_is (vps_before plan (suc phase)) Opened) left (host_before (vps_before plan (suc phase)) plan phase)))) → HostStands plan (Some (PhaseEnd phase)) (Release place) (Some v) channels (lists_but (done ++ o ∷ []) (phase_of plan phase)) [] []
+  ended : (v : Version) (channels : List ChanState) (phase : ℕ) → phase < length plan.phases → Meet plan v channels (offered_before plan (suc phase)) (host_before (vps_before plan (suc phase)) plan (suc phase)) → HostStands plan (Some (PhaseEnd phase)) Nothing (Some v) channels (live_ones []) [] []
   -- the farewell is to be said; it is over
-  leaves : (v : Version) (channels : List ChanState) → Meet plan v channels (offered_before plan (length plan.phases)) (host_before plan (length plan.phases)) → HostStands plan (Some Unload) AwaitsUnload (Some v) channels (live_ones []) [] []
-  is_over : (v : Version) (channels : List ChanState) → Meet plan v channels (offered_before plan (length plan.phases)) (host_before plan (length plan.phases)) → HostStands plan (Some Unload) Nothing (Some v) channels (live_ones []) [] []
+  leaves : (v : Version) (channels : List ChanState) → Meet plan v channels (offered_before plan (length plan.phases)) (host_before (vps_before plan (length plan.phases)) plan (length plan.phases)) → HostStands plan (Some Unload) AwaitsUnload (Some v) channels (live_ones []) [] []
+  is_over : (v : Version) (channels : List ChanState) → Meet plan v channels (offered_before plan (length plan.phases)) (host_before (vps_before plan (length plan.phases)) plan (length plan.phases)) → HostStands plan (Some Unload) Nothing (Some v) channels (live_ones []) [] []
 
 -- a host stands so, said the front of all that it says, and heard the front of all that its guest says; where it stands tells what is left of both
 pub record HostAt (plan : BusPlan) (h : HostSeen) : Type 0 where

@@ -1,3 +1,4 @@
+pub mod MoveList
 pub mod Plan
 pub mod Messages
 pub mod Channels

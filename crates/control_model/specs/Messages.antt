@@ -2,13 +2,14 @@
 use Rattle.std.specs.Prelude.{◌≡◌, ℕ, ◌+◌, List, [], ◌∷◌, ◌++◌, map, replicate}
 use Rattle.std.specs.List.{range_with_len}
 use Rattle.vmbus_msg.specs.declared.msg.Msg.{Msg}
-use Rattle.vmbus_msg.specs.declared.msg.Msg.TheVariants.{RequestOffers, AllOffersDelivered, OpenChannel, OpenChannelResult, CloseChannel, RescindChannelOffer, GpadlCreated, GpadlTeardown, GpadlTorndown, RelidReleased, InitiateContact, VersionResponse, Unload, UnloadResponse}
+use Rattle.vmbus_msg.specs.declared.msg.Msg.TheVariants.{RequestOffers, AllOffersDelivered, OpenChannel, OpenChannelResult, CloseChannel, RescindChannelOffer, GpadlCreated, GpadlTeardown, GpadlTorndown, RelidReleased, InitiateContact, VersionResponse, Unload, UnloadResponse, ModifyChannel, ModifyChannelResponse}
 use Rattle.contact.specs.declared.kind.Kind.TheVariants.{Disk}
 use Rattle.contact.specs.Classes.{offer, offers_from}
 use Rattle.gpadl.specs.Cut.{AreMessagesOf}
 use Rattle.control_model.specs.declared.opening.Opening.{Opening}
 use Rattle.control_model.specs.declared.burst.Burst.{Burst}
-use Rattle.control_model.specs.declared.burst.Burst.TheVariants.{Empty, One, Two, Three, PageList, Offers, Opens}
+use Rattle.control_model.specs.declared.moves.Move.{Move}
+use Rattle.control_model.specs.declared.burst.Burst.TheVariants.{Empty, One, Two, Three, PageList, Offers, Opens, Moves}
 use Rattle.control_model.specs.Plan.{BusPlan, list_pages, subs_behind, IsOpening}
 
 -- the guest proposes a version
@@ -46,6 +47,16 @@ opened relid openid = OpenChannelResult 0 relid openid 0
 abbrev pub offer_sub : Opening → Msg
 offer_sub o = offer Disk o.relid o.sub
 
+-- the guest moves a channel to a virtual processor, and the host did so
+abbrev pub modify : ℕ → ℕ → Msg
+modify relid vp = ModifyChannel 0 relid vp
+
+abbrev pub modified : ℕ → Msg
+modified relid = ModifyChannelResponse 0 relid 0
+
+abbrev pub modify_one : Move → Msg
+modify_one m = modify m.relid m.vp
+
 -- the guest closes a channel, and lets its page list go
 abbrev pub close : ℕ → Msg
 close relid = CloseChannel 0 relid
@@ -81,6 +92,7 @@ Sends plan (Three m n o) sent = sent ≡ m ∷ n ∷ o ∷ []
 Sends plan (PageList o) sent = AreMessagesOf o.relid o.gpadl (pages_from o) sent
 Sends plan Offers sent = sent ≡ offers_from 1 plan.kinds ++ delivered ∷ []
 Sends plan (Opens m part place) sent = sent ≡ m ∷ map offer_sub (subs_behind plan part place)
+Sends plan (Moves moves) sent = sent ≡ map modify_one moves
 
 -- a burst can be sent: the page list in it has pages
 abbrev pub Fits : Burst → Type 0

@@ -1,51 +1,38 @@
 -- The plan of a script.
-use Rattle.std.specs.Prelude.{ℕ, ◌+◌, Bool, List, [], ◌∷◌, length, map}
-use Rattle.std.specs.Option.{option_map_or}
-use Rattle.contact.specs.declared.version.Version.{Version}
-use Rattle.contact.specs.Versions.{version}
+use Rattle.std.specs.Prelude.{ℕ, ◌+◌, ◌==◌, List, [], ◌∷◌, length, map, Option, None, if◌then◌else◌}
 use Rattle.script_lines.specs.declared.line.Line.{Line}
-use Rattle.script_lines.specs.declared.line.What.{What}
-use Rattle.script_lines.specs.Lines.{contact_of}
 use Rattle.script_lines.specs.Parts.{offered, kind_of, ring_pages_of}
-use Rattle.script_phases.specs.Says.{is_rescinded}
+use Rattle.script_phases.specs.Agreed.{guest_in, host_in}
+use Rattle.script_phases.specs.Says.{is_rescinded, vp_of}
 use Rattle.script_phases.specs.Openings.{Opening as PhaseOpening, Phase, phases}
 use Rattle.control_model.specs.declared.opening.Opening.{Opening}
+use Rattle.control_model.specs.declared.planning.Fate.{Fate}
 use Rattle.control_model.specs.Plan.{BusPlan, list_pages, first_gpadl}
 
--- the highest versions that a script gives to both ends: 5.2 without a line that says them
-abbrev pub no_less : Version
-no_less = record { 0 = version 5 2 }
+-- what the lines of a phase do to a device: they rescind it, and move it to another processor
+abbrev pub fate_of : ℕ → List Line → Fate
+fate_of device part = record { rescinded = is_rescinded device part; vp = vp_of device part }
 
-abbrev pub guest_by : What → Version
-guest_by what = option_map_or (λ versions. versions.0) (contact_of what) no_less
-
-abbrev pub host_by : What → Version
-host_by what = option_map_or (λ versions. versions.1) (contact_of what) no_less
-
-abbrev pub guest_in : List Line → Version
-guest_in [] = no_less
-guest_in (l ∷ ls) = guest_by l.what
-
-abbrev pub host_in : List Line → Version
-host_in [] = no_less
-host_in (l ∷ ls) = host_by l.what
+-- a device is moved by its first channel
+abbrev pub vp_at : Option ℕ → ℕ → Option ℕ
+vp_at vp sub = if sub == 0 then vp else None
 
 -- the openings of a phase's channels, in order: handles and page numbers are given out one after the other, so none is used twice
-abbrev pub openings_from : (ℕ → ℕ) → (ℕ → Bool) → ℕ → ℕ → List PhaseOpening → List Opening
-openings_from sizes rescinded gpadl page [] = []
-openings_from sizes rescinded gpadl page (o ∷ os) =
-    record { relid = o.relid; sub = o.sub; ring_pages = sizes o.device; gpadl = gpadl; first_page = page; rescinded = rescinded o.device }
-    ∷ openings_from sizes rescinded (gpadl + 1) (page + list_pages (sizes o.device)) os
+abbrev pub openings_from : (ℕ → ℕ) → (ℕ → Fate) → ℕ → ℕ → List PhaseOpening → List Opening
+openings_from sizes fates gpadl page [] = []
+openings_from sizes fates gpadl page (o ∷ os) =
+    record { relid = o.relid; sub = o.sub; ring_pages = sizes o.device; gpadl = gpadl; first_page = page; rescinded = (fates o.device).rescinded; vp = vp_at (fates o.device).vp o.sub }
+    ∷ openings_from sizes fates (gpadl + 1) (page + list_pages (sizes o.device)) os
 
 abbrev pub pages_in : (ℕ → ℕ) → List PhaseOpening → ℕ
 pages_in sizes [] = 0
 pages_in sizes (o ∷ os) = list_pages (sizes o.device) + pages_in sizes os
 
--- those of all phases; a channel is rescinded at the end of a phase that rescinds its device
+-- those of all phases; a channel is rescinded at the end of a phase that rescinds its device, and moved to another processor in one that moves it
 abbrev pub numbered : (ℕ → ℕ) → ℕ → ℕ → List Phase → List (List Opening)
 numbered sizes gpadl page [] = []
 numbered sizes gpadl page (p ∷ phases) =
-    openings_from sizes (λ device. is_rescinded device p.part) gpadl page p.opened ∷ numbered sizes (gpadl + length p.opened) (page + pages_in sizes p.opened) phases
+    openings_from sizes (λ device. fate_of device p.part) gpadl page p.opened ∷ numbered sizes (gpadl + length p.opened) (page + pages_in sizes p.opened) phases
 
 -- the plan of a script's lines
 abbrev pub plan_of : List Line → BusPlan

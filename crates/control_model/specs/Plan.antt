@@ -1,5 +1,6 @@
 -- What both controls know of a script from the start.
-use Rattle.std.specs.Prelude.{◌≡◌, ◌<◌, ◌≤◌, ◌^◌, All, ℕ, Bool, true, false, not, ◌+◌, ◌*◌, ◌==◌, List, [], ◌∷◌, ◌++◌, drop, filter, length, map, slice_get, slice_index_or, nat_lt, Option, Some, None, if◌then◌else◌}
+use Rattle.std.specs.Prelude.{◌≡◌, ◌<◌, ◌≤◌, ◌^◌, All, ℕ, Bool, true, false, not, ◌+◌, ◌*◌, ◌==◌, List, [], ◌∷◌, ◌++◌, drop, filter, length, map, slice_get, slice_index_or, nat_lt, Option, Some, None, is_some, if◌then◌else◌}
+use Rattle.std.specs.Option.{option_map_or}
 use Rattle.std.specs.List.{range_with_len}
 use Rattle.contact.specs.Versions.{IsVersion}
 use Rattle.contact.specs.declared.version.Version.{Version}
@@ -67,6 +68,18 @@ abbrev pub opening_in : BusPlan → Option Part → ℕ → Option Opening
 opening_in plan (Some (PhaseStart phase)) place = opening_at plan phase place
 opening_in plan (Some (PhaseEnd phase)) place = closing_at plan phase place
 opening_in plan part place = None
+
+-- the openings of channels that are moved to other processors once all of the phase are open, and the processor that one is moved to
+abbrev pub movers : List Opening → List Opening
+movers os = filter (λ o. is_some o.vp) os
+
+abbrev pub vp_for : Opening → ℕ
+vp_for o = option_map_or (λ vp. vp) o.vp 0
+
+-- those of the phase that starts in a part, where the version has MODIFYCHANNEL: none otherwise
+abbrev pub movers_in : BusPlan → Option Part → Bool → List Opening
+movers_in plan (Some (PhaseStart phase)) true = movers (phase_of plan phase)
+movers_in plan part has = []
 
 -- the part that comes next: each phase starts and ends, and the farewell comes behind the last one
 abbrev pub part_after : BusPlan → Option Part → Option Part

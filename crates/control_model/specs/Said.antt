@@ -1,15 +1,15 @@
 -- All that a guest and its host say to each other over a plan, in order, and where its channels stand then.
 use Rattle.std.specs.Prelude.{ℕ, ◌+◌, ◌==◌, ◌&&◌, ◌||◌, Bool, min, nat_le, List, [], ◌∷◌, ◌++◌, length, map, if◌then◌else◌}
 use Rattle.std.specs.List.{flat_map, list_any, range_with_len}
-use Rattle.contact.specs.Versions.{version, versions_tried}
+use Rattle.contact.specs.Versions.{version, versions_tried, has_modify, answers_modify}
 use Rattle.contact.specs.Classes.{offers_from}
 use Rattle.chan_state.specs.declared.state.State.{State}
 use Rattle.chan_state.specs.declared.state.State.TheVariants.{Offered, Closed, Released}
 use Rattle.gpadl.specs.Cut.{cut}
 use Rattle.vmbus_msg.specs.declared.msg.Msg.{Msg}
 use Rattle.control_model.specs.declared.opening.Opening.{Opening}
-use Rattle.control_model.specs.Plan.{BusPlan, is_sub, subs_next, subs_in, in_closing_order, all_openings}
-use Rattle.control_model.specs.Messages.{propose, respond, request, delivered, pages_from, created, open_on, opened, offer_sub, close, teardown, torndown, rescind, release, farewell, farewell_taken}
+use Rattle.control_model.specs.Plan.{BusPlan, is_sub, subs_next, subs_in, in_closing_order, all_openings, movers, vp_for}
+use Rattle.control_model.specs.Messages.{propose, respond, request, delivered, pages_from, created, open_on, opened, offer_sub, modify, modified, close, teardown, torndown, rescind, release, farewell, farewell_taken}
 
 -- the version that both agree on
 abbrev pub agreed : BusPlan → ℕ
@@ -38,6 +38,16 @@ abbrev pub host_opens_all : List Opening → List Msg
 host_opens_all [] = []
 host_opens_all (o ∷ os) = host_opens o ++ (map offer_sub (subs_next (o ∷ os)) ++ host_opens_all os)
 
+-- once all channels of a phase are open, the guest moves those to other processors that the phase moves, from 4.1 on, and from 5.3 on the host answers each
+abbrev pub moved : BusPlan → List Opening → List Opening
+moved plan os = if has_modify (agreed plan) then movers os else []
+
+abbrev pub guest_moves : BusPlan → List Opening → List Msg
+guest_moves plan os = map (λ o. modify o.relid (vp_for o)) (moved plan os)
+
+abbrev pub host_moves : BusPlan → List Opening → List Msg
+host_moves plan os = if answers_modify (agreed plan) then map (λ o. modified o.relid) (moved plan os) else []
+
 -- only for a sub-channel
 abbrev pub only_sub : Opening → Msg → List Msg
 only_sub o m = if is_sub o then m ∷ [] else []
@@ -50,13 +60,13 @@ guest_closes o = if o.rescinded then release o.relid ∷ [] else close o.relid �
 abbrev pub host_closes : Opening → List Msg
 host_closes o = if o.rescinded then rescind o.relid ∷ [] else torndown o.gpadl ∷ only_sub o (rescind o.relid)
 
--- a phase opens its channels at its start, and closes them or gives them back at its end, both in order of offer of their devices: a device's first channel is
--- opened before its sub-channels, and closed behind them
-abbrev pub guest_in_phase : List Opening → List Msg
-guest_in_phase os = flat_map guest_opens os ++ flat_map guest_closes (in_closing_order os)
+-- a phase opens its channels at its start and moves them, and closes them or gives them back at its end, all in order of offer of their devices: a device's first
+-- channel is opened before its sub-channels, and closed behind them
+abbrev pub guest_in_phase : BusPlan → List Opening → List Msg
+guest_in_phase plan os = flat_map guest_opens os ++ (guest_moves plan os ++ flat_map guest_closes (in_closing_order os))
 
-abbrev pub host_in_phase : List Opening → List Msg
-host_in_phase os = host_opens_all os ++ flat_map host_closes (in_closing_order os)
+abbrev pub host_in_phase : BusPlan → List Opening → List Msg
+host_in_phase plan os = host_opens_all os ++ (host_moves plan os ++ flat_map host_closes (in_closing_order os))
 
 -- the farewell is said from version 3.0 on
 abbrev pub from_3_0 : BusPlan → List Msg → List Msg
@@ -64,10 +74,10 @@ from_3_0 plan said = if nat_le (version 3 0) (agreed plan) then said else []
 
 -- all that each side says: the contact, each phase, and the farewell
 abbrev pub said_by_guest : BusPlan → List Msg
-said_by_guest plan = guest_contacts plan ++ (flat_map guest_in_phase plan.phases ++ from_3_0 plan (farewell ∷ []))
+said_by_guest plan = guest_contacts plan ++ (flat_map (guest_in_phase plan) plan.phases ++ from_3_0 plan (farewell ∷ []))
 
 abbrev pub said_by_host : BusPlan → List Msg
-said_by_host plan = host_contacts plan ++ (flat_map host_in_phase plan.phases ++ from_3_0 plan (farewell_taken ∷ []))
+said_by_host plan = host_contacts plan ++ (flat_map (host_in_phase plan) plan.phases ++ from_3_0 plan (farewell_taken ∷ []))
 
 -- a phase opened a channel; it is given back at the end of a phase: a channel that the phase rescinds, and each sub-channel
 abbrev pub is_opened : BusPlan → ℕ → Bool

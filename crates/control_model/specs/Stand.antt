@@ -8,10 +8,10 @@ use Rattle.chan_state.specs.declared.state.State.TheVariants.{Offered, Closed, R
 use Rattle.chan_state.specs.declared.chan_state.ChanState.{ChanState}
 use Rattle.control_model.specs.declared.opening.Opening.{Opening}
 use Rattle.control_model.specs.declared.channel.Channel.{Channel}
-use Rattle.control_model.specs.Plan.{BusPlan, phase_of, closing_of, first_subs, subs_in, all_openings}
+use Rattle.control_model.specs.Plan.{BusPlan, phase_of, closing_of, first_subs, subs_in, all_openings, vp_for}
 use Rattle.control_model.specs.Channels.{by_relid}
 use Rattle.control_model.specs.Guest.{offered_channel}
-use Rattle.control_model.specs.Said.{ends_given_back}
+use Rattle.control_model.specs.Said.{ends_given_back, moved}
 
 -- an opening's place in a phase: those before it, and those behind it
 pub record At (plan : BusPlan) (phase place : ℕ) (done : List Opening) (o : Opening) (left : List Opening) : Type 0 where
@@ -38,34 +38,39 @@ abbrev pub marked : {X : Type 0} → (Opening → X) → List Opening → (ℕ �
 marked so [] before relid = before relid
 marked so (o ∷ os) before relid = if o.relid == relid then so o else marked so os before relid
 
--- a channel of an opening, at the guest and at the host
-abbrev pub guest_is : State → Opening → Channel
-guest_is state o = record { life = record { side = GuestSide; state = state }; gpadl = Some o.gpadl }
+-- the processors of the channels' interrupts before a phase moves some: each that an earlier phase moved has the last one that it was moved to, and each other one 0
+abbrev pub vps_before : BusPlan → ℕ → ℕ → ℕ
+vps_before plan zero relid = 0
+vps_before plan (suc phase) relid = marked vp_for (moved plan (phase_of plan phase)) (vps_before plan phase) relid
 
-abbrev pub host_is : State → Opening → ChanState
-host_is state o = record { side = HostSide; state = state }
+-- a channel of an opening, at the guest and at the host, where the channels have these processors
+abbrev pub guest_is : (ℕ → ℕ) → State → Opening → Channel
+guest_is vps state o = record { life = record { side = GuestSide; state = state; vp = vps o.relid }; gpadl = Some o.gpadl }
+
+abbrev pub host_is : (ℕ → ℕ) → State → Opening → ChanState
+host_is vps state o = record { side = HostSide; state = state; vp = vps o.relid }
 
 -- at the end of a phase a channel of it is given back where it is rescinded or a sub-channel, and closed otherwise
 abbrev pub end_state : Bool → State
 end_state true = Released
 end_state false = Closed
 
-abbrev pub guest_ends : Opening → Channel
-guest_ends o = guest_is (end_state (ends_given_back o)) o
+abbrev pub guest_ends : (ℕ → ℕ) → Opening → Channel
+guest_ends vps o = guest_is vps (end_state (ends_given_back o)) o
 
-abbrev pub host_ends : Opening → ChanState
-host_ends o = host_is (end_state (ends_given_back o)) o
+abbrev pub host_ends : (ℕ → ℕ) → Opening → ChanState
+host_ends vps o = host_is vps (end_state (ends_given_back o)) o
 
 -- before a phase each channel that an earlier one opened stands as that one left it, and each other one is offered
 abbrev pub before_phase : {X : Type 0} → BusPlan → (Opening → X) → X → ℕ → ℕ → X
 before_phase plan ended offered zero relid = offered
 before_phase plan ended offered (suc phase) relid = marked ended (phase_of plan phase) (before_phase plan ended offered phase) relid
 
-abbrev pub guest_before : BusPlan → ℕ → ℕ → Channel
-guest_before plan phase = before_phase plan guest_ends offered_channel phase
+abbrev pub guest_before : (ℕ → ℕ) → BusPlan → ℕ → ℕ → Channel
+guest_before vps plan phase = before_phase plan (guest_ends vps) offered_channel phase
 
-abbrev pub host_before : BusPlan → ℕ → ℕ → ChanState
-host_before plan phase = before_phase plan host_ends (record { side = HostSide; state = Offered }) phase
+abbrev pub host_before : (ℕ → ℕ) → BusPlan → ℕ → ℕ → ChanState
+host_before vps plan phase = before_phase plan (host_ends vps) (record { side = HostSide; state = Offered; vp = 0 }) phase
 
 -- so many channels were offered, and each stands so
 pub record Stand {X : Type 0} (channels : List X) (count : ℕ) (stands : ℕ → X) : Type 0 where

@@ -1,5 +1,5 @@
 //! What one side sends at a time.
-use crate::Opening;
+use crate::{Moves, Opening};
 use contact::Part;
 use vmbus_msg::Msg;
 
@@ -21,4 +21,6 @@ pub enum Burst {
     /// OPENCHANNEL_RESULT, and an OFFERCHANNEL for each sub-channel of the device whose first channel
     /// is opened at this place, while the phase of this part starts.
     Opens(Msg, Option<Part>, usize),
+    /// A MODIFYCHANNEL for each of these channels.
+    Moves(Moves),
 }

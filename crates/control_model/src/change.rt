@@ -1,5 +1,5 @@
 //! What becomes of a guest's channels.
-use crate::Channel;
+use crate::{Channel, Moves};
 
 /// What happens to the channels, which have the relids 1, 2 and so on.
 #[derive(Clone, Copy)]
@@ -14,5 +14,12 @@ pub enum Change {
         relid: u32,
         /// How it stands.
         channel: Channel,
+    },
+    /// Each of these is moved to another processor.
+    Moved {
+        /// The channels.
+        moves: Moves,
+        /// Whether the host answers that.
+        answered: bool,
     },
 }

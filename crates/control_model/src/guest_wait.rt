@@ -18,6 +18,9 @@ pub enum GuestWait {
     Created(usize),
     /// OPENCHANNEL_RESULT, for the channel of this opening.
     Opened(usize),
+    /// MODIFYCHANNEL_RESPONSE, for each channel that is moved, from the opening with this number among
+    /// those that are moved on.
+    Modified(usize),
     /// GPADL_TORNDOWN, for the page list of this opening.
     Torn(usize),
     /// RESCIND_CHANNELOFFER, for the channel of this opening.

@@ -15,6 +15,8 @@ pub enum HostWait {
     List(usize),
     /// OPENCHANNEL, for the channel of this opening.
     Open(usize),
+    /// MODIFYCHANNEL, for the channel of the opening with this number among those that are moved.
+    Modify(usize),
     /// CLOSECHANNEL, for the channel of this opening.
     Close(usize),
     /// GPADL_TEARDOWN, for the page list of this opening.

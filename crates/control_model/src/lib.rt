@@ -2,8 +2,8 @@
 //! for. Both ends' controls are proved to go by these definitions.
 //!
 //! Source: `channel_message_table` and the handlers that it names (drivers/hv/channel_mgmt.c), and
-//! `vmbus_establish_gpadl`, `__vmbus_open` and `vmbus_close_internal` (drivers/hv/channel.c) of Linux
-//! 6.12.
+//! `vmbus_establish_gpadl`, `__vmbus_open`, `vmbus_send_modifychannel` and `vmbus_close_internal`
+//! (drivers/hv/channel.c) of Linux 6.12.
 #![tactic(auto)]
 
 mod burst;
@@ -14,6 +14,7 @@ mod guest_turn;
 mod guest_wait;
 mod host_next;
 mod host_wait;
+mod moves;
 mod opening;
 mod plan;
 mod planning;
@@ -28,6 +29,7 @@ pub use guest_turn::GuestTurn;
 pub use guest_wait::GuestWait;
 pub use host_next::{HostNext, Rescind};
 pub use host_wait::HostWait;
+pub use moves::{Move, Moves};
 pub use opening::Opening;
 pub use plan::ControlPlan;
 pub use sending::{messages, open_on, release, teardown, type_of};

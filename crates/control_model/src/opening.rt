@@ -16,4 +16,7 @@ pub struct Opening {
     pub first_page: u64,
     /// Whether the host rescinds the channel at the end of the phase. The guest closes it otherwise.
     pub rescinded: bool,
+    /// The virtual processor that the channel's interrupts are moved to once all channels of the
+    /// phase are open, if they are: only a device's first channel is moved.
+    pub vp: Option<u32>,
 }

@@ -1,8 +1,8 @@
 //! What both controls know of a script from the start.
-ghost use Rattle.std.specs.Prelude.{◌≡◌, ◌+◌, ◌^◌, ◌<◌, ◌≤◌, ◌==◌, drop, length, IfOk, IfSome, OnSome, IsTrue};
+ghost use Rattle.std.specs.Prelude.{◌≡◌, ◌+◌, ◌^◌, ◌<◌, ◌≤◌, ◌==◌, drop, length, slice_get, IfOk, IfSome, OnSome, IsTrue};
 ghost use Rattle.std.specs.List.{position};
 ghost use Rattle.contact.specs.Versions.{IsVersion};
-ghost use Rattle.control_model.specs.Plan.{phase_of, opening_at, closing_at, opening_in, first_subs, subs_next, subs_behind, part_after, IsOpening, Seated};
+ghost use Rattle.control_model.specs.Plan.{phase_of, opening_at, closing_at, opening_in, first_subs, subs_next, subs_behind, movers, movers_in, part_after, IsOpening, Seated};
 ghost use Rattle.control_model.specs.Dealing.{is_first_at, closing_place};
 ghost use Rattle.control_model.specs.Openings.{plan_of};
 
@@ -121,6 +121,27 @@ impl ControlPlan {
         }
     }
 
+    /// The openings of the phase that starts in a part, where channels can be moved in it: none
+    /// otherwise. Those with a processor are moved.
+    pub fn with_movers(&self, part: Option<Part>, can_modify: bool) -> &[Opening]
+        ensures movers { movers result.now ≡ movers_in self.now part can_modify }
+        ensures few { length result.now ≤ 16 }
+    {
+        match part {
+            Some(Part::PhaseStart(phase)) if can_modify => self.phase(phase),
+            _ => &[],
+        }
+    }
+
+    /// The opening with this number among those whose channels are moved, while the phase of a part
+    /// starts, where channels can be moved in it.
+    pub fn mover(&self, part: Option<Part>, can_modify: bool, number: usize) -> Option<Opening>
+        ensures mover { result ≡ slice_get (movers_in self.now part can_modify) number }
+        ensures small { OnSome result (number + 1 < 2 ^ 64) }
+    {
+        mover_at(self.with_movers(part, can_modify), number)
+    }
+
     // The openings of a phase.
     fn phase(&self, phase: u32) -> &[Opening]
         ensures openings { result.now ≡ phase_of self.now phase }
@@ -172,6 +193,24 @@ fn subs_next(openings: &[Opening], place: usize) -> &[Opening]
         return subs_from(openings, place + 1);
     }
     &[]
+}
+
+// The opening with this number among those that are moved.
+fn mover_at(openings: &[Opening], number: usize) -> Option<Opening>
+    requires { length openings.now ≤ 16 }
+    ensures mover { result ≡ slice_get (movers openings.now) number }
+    ensures small { OnSome result (number + 1 < 2 ^ 64) }
+{
+    let mut left = number;
+    for o in openings {
+        if o.vp.is_some() {
+            if left == 0 {
+                return Some(*o);
+            }
+            left -= 1;
+        }
+    }
+    None
 }
 
 // Whether a device's first channel stands at a place.

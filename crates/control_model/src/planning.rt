@@ -6,8 +6,9 @@ ghost use Rattle.script_lines.specs.Lines.{is_phase};
 ghost use Rattle.script_lines.specs.Parts.{offered_by, offered, kind_of, ring_pages_of, rescinds, shuts};
 ghost use Rattle.script_phases.specs.Openings.{phases, subs_of, opened_from, others};
 ghost use Rattle.control_model.specs.Plan.{first_gpadl, list_pages};
-ghost use Rattle.control_model.specs.Openings.{numbered, guest_in, host_in, openings_from, pages_in};
-ghost use Rattle.control_model.specs.Dealing.{served_of, speaks_to, channels_if, opens_one, ends, ended_before, rescinded_in, opens, size_in, HasSizes, Dealt, rest_of};
+ghost use Rattle.script_phases.specs.Agreed.{guest_in, host_in};
+ghost use Rattle.control_model.specs.Openings.{numbered, openings_from, pages_in, vp_at};
+ghost use Rattle.control_model.specs.Dealing.{served_of, speaks_to, channels_if, opens_one, ends, ended_before, rescinded_in, vp_in, fate_in, opens, size_in, HasSizes, Dealt, rest_of};
 
 use crate::Opening;
 use bus_script::{DeviceSpec, Line, What};
@@ -146,7 +147,7 @@ fn rescinds(what: &What, device: u32) -> bool
     }
 }
 
-// Whether a line speaks to a device: asks it, rescinds it, or closes it.
+// Whether a line speaks to a device: asks it, rescinds it, closes it, or moves it.
 fn speaks_to(what: &What, device: u32) -> bool
     ensures { result ≡ speaks_to device what.now }
 {
@@ -154,6 +155,7 @@ fn speaks_to(what: &What, device: u32) -> bool
         What::Ask { device: d, .. } => *d == device,
         What::Rescind { device: d, .. } => *d == device,
         What::Shut { device: d } => *d == device,
+        What::Modify { device: d, .. } => *d == device,
         _ => false,
     }
 }
@@ -223,6 +225,15 @@ pub fn phases(
     Ok(phases)
 }
 
+/// What the lines of a phase do to a device.
+#[derive(Clone, Copy)]
+pub struct Fate {
+    // Whether the host rescinds it at the end of the phase.
+    pub rescinded: bool,
+    // The processor that it is moved to, if it is.
+    pub vp: Option<u32>,
+}
+
 /// The next handle, the next page number, and the next relid of a sub-channel.
 #[derive(Clone, Copy)]
 pub struct Next {
@@ -247,7 +258,7 @@ pub fn openings(
     requires gpadl { next.old.gpadl + 64 < 2 ^ 32 }
     requires page { next.old.page + 64 * 34 < 2 ^ 64 }
     requires relid { next.old.relid + 64 < 2 ^ 32 }
-    ensures openings { IfOk result (λ os. os.items ≡ openings_from (size_in devices.now) (rescinded_in part.now) next.old.gpadl next.old.page (opened_from (opens devices.now part.now start) 0 next.old.relid specs.now)) }
+    ensures openings { IfOk result (λ os. os.items ≡ openings_from (size_in devices.now) (fate_in part.now) next.old.gpadl next.old.page (opened_from (opens devices.now part.now start) 0 next.old.relid specs.now)) }
     ensures gpadl { OnOk result (next.new.gpadl ≡ next.old.gpadl + length (opened_from (opens devices.now part.now start) 0 next.old.relid specs.now)) }
     ensures page { OnOk result (next.new.page ≡ next.old.page + pages_in (size_in devices.now) (opened_from (opens devices.now part.now start) 0 next.old.relid specs.now)) }
     ensures relid { OnOk result (next.new.relid ≡ next.old.relid + length (others (opened_from (opens devices.now part.now start) 0 next.old.relid specs.now))) }
@@ -256,13 +267,13 @@ pub fn openings(
     let mut openings = Vec::new(alloc);
     for (i, device) in devices.iter().enumerate() {
         let opened = opens(part, start, *device, i as u32);
-        let rescinded = is_rescinded(part, i as u32);
+        let fate = fate_in(part, i as u32);
         deal(
             opened,
             i as u32,
             specs[i],
             device.ring_pages,
-            rescinded,
+            fate,
             &mut openings,
             next,
         )?;
@@ -277,7 +288,7 @@ fn deal(
     number: u32,
     spec: DeviceSpec,
     ring_pages: u32,
-    rescinded: bool,
+    fate: Fate,
     openings: &mut Vec<Opening>,
     next: &mut Next,
 ) -> Result<(), AllocError>
@@ -287,15 +298,15 @@ fn deal(
     requires gpadl { next.old.gpadl + 4 < 2 ^ 32 }
     requires page { next.old.page + 4 * 34 < 2 ^ 64 }
     requires relid { next.old.relid + 4 < 2 ^ 32 }
-    ensures dealt { OnOk result (Dealt (channels_if opened number spec next.old.relid) ring_pages rescinded openings.old.items next.old openings.new.items next.new) }
+    ensures dealt { OnOk result (Dealt (channels_if opened number spec next.old.relid) ring_pages fate openings.old.items next.old openings.new.items next.new) }
     ensures few { OnOk result ((next.new.gpadl ≤ next.old.gpadl + 4) × (next.new.page ≤ next.old.page + 4 * 34) × (next.new.relid ≤ next.old.relid + 4)) }
 {
     if opened {
-        open(number + 1, 0, ring_pages, rescinded, openings, next)?;
+        open(number + 1, 0, ring_pages, fate, openings, next)?;
         for i in 0..subs_of(spec) {
             let relid = next.relid;
             next.relid += 1;
-            open(relid, i + 1, ring_pages, rescinded, openings, next)?;
+            open(relid, i + 1, ring_pages, fate, openings, next)?;
         }
     }
     Ok(())
@@ -306,14 +317,14 @@ fn open(
     relid: u32,
     sub: u16,
     ring_pages: u32,
-    rescinded: bool,
+    fate: Fate,
     openings: &mut Vec<Opening>,
     next: &mut Next,
 ) -> Result<(), AllocError>
     requires size { ring_pages ≤ 16 }
     requires gpadl { next.old.gpadl + 1 < 2 ^ 32 }
     requires page { next.old.page + 34 < 2 ^ 64 }
-    ensures opened { OnOk result (openings.new.items ≡ openings.old.items ++ record { relid = relid; sub = sub; ring_pages = ring_pages; gpadl = next.old.gpadl; first_page = next.old.page; rescinded = rescinded } ∷ []) }
+    ensures opened { OnOk result (openings.new.items ≡ openings.old.items ++ record { relid = relid; sub = sub; ring_pages = ring_pages; gpadl = next.old.gpadl; first_page = next.old.page; rescinded = fate.rescinded; vp = vp_at fate.vp sub } ∷ []) }
     ensures next { OnOk result (next.new ≡ record { gpadl = next.old.gpadl + 1; page = next.old.page + list_pages ring_pages; relid = next.old.relid }) }
 {
     openings.push(Opening {
@@ -322,7 +333,8 @@ fn open(
         ring_pages,
         gpadl: next.gpadl,
         first_page: next.page,
-        rescinded,
+        rescinded: fate.rescinded,
+        vp: vp_at(fate.vp, sub),
     })?;
     next.gpadl += 1;
     next.page += 2 * u64::from(ring_pages) + 2;
@@ -354,6 +366,37 @@ fn is_wanted(part: &[Line], device: u32) -> bool
     ensures { result ≡ list_any (λ l. speaks_to device l.what) part.now }
 {
     part.iter().any(|l| speaks_to(&l.what, device))
+}
+
+// What these lines do to a device.
+fn fate_in(part: &[Line], device: u32) -> Fate
+    ensures { result ≡ fate_in part.now device }
+{
+    Fate {
+        rescinded: is_rescinded(part, device),
+        vp: vp_in(part, device),
+    }
+}
+
+// The processor that these lines move a device to, if they do.
+fn vp_in(part: &[Line], device: u32) -> Option<u32>
+    ensures { result ≡ vp_in part.now device }
+{
+    for line in part {
+        if let What::Modify { device: d, vp } = &line.what {
+            if *d == device {
+                return Some(*vp);
+            }
+        }
+    }
+    None
+}
+
+// A device is moved by its first channel.
+fn vp_at(vp: Option<u32>, sub: u16) -> Option<u32>
+    ensures { result ≡ vp_at vp sub }
+{
+    if sub == 0 { vp } else { None }
 }
 
 // Whether one of these lines rescinds a device.

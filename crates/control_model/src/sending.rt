@@ -5,9 +5,9 @@ ghost use Rattle.contact.specs.Classes.{offers_from};
 ghost use Rattle.gpadl.specs.Cut.{AreMessagesOf};
 ghost use Rattle.vmbus_msg.specs.Grammar.{type_of};
 ghost use Rattle.control_model.specs.Plan.{IsOpening, subs_behind};
-ghost use Rattle.control_model.specs.Messages.{open_on, teardown, release, delivered, offer_sub, pages_from, Sends, Fits};
+ghost use Rattle.control_model.specs.Messages.{open_on, teardown, release, delivered, offer_sub, pages_from, modify_one, Sends, Fits};
 
-use crate::{Burst, ControlPlan, Opening};
+use crate::{Burst, ControlPlan, Move, Moves, Opening};
 use contact::{Kind, Part, offer, offers};
 use gpadl::to_messages;
 use std::alloc::{AllocError, Global};
@@ -69,6 +69,9 @@ pub fn type_of(m: &Msg) -> u32
         Msg::VersionResponse { .. } => 15,
         Msg::Unload { .. } => 16,
         Msg::UnloadResponse { .. } => 17,
+        Msg::TlConnectRequest { .. } => 21,
+        Msg::ModifyChannel { .. } => 22,
+        Msg::ModifyChannelResponse { .. } => 24,
     }
 }
 
@@ -86,6 +89,7 @@ pub fn messages(alloc: Global, plan: &ControlPlan, burst: &Burst) -> Result<Vec<
         Burst::PageList(o) => page_list(alloc, o),
         Burst::Offers => all_offers(alloc, plan),
         Burst::Opens(m, part, place) => with_offers(alloc, plan, m, *part, *place),
+        Burst::Moves(moves) => modifies(alloc, moves),
     }
 }
 
@@ -170,4 +174,28 @@ fn with_offers(
         sent.push_reserved(offer(Kind::Disk, o.relid, o.sub));
     }
     Ok(sent)
+}
+
+// A MODIFYCHANNEL for each of these channels.
+fn modifies(alloc: Global, moves: &Moves) -> Result<Vec<Msg>, AllocError>
+    ensures sends { IfOk result (λ sent. sent.items ≡ map modify_one moves.now) }
+    ensures few { IfOk result (λ sent. length sent.items ≤ 17) }
+{
+    let moves = moves.as_slice();
+    let mut sent = Vec::with_capacity(alloc, moves.len())?;
+    for m in moves {
+        sent.push_reserved(modify(*m));
+    }
+    Ok(sent)
+}
+
+// MODIFYCHANNEL: a channel is moved to another processor.
+fn modify(m: Move) -> Msg
+    ensures { result ≡ modify_one m }
+{
+    Msg::ModifyChannel {
+        padding: 0,
+        relid: m.relid,
+        target_vp: m.vp,
+    }
 }

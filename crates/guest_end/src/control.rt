@@ -9,14 +9,17 @@ ghost use Rattle.control_model.specs.declared.guest_wait.GuestWait.TheVariants.{
 ghost use Rattle.control_model.specs.Plan.{BusPlan, part_after, IsPlan};
 ghost use Rattle.control_model.specs.Openings.{plan_of};
 ghost use Rattle.control_model.specs.Messages.{Sends};
-ghost use Rattle.control_model.specs.Channels.{changed};
+ghost use Rattle.control_model.specs.Channels.{by_relid, move_at, move_all, changed};
 ghost use Rattle.guest_end.specs.Handles.{AreApart, next_handle};
 ghost use Rattle.control_model.specs.Guest.{new_guest, IsFit, GuestSeen, guest_done, can_begin, state_of, guest_hears, guest_after, GuestBegins, GuestTakes, Refuses};
 
+use crate::turns::{by_relid, lived};
 use bus_script::Script;
-use chan_state::State;
+use chan_state::{Event, State};
 use contact::{Part, Version};
-use control_model::{Change, Channel, ControlFault, ControlPlan, GuestTurn, GuestWait, messages};
+use control_model::{
+    Change, Channel, ControlFault, ControlPlan, GuestTurn, GuestWait, Move, Moves, messages,
+};
 use mail_box::MailBox;
 use std::alloc::{AllocError, Global};
 use std::marker::Model;
@@ -94,6 +97,10 @@ impl GuestControl {
     /// that no channel has as `Relid`; an offer of an unknown class as `Offer`; a GPADL_TORNDOWN
     /// with a handle of which no channel set up the list as `Gpadl`; one for which the channel's life
     /// has no place as `State`; `Memory` comes after these. A refusal changes nothing.
+    ///
+    /// Behind the last OPENCHANNEL_RESULT of a phase it sends a MODIFYCHANNEL for the first channel of
+    /// each device that the phase moves, in order of offer, from 4.1 on; from 5.3 on it waits for a
+    /// MODIFYCHANNEL_RESPONSE to each.
     ///
     /// A RESCIND_CHANNELOFFER is answered at once, by RELID_RELEASED, whenever it comes.
     ///
@@ -212,6 +219,32 @@ fn change(channels: &mut Vec<Channel>, rising: &mut Option<u64>, change: Change)
             channels.push_reserved(channel);
         }
         Change::Now { relid, channel } => put(channels, rising, relid, channel),
+        Change::Moved { moves, answered } => move_all(channels, rising, &moves, answered),
+    }
+}
+
+// Each of these channels is moved.
+fn move_all(channels: &mut [Channel], rising: &mut Option<u64>, moves: &Moves, answered: bool)
+    ensures moved { channels.new ≡ move_all channels.old answered moves.now }
+    ensures apart { AreApart rising.old channels.old → AreApart rising.new channels.new }
+{
+    for m in moves.as_slice() {
+        move_one(channels, rising, *m, answered);
+    }
+}
+
+// A channel is moved, where the table of its life has a row for that.
+fn move_one(channels: &mut [Channel], rising: &mut Option<u64>, m: Move, answered: bool)
+    ensures moved { channels.new ≡ move_at channels.old answered m (by_relid channels.old m.relid) }
+    ensures apart { AreApart rising.old channels.old → AreApart rising.new channels.new }
+{
+    let Some(channel) = by_relid(channels, m.relid) else {
+        return;
+    };
+    let event = Event::WantModify { vp: m.vp, answered };
+    match lived(channel, event) {
+        Ok(now) => put(channels, rising, m.relid, now),
+        Err(_) => (),
     }
 }
 

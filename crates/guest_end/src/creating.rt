@@ -11,10 +11,11 @@ use contact::Part;
 use control_model::{Burst, Change, Channel, ControlFault, GuestTurn, GuestWait, Opening, open_on};
 
 impl GuestControl {
-    // Goes on with the opening at a place, if there is one: its page list is sent.
+    // Goes on with the opening at a place, if there is one: its page list is sent. Behind the last one
+    // channels are moved.
     pub(crate) fn list_next(&self, turn: GuestTurn, part: Option<Part>, place: usize) -> GuestTurn
         requires { IsFit self.now turn }
-        ensures turn { result ≡ lists_next turn place (opening_in self.now.plan part place) }
+        ensures turn { result ≡ lists_next self.now part turn place (opening_in self.now.plan part place) }
         ensures fits { IsFit self.now result }
     {
         match self.plan.opening(part, place) {
@@ -23,10 +24,7 @@ impl GuestControl {
                 burst: Burst::PageList(o),
                 ..turn
             },
-            None => GuestTurn {
-                awaits: GuestWait::Nothing,
-                ..turn
-            },
+            None => self.move_all(turn, part),
         }
     }
 

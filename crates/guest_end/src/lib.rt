@@ -7,6 +7,7 @@
 
 mod control;
 mod creating;
+mod moving;
 mod offering;
 mod opening;
 mod proposing;

@@ -47,7 +47,7 @@ impl GuestControl {
     fn open_next(&self, turn: GuestTurn, place: usize, o: &Opening) -> GuestTurn
         requires fits { IsFit self.now turn }
         requires small { place + 1 < 2 ^ 64 }
-        ensures turn { result ≡ opens_next turn place o.now (opening_in self.now.plan self.now.part (place + 1)) }
+        ensures turn { result ≡ opens_next self.now turn place o.now (opening_in self.now.plan self.now.part (place + 1)) }
         ensures fits { IsFit self.now result }
     {
         if o.sub == 0 && self.is_sub_at(place + 1) {

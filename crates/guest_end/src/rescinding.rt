@@ -10,7 +10,7 @@ use control_model::{Burst, Change, Channel, ControlFault, GuestTurn, GuestWait, 
 
 impl GuestControl {
     // RESCIND_CHANNELOFFER: the guest gives the channel back. Where it waited for that, it goes on with
-    // the next opening.
+    // the next opening; no answer to a move is waited for any more.
     pub(crate) fn on_rescind(&self, relid: u32) -> Result<GuestTurn, ControlFault>
         ensures turn { result ≡ on_rescind self.now relid (by_relid self.now.channels relid) }
         ensures fits { IfOk result (λ turn. IsFit self.now turn) }
@@ -22,6 +22,7 @@ impl GuestControl {
         let turn = self.released(relid, seen);
         match self.awaits {
             GuestWait::Rescinded(place) => Ok(self.ended(turn, place, relid)),
+            GuestWait::Modified(_) => Ok(self.wait_on(turn)),
             _ => Ok(turn),
         }
     }

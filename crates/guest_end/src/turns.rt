@@ -38,6 +38,7 @@ impl GuestControl {
             Msg::RescindChannelOffer { relid, .. } => self.on_rescind(*relid),
             Msg::AllOffersDelivered { .. } => Ok(self.on_delivered()),
             Msg::OpenChannelResult { relid, status, .. } => self.on_result(*relid, *status),
+            Msg::ModifyChannelResponse { relid, .. } => self.on_modified(*relid),
             Msg::GpadlCreated {
                 relid,
                 gpadl,
@@ -69,10 +70,7 @@ impl GuestControl {
     pub(crate) fn channel(&self, relid: u32) -> Option<Channel>
         ensures { result ≡ by_relid self.now.channels relid }
     {
-        if relid == 0 {
-            return None;
-        }
-        self.channels.get(relid as usize - 1).copied()
+        by_relid(&self.channels, relid)
     }
 
     // The farewell, from 3.0 on.
@@ -111,6 +109,16 @@ impl GuestControl {
             _ => self.idle(),
         }
     }
+}
+
+// The channel with this relid.
+pub(crate) fn by_relid(channels: &[Channel], relid: u32) -> Option<Channel>
+    ensures { result ≡ by_relid channels.now relid }
+{
+    if relid == 0 {
+        return None;
+    }
+    channels.get(relid as usize - 1).copied()
 }
 
 // A channel after an event, or the refusal where the table of its life has no row.

@@ -148,6 +148,9 @@ impl HostControl {
 
     /// Takes a message of the guest, and puts what comes of it into `post`.
     ///
+    /// A MODIFYCHANNEL of an open channel is answered by MODIFYCHANNEL_RESPONSE with status 0 from 5.3 on,
+    /// and not answered below.
+    ///
     /// It refuses, in this order: as `Unasked` a message of a type that no guest sends; as `Relid` one
     /// that names no channel; as `Gpadl` a piece that the assembler refuses, and a GPADL_TEARDOWN of a
     /// list that isn't live, for a channel that isn't rescinded; as `State` one for which the table of
@@ -164,6 +167,11 @@ impl HostControl {
             Msg::GpadlHeader(h) => self.hear_header(m, h.relid, post),
             Msg::GpadlBody(_) => self.hear_piece(m, post),
             Msg::OpenChannel { relid, openid, .. } => self.hear_open(m, *relid, *openid, post),
+            Msg::ModifyChannel {
+                relid,
+                target_vp,
+                ..
+            } => self.hear_modify(m, *relid, *target_vp, post),
             Msg::CloseChannel { relid, .. } => self.hear_close(m, *relid, post),
             Msg::GpadlTeardown { relid, gpadl, .. } => {
                 self.hear_teardown(m, *relid, *gpadl, post)

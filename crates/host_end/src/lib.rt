@@ -9,6 +9,7 @@ mod control;
 mod ending;
 mod hearing;
 mod lists;
+mod moving;
 mod opening;
 mod posting;
 mod serving;

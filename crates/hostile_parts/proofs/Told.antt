@@ -6,7 +6,7 @@ use Rattle.std.specs.Prelude.{codes, if◌then◌else◌}
 use Rattle.std.specs.Fmt.{decimal}
 use Rattle.std.specs.Result.{IsOk, IsErr, OnOk}
 use Rattle.vmbus_msg.specs.declared.msg.Msg.{Msg}
-use Rattle.vmbus_msg.specs.declared.msg.Msg.TheVariants.{GpadlHeader, GpadlBody, OfferChannel, RescindChannelOffer, RequestOffers, AllOffersDelivered, OpenChannel, OpenChannelResult, CloseChannel, GpadlCreated, GpadlTeardown, GpadlTorndown, RelidReleased, InitiateContact, VersionResponse, Unload, UnloadResponse}
+use Rattle.vmbus_msg.specs.declared.msg.Msg.TheVariants.{GpadlHeader, GpadlBody, OfferChannel, RescindChannelOffer, RequestOffers, AllOffersDelivered, OpenChannel, OpenChannelResult, CloseChannel, GpadlCreated, GpadlTeardown, GpadlTorndown, RelidReleased, InitiateContact, VersionResponse, Unload, UnloadResponse, TlConnectRequest, ModifyChannel, ModifyChannelResponse}
 use Rattle.gpadl.specs.Assembly.{Assembly, fault_of, of_message}
 use Rattle.gpadl.specs.declared.fault.GpadlFault.{GpadlFault}
 use Rattle.gpadl.specs.declared.fault.GpadlFault.TheVariants.{Count, Handle, Repeat, Range, Memory}
@@ -65,6 +65,9 @@ says_refused (InitiateContact a b c d e g) s f is told other = absurd (cc)
 says_refused (VersionResponse a b c d e) s f is told other = absurd (cc)
 says_refused (Unload a) s f is told other = absurd (cc)
 says_refused (UnloadResponse a) s f is told other = absurd (cc)
+says_refused (TlConnectRequest a b c) s f is told other = absurd (cc)
+says_refused (ModifyChannel a b c) s f is told other = absurd (cc)
+says_refused (ModifyChannelResponse a b c) s f is told other = absurd (cc)
 
 pub on_ok_both : {T E : Type 0} {P Q R : Type 0} (r : Result T E) → (P → Q → R) → OnOk r P → OnOk r Q → OnOk r R
 on_ok_both (Ok x) f p q = f p q

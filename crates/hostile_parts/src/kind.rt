@@ -26,5 +26,8 @@ pub(crate) fn type_of(m: &Msg) -> u32
         Msg::VersionResponse { .. } => 15,
         Msg::Unload { .. } => 16,
         Msg::UnloadResponse { .. } => 17,
+        Msg::TlConnectRequest { .. } => 21,
+        Msg::ModifyChannel { .. } => 22,
+        Msg::ModifyChannelResponse { .. } => 24,
     }
 }

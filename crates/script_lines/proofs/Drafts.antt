@@ -1,7 +1,7 @@
 -- What is kept of the lines before stays right as lines come.
 use Rattle.std.proofs.Common.{◌≡◌, ◌≢◌, ℕ, ◌+◌, ◌<◌, ◌≤◌, Bool, true, false, List, [], ◌∷◌, ◌++◌, length, refl, sym, ap, ◌∙◌, subst, arith, length-append}
 use Rattle.std.proofs.Common.{◌⊎◌, inl, inr, ⊎_elim, zero, suc}
-use Rattle.std.specs.Prelude.{◌||◌, ◌&&◌, ◌==◌, not, Option, Some, None, slice_get, slice_index_or, slice_set, sum_by, position, nat_lt, cond, map}
+use Rattle.std.specs.Prelude.{◌||◌, ◌&&◌, ◌==◌, not, Option, Some, None, IfSome, slice_get, slice_index_or, slice_set, sum_by, position, nat_lt, cond, map}
 use Rattle.std.specs.List.{list_any, list_all, position_or_len}
 use Rattle.std.specs.Option.{option_or}
 use Rattle.std.proofs.lemmas.Bool.Decides.{nat_tests}
@@ -16,14 +16,15 @@ use Rattle.std.proofs.lemmas.List.Folds.{list_any-append, list_all-append}
 use Rattle.std.proofs.lemmas.Grind.{flat_map-append}
 use Rattle.script_lines.specs.declared.line.Line.{Line}
 use Rattle.script_lines.specs.declared.line.What.{What}
-use Rattle.script_lines.specs.declared.line.What.TheVariants.{Contact as IsContact, Offer as IsOffer, Bad as IsBad, RingSize as IsRingSize, Window as IsWindow, Ask as IsAsk, Rescind as IsRescind, Shut as IsShut, Phase as IsPhase}
+use Rattle.script_lines.specs.declared.line.What.TheVariants.{Contact as IsContact, Offer as IsOffer, Bad as IsBad, RingSize as IsRingSize, Window as IsWindow, Ask as IsAsk, Rescind as IsRescind, Shut as IsShut, Modify as IsModify, Phase as IsPhase}
 use Rattle.script_lines.specs.declared.line.DeviceSpec.{DeviceSpec}
 use Rattle.script_lines.specs.declared.bad_place.BadPlace.{BadPlace}
 use Rattle.script_lines.specs.declared.draft.Seen.{Seen}
-use Rattle.script_lines.specs.Parts.{is_settings, is_ask, asks_in, this_part, offered, offered_by, names, named_by, channels, channels_of, ends_part, sets_ring, sets_window, sets_bad, rescinds, shuts, has_bad, has_ring, has_window, phases_over, phase_behind, phase_from, rescinded_in, closed_in, kind_of}
+use Rattle.script_lines.specs.Parts.{is_settings, is_ask, asks_in, this_part, offered, offered_by, names, named_by, channels, channels_of, ends_part, sets_ring, sets_window, sets_bad, rescinds, shuts, modifies, modified_here, has_bad, has_ring, has_window, phases_over, phase_behind, phase_from, rescinded_in, closed_in, kind_of}
+use Rattle.script_lines.specs.Faults.{is_now}
 use Rattle.script_lines.specs.WellFormed.{IsRescindable, IsRight, AllRight, Fits}
 use Rattle.script_lines.specs.Draft.{IsSeen, places_by, places, Keeps}
-use Rattle.script_lines.proofs.Phases.{by_test, phase_on, phase_more, phase_at, this_phase, this_other, count_yes, count_no}
+use Rattle.script_lines.proofs.Phases.{by_test, phase_on, phase_more, phase_at, this_phase, this_other, count_yes, count_no, none_this}
 use Rattle.script_lines.proofs.Scripts.{offered_more, names_more, channels_more, slice_get_front, script_push}
 
 -- a line that says nothing of a device that was offered before
@@ -32,6 +33,7 @@ pub record Quiet (device : ℕ) (what : What) : Type 0 where
   pub window : sets_window device what ≡ false
   pub rescind : rescinds device what ≡ false
   pub shut : shuts device what ≡ false
+  pub modify : modifies device what ≡ false
 
 or_false : (b : Bool) → (b || false) ≡ b
 or_false true = refl
@@ -66,6 +68,29 @@ phase_new : (kind : What → Bool) (ls : List Line) (l : Line) (phase : ℕ) →
 phase_new kind ls l phase is none same =
     ap Some same ∙ sym (phase_more kind ls l ∙ ap (λ b. option_or (phase_from kind 0 ls) (phase_at (phases_over ls) b)) is ∙ ap (λ o. option_or o (Some (phases_over ls))) none)
 
+-- how many phases are over, behind one line more
+over_more : (ls : List Line) (l : Line) → phases_over ls ≤ phases_over (ls ++ l ∷ [])
+over_more ls l = by_test (ends_part l) (λ e. omega (arith, count_yes ends_part ls l e)) (λ e. omega (arith, count_no ends_part ls l e))
+
+by_kept : (ls : List Line) (l : Line) (phase : Option ℕ) → IfSome phase (λ p. p ≤ phases_over ls) → IfSome phase (λ p. p ≤ phases_over (ls ++ l ∷ []))
+by_kept ls l None by = tt
+by_kept ls l (Some p) by = omega (arith, by, over_more ls l)
+
+past_now : (now next : ℕ) (phase : Option ℕ) → IfSome phase (λ p. p ≤ now) → next ≡ now + 1 → is_now next phase ≡ false
+past_now now next None by is = refl
+past_now now next (Some p) by is = grind (arith, nat_tests, by, is)
+
+moved_more : (device : ℕ) (ls : List Line) (l : Line) (said : Bool) → ends_part l ≡ false → modifies device l.what ≡ said → modified_here device (ls ++ l ∷ []) ≡ (modified_here device ls || said)
+moved_more device ls l said other is =
+    let moves = λ (k : Line). modifies device k.what in
+    ap (list_any moves) (this_other ls l other) ∙ list_any-append moves (this_part ls) (l ∷ []) ∙ ap (λ b. modified_here device ls || b) (or_false (modifies device l.what) ∙ is)
+
+moved_kept : (device : ℕ) (ls : List Line) (l : Line) (phase : Option ℕ) → modifies device l.what ≡ false → IfSome phase (λ p. p ≤ phases_over ls) → is_now (phases_over ls) phase ≡ modified_here device ls
+    → is_now (phases_over (ls ++ l ∷ [])) phase ≡ modified_here device (ls ++ l ∷ [])
+moved_kept device ls l phase quiet by is = by_test (ends_part l)
+    (λ e. past_now (phases_over ls) (phases_over (ls ++ l ∷ [])) phase by (count_yes ends_part ls l e) ∙ sym (ap (list_any (λ (k : Line). modifies device k.what)) (this_phase ls l e)))
+    (λ e. ap (λ n. is_now n phase) (count_no ends_part ls l e) ∙ is ∙ sym (moved_more device ls l false e quiet ∙ or_false _))
+
 spec_kept : (device : ℕ) (ls : List Line) (l : Line) (spec : DeviceSpec) → slice_get (offered ls) device ≡ Some spec → slice_get (offered (ls ++ l ∷ [])) device ≡ Some spec
 spec_kept device ls l spec is = ap (λ ds. slice_get ds device) (offered_more ls l) ∙ slice_get_front (offered ls) (offered_by l.what) device spec is
 
@@ -76,6 +101,8 @@ seen_kept ls l device seen quiet is = record {
   window = is.window ∙ window_kept device ls l quiet.window;
   rescinded = is.rescinded ∙ phase_kept (rescinds device) ls l quiet.rescind;
   closed = is.closed ∙ phase_kept (shuts device) ls l quiet.shut;
+  modified = moved_kept device ls l seen.modified quiet.modify is.by_now is.modified;
+  by_now = by_kept ls l seen.modified is.by_now;
 }
 
 eq_self : (n : ℕ) → (n == n) ≡ true
@@ -91,6 +118,8 @@ ring_here ls number device pages seen is = let l : Line = record { number = numb
   window = is.window ∙ window_kept device ls l refl;
   rescinded = is.rescinded ∙ phase_kept (rescinds device) ls l refl;
   closed = is.closed ∙ phase_kept (shuts device) ls l refl;
+  modified = moved_kept device ls l seen.modified refl is.by_now is.modified;
+  by_now = by_kept ls l seen.modified is.by_now;
 }
 
 pub window_here : (ls : List Line) (number device size : ℕ) (seen : Seen) → IsSeen ls device seen → IsSeen (ls ++ record { number = number; what = IsWindow device size } ∷ []) device (record seen { window = true })
@@ -100,6 +129,8 @@ window_here ls number device size seen is = let l : Line = record { number = num
   window = sym (window_more device ls l true (eq_self device) ∙ or_true _);
   rescinded = is.rescinded ∙ phase_kept (rescinds device) ls l refl;
   closed = is.closed ∙ phase_kept (shuts device) ls l refl;
+  modified = moved_kept device ls l seen.modified refl is.by_now is.modified;
+  by_now = by_kept ls l seen.modified is.by_now;
 }
 
 pub rescind_here : (ls : List Line) (number device after : ℕ) (held : Bool) (phase : ℕ) (seen : Seen) → rescinded_in device ls ≡ None → phase ≡ phases_over ls → IsSeen ls device seen
@@ -110,6 +141,8 @@ rescind_here ls number device after held phase seen none same is = let l : Line 
   window = is.window ∙ window_kept device ls l refl;
   rescinded = phase_new (rescinds device) ls l phase (eq_self device) none same;
   closed = is.closed ∙ phase_kept (shuts device) ls l refl;
+  modified = moved_kept device ls l seen.modified refl is.by_now is.modified;
+  by_now = by_kept ls l seen.modified is.by_now;
 }
 
 pub shut_here : (ls : List Line) (number device phase : ℕ) (seen : Seen) → closed_in device ls ≡ None → phase ≡ phases_over ls → IsSeen ls device seen
@@ -120,19 +153,36 @@ shut_here ls number device phase seen none same is = let l : Line = record { num
   window = is.window ∙ window_kept device ls l refl;
   rescinded = is.rescinded ∙ phase_kept (rescinds device) ls l refl;
   closed = phase_new (shuts device) ls l phase (eq_self device) none same;
+  modified = moved_kept device ls l seen.modified refl is.by_now is.modified;
+  by_now = by_kept ls l seen.modified is.by_now;
+}
+
+pub modify_here : (ls : List Line) (number device vp phase : ℕ) (seen : Seen) → phase ≡ phases_over ls → IsSeen ls device seen
+    → IsSeen (ls ++ record { number = number; what = IsModify device vp } ∷ []) device (record seen { modified = Some phase })
+modify_here ls number device vp phase seen same is = let l : Line = record { number = number; what = IsModify device vp } in record {
+  spec = spec_kept device ls l seen.spec is.spec;
+  ring = is.ring ∙ ring_kept device ls l refl;
+  window = is.window ∙ window_kept device ls l refl;
+  rescinded = is.rescinded ∙ phase_kept (rescinds device) ls l refl;
+  closed = is.closed ∙ phase_kept (shuts device) ls l refl;
+  modified = ap (λ n. is_now n (Some phase)) (count_no ends_part ls l refl) ∙ ap (λ n. n == phases_over ls) same ∙ eq_self (phases_over ls) ∙ sym (moved_more device ls l true refl (eq_self device) ∙ or_true _);
+  by_now = omega (arith, same, over_more ls l);
 }
 
 pub ring_else : (device other pages : ℕ) → other ≢ device → Quiet other (IsRingSize device pages)
-ring_else device other pages not = record { ring = eq_else device other not; window = refl; rescind = refl; shut = refl }
+ring_else device other pages not = record { ring = eq_else device other not; window = refl; rescind = refl; shut = refl; modify = refl }
 
 pub window_else : (device other size : ℕ) → other ≢ device → Quiet other (IsWindow device size)
-window_else device other size not = record { ring = refl; window = eq_else device other not; rescind = refl; shut = refl }
+window_else device other size not = record { ring = refl; window = eq_else device other not; rescind = refl; shut = refl; modify = refl }
 
 pub rescind_else : (device other after : ℕ) (held : Bool) → other ≢ device → Quiet other (IsRescind device after held)
-rescind_else device other after held not = record { ring = refl; window = refl; rescind = eq_else device other not; shut = refl }
+rescind_else device other after held not = record { ring = refl; window = refl; rescind = eq_else device other not; shut = refl; modify = refl }
 
 pub shut_else : (device other : ℕ) → other ≢ device → Quiet other (IsShut device)
-shut_else device other not = record { ring = refl; window = refl; rescind = refl; shut = eq_else device other not }
+shut_else device other not = record { ring = refl; window = refl; rescind = refl; shut = eq_else device other not; modify = refl }
+
+pub modify_else : (device other vp : ℕ) → other ≢ device → Quiet other (IsModify device vp)
+modify_else device other vp not = record { ring = refl; window = refl; rescind = refl; shut = refl; modify = eq_else device other not }
 
 -- the places of a list with one element changed
 slice_get_set : {X : Type 0} (xs : List X) (i j : ℕ) (x y : X) → slice_get (slice_set xs i x) j ≡ Some y → ((i ≡ j) × (x ≡ y)) ⊎ ((j ≢ i) × (slice_get xs j ≡ Some y))
@@ -161,15 +211,16 @@ rescindable_within kinds device is = ⊎_elim (of_kind_within kinds device KindD
 
 -- a line that is right says nothing of a device that isn't offered
 unsaid : (kinds : List DeviceSpec) (what : What) (device : ℕ) → IsRight kinds what → length kinds ≤ device → Quiet device what
-unsaid kinds (IsContact guest host) device right more = record { ring = refl; window = refl; rescind = refl; shut = refl }
-unsaid kinds (IsOffer name spec) device right more = record { ring = refl; window = refl; rescind = refl; shut = refl }
-unsaid kinds (IsBad d lba) device right more = record { ring = refl; window = refl; rescind = refl; shut = refl }
+unsaid kinds (IsContact guest host) device right more = record { ring = refl; window = refl; rescind = refl; shut = refl; modify = refl }
+unsaid kinds (IsOffer name spec) device right more = record { ring = refl; window = refl; rescind = refl; shut = refl; modify = refl }
+unsaid kinds (IsBad d lba) device right more = record { ring = refl; window = refl; rescind = refl; shut = refl; modify = refl }
 unsaid kinds (IsRingSize d pages) device right more = ring_else d device pages (λ same. absurd (omega (arith, same, right.0)))
 unsaid kinds (IsWindow d size) device right more = window_else d device size (λ same. absurd (omega (arith, same, right.0)))
-unsaid kinds (IsAsk d ask) device right more = record { ring = refl; window = refl; rescind = refl; shut = refl }
+unsaid kinds (IsAsk d ask) device right more = record { ring = refl; window = refl; rescind = refl; shut = refl; modify = refl }
 unsaid kinds (IsRescind d after held) device right more = rescind_else d device after held (λ same. absurd (omega (arith, same, rescindable_within kinds d right.0)))
 unsaid kinds (IsShut d) device right more = shut_else d device (λ same. absurd (omega (arith, same, right)))
-unsaid kinds IsPhase device right more = record { ring = refl; window = refl; rescind = refl; shut = refl }
+unsaid kinds (IsModify d vp) device right more = modify_else d device vp (λ same. absurd (omega (arith, same, right.0)))
+unsaid kinds IsPhase device right more = record { ring = refl; window = refl; rescind = refl; shut = refl; modify = refl }
 
 or_both : (a b : Bool) → a ≡ false → b ≡ false → (a || b) ≡ false
 or_both false b is more = more
@@ -183,6 +234,10 @@ none_ring kinds (l ∷ ls) device right more = or_both _ _ (unsaid kinds l.what 
 none_window : (kinds : List DeviceSpec) (ls : List Line) (device : ℕ) → AllRight kinds ls → length kinds ≤ device → has_window device ls ≡ false
 none_window kinds [] device right more = refl
 none_window kinds (l ∷ ls) device right more = or_both _ _ (unsaid kinds l.what device right.0 more).window (none_window kinds ls device right.1 more)
+
+none_moved : (kinds : List DeviceSpec) (ls : List Line) (device : ℕ) → AllRight kinds ls → length kinds ≤ device → list_any (λ l. modifies device l.what) ls ≡ false
+none_moved kinds [] device right more = refl
+none_moved kinds (l ∷ ls) device right more = or_both _ _ (unsaid kinds l.what device right.0 more).modify (none_moved kinds ls device right.1 more)
 
 none_phase : (kind : What → Bool) (kinds : List DeviceSpec) (ls : List Line) (phase : ℕ) → AllRight kinds ls → ((what : What) → IsRight kinds what → kind what ≡ false) → phase_from kind phase ls ≡ None
 none_phase kind kinds [] phase right none = refl
@@ -200,7 +255,7 @@ slice_get_end (z ∷ xs) x = slice_get_end xs x
 
 -- a new device, of which no line speaks yet
 pub seen_new : (ls : List Line) (number : ℕ) (name : List ℕ) (spec : DeviceSpec) (new : Seen) (seen : List Seen) → AllRight (offered ls) ls → length seen ≡ length (offered ls)
-    → new ≡ record { spec = spec; ring = false; window = false; rescinded = None; closed = None }
+    → new ≡ record { spec = spec; ring = false; window = false; rescinded = None; closed = None; modified = None }
     → ((d : ℕ) (s : Seen) → slice_get seen d ≡ Some s → IsSeen ls d s)
     → (d : ℕ) (s : Seen) → slice_get (seen ++ new ∷ []) d ≡ Some s → IsSeen (ls ++ record { number = number; what = IsOffer name spec } ∷ []) d s
 seen_new ls number name spec new seen right count made all d s is =
@@ -210,15 +265,17 @@ seen_new ls number name spec new seen right count made all d s is =
     (λ here.
     let place : d ≡ length kinds = here.0 ∙ count in
     let past : length kinds ≤ d = omega (arith, place) in
-    let same : record { spec = spec; ring = false; window = false; rescinded = None; closed = None } ≡ s = sym made ∙ here.1 in
+    let same : record { spec = spec; ring = false; window = false; rescinded = None; closed = None; modified = None } ≡ s = sym made ∙ here.1 in
     subst (λ e. IsSeen (ls ++ l ∷ []) d e) same (record {
       spec = ap (λ ds. slice_get ds d) (offered_more ls l) ∙ ap (λ i. slice_get (kinds ++ spec ∷ []) i) place ∙ slice_get_end kinds spec;
       ring = sym (none_ring kinds ls d right past) ∙ ring_kept d ls l refl;
       window = sym (none_window kinds ls d right past) ∙ window_kept d ls l refl;
       rescinded = sym (none_phase (rescinds d) kinds ls 0 right (λ what is. (unsaid kinds what d is past).rescind)) ∙ phase_kept (rescinds d) ls l refl;
       closed = sym (none_phase (shuts d) kinds ls 0 right (λ what is. (unsaid kinds what d is past).shut)) ∙ phase_kept (shuts d) ls l refl;
+      modified = sym (moved_more d ls l false refl refl ∙ or_false _ ∙ none_this (λ (k : Line). modifies d k.what) ls (none_moved kinds ls d right past));
+      by_now = tt;
     }))
-    (λ rest. seen_kept ls l d s (record { ring = refl; window = refl; rescind = refl; shut = refl }) (all d s rest))
+    (λ rest. seen_kept ls l d s (record { ring = refl; window = refl; rescind = refl; shut = refl; modify = refl }) (all d s rest))
     (slice_get_snoc seen new s d is)
 
 and_false : (b : Bool) → (b && (false && true)) ≡ false
@@ -263,6 +320,7 @@ any_placed device lba (IsWindow d size) rest = refl
 any_placed device lba (IsAsk d ask) rest = refl
 any_placed device lba (IsRescind d after held) rest = refl
 any_placed device lba (IsShut d) rest = refl
+any_placed device lba (IsModify d vp) rest = refl
 any_placed device lba IsPhase rest = refl
 
 -- a block is among the bad places where a line makes it bad
@@ -306,21 +364,21 @@ module _ (ls : List Line) (keys : List (List ℕ)) (seen : List Seen) (count ask
 
   pub keeps_ask : (device : ℕ) (ask : Ask) → Fits ls (IsAsk device ask) → Keeps (ls ++ record { number = number; what = IsAsk device ask } ∷ []) keys seen count (asks + 1) phase false bad
   keeps_ask device ask fits = let l : Line = record { number = number; what = IsAsk device ask } in
-      settles (IsAsk device ask) seen fits refl refl refl refl (quietly (IsAsk device ask) (λ d. record { ring = refl; window = refl; rescind = refl; shut = refl })) (asks + 1) phase false
+      settles (IsAsk device ask) seen fits refl refl refl refl (quietly (IsAsk device ask) (λ d. record { ring = refl; window = refl; rescind = refl; shut = refl; modify = refl })) (asks + 1) phase false
       (ap (λ n. n + 1) kept.asked ∙ sym (ap asks_in (this_other ls l refl) ∙ count_yes (λ k. is_ask k.what) (this_part ls) l refl))
       (kept.over ∙ sym (count_no ends_part ls l refl))
       (sym (settings_no ls l refl))
 
   pub keeps_phase : Fits ls IsPhase → Keeps (ls ++ record { number = number; what = IsPhase } ∷ []) keys seen count 0 (phase + 1) false bad
   keeps_phase fits = let l : Line = record { number = number; what = IsPhase } in
-      settles IsPhase seen fits refl refl refl refl (quietly IsPhase (λ d. record { ring = refl; window = refl; rescind = refl; shut = refl })) 0 (phase + 1) false
+      settles IsPhase seen fits refl refl refl refl (quietly IsPhase (λ d. record { ring = refl; window = refl; rescind = refl; shut = refl; modify = refl })) 0 (phase + 1) false
       (sym (ap asks_in (this_phase ls l refl)))
       (ap (λ n. n + 1) kept.over ∙ sym (count_yes ends_part ls l refl))
       (sym (settings_no ls l refl))
 
   pub keeps_contact : (guest host : Version) → Fits ls (IsContact guest host) → Keeps (ls ++ record { number = number; what = IsContact guest host } ∷ []) keys seen count asks phase settings bad
   keeps_contact guest host fits = let l : Line = record { number = number; what = IsContact guest host } in
-      settles (IsContact guest host) seen fits refl refl refl refl (quietly (IsContact guest host) (λ d. record { ring = refl; window = refl; rescind = refl; shut = refl })) asks phase settings
+      settles (IsContact guest host) seen fits refl refl refl refl (quietly (IsContact guest host) (λ d. record { ring = refl; window = refl; rescind = refl; shut = refl; modify = refl })) asks phase settings
       (kept.asked ∙ sym (ap asks_in (this_other ls l refl) ∙ count_no (λ k. is_ask k.what) (this_part ls) l refl))
       (kept.over ∙ sym (count_no ends_part ls l refl))
       (kept.all_settings ∙ sym (settings_yes ls l refl))
@@ -332,7 +390,7 @@ module _ (ls : List Line) (keys : List (List ℕ)) (seen : List Seen) (count ask
     names = kept.names ∙ sym (names_none ls l refl);
     bad_places = ap (λ ps. ps ++ p ∷ []) kept.bad_places ∙ ap (λ q. places ls ++ q ∷ []) made ∙ sym (places_more ls l);
     many = kept.many ∙ sym (ap length (offers_none ls l refl));
-    each = quietly (IsBad device lba) (λ d. record { ring = refl; window = refl; rescind = refl; shut = refl });
+    each = quietly (IsBad device lba) (λ d. record { ring = refl; window = refl; rescind = refl; shut = refl; modify = refl });
     channels = kept.channels ∙ sym (ap (sum_by channels_of) (offers_none ls l refl));
     asked = kept.asked ∙ sym (ap asks_in (this_other ls l refl) ∙ count_no (λ k. is_ask k.what) (this_part ls) l refl);
     over = kept.over ∙ sym (count_no ends_part ls l refl);
@@ -378,7 +436,17 @@ module _ (ls : List Line) (keys : List (List ℕ)) (seen : List Seen) (count ask
       (kept.over ∙ sym (count_no ends_part ls l refl))
       (sym (settings_no ls l refl))
 
-  pub keeps_offer : (name : List ℕ) (spec : DeviceSpec) (new : Seen) (more : ℕ) → Fits ls (IsOffer name spec) → new ≡ record { spec = spec; ring = false; window = false; rescinded = None; closed = None } → more ≡ channels_of spec
+  pub keeps_modify : (device vp : ℕ) (s : Seen) → Fits ls (IsModify device vp) → s ≡ slice_index_or seen device s
+      → Keeps (ls ++ record { number = number; what = IsModify device vp } ∷ []) keys (slice_set seen device (record s { modified = Some phase })) count asks phase false bad
+  keeps_modify device vp s fits at = let l : Line = record { number = number; what = IsModify device vp } in
+      settles (IsModify device vp) (slice_set seen device (record s { modified = Some phase })) fits refl refl refl (length-set seen device (record s { modified = Some phase }))
+      (seen_set ls l device (record s { modified = Some phase }) seen kept.each
+      (modify_here ls number device vp phase s kept.over (kept.each device s (placed device s fits.right.0 at))) (λ d other. modify_else device d vp other)) asks phase false
+      (kept.asked ∙ sym (ap asks_in (this_other ls l refl) ∙ count_no (λ k. is_ask k.what) (this_part ls) l refl))
+      (kept.over ∙ sym (count_no ends_part ls l refl))
+      (sym (settings_no ls l refl))
+
+  pub keeps_offer : (name : List ℕ) (spec : DeviceSpec) (new : Seen) (more : ℕ) → Fits ls (IsOffer name spec) → new ≡ record { spec = spec; ring = false; window = false; rescinded = None; closed = None; modified = None } → more ≡ channels_of spec
       → Keeps (ls ++ record { number = number; what = IsOffer name spec } ∷ []) (keys ++ name ∷ []) (seen ++ new ∷ []) (count + more) asks phase settings bad
   keeps_offer name spec new more fits made is = let l : Line = record { number = number; what = IsOffer name spec } in record {
     script = script_push ls l kept.script fits;
@@ -407,6 +475,7 @@ one_each (IsWindow device size) = refl
 one_each (IsAsk device ask) = refl
 one_each (IsRescind device after held) = refl
 one_each (IsShut device) = refl
+one_each (IsModify device vp) = refl
 one_each IsPhase = refl
 
 -- a device has one name

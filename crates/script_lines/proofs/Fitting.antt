@@ -14,7 +14,7 @@ use Rattle.script_text.specs.declared.fault.Why6.{Why6}
 use Rattle.script_text.specs.declared.fault.Why6.TheVariants.{Limit, Order}
 use Rattle.script_lines.specs.declared.line.Line.{Line}
 use Rattle.script_lines.specs.declared.line.What.{What}
-use Rattle.script_lines.specs.declared.line.What.TheVariants.{Contact as IsContact, Offer as IsOffer, Bad as IsBad, RingSize as IsRingSize, Window as IsWindow, Ask as IsAsk, Rescind as IsRescind, Shut as IsShut, Phase as IsPhase}
+use Rattle.script_lines.specs.declared.line.What.TheVariants.{Contact as IsContact, Offer as IsOffer, Bad as IsBad, RingSize as IsRingSize, Window as IsWindow, Ask as IsAsk, Rescind as IsRescind, Shut as IsShut, Modify as IsModify, Phase as IsPhase}
 use Rattle.script_lines.specs.declared.line.Ask.{Ask}
 use Rattle.script_lines.specs.declared.line.DeviceSpec.{DeviceSpec}
 use Rattle.script_lines.specs.declared.line.DeviceSpec.TheVariants.{Beat as IsBeat, Down as IsDown, Disk as IsDisk, Net as IsNet}
@@ -24,14 +24,14 @@ use Rattle.script_lines.specs.declared.offering.Offering.{Offering}
 use Rattle.script_lines.specs.declared.offering.Offering.TheVariants.{Beat as OfBeat, Down as OfDown, Disk as OfDisk, Net as OfNet}
 use Rattle.contact.specs.declared.kind.Kind.TheVariants.{Disk as KindDisk, Net as KindNet}
 use Rattle.script_lines.specs.declared.said.Said.{Said}
-use Rattle.script_lines.specs.declared.said.Said.TheVariants.{Contact, Offer, Bad, Ring, Window, Request, Rescind, Close, Phase}
-use Rattle.script_lines.specs.Parts.{is_settings, offered, kind_of, kind_asked, phases_over, phase_from, rescinds, shuts, channels, channels_of, device_of, blocks_at, has_bad}
+use Rattle.script_lines.specs.declared.said.Said.TheVariants.{Contact, Offer, Bad, Ring, Window, Request, Rescind, Close, Modify, Phase}
+use Rattle.script_lines.specs.Parts.{is_settings, offered, kind_of, kind_asked, phases_over, phase_from, rescinds, shuts, modified_here, channels, channels_of, device_of, blocks_at, has_bad}
 use Rattle.script_lines.specs.Faults.{unless, device_said, says_settings, line_limit, ask_limit, has_room, count_limit, is_first, is_over, is_now, is_ended_before, own_order, order_fault, is_beat, is_down, is_disk, is_net, takes, is_rescindable, is_offered, name_fault, is_bad, repeat_fault, offers_in_range, is_block, asked_in_range, range_fault, row_fault}
 use Rattle.script_lines.specs.Grammar.{or_zero, spec_of, ask_of}
 use Rattle.script_lines.specs.WellFormed.{IsDevice, IsRescindable, CanGo, OfferInRange, AskedInRange, InRange, Fits}
 use Rattle.script_text.specs.Forms.{within}
 use Rattle.script_lines.proofs.Carrying.{asks_carried}
-use Rattle.script_lines.proofs.Phases.{by_test, phase_by}
+use Rattle.script_lines.proofs.Phases.{by_test, neither, phase_by}
 
 or_none : (a b : Option Why6) → option_or a b ≡ None → (a ≡ None) × (b ≡ None)
 or_none None b is = (refl, is)
@@ -211,10 +211,6 @@ first_of kind before earlier here = at (phase_from kind 0 before) refl earlier h
     at None same less is = same
     at (Some p) same less is = let most = phase_by kind 0 before p same in absurd (grind (arith, nat_tests, less, is, most))
 
-neither : (a b : Bool) → (a || b) ≡ false → (a ≡ false) × (b ≡ false)
-neither true b is = absurd (cc)
-neither false b is = (refl, is)
-
 eq_is : (a b : ℕ) → (a == b) ≡ true → a ≡ b
 eq_is a b is = grind (arith, nat_tests, is)
 
@@ -250,6 +246,7 @@ module _ (number : ℕ) (before : List Line) (behind : length before < number) w
         asks = λ is. absurd (false≢true is);
         rescinded = λ d is. absurd (false≢true is);
         closed = λ d is. absurd (false≢true is);
+        modified = λ d is. absurd (false≢true is);
         short = is_short (length before) number s.line behind;
       }
     where
@@ -273,6 +270,7 @@ module _ (number : ℕ) (before : List Line) (behind : length before < number) w
         asks = λ is. absurd (false≢true is);
         rescinded = λ d is. absurd (false≢true is);
         closed = λ d is. absurd (false≢true is);
+        modified = λ d is. absurd (false≢true is);
         short = is_short (length before) number s.line behind;
       }
     where
@@ -295,6 +293,7 @@ module _ (number : ℕ) (before : List Line) (behind : length before < number) w
         asks = λ is. absurd (false≢true is);
         rescinded = λ d is. absurd (false≢true is);
         closed = λ d is. absurd (false≢true is);
+        modified = λ d is. absurd (false≢true is);
         short = is_short (length before) number s.line behind;
       }
 
@@ -313,6 +312,7 @@ module _ (number : ℕ) (before : List Line) (behind : length before < number) w
         asks = λ is. absurd (false≢true is);
         rescinded = λ d is. absurd (false≢true is);
         closed = λ d is. absurd (false≢true is);
+        modified = λ d is. absurd (false≢true is);
         short = is_short (length before) number s.line behind;
       }
     where
@@ -335,6 +335,7 @@ module _ (number : ℕ) (before : List Line) (behind : length before < number) w
         asks = λ is. absurd (false≢true is);
         rescinded = λ d is. absurd (false≢true is);
         closed = λ d is. absurd (false≢true is);
+        modified = λ d is. absurd (false≢true is);
         short = is_short (length before) number s.line behind;
       }
     where
@@ -357,6 +358,7 @@ module _ (number : ℕ) (before : List Line) (behind : length before < number) w
         asks = λ is. grind (arith, nat_tests, less);
         rescinded = λ d is. absurd (false≢true is);
         closed = λ d is. absurd (false≢true is);
+        modified = λ d is. absurd (false≢true is);
         short = is_short (length before) number line behind;
       }
 
@@ -385,6 +387,7 @@ module _ (number : ℕ) (before : List Line) (behind : length before < number) w
         rescinded = first_end rescinds before device (some_offered is_rescindable before device (unless_none _ _ s.name)) (λ d not. (neither _ _ not).0)
             (not_true _ (unless_none _ _ (own_free before device (Rescind name after held) s.order))) (not_true _ (unless_none _ _ s.repeat));
         closed = λ d is. absurd (false≢true is);
+        modified = λ d is. absurd (false≢true is);
         short = is_short (length before) number s.line behind;
       }
     where
@@ -412,8 +415,37 @@ module _ (number : ℕ) (before : List Line) (behind : length before < number) w
         rescinded = λ d is. absurd (false≢true is);
         closed = first_end shuts before device named (λ d not. (neither _ _ not).1)
             (not_true _ (unless_none _ _ (own_free before device (Close name) s.order))) (not_true _ (unless_none _ _ s.repeat));
+        modified = λ d is. absurd (false≢true is);
         short = is_short (length before) number s.line behind;
       }
+
+  pub fits_modify : (name : List ℕ) (vp device : Option ℕ) → row_fault number before device (Modify name vp) ≡ None → InRange (Modify name vp) → IfSome device (λ d. d < length (offered before))
+      → Fits before (IsModify (unwrap_or device 0) (unwrap_or vp 0))
+  fits_modify name vp device free range within =
+      let s = stands number before device (Modify name vp) free in
+      let named = unless_none _ _ s.name in
+      record {
+        right = (within_offered before device named within, in_range vp (unless_none _ _ s.range) range);
+        goes = tt;
+        fresh = refl;
+        contact = λ is. absurd (false≢true is);
+        settings = λ is. absurd (false≢true is);
+        few = λ one is. none_in is;
+        new = λ other is. none_in is;
+        asks = λ is. absurd (false≢true is);
+        rescinded = λ d is. absurd (false≢true is);
+        closed = λ d is. absurd (false≢true is);
+        modified = unmoved device named (not_true _ (unless_none _ _ s.repeat));
+        short = is_short (length before) number s.line behind;
+      }
+    where
+      in_range : (o : Option ℕ) → is_some o ≡ true → IfSome o (λ n. n ≤ 63) → unwrap_or o 0 ≤ 63
+      in_range None there is = absurd (cc)
+      in_range (Some n) there is = is
+
+      unmoved : (o : Option ℕ) → is_some o ≡ true → option_map_or (λ d. modified_here d before) o false ≡ false → (d : ℕ) → (unwrap_or o 0 == d) ≡ true → modified_here d before ≡ false
+      unmoved None there fresh d is = absurd (cc)
+      unmoved (Some e) there fresh d is = subst (λ x. modified_here x before ≡ false) (eq_is e d is) fresh
 
   pub fits_phase : (device : Option ℕ) → row_fault number before device Phase ≡ None → Fits before IsPhase
   fits_phase device free =
@@ -429,6 +461,7 @@ module _ (number : ℕ) (before : List Line) (behind : length before < number) w
         asks = λ is. absurd (false≢true is);
         rescinded = λ d is. absurd (false≢true is);
         closed = λ d is. absurd (false≢true is);
+        modified = λ d is. absurd (false≢true is);
         short = is_short (length before) number s.line behind;
       }
 

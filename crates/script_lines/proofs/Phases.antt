@@ -1,18 +1,22 @@
 -- The phases of a script as lines come.
 use Rattle.std.proofs.Common.{◌≡◌, ℕ, ◌+◌, ◌<◌, ◌≤◌, Bool, true, false, cond, List, [], ◌∷◌, ◌++◌, length, refl, sym, ap, ◌∙◌, subst, arith, All}
-use Rattle.std.specs.Prelude.{Option, Some, None, if◌then◌else◌, count_by}
-use Rattle.std.specs.List.{onto_first, AllByRecursion}
+use Rattle.std.specs.Prelude.{◌||◌, Option, Some, None, if◌then◌else◌, count_by}
+use Rattle.std.specs.List.{onto_first, AllByRecursion, list_any}
 use Rattle.std.specs.Option.{option_or}
 use Rattle.std.proofs.lemmas.List.Splits.{slice_split-cons_yes, slice_split-cons_no, length-slice_split}
 use Rattle.std.proofs.lemmas.List.Sums.{sum_by-append, sum_by-cons}
 use Rattle.std.proofs.lemmas.List.Elements.{recursion_from_All, All-from_recursion}
 use Rattle.script_lines.specs.declared.line.Line.{Line}
 use Rattle.script_lines.specs.declared.line.What.{What}
-use Rattle.script_lines.specs.Parts.{ends_part, parts, asks_in, last_of, this_part, phases_over, phase_behind, phase_from}
+use Rattle.script_lines.specs.Parts.{ends_part, parts, last_of, this_part, phases_over, phase_behind, phase_from}
 
 pub by_test : {P : Type 0} (b : Bool) → (b ≡ true → P) → (b ≡ false → P) → P
 by_test true f g = f refl
 by_test false f g = g refl
+
+pub neither : (a b : Bool) → (a || b) ≡ false → (a ≡ false) × (b ≡ false)
+neither true b is = absurd (cc)
+neither false b is = (refl, is)
 
 some_part : (ls : List Line) → 0 < length (parts ls)
 some_part ls = omega (arith, length-slice_split ends_part ls)
@@ -79,33 +83,58 @@ count_yes p ls l e = count_more p ls l ∙ ap (λ b. count_by p ls + cond b 1 0)
 pub count_no : (p : Line → Bool) (ls : List Line) (l : Line) → p l ≡ false → count_by p (ls ++ l ∷ []) ≡ count_by p ls
 count_no p ls l e = let same : count_by p ls + 0 ≡ count_by p ls = omega arith in count_more p ls l ∙ ap (λ b. count_by p ls + cond b 1 0) e ∙ same
 
-abbrev pub FewAsks : List Line → Type 0
-FewAsks part = asks_in part ≤ 4096
+-- what holds of each phase goes on with a line that keeps it
+module _ (P : List Line → Type 0) where
+  with_next : P [] → (ps : List (List Line)) → AllByRecursion P ps → AllByRecursion P (ps ++ [] ∷ [])
+  with_next empty [] each = (empty, tt)
+  with_next empty (p ∷ ps) each = (each.0, with_next empty ps each.1)
 
-few_phase : (ps : List (List Line)) → AllByRecursion FewAsks ps → AllByRecursion FewAsks (ps ++ [] ∷ [])
-few_phase [] few = (omega arith, tt)
-few_phase (p ∷ ps) few = (few.0, few_phase ps few.1)
+  with_more : (ps : List (List Line)) (l : Line) → AllByRecursion P ps → P (last_of ps ++ l ∷ []) → AllByRecursion P (onto_last ps l)
+  with_more [] l each more = each
+  with_more (p ∷ []) l each more = (more, tt)
+  with_more (p ∷ q ∷ ps) l each more = (each.0, with_more (q ∷ ps) l each.1 more)
 
-few_other : (ps : List (List Line)) (l : Line) → AllByRecursion FewAsks ps → asks_in (last_of ps ++ l ∷ []) ≤ 4096 → AllByRecursion FewAsks (onto_last ps l)
-few_other [] l few less = few
-few_other (p ∷ []) l few less = (less, tt)
-few_other (p ∷ q ∷ ps) l few less = (few.0, few_other (q ∷ ps) l few.1 less)
+  pub each_phase : P [] → (ls : List Line) (l : Line) → ends_part l ≡ true → All P (parts ls) → All P (parts (ls ++ l ∷ []))
+  each_phase empty ls l ends each = subst (All P) (sym (parts_phase ls l ends)) (All-from_recursion P (parts ls ++ [] ∷ []) (with_next empty (parts ls) (recursion_from_All P (parts ls) each)))
 
--- each phase still has at most 4,096 requests
-pub asks_phase : (ls : List Line) (l : Line) → ends_part l ≡ true → All FewAsks (parts ls) → All FewAsks (parts (ls ++ l ∷ []))
-asks_phase ls l ends few = subst (All FewAsks) (sym (parts_phase ls l ends)) (All-from_recursion FewAsks (parts ls ++ [] ∷ []) (few_phase (parts ls) (recursion_from_All FewAsks (parts ls) few)))
+  pub each_other : (ls : List Line) (l : Line) → ends_part l ≡ false → P (this_part ls ++ l ∷ []) → All P (parts ls) → All P (parts (ls ++ l ∷ []))
+  each_other ls l other more each =
+      subst (All P) (sym (parts_other ls l other)) (All-from_recursion P (onto_last (parts ls) l) (with_more (parts ls) l (recursion_from_All P (parts ls) each) more))
 
-pub asks_other : (ls : List Line) (l : Line) → ends_part l ≡ false → asks_in (this_part ls ++ l ∷ []) ≤ 4096 → All FewAsks (parts ls) → All FewAsks (parts (ls ++ l ∷ []))
-asks_other ls l other less few =
-    subst (All FewAsks) (sym (parts_other ls l other)) (All-from_recursion FewAsks (onto_last (parts ls) l) (few_other (parts ls) l (recursion_from_All FewAsks (parts ls) few) less))
+  last_has : (ps : List (List Line)) → 0 < length ps → AllByRecursion P ps → P (last_of ps)
+  last_has [] less each = absurd (omega (arith, less))
+  last_has (p ∷ []) less each = each.0
+  last_has (p ∷ q ∷ ps) less each = last_has (q ∷ ps) (omega arith) each.1
 
-all_this : (ps : List (List Line)) → 0 < length ps → AllByRecursion FewAsks ps → asks_in (last_of ps) ≤ 4096
-all_this [] less few = absurd (omega (arith, less))
-all_this (p ∷ []) less few = few.0
-all_this (p ∷ q ∷ ps) less few = all_this (q ∷ ps) (omega arith) few.1
+  pub this_has : (ls : List Line) → All P (parts ls) → P (this_part ls)
+  this_has ls each = last_has (parts ls) (some_part ls) (recursion_from_All P (parts ls) each)
 
-pub asks_this : (ls : List Line) → All FewAsks (parts ls) → asks_in (this_part ls) ≤ 4096
-asks_this ls few = all_this (parts ls) (some_part ls) (recursion_from_All FewAsks (parts ls) few)
+-- a test that no line passes, no line of the last phase passes
+module _ (p : Line → Bool) where
+  none_first : (k : Line) (ps : List (List Line)) → p k ≡ false → list_any p (last_of ps) ≡ false → list_any p (last_of (onto_first k ps)) ≡ false
+  none_first k [] one none = ap (λ b. b || false) one
+  none_first k (q ∷ []) one none = ap (λ b. b || list_any p q) one ∙ none
+  none_first k (q ∷ r ∷ ps) one none = none
+
+  last_behind : (ps : List (List Line)) → 0 < length ps → list_any p (last_of ([] ∷ ps)) ≡ list_any p (last_of ps)
+  last_behind [] less = absurd (omega (arith, less))
+  last_behind (q ∷ ps) less = refl
+
+  pub none_this : (ls : List Line) → list_any p ls ≡ false → list_any p (this_part ls) ≡ false
+  none_this [] none = refl
+  none_this (k ∷ ks) none =
+      let both = neither (p k) (list_any p ks) none in
+      by_test (ends_part k)
+      (λ e. ap (λ ps. list_any p (last_of ps)) (slice_split-cons_yes ends_part k ks e) ∙ last_behind (parts ks) (some_part ks) ∙ none_this ks both.1)
+      (λ e. ap (λ ps. list_any p (last_of ps)) (slice_split-cons_no ends_part k ks e) ∙ none_first k (parts ks) both.0 (none_this ks both.1))
+
+  -- such lines are none
+  pub none_counted : (ls : List Line) → list_any p ls ≡ false → count_by p ls ≡ 0
+  none_counted [] none = refl
+  none_counted (k ∷ ks) none =
+      let both = neither (p k) (list_any p ks) none in
+      let zero : cond {A = ℕ} (p k) 1 0 ≡ 0 = ap (λ b. cond {A = ℕ} b 1 0) both.0 in
+      omega (arith, sum_by-cons (λ (l : Line). cond (p l) 1 0) k ks, zero, none_counted ks both.1)
 
 pub phase_here : (kind : What → Bool) (phase : ℕ) (l : Line) (ls : List Line) → kind l.what ≡ true → phase_from kind phase (l ∷ ls) ≡ Some phase
 phase_here kind phase l ls e = ap (λ b. if b then Some phase else phase_from kind (phase_behind phase l) ls) e

@@ -15,8 +15,8 @@ use Rattle.script_lines.specs.declared.asked.Asked.TheVariants.{Beat, Down, Comm
 use Rattle.script_lines.specs.declared.disk_ask.DiskAsk.{DiskAsk}
 use Rattle.script_lines.specs.declared.disk_ask.DiskAsk.TheVariants.{Ready, Inquiry, Capacity, LongCapacity, Flush, Read, Write}
 use Rattle.script_lines.specs.declared.said.Said.{Said}
-use Rattle.script_lines.specs.declared.said.Said.TheVariants.{Nothing, Contact, Offer, Bad, Ring, Window, Request, Rescind, Close, Phase}
-use Rattle.script_lines.specs.Lines.{Says, Asks, Rescinds, Shuts, said}
+use Rattle.script_lines.specs.declared.said.Said.TheVariants.{Nothing, Contact, Offer, Bad, Ring, Window, Request, Rescind, Close, Modify, Phase}
+use Rattle.script_lines.specs.Lines.{Says, Asks, Rescinds, Shuts, Modifies, said}
 use Rattle.script_lines.specs.Requests.{request_of}
 use Rattle.script_lines.specs.Rows.{said_in}
 use Rattle.script_lines.specs.Faults.{device_said, fault_at}
@@ -32,6 +32,7 @@ abbrev pub PlainSays : Says → Type 0
 PlainSays (Asks ask) = PlainAsk ask
 PlainSays (Rescinds after held) = Unit {0}
 PlainSays Shuts = Unit {0}
+PlainSays (Modifies vp) = Unit {0}
 
 abbrev pub PlainWhat : What → Type 0
 PlainWhat what = IfSome (said what) (λ s. PlainSays s.1)
@@ -71,6 +72,7 @@ what_plain device (Window name size) = tt
 what_plain device (Request name asked) = asked_plain asked
 what_plain device (Rescind name after held) = tt
 what_plain device (Close name) = tt
+what_plain device (Modify name vp) = tt
 what_plain device Phase = tt
 
 numbered_plain : (number : ℕ) (o : Option What) → PlainSome o → AllByRecursion PlainLine (numbered number o)

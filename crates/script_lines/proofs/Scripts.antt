@@ -12,12 +12,12 @@ use Rattle.contact.specs.declared.kind.Kind.{Kind}
 use Rattle.contact.specs.declared.kind.Kind.TheVariants.{Disk as KindDisk, Net as KindNet}
 use Rattle.script_lines.specs.declared.line.Line.{Line}
 use Rattle.script_lines.specs.declared.line.What.{What}
-use Rattle.script_lines.specs.declared.line.What.TheVariants.{Contact as IsContact, Offer as IsOffer, Bad as IsBad, RingSize as IsRingSize, Window as IsWindow, Ask as IsAsk, Rescind as IsRescind, Shut as IsShut, Phase as IsPhase}
+use Rattle.script_lines.specs.declared.line.What.TheVariants.{Contact as IsContact, Offer as IsOffer, Bad as IsBad, RingSize as IsRingSize, Window as IsWindow, Ask as IsAsk, Rescind as IsRescind, Shut as IsShut, Modify as IsModify, Phase as IsPhase}
 use Rattle.script_lines.specs.declared.line.DeviceSpec.{DeviceSpec}
 use Rattle.script_lines.specs.declared.line.DeviceSpec.TheVariants.{Beat, Down, Disk, Net}
-use Rattle.script_lines.specs.Parts.{ends_part, parts, is_settings, is_ask, asks_in, offered_by, offered, named_by, names, kind_of, kind_asked, rescinds, shuts, this_part, phase_from, channels_of, channels, blocks_of, blocks_at}
+use Rattle.script_lines.specs.Parts.{ends_part, parts, is_settings, is_ask, asks_in, offered_by, offered, named_by, names, kind_of, kind_asked, rescinds, shuts, modifies, modifies_in, modified_here, this_part, phase_from, channels_of, channels, blocks_of, blocks_at}
 use Rattle.script_lines.specs.WellFormed.{IsRight, AllRight, AskGoes, AllGo, is_contact, contact_first, settings_first, IsScript, Fits}
-use Rattle.script_lines.proofs.Phases.{by_test, FewAsks, asks_phase, asks_other, asks_this, count_yes, count_no, none_such}
+use Rattle.script_lines.proofs.Phases.{by_test, each_phase, each_other, this_has, count_yes, count_no, none_such, none_counted}
 
 pub offered_more : (ls : List Line) (l : Line) → offered (ls ++ l ∷ []) ≡ offered ls ++ offered_by l.what
 offered_more ls l = flat_map-append (λ (k : Line). offered_by k.what) ls (l ∷ []) ∙ ap (λ ds. offered ls ++ ds) (append-nil (offered_by l.what))
@@ -52,6 +52,7 @@ right_more kinds more (IsAsk device ask) right = kind_more kinds more device (ki
 right_more kinds more (IsRescind device after held) right =
     (⊎_elim (λ is. inl (kind_more kinds more device KindDisk is)) (λ is. inr (kind_more kinds more device KindNet is)) right.0, right.1, right.2)
 right_more kinds more (IsShut device) right = omega (arith, right, length-append kinds more)
+right_more kinds more (IsModify device vp) right = (omega (arith, right.0, length-append kinds more), right.1)
 right_more kinds more IsPhase right = tt
 
 all_more : (kinds more : List DeviceSpec) (ls : List Line) → AllRight kinds ls → AllRight (kinds ++ more) ls
@@ -114,12 +115,27 @@ once_push kind ls l most empty = by_test (kind l.what)
     (λ e. omega (arith, count_yes (λ k. kind k.what) ls l e, none_such kind 0 ls (empty e)))
     (λ e. omega (arith, count_no (λ k. kind k.what) ls l e, most))
 
+abbrev FewAsks : List Line → Type 0
+FewAsks part = asks_in part ≤ 4096
+
+-- each phase still has at most 4,096 requests
 asks_push : (ls : List Line) (l : Line) → All FewAsks (parts ls) → (is_ask l.what ≡ true → asks_in (this_part ls) < 4096) → All FewAsks (parts (ls ++ l ∷ []))
 asks_push ls l few less = by_test (ends_part l)
-    (λ ends. asks_phase ls l ends few)
-    (λ other. asks_other ls l other (by_test (is_ask l.what)
+    (λ ends. each_phase FewAsks (omega arith) ls l ends few)
+    (λ other. each_other FewAsks ls l other (by_test (is_ask l.what)
     (λ e. omega (arith, count_yes (λ k. is_ask k.what) (this_part ls) l e, less e))
-    (λ e. omega (arith, count_no (λ k. is_ask k.what) (this_part ls) l e, asks_this ls few))) few)
+    (λ e. let most : asks_in (this_part ls) ≤ 4096 = this_has FewAsks ls few in omega (arith, count_no (λ k. is_ask k.what) (this_part ls) l e, most))) few)
+
+abbrev MovedOnce : ℕ → List Line → Type 0
+MovedOnce device part = modifies_in device part ≤ 1
+
+-- and each moves a device at most once
+modified_push : (device : ℕ) (ls : List Line) (l : Line) → All (MovedOnce device) (parts ls) → (modifies device l.what ≡ true → modified_here device ls ≡ false) → All (MovedOnce device) (parts (ls ++ l ∷ []))
+modified_push device ls l once fresh = let moves = λ (k : Line). modifies device k.what in by_test (ends_part l)
+    (λ ends. each_phase (MovedOnce device) (omega arith) ls l ends once)
+    (λ other. each_other (MovedOnce device) ls l other (by_test (modifies device l.what)
+    (λ e. omega (arith, count_yes moves (this_part ls) l e, none_counted moves (this_part ls) (fresh e)))
+    (λ e. let most : modifies_in device (this_part ls) ≤ 1 = this_has (MovedOnce device) ls once in omega (arith, count_no moves (this_part ls) l e, most))) once)
 
 -- with the devices of the line there are 16 channels at most
 few_push : (before : List Line) (what : What) → channels before ≤ 16 → ((spec : DeviceSpec) → offered_by what ≡ spec ∷ [] → channels before + channels_of spec ≤ 16) → channels before + sum_by channels_of (offered_by what) ≤ 16
@@ -131,6 +147,7 @@ few_push before (IsWindow device size) most few = omega (arith, most)
 few_push before (IsAsk device ask) most few = omega (arith, most)
 few_push before (IsRescind device after held) most few = omega (arith, most)
 few_push before (IsShut device) most few = omega (arith, most)
+few_push before (IsModify device vp) most few = omega (arith, most)
 few_push before IsPhase most few = omega (arith, most)
 
 -- one more line that fits
@@ -147,4 +164,5 @@ script_push before l script fits = record {
   asks = asks_push before l script.asks fits.asks;
   rescinded = λ device. once_push (rescinds device) before l (script.rescinded device) (fits.rescinded device);
   closed = λ device. once_push (shuts device) before l (script.closed device) (fits.closed device);
+  modified = λ device. modified_push device before l (script.modified device) (fits.modified device);
 }

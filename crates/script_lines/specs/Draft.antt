@@ -1,5 +1,5 @@
 -- What a script's reader keeps of the lines before, so that no line is looked at twice.
-use Rattle.std.specs.Prelude.{ℕ, ◌≡◌, Bool, List, [], ◌∷◌, length, Some, slice_get}
+use Rattle.std.specs.Prelude.{ℕ, ◌≡◌, ◌≤◌, Bool, List, [], ◌∷◌, length, Some, IfSome, slice_get}
 use Rattle.std.specs.List.{list_all, flat_map}
 use Rattle.std.specs.Option.{option_map_or}
 use Rattle.script_lines.specs.declared.line.Line.{Line}
@@ -7,7 +7,8 @@ use Rattle.script_lines.specs.declared.line.What.{What}
 use Rattle.script_lines.specs.declared.bad_place.BadPlace.{BadPlace}
 use Rattle.script_lines.specs.declared.draft.Seen.{Seen}
 use Rattle.script_lines.specs.Lines.{bad_block, set_as}
-use Rattle.script_lines.specs.Parts.{is_settings, asks_in, this_part, phases_over, offered, names, channels, has_ring, has_window, rescinded_in, closed_in}
+use Rattle.script_lines.specs.Parts.{is_settings, asks_in, this_part, phases_over, offered, names, channels, has_ring, has_window, rescinded_in, closed_in, modified_here}
+use Rattle.script_lines.specs.Faults.{is_now}
 use Rattle.script_lines.specs.WellFormed.{IsScript}
 
 -- what the lines say of a device
@@ -17,6 +18,8 @@ pub record IsSeen (lines : List Line) (device : ℕ) (seen : Seen) : Type 0 wher
   pub window : seen.window ≡ has_window device lines
   pub rescinded : seen.rescinded ≡ rescinded_in device lines
   pub closed : seen.closed ≡ closed_in device lines
+  pub modified : is_now (phases_over lines) seen.modified ≡ modified_here device lines
+  pub by_now : IfSome seen.modified (λ p. p ≤ phases_over lines)
 
 -- the bad blocks that lines say, in order
 abbrev pub places_by : What → List BadPlace

@@ -14,8 +14,8 @@ use Rattle.script_lines.specs.declared.disk_ask.DiskAsk.TheVariants.{Ready, Inqu
 use Rattle.script_lines.specs.declared.offering.Offering.{Offering}
 use Rattle.script_lines.specs.declared.offering.Offering.TheVariants.{Beat as OfBeat, Down as OfDown, Disk as OfDisk, Net as OfNet}
 use Rattle.script_lines.specs.declared.said.Said.{Said}
-use Rattle.script_lines.specs.declared.said.Said.TheVariants.{Nothing, Contact, Offer, Bad, Ring, Window, Request, Rescind, Close, Phase}
-use Rattle.script_lines.specs.Parts.{is_settings, asks_in, this_part, phases_over, offered, channels, has_bad, has_ring, has_window, rescinded_in, closed_in, device_of, blocks_at}
+use Rattle.script_lines.specs.declared.said.Said.TheVariants.{Nothing, Contact, Offer, Bad, Ring, Window, Request, Rescind, Close, Modify, Phase}
+use Rattle.script_lines.specs.Parts.{is_settings, asks_in, this_part, phases_over, offered, channels, has_bad, has_ring, has_window, rescinded_in, closed_in, modified_here, device_of, blocks_at}
 use Rattle.script_text.specs.Forms.{within}
 use Rattle.script_lines.specs.Rows.{said_in}
 
@@ -34,6 +34,7 @@ name_said (Window name size) = Some name
 name_said (Request name asked) = Some name
 name_said (Rescind name after held) = Some name
 name_said (Close name) = Some name
+name_said (Modify name vp) = Some name
 name_said Phase = None
 
 -- the device of that name, where one was offered before
@@ -51,6 +52,7 @@ says_settings (Window name size) = true
 says_settings (Request name asked) = false
 says_settings (Rescind name after held) = false
 says_settings (Close name) = false
+says_settings (Modify name vp) = false
 says_settings Phase = false
 
 -- Limit: there are 20,000 lines, whatever they hold
@@ -84,6 +86,7 @@ count_limit before (Window name size) = None
 count_limit before (Request name asked) = ask_limit before
 count_limit before (Rescind name after held) = None
 count_limit before (Close name) = None
+count_limit before (Modify name vp) = None
 count_limit before Phase = None
 
 -- no line with words stands before
@@ -114,6 +117,7 @@ own_order before device (Window name size) = None
 own_order before device (Request name asked) = None
 own_order before device (Rescind name after held) = unless (not (option_map_or (is_ended_before before) device false)) Order
 own_order before device (Close name) = unless (not (option_map_or (is_ended_before before) device false)) Order
+own_order before device (Modify name vp) = None
 own_order before device Phase = None
 
 -- Order: settings stand before all lines of other kinds
@@ -170,6 +174,7 @@ name_fault before device (Window name size) = unless (is_some device) UnknownNam
 name_fault before device (Request name asked) = unless (is_offered (takes asked) before device) UnknownName
 name_fault before device (Rescind name after held) = unless (is_offered is_rescindable before device) UnknownName
 name_fault before device (Close name) = unless (is_some device) UnknownName
+name_fault before device (Modify name vp) = unless (is_some device) UnknownName
 name_fault before device Phase = None
 
 -- a device that this phase rescinds
@@ -184,7 +189,7 @@ is_closed_here before device = is_now (phases_over before) (closed_in device bef
 abbrev pub is_bad : List Line → Option ℕ → Option ℕ → Bool
 is_bad before device lba = option_map_or (λ d. option_map_or (λ l. has_bad d l before) lba false) device false
 
--- Repeat: a name is offered once, a device has one line of each setting and for each bad block, and a phase rescinds it once and closes it once
+-- Repeat: a name is offered once, a device has one line of each setting and for each bad block, and a phase rescinds it once, closes it once and moves it once
 abbrev pub repeat_fault : List Line → Option ℕ → Said → Option Why6
 repeat_fault before device Nothing = None
 repeat_fault before device (Contact guest host) = None
@@ -195,6 +200,7 @@ repeat_fault before device (Window name size) = unless (not (option_map_or (λ d
 repeat_fault before device (Request name asked) = None
 repeat_fault before device (Rescind name after held) = unless (not (option_map_or (is_rescinded_here before) device false)) Repeat
 repeat_fault before device (Close name) = unless (not (option_map_or (is_closed_here before) device false)) Repeat
+repeat_fault before device (Modify name vp) = unless (not (option_map_or (λ d. modified_here d before) device false)) Repeat
 repeat_fault before device Phase = None
 
 -- a disk has 1 to 2^40 blocks, and at most 3 channels beside its first one
@@ -234,6 +240,7 @@ range_fault before device (Window name size) = unless (is_some size) Range
 range_fault before device (Request name asked) = unless (asked_in_range asked) Range
 range_fault before device (Rescind name after held) = unless (is_some after) Range
 range_fault before device (Close name) = None
+range_fault before device (Modify name vp) = unless (is_some vp) Range
 range_fault before device Phase = None
 
 -- the first reason against a row that speaks of this device, in the order Limit, Order, UnknownName, Repeat, Range

@@ -7,7 +7,7 @@ use Rattle.script_text.specs.declared.fault.Why6.{Why6}
 use Rattle.script_text.specs.declared.fault.ScriptFault.{ScriptFault}
 use Rattle.script_lines.specs.declared.line.Line.{Line}
 use Rattle.script_lines.specs.declared.line.What.{What}
-use Rattle.script_lines.specs.declared.line.What.TheVariants.{Contact as IsContact, Offer as IsOffer, Bad as IsBad, RingSize as IsRingSize, Window as IsWindow, Ask as IsAsk, Rescind as IsRescind, Shut as IsShut, Phase as IsPhase}
+use Rattle.script_lines.specs.declared.line.What.TheVariants.{Contact as IsContact, Offer as IsOffer, Bad as IsBad, RingSize as IsRingSize, Window as IsWindow, Ask as IsAsk, Rescind as IsRescind, Shut as IsShut, Modify as IsModify, Phase as IsPhase}
 use Rattle.script_lines.specs.declared.line.Ask.{Ask}
 use Rattle.script_lines.specs.declared.line.Ask.TheVariants.{Ic, Disk as AskDisk, Net as AskNet}
 use Rattle.script_lines.specs.declared.line.DeviceSpec.{DeviceSpec}
@@ -18,7 +18,7 @@ use Rattle.rndis_msg.specs.declared.rndis.Rndis.TheVariants.{Reset}
 use Rattle.script_lines.specs.declared.offering.Offering.{Offering}
 use Rattle.script_lines.specs.declared.offering.Offering.TheVariants.{Beat as OfBeat, Down as OfDown, Disk as OfDisk, Net as OfNet}
 use Rattle.script_lines.specs.declared.said.Said.{Said}
-use Rattle.script_lines.specs.declared.said.Said.TheVariants.{Nothing, Contact, Offer, Bad, Ring, Window, Request, Rescind, Close, Phase}
+use Rattle.script_lines.specs.declared.said.Said.TheVariants.{Nothing, Contact, Offer, Bad, Ring, Window, Request, Rescind, Close, Modify, Phase}
 use Rattle.script_text.specs.Forms.{within}
 use Rattle.script_lines.specs.Requests.{request_of}
 use Rattle.script_lines.specs.Rows.{said_in}
@@ -53,6 +53,7 @@ what_of device (Window name size) = Some (IsWindow (unwrap_or device 0) (unwrap_
 what_of device (Request name asked) = Some (IsAsk (unwrap_or device 0) (ask_of asked))
 what_of device (Rescind name after held) = Some (IsRescind (unwrap_or device 0) (unwrap_or after 0) held)
 what_of device (Close name) = Some (IsShut (unwrap_or device 0))
+what_of device (Modify name vp) = Some (IsModify (unwrap_or device 0) (unwrap_or vp 0))
 what_of device Phase = Some IsPhase
 
 -- a line with its number, or none

@@ -5,7 +5,7 @@ use Rattle.contact.specs.declared.version.Version.{Version}
 use Rattle.script_lines.specs.declared.line.Ask.{Ask}
 use Rattle.script_lines.specs.declared.line.DeviceSpec.{DeviceSpec}
 use Rattle.script_lines.specs.declared.line.What.{What}
-use Rattle.script_lines.specs.declared.line.What.TheVariants.{Contact as IsContact, Offer as IsOffer, Bad as IsBad, RingSize as IsRingSize, Window as IsWindow, Ask as IsAsk, Rescind as IsRescind, Shut as IsShut, Phase as IsPhase}
+use Rattle.script_lines.specs.declared.line.What.TheVariants.{Contact as IsContact, Offer as IsOffer, Bad as IsBad, RingSize as IsRingSize, Window as IsWindow, Ask as IsAsk, Rescind as IsRescind, Shut as IsShut, Modify as IsModify, Phase as IsPhase}
 
 -- the highest versions of the guest and of its host
 abbrev pub contact_of : What → Option (Version × Version)
@@ -17,6 +17,7 @@ contact_of (IsWindow device size) = None
 contact_of (IsAsk device ask) = None
 contact_of (IsRescind device after held) = None
 contact_of (IsShut device) = None
+contact_of (IsModify device vp) = None
 contact_of IsPhase = None
 
 -- the device that is offered, behind its name
@@ -29,6 +30,7 @@ offer_of (IsWindow device size) = None
 offer_of (IsAsk device ask) = None
 offer_of (IsRescind device after held) = None
 offer_of (IsShut device) = None
+offer_of (IsModify device vp) = None
 offer_of IsPhase = None
 
 -- what is set of a device: a block that is bad, the data pages of each ring, how many requests a channel has open at most
@@ -47,13 +49,15 @@ sets (IsWindow device size) = Some (device, OpenMost size)
 sets (IsAsk device ask) = None
 sets (IsRescind device after held) = None
 sets (IsShut device) = None
+sets (IsModify device vp) = None
 sets IsPhase = None
 
--- what is said to a device: a request; that its service stops after so many, the answer to the last one held or not, for it is rescinded; that it is closed
+-- what is said to a device: a request; that its service stops after so many, the answer to the last one held or not, for it is rescinded; that it is closed; that the interrupts of its first channel go to this processor
 pub data Says : Type 0 where
   Asks : Ask → Says
   Rescinds : ℕ → Bool → Says
   Shuts : Says
+  Modifies : ℕ → Says
 
 -- the device that a line speaks to in its phase, and what it says; settings say nothing in a phase
 abbrev pub said : What → Option (ℕ × Says)
@@ -65,6 +69,7 @@ said (IsWindow device size) = None
 said (IsAsk device ask) = Some (device, Asks ask)
 said (IsRescind device after held) = Some (device, Rescinds after held)
 said (IsShut device) = Some (device, Shuts)
+said (IsModify device vp) = Some (device, Modifies vp)
 said IsPhase = None
 
 -- a line that begins the next phase
@@ -77,6 +82,7 @@ is_phase (IsWindow device size) = false
 is_phase (IsAsk device ask) = false
 is_phase (IsRescind device after held) = false
 is_phase (IsShut device) = false
+is_phase (IsModify device vp) = false
 is_phase IsPhase = true
 
 -- the number of a setting of each kind
@@ -104,13 +110,22 @@ abbrev pub is_request : Says → Bool
 is_request (Asks ask) = true
 is_request (Rescinds after held) = false
 is_request Shuts = false
+is_request (Modifies vp) = false
 
 abbrev pub is_rescind : Says → Bool
 is_rescind (Asks ask) = false
 is_rescind (Rescinds after held) = true
 is_rescind Shuts = false
+is_rescind (Modifies vp) = false
 
 abbrev pub is_close : Says → Bool
 is_close (Asks ask) = false
 is_close (Rescinds after held) = false
 is_close Shuts = true
+is_close (Modifies vp) = false
+
+abbrev pub is_modify : Says → Bool
+is_modify (Asks ask) = false
+is_modify (Rescinds after held) = false
+is_modify Shuts = false
+is_modify (Modifies vp) = true

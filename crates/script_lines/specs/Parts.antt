@@ -12,7 +12,7 @@ use Rattle.script_lines.specs.declared.line.Ask.{Ask}
 use Rattle.script_lines.specs.declared.line.Ask.TheVariants.{Ic, Disk as AskDisk, Net as AskNet}
 use Rattle.script_lines.specs.declared.line.DeviceSpec.{DeviceSpec}
 use Rattle.script_lines.specs.declared.line.DeviceSpec.TheVariants.{Beat, Down, Disk, Net}
-use Rattle.script_lines.specs.Lines.{contact_of, offer_of, sets, said, is_phase, bad_block, ring_pages, open_most, set_as, is_request, is_rescind, is_close}
+use Rattle.script_lines.specs.Lines.{contact_of, offer_of, sets, said, is_phase, bad_block, ring_pages, open_most, set_as, is_request, is_rescind, is_close, is_modify}
 
 abbrev pub ends_part : Line → Bool
 ends_part line = is_phase line.what
@@ -28,6 +28,10 @@ is_settings what = is_some (contact_of what) || is_some (offer_of what) || is_so
 -- a line that asks a device
 abbrev pub is_ask : What → Bool
 is_ask what = option_map_or (λ s. is_request s.1) (said what) false
+
+-- a line that moves a device's interrupts
+abbrev pub is_move : What → Bool
+is_move what = option_map_or (λ s. is_modify s.1) (said what) false
 
 -- how many lines ask a device
 abbrev pub asks_in : List Line → ℕ
@@ -108,6 +112,14 @@ rescinds device what = option_map_or (λ s. is_rescind s.1 && (s.0 == device)) (
 abbrev pub shuts : ℕ → What → Bool
 shuts device what = option_map_or (λ s. is_close s.1 && (s.0 == device)) (said what) false
 
+-- one that moves this device's
+abbrev pub modifies : ℕ → What → Bool
+modifies device what = option_map_or (λ s. is_modify s.1 && (s.0 == device)) (said what) false
+
+-- how many of these lines move them
+abbrev pub modifies_in : ℕ → List Line → ℕ
+modifies_in device lines = count_by (λ l. modifies device l.what) lines
+
 -- a line that makes this block of this device bad
 abbrev pub sets_bad : ℕ → ℕ → What → Bool
 sets_bad device lba what = option_map_or (λ s. (device == s.0) && (lba == s.1)) (set_as bad_block what) false
@@ -138,6 +150,10 @@ last_of (p ∷ q ∷ ps) = last_of (q ∷ ps)
 -- the phase that goes on behind these lines
 abbrev pub this_part : List Line → List Line
 this_part lines = last_of (parts lines)
+
+-- a line of the phase that goes on moves this device's interrupts
+abbrev pub modified_here : ℕ → List Line → Bool
+modified_here device lines = list_any (λ l. modifies device l.what) (this_part lines)
 
 -- how many phases are over
 abbrev pub phases_over : List Line → ℕ

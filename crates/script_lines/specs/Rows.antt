@@ -10,7 +10,7 @@ use Rattle.script_lines.specs.declared.disk_ask.DiskAsk.{DiskAsk}
 use Rattle.script_lines.specs.declared.disk_ask.DiskAsk.TheVariants.{Ready, Inquiry, Capacity, LongCapacity, Flush, Read, Write}
 use Rattle.script_lines.specs.declared.offering.Offering.TheVariants.{Beat as OfBeat, Down as OfDown, Disk as OfDisk, Net as OfNet}
 use Rattle.script_lines.specs.declared.said.Said.{Said}
-use Rattle.script_lines.specs.declared.said.Said.TheVariants.{Nothing, Contact, Offer, Bad, Ring, Window, Request, Rescind, Close, Phase}
+use Rattle.script_lines.specs.declared.said.Said.TheVariants.{Nothing, Contact, Offer, Bad, Ring, Window, Request, Rescind, Close, Modify, Phase}
 use Rattle.script_text.specs.Words.{words}
 use Rattle.script_text.specs.Forms.{is_name, is_decimal, number_of, in_u64, within, is_byte, byte_of, is_version, version_of, are_bytes, bytes_of, is_address, is_oid, oid_of}
 
@@ -174,6 +174,10 @@ rescind_row others = None
 abbrev pub close_row : List (List ℕ) → Option Said
 close_row others = option_map Close (name_alone others)
 
+-- NAME VP, behind modify
+abbrev pub modify_row : List (List ℕ) → Option Said
+modify_row others = option_map (λ p. Modify p.0 (within 0 63 p.1)) (name_and_number others)
+
 -- nothing, behind phase
 abbrev pub phase_row : List (List ℕ) → Option Said
 phase_row [] = Some Phase
@@ -190,6 +194,7 @@ row_of key others =
     if bytes_eq key (codes "down") then down_row others else
     if bytes_eq key (codes "rescind") then rescind_row others else
     if bytes_eq key (codes "close") then close_row others else
+    if bytes_eq key (codes "modify") then modify_row others else
     if bytes_eq key (codes "phase") then phase_row others else disk_row key others
 
 -- a word that makes its line a comment, where it is the first

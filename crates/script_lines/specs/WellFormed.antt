@@ -7,7 +7,7 @@ use Rattle.contact.specs.declared.kind.Kind.{Kind}
 use Rattle.contact.specs.declared.kind.Kind.TheVariants.{Disk as KindDisk, Net as KindNet}
 use Rattle.script_lines.specs.declared.line.Line.{Line}
 use Rattle.script_lines.specs.declared.line.What.{What}
-use Rattle.script_lines.specs.declared.line.What.TheVariants.{Contact as IsContact, Offer as IsOffer, Bad as IsBad, RingSize as IsRingSize, Window as IsWindow, Ask as IsAsk, Rescind as IsRescind, Shut as IsShut, Phase as IsPhase}
+use Rattle.script_lines.specs.declared.line.What.TheVariants.{Contact as IsContact, Offer as IsOffer, Bad as IsBad, RingSize as IsRingSize, Window as IsWindow, Ask as IsAsk, Rescind as IsRescind, Shut as IsShut, Modify as IsModify, Phase as IsPhase}
 use Rattle.script_lines.specs.declared.line.DeviceSpec.{DeviceSpec}
 use Rattle.script_lines.specs.declared.line.DeviceSpec.TheVariants.{Beat as IsBeat, Down as IsDown, Disk as IsDisk, Net as IsNet}
 use Rattle.script_lines.specs.declared.line.Ask.{Ask}
@@ -17,10 +17,10 @@ use Rattle.script_lines.specs.declared.asked.Asked.TheVariants.{Beat, Down, Comm
 use Rattle.script_lines.specs.declared.offering.Offering.{Offering}
 use Rattle.script_lines.specs.declared.offering.Offering.TheVariants.{Beat as OfBeat, Down as OfDown, Disk as OfDisk, Net as OfNet}
 use Rattle.script_lines.specs.declared.said.Said.{Said}
-use Rattle.script_lines.specs.declared.said.Said.TheVariants.{Nothing, Contact, Offer, Bad, Ring, Window, Request, Rescind, Close, Phase}
-use Rattle.script_lines.specs.Lines.{Says, Asks, Rescinds, Shuts, said, contact_of, bad_block, set_as}
+use Rattle.script_lines.specs.declared.said.Said.TheVariants.{Nothing, Contact, Offer, Bad, Ring, Window, Request, Rescind, Close, Modify, Phase}
+use Rattle.script_lines.specs.Lines.{Says, Asks, Rescinds, Shuts, Modifies, said, contact_of, bad_block, set_as}
 use Rattle.script_lines.specs.Requests.{AskInRange, CanBeCarried, IsSent}
-use Rattle.script_lines.specs.Parts.{parts, this_part, offered, offered_by, named_by, asks_in, is_ask, is_settings, rescinds, shuts, rescinded_in, closed_in, channels, channels_of, device_of, kind_of, kind_asked, blocks_at, has_bad}
+use Rattle.script_lines.specs.Parts.{parts, this_part, offered, offered_by, named_by, asks_in, is_ask, is_settings, rescinds, shuts, modifies, modifies_in, modified_here, rescinded_in, closed_in, channels, channels_of, device_of, kind_of, kind_asked, blocks_at, has_bad}
 
 -- a disk has 1 to 2^40 blocks, and at most 3 channels beside its first one; a network has two addresses of 6 bytes
 abbrev pub IsDevice : DeviceSpec → Type 0
@@ -43,6 +43,7 @@ IsRight kinds (IsWindow device size) = (device < length kinds) × (1 ≤ size) �
 IsRight kinds (IsAsk device ask) = slice_get (map kind_of kinds) device ≡ Some (kind_asked ask)
 IsRight kinds (IsRescind device after held) = IsRescindable (slice_get (map kind_of kinds) device) × (after ≤ 4096) × (held ≡ true → 1 ≤ after)
 IsRight kinds (IsShut device) = device < length kinds
+IsRight kinds (IsModify device vp) = (device < length kinds) × (vp ≤ 63)
 IsRight kinds IsPhase = Unit {0}
 
 -- a request that a channel of its device carries
@@ -55,6 +56,7 @@ abbrev pub SayGoes : Says → Type 0
 SayGoes (Asks ask) = CanGo ask
 SayGoes (Rescinds after held) = Unit {0}
 SayGoes Shuts = Unit {0}
+SayGoes (Modifies vp) = Unit {0}
 
 -- so does the request of a line, where it has one
 abbrev pub AskGoes : What → Type 0
@@ -84,7 +86,7 @@ abbrev pub settings_first : List Line → Bool
 settings_first [] = true
 settings_first (l ∷ ls) = if is_settings l.what then settings_first ls else list_all (λ m. not (is_settings m.what)) ls
 
--- What every script has: each line is right among the devices that the script offers, at most 16 of them with 16 channels, and each request goes through its channel; settings stand first, and the versions before them all; a phase has at most 4,096 requests; a device is rescinded once at most, and closed once at most
+-- What every script has: each line is right among the devices that the script offers, at most 16 of them with 16 channels, and each request goes through its channel; settings stand first, and the versions before them all; a phase has at most 4,096 requests; a device is rescinded once at most, closed once at most, and moved once at most in a phase
 pub record IsScript (lines : List Line) : Type 0 where
   pub right : AllRight (offered lines) lines
   pub go : AllGo lines
@@ -96,6 +98,7 @@ pub record IsScript (lines : List Line) : Type 0 where
   pub asks : All (λ part. asks_in part ≤ 4096) (parts lines)
   pub rescinded : (device : ℕ) → count_by (λ l. rescinds device l.what) lines ≤ 1
   pub closed : (device : ℕ) → count_by (λ l. shuts device l.what) lines ≤ 1
+  pub modified : (device : ℕ) → All (λ part. modifies_in device part ≤ 1) (parts lines)
 
 -- a disk's blocks are in their range, where there are any, and a network's addresses have 6 bytes
 abbrev pub OfferInRange : Offering → Type 0
@@ -122,6 +125,7 @@ InRange (Window name size) = IfSome size (λ n. (1 ≤ n) × (n ≤ 64))
 InRange (Request name asked) = AskedInRange asked
 InRange (Rescind name after held) = IfSome after (λ n. (n ≤ 4096) × (held ≡ true → 1 ≤ n))
 InRange (Close name) = Unit {0}
+InRange (Modify name vp) = IfSome vp (λ n. n ≤ 63)
 InRange Phase = Unit {0}
 
 -- the block was made bad before
@@ -140,4 +144,5 @@ pub record Fits (before : List Line) (what : What) : Type 0 where
   pub asks : is_ask what ≡ true → asks_in (this_part before) < 4096
   pub rescinded : (device : ℕ) → rescinds device what ≡ true → rescinded_in device before ≡ None
   pub closed : (device : ℕ) → shuts device what ≡ true → closed_in device before ≡ None
+  pub modified : (device : ℕ) → modifies device what ≡ true → modified_here device before ≡ false
   pub short : length before < 20000

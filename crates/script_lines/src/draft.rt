@@ -2,7 +2,7 @@
 ghost use Rattle.std.specs.Prelude.{◌≡◌, ◌<◌, ◌≤◌, ◌++◌, ◌∷◌, [], List, length, Some, IfSome, OnOk, IfErr, slice_get};
 ghost use Rattle.std.specs.List.{list_all};
 ghost use Rattle.script_text.specs.declared.fault.ParseFault.TheVariants.{Memory};
-ghost use Rattle.script_lines.specs.Parts.{is_settings, asks_in, this_part, offered, channels, channels_of, has_bad, has_ring, has_window, device_of};
+ghost use Rattle.script_lines.specs.Parts.{is_settings, asks_in, this_part, offered, channels, channels_of, has_bad, has_ring, has_window, modified_here, device_of};
 ghost use Rattle.script_lines.specs.Faults.{is_first, is_over, is_now, is_ended_before, is_rescinded_here, is_closed_here};
 ghost use Rattle.script_lines.specs.WellFormed.{IsScript, Fits};
 
@@ -26,6 +26,8 @@ pub struct Seen {
     pub rescinded: Option<u32>,
     /// The phase that closes it.
     pub closed: Option<u32>,
+    /// The last phase that moves it.
+    pub modified: Option<u32>,
 }
 
 /// The lines read so far. The devices' names are kept by their hash, in order of offer, and what
@@ -146,6 +148,14 @@ impl Draft {
         is_now(self.phase, self.seen[device as usize].closed)
     }
 
+    /// Whether the phase that goes on moves a device.
+    pub fn is_modified_here(&self, device: u32) -> bool
+        requires { device < length (offered self.now) }
+        ensures { result ≡ modified_here device self.now }
+    {
+        is_now(self.phase, self.seen[device as usize].modified)
+    }
+
     /// Whether no line with words was read.
     pub fn is_first(&self) -> bool
         ensures { result ≡ is_first self.now }
@@ -213,6 +223,7 @@ impl Draft {
             window: false,
             rescinded: None,
             closed: None,
+            modified: None,
         });
         self.channels += channels_of(spec);
         self.lines.push_reserved(Line {
@@ -316,6 +327,21 @@ impl Draft {
             what: What::Shut { device },
         })?;
         self.seen[device as usize].closed = Some(self.phase);
+        self.settings = false;
+        Ok(())
+    }
+
+    /// The processor that takes the interrupts of a device's first channel.
+    pub fn push_modify(&mut self, number: u32, device: u32, vp: u32) -> Result<(), ParseFault>
+        requires { Fits self.old (What.Modify device vp) }
+        ensures ok { OnOk result (self.new ≡ self.old ++ record { number = number; what = What.Modify device vp } ∷ []) }
+        ensures err { IfErr result (λ e. e ≡ Memory) }
+    {
+        self.lines.push(Line {
+            number,
+            what: What::Modify { device, vp },
+        })?;
+        self.seen[device as usize].modified = Some(self.phase);
         self.settings = false;
         Ok(())
     }

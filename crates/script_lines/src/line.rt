@@ -85,6 +85,8 @@ pub enum What {
     Rescind { device: u32, after: u32, held: bool },
     /// A device is closed at the end of this phase, for good.
     Shut { device: u32 },
+    /// The interrupts of a device's first channel go to this processor, 0 to 63.
+    Modify { device: u32, vp: u32 },
     /// The next phase begins.
     Phase,
 }

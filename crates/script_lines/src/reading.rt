@@ -92,6 +92,7 @@ fn push(draft: &mut Draft, number: u32, device: Option<u32>, said: Said) -> Resu
             draft.push_rescind(number, device, after.unwrap_or(0), held)
         }
         Said::Close(_) => draft.push_shut(number, device),
+        Said::Modify(_, vp) => draft.push_modify(number, device, vp.unwrap_or(0)),
         Said::Phase => draft.push_phase(number),
     }
 }

@@ -1,7 +1,7 @@
 //! Why a line is refused after the lines before it.
 ghost use Rattle.std.specs.Prelude.{◌≡◌, ◌<◌, ◌≤◌, List, length, Option, Some, None, IfSome, slice_get, option_and_then, false};
 ghost use Rattle.std.specs.Option.{option_map_or};
-ghost use Rattle.script_lines.specs.Parts.{offered, blocks_at, has_ring, has_window};
+ghost use Rattle.script_lines.specs.Parts.{offered, blocks_at, has_ring, has_window, modified_here};
 ghost use Rattle.script_lines.specs.Faults.{unless, device_said, says_settings, line_limit, ask_limit, has_room, count_limit, is_ended_before, own_order, order_fault, takes, is_rescindable, name_fault, is_rescinded_here, is_closed_here, is_bad, repeat_fault, offers_in_range, is_block, asks_in_range, asked_in_range, range_fault, row_fault};
 
 use crate::DeviceSpec;
@@ -30,7 +30,8 @@ pub fn device_said(before: &Draft, said: &Said) -> Option<u32>
         | Said::Window(name, _)
         | Said::Request(name, _)
         | Said::Rescind(name, ..)
-        | Said::Close(name) => before.device_of(name),
+        | Said::Close(name)
+        | Said::Modify(name, _) => before.device_of(name),
         Said::Nothing | Said::Contact(..) | Said::Phase => None,
     }
 }
@@ -153,7 +154,7 @@ fn name_fault(before: &Draft, device: Option<u32>, said: &Said) -> Option<Why6>
     ensures { result ≡ name_fault before.now device said.now }
 {
     match said {
-        Said::Ring(..) | Said::Window(..) | Said::Close(..) => {
+        Said::Ring(..) | Said::Window(..) | Said::Close(..) | Said::Modify(..) => {
             unless(device.is_some(), Why6::UnknownName)
         }
         Said::Bad(..) => {
@@ -231,6 +232,16 @@ fn is_closed_here(before: &Draft, device: Option<u32>) -> bool
     }
 }
 
+fn is_modified_here(before: &Draft, device: Option<u32>) -> bool
+    requires { IfSome device (λ d. d < length (offered before.now)) }
+    ensures { result ≡ option_map_or (λ d. modified_here d before.now) device false }
+{
+    match device {
+        Some(device) => before.is_modified_here(device),
+        None => false,
+    }
+}
+
 fn repeat_fault(before: &Draft, device: Option<u32>, said: &Said) -> Option<Why6>
     requires { IfSome device (λ d. d < length (offered before.now)) }
     ensures { result ≡ repeat_fault before.now device said.now }
@@ -242,6 +253,7 @@ fn repeat_fault(before: &Draft, device: Option<u32>, said: &Said) -> Option<Why6
         Said::Window(..) => unless(!has_window(before, device), Why6::Repeat),
         Said::Rescind(..) => unless(!is_rescinded_here(before, device), Why6::Repeat),
         Said::Close(..) => unless(!is_closed_here(before, device), Why6::Repeat),
+        Said::Modify(..) => unless(!is_modified_here(before, device), Why6::Repeat),
         _ => None,
     }
 }
@@ -313,9 +325,10 @@ fn range_fault(before: &Draft, device: Option<u32>, said: &Said) -> Option<Why6>
         Said::Contact(guest, host) => unless(guest.is_some() && host.is_some(), Why6::Range),
         Said::Offer(_, offering) => unless(offers_in_range(*offering), Why6::Range),
         Said::Bad(_, lba) => unless(is_block(before, device, *lba), Why6::Range),
-        Said::Ring(_, number) | Said::Window(_, number) | Said::Rescind(_, number, _) => {
-            unless(number.is_some(), Why6::Range)
-        }
+        Said::Ring(_, number)
+        | Said::Window(_, number)
+        | Said::Rescind(_, number, _)
+        | Said::Modify(_, number) => unless(number.is_some(), Why6::Range),
         Said::Request(_, asked) => unless(asked_in_range(asked), Why6::Range),
         _ => None,
     }

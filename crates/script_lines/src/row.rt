@@ -6,7 +6,7 @@ ghost use Rattle.script_text.specs.Words.{words};
 ghost use Rattle.script_lines.specs.WellFormed.{InRange};
 ghost use Rattle.script_text.specs.Forms.{is_name};
 ghost use Rattle.script_lines.specs.Requests.{AskInRange, IsSent};
-ghost use Rattle.script_lines.specs.Rows.{is_printable, said_in, said_by, begins_comment, row_of, disk_row, net_row, name_alone, name_and_number, name_and_two, contact_row, offer_row, disk_offer, blocks_in, net_offer, bad_row, plain_command, plain_message, query_row, set_row, frame_row, read_row, write_row, ring_row, window_row, beat_row, down_row, held_row, after_in, rescind_row, close_row, phase_row};
+ghost use Rattle.script_lines.specs.Rows.{is_printable, said_in, said_by, begins_comment, row_of, disk_row, net_row, name_alone, name_and_number, name_and_two, contact_row, offer_row, disk_offer, blocks_in, net_offer, bad_row, plain_command, plain_message, query_row, set_row, frame_row, read_row, write_row, ring_row, window_row, beat_row, down_row, held_row, after_in, rescind_row, close_row, modify_row, phase_row};
 
 use crate::asked::Asked;
 use crate::disk_ask::DiskAsk;
@@ -83,6 +83,8 @@ fn row_of(key: &[u8], rest: &[u8]) -> Option<Said>
         rescind_row(rest)
     } else if key == b"close".as_slice() {
         close_row(rest)
+    } else if key == b"modify".as_slice() {
+        modify_row(rest)
     } else if key == b"phase".as_slice() {
         phase_row(rest)
     } else {
@@ -474,6 +476,15 @@ fn close_row(rest: &[u8]) -> Option<Said>
 {
     let name = name_alone(rest)?;
     Some(Said::Close(name))
+}
+
+/// `VP` is 0 to 63.
+fn modify_row(rest: &[u8]) -> Option<Said>
+    ensures said { result ≡ modify_row (words rest.now) }
+    ensures range { IfSome result InRange }
+{
+    let (name, vp) = name_and_number(rest)?;
+    Some(Said::Modify(name, within(0, 63, vp)))
 }
 
 fn phase_row(rest: &[u8]) -> Option<Said>

@@ -26,6 +26,8 @@ pub enum Said {
     Rescind(Name, Option<u32>, bool),
     /// It closes a device.
     Close(Name),
+    /// It says to which processor the interrupts of a device's first channel go.
+    Modify(Name, Option<u32>),
     /// It begins the next phase.
     Phase,
 }

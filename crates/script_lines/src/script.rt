@@ -34,7 +34,7 @@ impl Script {
 
     /// The lines with words, in order. Each is right among the devices that the script offers, at
     /// most 16 of them; settings stand first, a phase has at most 4,096 requests, and a device is
-    /// rescinded at most once, and closed at most once.
+    /// rescinded at most once, closed at most once, and moved at most once in a phase.
     pub fn lines(&self) -> &[Line]
         ensures lines { result.now ≡ self.now }
         ensures script { IsScript self.now }

@@ -12,7 +12,7 @@ use Rattle.script_lines.specs.declared.line.DeviceSpec.{DeviceSpec}
 use Rattle.script_lines.specs.declared.line.DeviceSpec.TheVariants.{Disk as IsDisk}
 use Rattle.script_lines.specs.declared.disk_ask.DiskAsk.{DiskAsk}
 use Rattle.script_lines.specs.declared.disk_ask.DiskAsk.TheVariants.{Read, Write}
-use Rattle.script_lines.specs.Parts.{ends_part, parts, is_settings, is_ask, asks_in, offered, kind_of, rescinds, shuts, channels_of}
+use Rattle.script_lines.specs.Parts.{ends_part, parts, is_settings, is_ask, asks_in, offered, kind_of, rescinds, shuts, modifies, modifies_in, channels_of}
 use Rattle.script_lines.specs.Requests.{request_of, CanBeCarried}
 use Rattle.script_lines.specs.WellFormed.{AllRight, AllGo, is_contact, settings_first, IsScript}
 use Rattle.script_lines.proofs.Carrying.{asks_carried}
@@ -60,6 +60,10 @@ module _ (number : ℕ → ℕ) (ask : ℕ → DiskAsk) where
   none_closed device s zero more = refl
   none_closed device s (suc n) more =
       count_past (λ l. shuts device l.what) (ask_line (number s) (ask s)) (asks (s + 1) n ++ more) refl ∙ none_closed device (s + 1) n more
+
+  none_modified : (device s n : ℕ) → modifies_in device (asks s n) ≡ 0
+  none_modified device s zero = refl
+  none_modified device s (suc n) = count_past (λ l. modifies device l.what) (ask_line (number s) (ask s)) (asks (s + 1) n) refl ∙ none_modified device (s + 1) n
 
   all_asks : (s n : ℕ) → asks_in (asks s n) ≡ n
   all_asks s zero = refl
@@ -138,6 +142,15 @@ module _ (seed half : ℕ) (few : half ≤ 4096) where
     (omega (arith, few, all_asks (λ k. half + 3 + k) read_ask 0 half), tt),
   )
 
+  abbrev Once : ℕ → List Line → Type 0
+  Once device part = modifies_in device part ≤ 1
+
+  parts_once : (device : ℕ) → AllByRecursion (Once device) ((offer_line ∷ writes) ∷ (reads ∷ []))
+  parts_once device = (
+    omega (arith, count_past (λ l. modifies device l.what) offer_line writes refl, none_modified (λ k. k + 2) write_ask device 0 half),
+    (omega (arith, none_modified (λ k. half + 3 + k) read_ask device 0 half), tt),
+  )
+
   no_later : list_all (λ m. not (is_settings m.what)) (writes ++ behind) ≡ true
   no_later = no_settings (λ k. k + 2) write_ask 0 half behind ∙ no_settings (λ k. half + 3 + k) read_ask 0 half []
 
@@ -168,6 +181,7 @@ module _ (seed half : ℕ) (few : half ≤ 4096) where
       count_past (λ l. shuts device l.what) (phase_line half) (reads ++ []) refl,
       none_closed (λ k. half + 3 + k) read_ask device 0 half [],
     );
+    modified = λ device. subst (All (Once device)) (sym parts_are) (All-from_recursion (Once device) ((offer_line ∷ writes) ∷ (reads ∷ [])) (parts_once device));
   }
 
 -- half of the requests write, and half read

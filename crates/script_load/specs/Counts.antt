@@ -7,7 +7,7 @@ use Rattle.scsi_disk.specs.declared.reply.DiskReply.TheVariants.{Good, Check}
 use Rattle.bus_script.specs.declared.outcome.Reply.{Reply}
 use Rattle.bus_script.specs.declared.outcome.Reply.TheVariants.{Ic as IcReply, Disk as ReplyDisk, Net as ReplyNet}
 use Rattle.bus_script.specs.declared.outcome.LineResult.{LineResult}
-use Rattle.bus_script.specs.declared.outcome.LineResult.TheVariants.{Version as Agreed, Done, RescindedServed, Unserved, Gone, Closed}
+use Rattle.bus_script.specs.declared.outcome.LineResult.TheVariants.{Version as Agreed, Done, RescindedServed, Unserved, Modified, Unsupported, Gone, Closed}
 use Rattle.bus_script.specs.Report.{is_done}
 
 -- the bytes that a disk gave
@@ -26,6 +26,8 @@ back_of (Agreed count) = []
 back_of (Done serial reply) = reply_back reply
 back_of (RescindedServed serial) = []
 back_of Unserved = []
+back_of (Modified vp answered) = []
+back_of Unsupported = []
 back_of Gone = []
 back_of Closed = []
 

@@ -9,6 +9,7 @@ use Rattle.script_lines.specs.declared.line.Line.{Line}
 use Rattle.script_lines.specs.declared.line.DeviceSpec.{DeviceSpec}
 use Rattle.script_lines.specs.Parts.{parts, offered}
 use Rattle.script_phases.specs.Openings.{Opening, subs_of, is_opened, subs_from, channels_from, opened_from, is_first, firsts, others, phases_from}
+use Rattle.script_phases.specs.Agreed.{agreed_in}
 use Rattle.script_phases.specs.Laws.{OfferedRelids, NextRelids}
 
 range_join : (a m n : ℕ) → range_with_len a m ++ range_with_len (a + m) n ≡ range_with_len a (m + n)
@@ -97,11 +98,11 @@ offered_relids_lem opened next specs = from 0 next specs
 
 -- those of all phases
 
-all_next : (specs : List DeviceSpec) (number next : ℕ) (earlier : List Line) (ps : List (List Line)) → Next next (flat_map (λ p. others p.opened) (phases_from specs number next earlier ps))
-all_next specs number next earlier [] = refl
-all_next specs number next earlier (part ∷ rest) =
+all_next : (version : ℕ) (specs : List DeviceSpec) (number next : ℕ) (earlier : List Line) (ps : List (List Line)) → Next next (flat_map (λ p. others p.opened) (phases_from version specs number next earlier ps))
+all_next version specs number next earlier [] = refl
+all_next version specs number next earlier (part ∷ rest) =
     let os = others (opened_from (is_opened earlier part) 0 next specs) in
-    next_joined next (length os) os _ refl (next_opened (is_opened earlier part) 0 next specs) (all_next specs (number + 1) (next + length os) (earlier ++ part) rest)
+    next_joined next (length os) os _ refl (next_opened (is_opened earlier part) 0 next specs) (all_next version specs (number + 1) (next + length os) (earlier ++ part) rest)
 
 pub next_relids_lem : NextRelids
-next_relids_lem lines = all_next (offered lines) 0 (length (offered lines) + 1) [] (parts lines)
+next_relids_lem lines = all_next (agreed_in lines) (offered lines) 0 (length (offered lines) + 1) [] (parts lines)

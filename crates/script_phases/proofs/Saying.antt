@@ -4,8 +4,8 @@ use Rattle.std.specs.Prelude.{is_some, slice_get}
 use Rattle.std.specs.List.{list_any}
 use Rattle.script_lines.specs.declared.line.Line.{Line}
 use Rattle.script_lines.specs.declared.line.What.{What}
-use Rattle.script_lines.specs.declared.line.What.TheVariants.{Contact as IsContact, Offer as IsOffer, Bad as IsBad, RingSize as IsRingSize, Window as IsWindow, Ask as IsAsk, Rescind as IsRescind, Shut as IsShut, Phase as IsPhase}
-use Rattle.script_lines.specs.Lines.{Says, Asks, Rescinds, Shuts, said, is_rescind, is_close}
+use Rattle.script_lines.specs.declared.line.What.TheVariants.{Contact as IsContact, Offer as IsOffer, Bad as IsBad, RingSize as IsRingSize, Window as IsWindow, Ask as IsAsk, Rescind as IsRescind, Shut as IsShut, Modify as IsModify, Phase as IsPhase}
+use Rattle.script_lines.specs.Lines.{Says, Asks, Rescinds, Shuts, Modifies, said, is_rescind, is_close}
 use Rattle.script_lines.specs.Parts.{rescinds as line_rescinds, shuts as line_shuts}
 use Rattle.script_phases.specs.Says.{heard_by, said_to, is_rescinded, is_shut}
 use Rattle.script_phases.specs.Openings.{is_ended, is_opened}
@@ -36,6 +36,7 @@ module _ (d : ℕ) where
   rescind_line (IsAsk c ask) ss rest e = any_none is_rescind (nat_eq c d) (Asks ask) ss refl ∙ e
   rescind_line (IsRescind c after held) ss rest e = any_same is_rescind (nat_eq c d) (Rescinds after held) ss refl ∙ ap (λ r. nat_eq c d || r) e
   rescind_line (IsShut c) ss rest e = any_none is_rescind (nat_eq c d) Shuts ss refl ∙ e
+  rescind_line (IsModify c vp) ss rest e = any_none is_rescind (nat_eq c d) (Modifies vp) ss refl ∙ e
   rescind_line IsPhase ss rest e = e
 
   pub rescind_same : (ls : List Line) → is_rescinded d ls ≡ list_any (λ l. line_rescinds d l.what) ls
@@ -51,6 +52,7 @@ module _ (d : ℕ) where
   shut_line (IsAsk c ask) ss rest e = any_none is_close (nat_eq c d) (Asks ask) ss refl ∙ e
   shut_line (IsRescind c after held) ss rest e = any_none is_close (nat_eq c d) (Rescinds after held) ss refl ∙ e
   shut_line (IsShut c) ss rest e = any_same is_close (nat_eq c d) Shuts ss refl ∙ ap (λ r. nat_eq c d || r) e
+  shut_line (IsModify c vp) ss rest e = any_none is_close (nat_eq c d) (Modifies vp) ss refl ∙ e
   shut_line IsPhase ss rest e = e
 
   pub shut_same : (ls : List Line) → is_shut d ls ≡ list_any (λ l. line_shuts d l.what) ls

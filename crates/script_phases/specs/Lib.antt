@@ -1,4 +1,5 @@
 pub mod Says
+pub mod Agreed
 pub mod Openings
 pub mod Shares
 pub mod Laws

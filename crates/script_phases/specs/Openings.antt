@@ -5,6 +5,7 @@ use Rattle.script_lines.specs.declared.line.DeviceSpec.TheVariants.{Beat, Down, 
 use Rattle.script_lines.specs.declared.line.Line.{Line}
 use Rattle.script_lines.specs.Parts.{parts, offered}
 use Rattle.script_phases.specs.Says.{said_to, is_rescinded, is_shut}
+use Rattle.script_phases.specs.Agreed.{agreed_in}
 
 -- a channel that a phase opens: its relid, its device, what that is, and its number among the device's channels
 pub record Opening : Type 0 where
@@ -13,8 +14,9 @@ pub record Opening : Type 0 where
   pub spec : DeviceSpec
   pub sub : ℕ
 
--- a phase: its number, the lines of the earlier ones, its own, and the channels that it opens, in that order
+-- a phase: the version that both ends agreed on, its number, the lines of the earlier ones, its own, and the channels that it opens, in that order
 pub record Phase : Type 0 where
+  pub version : ℕ
   pub number : ℕ
   pub earlier : List Line
   pub part : List Line
@@ -65,12 +67,12 @@ others os = filter (λ o. not (is_first o)) os
 abbrev pub by_relid : List Opening → List Opening
 by_relid os = firsts os ++ others os
 
--- the phases from this number on, behind these lines, where this relid is the next one
-abbrev pub phases_from : List DeviceSpec → ℕ → ℕ → List Line → List (List Line) → List Phase
-phases_from specs number next earlier [] = []
-phases_from specs number next earlier (part ∷ rest) =
+-- the phases of this version from this number on, behind these lines, where this relid is the next one
+abbrev pub phases_from : ℕ → List DeviceSpec → ℕ → ℕ → List Line → List (List Line) → List Phase
+phases_from version specs number next earlier [] = []
+phases_from version specs number next earlier (part ∷ rest) =
     let opened = opened_from (is_opened earlier part) 0 next specs in
-    record { number = number; earlier = earlier; part = part; opened = opened } ∷ phases_from specs (number + 1) (next + length (others opened)) (earlier ++ part) rest
+    record { version = version; number = number; earlier = earlier; part = part; opened = opened } ∷ phases_from version specs (number + 1) (next + length (others opened)) (earlier ++ part) rest
 
 abbrev pub phases : List Line → List Phase
-phases lines = phases_from (offered lines) 0 (length (offered lines) + 1) [] (parts lines)
+phases lines = phases_from (agreed_in lines) (offered lines) 0 (length (offered lines) + 1) [] (parts lines)

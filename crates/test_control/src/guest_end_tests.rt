@@ -24,8 +24,25 @@ const FIRST_RESCINDED: &[u8] =
 const SECOND_RESCINDED: &[u8] =
     b"contact 5.2 5.2\noffer disk a 64 0\noffer disk b 64 0\nready a\nrescind b after 0\n";
 
-// What the tests tell messages by: the type, and then relid or version, handle, and the ring to the
-// guest or the number of frames.
+// A disk with a sub-channel and a heartbeat, which are both moved to other processors.
+const MOVED: &[u8] =
+    b"contact 5.3 5.3\noffer disk a 64 1\noffer hb b\nmodify a 5\nmodify b 63\nclose b\n";
+
+// Two disks that are moved: with a host that answers, and where none does or none is asked.
+const ANSWERED: &[u8] =
+    b"contact 5.3 5.3\noffer disk a 64 0\noffer disk b 64 0\nmodify b 3\nmodify a 0\nrescind a after 0\n";
+
+const UNANSWERED: &[u8] =
+    b"contact 5.2 5.3\noffer disk a 64 0\noffer disk b 64 0\nmodify a 0\nmodify b 3\n";
+
+const FIRST_TOLD: &[u8] =
+    b"contact 4.1 5.3\noffer disk a 64 0\noffer disk b 64 0\nmodify a 0\nmodify b 3\n";
+
+const UNSUPPORTED: &[u8] =
+    b"contact 4.0 5.3\noffer disk a 64 0\noffer disk b 64 0\nmodify a 0\nmodify b 3\n";
+
+// What the tests tell messages by: the type, and then relid or version, handle or processor, and the ring
+// to the guest or the number of frames.
 type Told = (u32, u32, u32, u32);
 
 fn told(m: &Msg) -> Told {
@@ -44,6 +61,11 @@ fn told(m: &Msg) -> Told {
         Msg::RelidReleased { relid, .. } => (13, *relid, 0, 0),
         Msg::InitiateContact { version, .. } => (14, *version, 0, 0),
         Msg::Unload { .. } => (16, 0, 0, 0),
+        Msg::ModifyChannel {
+            relid,
+            target_vp,
+            ..
+        } => (22, *relid, *target_vp, 0),
         _ => (0, 0, 0, 0),
     }
 }
@@ -69,6 +91,8 @@ enum Said {
     Rescind { relid: u32 },
     Unloaded,
     Close { relid: u32 },
+    Modify { relid: u32 },
+    Modified { relid: u32 },
 }
 
 fn message(said: Said) -> Msg {
@@ -99,6 +123,16 @@ fn message(said: Said) -> Msg {
         Said::Rescind { relid } => Msg::RescindChannelOffer { padding, relid },
         Said::Unloaded => Msg::UnloadResponse { padding },
         Said::Close { relid } => Msg::CloseChannel { padding, relid },
+        Said::Modify { relid } => Msg::ModifyChannel {
+            padding,
+            relid,
+            target_vp: 1,
+        },
+        Said::Modified { relid } => Msg::ModifyChannelResponse {
+            padding,
+            relid,
+            status: 0,
+        },
     }
 }
 
@@ -548,6 +582,260 @@ const RESCIND_SECOND: [(Step, &[Told]); 17] = [
     (Step::IsDone(true), &[]),
 ];
 
+// Both channels are moved once all three are open, and their answers come in the other order. A
+// sub-channel isn't moved. What isn't awaited is refused as its channel's life says.
+const MOVE_BOTH: [(Step, &[Told]); 33] = [
+    (Step::Begin(Part::Contact), &[(14, 0x5_0003, 0, 0)]),
+    (Step::Feed(Said::Response { supported: 1 }), &[(3, 0, 0, 0)]),
+    (
+        Step::Feed(Said::Offer {
+            kind: Kind::Disk,
+            relid: 1,
+            sub: 0,
+        }),
+        &[],
+    ),
+    (
+        Step::Feed(Said::Offer {
+            kind: Kind::Beat,
+            relid: 2,
+            sub: 0,
+        }),
+        &[],
+    ),
+    (Step::Feed(Said::Delivered), &[]),
+    (Step::Begin(Part::PhaseStart(0)), &[(8, 1, GPADL, 4)]),
+    (
+        Step::Feed(Said::Created {
+            relid: 1,
+            gpadl: GPADL,
+        }),
+        &[(5, 1, GPADL, 2)],
+    ),
+    (
+        Step::Feed(Said::Opened {
+            relid: 1,
+            status: 0,
+        }),
+        &[],
+    ),
+    (
+        Step::Feed(Said::Offer {
+            kind: Kind::Disk,
+            relid: 3,
+            sub: 1,
+        }),
+        &[(8, 3, GPADL + 1, 4)],
+    ),
+    (
+        Step::Feed(Said::Created {
+            relid: 3,
+            gpadl: GPADL + 1,
+        }),
+        &[(5, 3, GPADL + 1, 2)],
+    ),
+    (
+        Step::Feed(Said::Opened {
+            relid: 3,
+            status: 0,
+        }),
+        &[(8, 2, GPADL + 2, 4)],
+    ),
+    (
+        Step::Feed(Said::Created {
+            relid: 2,
+            gpadl: GPADL + 2,
+        }),
+        &[(5, 2, GPADL + 2, 2)],
+    ),
+    (
+        Step::Feed(Said::Opened {
+            relid: 2,
+            status: 0,
+        }),
+        &[(22, 1, 5, 0), (22, 2, 63, 0)],
+    ),
+    (Step::IsDone(false), &[]),
+    (Step::IsAt(1, Some(State::Modifying)), &[]),
+    (
+        Step::Refuse(
+            Said::Modified { relid: 9 },
+            ControlFault::Relid { value: 9 },
+        ),
+        &[],
+    ),
+    (
+        Step::Refuse(
+            Said::Modified { relid: 3 },
+            ControlFault::State(StateFault {
+                state: State::Opened,
+                event: Event::ModifiedSeen,
+            }),
+        ),
+        &[],
+    ),
+    (
+        Step::Refuse(
+            Said::Modify { relid: 1 },
+            ControlFault::Unasked { kind: 22 },
+        ),
+        &[],
+    ),
+    (Step::Feed(Said::Modified { relid: 2 }), &[]),
+    (Step::IsAt(2, Some(State::Opened)), &[]),
+    (Step::IsDone(false), &[]),
+    (Step::Feed(Said::Modified { relid: 1 }), &[]),
+    (Step::IsDone(true), &[]),
+    (
+        Step::Refuse(
+            Said::Modified { relid: 1 },
+            ControlFault::State(StateFault {
+                state: State::Opened,
+                event: Event::ModifiedSeen,
+            }),
+        ),
+        &[],
+    ),
+    (
+        Step::Begin(Part::PhaseEnd(0)),
+        &[(7, 3, 0, 0), (11, 3, GPADL + 1, 0)],
+    ),
+    (Step::Feed(Said::Torndown { gpadl: GPADL + 1 }), &[]),
+    (
+        Step::Feed(Said::Rescind { relid: 3 }),
+        &[(13, 3, 0, 0), (7, 1, 0, 0), (11, 1, GPADL, 0)],
+    ),
+    (
+        Step::Feed(Said::Torndown { gpadl: GPADL }),
+        &[(7, 2, 0, 0), (11, 2, GPADL + 2, 0)],
+    ),
+    (Step::Feed(Said::Torndown { gpadl: GPADL + 2 }), &[]),
+    (Step::IsAt(2, Some(State::Closed)), &[]),
+    (Step::Begin(Part::Unload), &[(16, 0, 0, 0)]),
+    (Step::Feed(Said::Unloaded), &[]),
+    (Step::Ended(18, 18), &[]),
+];
+
+// A guest of two disks, the first of which is moved to processor 0 and the second one to 3, up to the
+// last answer before it moves them.
+fn opens_both(rt: &(impl Abort + AllocGlobal), script: &[u8], version: u32) -> GuestControl {
+    let mut guest = guest_of(rt, script);
+    let steps: [(Step, &[Told]); 9] = [
+        (Step::Begin(Part::Contact), &[(14, version, 0, 0)]),
+        (Step::Feed(Said::Response { supported: 1 }), &[(3, 0, 0, 0)]),
+        (
+            Step::Feed(Said::Offer {
+                kind: Kind::Disk,
+                relid: 1,
+                sub: 0,
+            }),
+            &[],
+        ),
+        (
+            Step::Feed(Said::Offer {
+                kind: Kind::Disk,
+                relid: 2,
+                sub: 0,
+            }),
+            &[],
+        ),
+        (Step::Feed(Said::Delivered), &[]),
+        (Step::Begin(Part::PhaseStart(0)), &[(8, 1, GPADL, 4)]),
+        (
+            Step::Feed(Said::Created {
+                relid: 1,
+                gpadl: GPADL,
+            }),
+            &[(5, 1, GPADL, 2)],
+        ),
+        (
+            Step::Feed(Said::Opened {
+                relid: 1,
+                status: 0,
+            }),
+            &[(8, 2, GPADL + 1, 4)],
+        ),
+        (
+            Step::Feed(Said::Created {
+                relid: 2,
+                gpadl: GPADL + 1,
+            }),
+            &[(5, 2, GPADL + 1, 2)],
+        ),
+    ];
+    for (step, sends) in &steps {
+        take(rt, &mut guest, *step, sends);
+    }
+    guest
+}
+
+// The last channel is open now.
+const LAST_OPEN: Step = Step::Feed(Said::Opened {
+    relid: 2,
+    status: 0,
+});
+
+const BOTH_MOVED: &[Told] = &[(22, 1, 0, 0), (22, 2, 3, 0)];
+
+// A channel is rescinded before its answer comes: no answer is awaited then, and none is taken.
+const RESCIND_MOVED: [(Step, &[Told]); 10] = [
+    (LAST_OPEN, BOTH_MOVED),
+    (Step::Feed(Said::Rescind { relid: 1 }), &[(13, 1, 0, 0)]),
+    (Step::IsAt(1, Some(State::Released)), &[]),
+    (Step::IsDone(false), &[]),
+    (
+        Step::Refuse(
+            Said::Modified { relid: 1 },
+            ControlFault::State(StateFault {
+                state: State::Released,
+                event: Event::ModifiedSeen,
+            }),
+        ),
+        &[],
+    ),
+    (Step::Feed(Said::Modified { relid: 2 }), &[]),
+    (Step::IsDone(true), &[]),
+    (Step::IsAt(2, Some(State::Opened)), &[]),
+    (Step::Taken(10), &[]),
+    (Step::Begin(Part::PhaseEnd(0)), &[]),
+];
+
+// A channel that was rescinded before all were open isn't moved.
+const RESCIND_BEFORE: [(Step, &[Told]); 5] = [
+    (Step::Feed(Said::Rescind { relid: 1 }), &[(13, 1, 0, 0)]),
+    (LAST_OPEN, &[(22, 2, 3, 0)]),
+    (Step::IsDone(false), &[]),
+    (Step::Feed(Said::Modified { relid: 2 }), &[]),
+    (Step::IsDone(true), &[]),
+];
+
+// The first channel is moved and rescinded at the end of its phase, and the second one closed.
+const MOVE_AND_RESCIND: [(Step, &[Told]); 8] = [
+    (LAST_OPEN, BOTH_MOVED),
+    (Step::Feed(Said::Modified { relid: 1 }), &[]),
+    (Step::IsDone(false), &[]),
+    (Step::Feed(Said::Modified { relid: 2 }), &[]),
+    (Step::Begin(Part::PhaseEnd(0)), &[]),
+    (
+        Step::Feed(Said::Rescind { relid: 1 }),
+        &[(13, 1, 0, 0), (7, 2, 0, 0), (11, 2, GPADL + 1, 0)],
+    ),
+    (Step::Feed(Said::Torndown { gpadl: GPADL + 1 }), &[]),
+    (Step::IsDone(true), &[]),
+];
+
+fn goes_on(
+    rt: &(impl Abort + AllocGlobal),
+    script: &[u8],
+    version: u32,
+    steps: &[(Step, &[Told])],
+) {
+    let mut guest = opens_both(rt, script, version);
+    for (step, sends) in steps {
+        take(rt, &mut guest, *step, sends);
+    }
+}
+
 #[test]
 fn whole_stay(rt: HostRuntime) {
     take_all(&rt, SCRIPT, &STAY);
@@ -562,4 +850,36 @@ fn refusals(rt: HostRuntime) {
 fn rescinded_and_closed(rt: HostRuntime) {
     take_all(&rt, FIRST_RESCINDED, &RESCIND_FIRST);
     take_all(&rt, SECOND_RESCINDED, &RESCIND_SECOND);
+}
+
+#[test]
+fn channels_are_moved(rt: HostRuntime) {
+    take_all(&rt, MOVED, &MOVE_BOTH);
+    goes_on(&rt, ANSWERED, 0x5_0003, &MOVE_AND_RESCIND);
+}
+
+#[test]
+fn moved_channels_are_rescinded(rt: HostRuntime) {
+    goes_on(&rt, ANSWERED, 0x5_0003, &RESCIND_MOVED);
+    goes_on(&rt, ANSWERED, 0x5_0003, &RESCIND_BEFORE);
+}
+
+// Below 5.3 no answer is awaited, and below 4.1 nothing is sent.
+#[test]
+fn moves_by_version(rt: HostRuntime) {
+    let stays: (Step, &[Told]) = (Step::IsAt(1, Some(State::Opened)), &[]);
+    let done: (Step, &[Told]) = (Step::IsDone(true), &[]);
+    goes_on(
+        &rt,
+        UNANSWERED,
+        0x5_0002,
+        &[(LAST_OPEN, BOTH_MOVED), stays, done],
+    );
+    goes_on(
+        &rt,
+        FIRST_TOLD,
+        0x4_0001,
+        &[(LAST_OPEN, BOTH_MOVED), stays, done],
+    );
+    goes_on(&rt, UNSUPPORTED, 0x4_0000, &[(LAST_OPEN, &[]), stays, done]);
 }

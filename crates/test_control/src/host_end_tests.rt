@@ -16,6 +16,14 @@ use vmbus_msg::Msg;
 const SCRIPT: &[u8] =
     b"contact 5.1 4.0\noffer disk a 64 0\noffer disk b 64 0\nready a\nrescind b after 0\n";
 
+// A disk with a sub-channel and a heartbeat, which are both moved to other processors: where the host
+// answers, and where it doesn't; and where nothing is moved.
+const MOVED: &[u8] = b"contact 5.3 5.3\noffer disk a 64 1\noffer hb b\nmodify a 5\nmodify b 63\n";
+
+const UNANSWERED: &[u8] = b"contact 5.3 5.2\noffer hb a\nmodify a 5\n";
+
+const UNSUPPORTED: &[u8] = b"contact 5.3 4.0\noffer hb a\nmodify a 5\n";
+
 const GPADL: u32 = 0xe1e10;
 
 // What the tests tell messages by: the type, and then what it answers with, or relid or handle.
@@ -31,6 +39,11 @@ fn told(m: &Msg) -> Told {
         Msg::GpadlTorndown { gpadl, .. } => (12, *gpadl),
         Msg::VersionResponse { supported, .. } => (15, *supported as u32),
         Msg::UnloadResponse { .. } => (17, 0),
+        Msg::ModifyChannelResponse {
+            relid,
+            status: 0,
+            ..
+        } => (24, *relid),
         _ => (0, 0),
     }
 }
@@ -46,6 +59,8 @@ enum Said {
     Release { relid: u32 },
     Unload,
     Unloaded,
+    Modify { relid: u32, vp: u32 },
+    Modified { relid: u32 },
 }
 
 fn message(said: Said) -> Msg {
@@ -78,6 +93,16 @@ fn message(said: Said) -> Msg {
         Said::Release { relid } => Msg::RelidReleased { padding, relid },
         Said::Unload => Msg::Unload { padding },
         Said::Unloaded => Msg::UnloadResponse { padding },
+        Said::Modify { relid, vp } => Msg::ModifyChannel {
+            padding,
+            relid,
+            target_vp: vp,
+        },
+        Said::Modified { relid } => Msg::ModifyChannelResponse {
+            padding,
+            relid,
+            status: 0,
+        },
     }
 }
 
@@ -278,20 +303,209 @@ const STAY: [(Step, &[Told]); 28] = [
     (Step::Ended(12, 13), &[]),
 ];
 
-#[test]
-fn host_stay(rt: HostRuntime) {
-    let Ok(script) = parse(rt.alloc(), SCRIPT) else {
-        panic!(&rt; "no script");
+// Both channels are moved once all three are open. A message for another channel is an event of it,
+// which is answered, and the host waits on.
+const MOVE_BOTH: [(Step, &[Told]); 35] = [
+    (Step::Begin(Part::Contact), &[]),
+    (
+        Step::Refuse(
+            Said::Modified { relid: 1 },
+            ControlFault::Unasked { kind: 24 },
+        ),
+        &[],
+    ),
+    (Step::Feed(Said::Contact { version: 0x5_0003 }), &[(15, 1)]),
+    (Step::Feed(Said::Request), &[(1, 1), (1, 2), (4, 0)]),
+    (
+        Step::Refuse(
+            Said::Modify { relid: 1, vp: 5 },
+            ControlFault::State(StateFault {
+                state: State::Offered,
+                event: Event::ModifySeen {
+                    vp: 5,
+                    answered: true,
+                },
+            }),
+        ),
+        &[],
+    ),
+    (Step::Begin(Part::PhaseStart(0)), &[]),
+    (
+        Step::List {
+            relid: 1,
+            gpadl: GPADL,
+            pages: 4,
+        },
+        &[(10, GPADL)],
+    ),
+    (
+        Step::Feed(Said::Open {
+            relid: 1,
+            gpadl: GPADL,
+        }),
+        &[(6, 1), (1, 3)],
+    ),
+    (
+        Step::List {
+            relid: 3,
+            gpadl: GPADL + 1,
+            pages: 4,
+        },
+        &[(10, GPADL + 1)],
+    ),
+    (
+        Step::Feed(Said::Open {
+            relid: 3,
+            gpadl: GPADL + 1,
+        }),
+        &[(6, 3)],
+    ),
+    (
+        Step::List {
+            relid: 2,
+            gpadl: GPADL + 2,
+            pages: 4,
+        },
+        &[(10, GPADL + 2)],
+    ),
+    (
+        Step::Feed(Said::Open {
+            relid: 2,
+            gpadl: GPADL + 2,
+        }),
+        &[(6, 2)],
+    ),
+    (Step::IsDone(false), &[]),
+    (
+        Step::Refuse(
+            Said::Modify { relid: 9, vp: 5 },
+            ControlFault::Relid { value: 9 },
+        ),
+        &[],
+    ),
+    (Step::Feed(Said::Modify { relid: 2, vp: 63 }), &[(24, 2)]),
+    (Step::IsDone(false), &[]),
+    (Step::Feed(Said::Modify { relid: 1, vp: 5 }), &[(24, 1)]),
+    (Step::IsDone(false), &[]),
+    (Step::Feed(Said::Modify { relid: 2, vp: 63 }), &[(24, 2)]),
+    (Step::IsDone(true), &[]),
+    (Step::Feed(Said::Modify { relid: 3, vp: 1 }), &[(24, 3)]),
+    (Step::IsAt(3, Some(State::Opened)), &[]),
+    (Step::Begin(Part::PhaseEnd(0)), &[]),
+    (Step::Feed(Said::Close { relid: 3 }), &[]),
+    (
+        Step::Feed(Said::Teardown {
+            relid: 3,
+            gpadl: GPADL + 1,
+        }),
+        &[(12, GPADL + 1), (2, 3)],
+    ),
+    (Step::Feed(Said::Modify { relid: 3, vp: 1 }), &[]),
+    (Step::Feed(Said::Release { relid: 3 }), &[]),
+    (Step::Feed(Said::Close { relid: 1 }), &[]),
+    (
+        Step::Feed(Said::Teardown {
+            relid: 1,
+            gpadl: GPADL,
+        }),
+        &[(12, GPADL)],
+    ),
+    (Step::Feed(Said::Close { relid: 2 }), &[]),
+    (
+        Step::Feed(Said::Teardown {
+            relid: 2,
+            gpadl: GPADL + 2,
+        }),
+        &[(12, GPADL + 2)],
+    ),
+    (Step::IsAt(1, Some(State::Closed)), &[]),
+    (Step::Begin(Part::Unload), &[]),
+    (Step::Feed(Said::Unload), &[(17, 0)]),
+    (Step::Ended(20, 21), &[]),
+];
+
+// A host of a script takes these steps in turn; each sends the messages beside it.
+fn take_all(
+    rt: &(impl Abort + AllocGlobal),
+    script: &[u8],
+    steps: &[(Step, &[Told])],
+) -> HostControl {
+    let Ok(script) = parse(rt.alloc(), script) else {
+        panic!(rt; "no script");
     };
     let Ok(mut host) = HostControl::make(rt.alloc(), &script) else {
-        panic!(&rt; "no host");
+        panic!(rt; "no host");
     };
     check(
-        &rt,
+        rt,
         host.part().is_none() && host.version().is_none() && !host.done(),
     );
-    for (step, sends) in &STAY {
-        take(&rt, &mut host, *step, sends);
+    for (step, sends) in steps {
+        take(rt, &mut host, *step, sends);
     }
+    host
+}
+
+// A host of one device opens its channel.
+const OPEN_ONE: [(Step, &[Told]); 2] = [
+    (
+        Step::List {
+            relid: 1,
+            gpadl: GPADL,
+            pages: 4,
+        },
+        &[(10, GPADL)],
+    ),
+    (
+        Step::Feed(Said::Open {
+            relid: 1,
+            gpadl: GPADL,
+        }),
+        &[(6, 1)],
+    ),
+];
+
+fn opens_one(rt: &(impl Abort + AllocGlobal), script: &[u8], version: u32) -> HostControl {
+    let mut host = take_all(
+        rt,
+        script,
+        &[
+            (Step::Begin(Part::Contact), &[]),
+            (Step::Feed(Said::Contact { version }), &[(15, 1)]),
+            (Step::Feed(Said::Request), &[(1, 1), (4, 0)]),
+            (Step::Begin(Part::PhaseStart(0)), &[]),
+        ],
+    );
+    for (step, sends) in &OPEN_ONE {
+        take(rt, &mut host, *step, sends);
+    }
+    host
+}
+
+#[test]
+fn host_stay(rt: HostRuntime) {
+    let host = take_all(&rt, SCRIPT, &STAY);
     check(&rt, host.version() == Some(Version(0x4_0000)));
+}
+
+#[test]
+fn channels_are_moved(rt: HostRuntime) {
+    let host = take_all(&rt, MOVED, &MOVE_BOTH);
+    check(&rt, host.version() == Some(Version(0x5_0003)));
+}
+
+// Below 5.3 the host waits for the message and doesn't answer it, and below 4.1 it waits for none.
+#[test]
+fn moves_by_version(rt: HostRuntime) {
+    let mut unanswered = opens_one(&rt, UNANSWERED, 0x5_0002);
+    check(&rt, !unanswered.done());
+    take(
+        &rt,
+        &mut unanswered,
+        Step::Feed(Said::Modify { relid: 1, vp: 5 }),
+        &[],
+    );
+    check(&rt, unanswered.done());
+    let unsupported = opens_one(&rt, UNSUPPORTED, 0x4_0000);
+    check(&rt, unsupported.done());
 }

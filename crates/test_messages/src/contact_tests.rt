@@ -1,12 +1,14 @@
-//! All versions, and all kinds.
+//! All versions, all kinds, and services of sockets.
 use crate::check::check;
 use contact::{
-    Kind, OfferFault, Offered, Version, agree, host_accepts, next_version, offer, offers,
-    read_offer,
+    Kind, OfferFault, Offered, Version, agree, answers_modify, has_modify, host_accepts,
+    next_version, offer, offers, port_in, read_offer, service_id,
 };
 use std::process::Abort;
 use std::test::Fail;
 use vmbus_msg::Msg;
+
+const V5_3: Version = Version(327_683);
 
 const V5_2: Version = Version(327_682);
 
@@ -23,7 +25,8 @@ const V3_0: Version = Version(196_608);
 const V2_4: Version = Version(131_076);
 
 // Each version, and the one that is tried after it.
-const NEXT: [(Version, Option<Version>); 7] = [
+const NEXT: [(Version, Option<Version>); 8] = [
+    (V5_3, Some(V5_2)),
     (V5_2, Some(V5_1)),
     (V5_1, Some(V5_0)),
     (V5_0, Some(V4_1)),
@@ -34,11 +37,13 @@ const NEXT: [(Version, Option<Version>); 7] = [
 ];
 
 // A host's highest version, the version that it is asked for, and whether it accepts that.
-const ASKED: [(Version, Version, bool); 6] = [
+const ASKED: [(Version, Version, bool); 8] = [
+    (V5_3, V5_3, true),
+    (V5_3, Version(327_684), false),
     (V5_2, V5_2, true),
     (V5_1, V5_2, false),
     (V2_4, V2_4, true),
-    (V5_2, Version(327_683), false),
+    (V5_2, V5_3, false),
     (V5_2, Version(131_072), false),
     (Version(4_294_967_295), V3_0, true),
 ];
@@ -54,6 +59,27 @@ fn versions(rt: HostRuntime) {
     check(&rt, agree(V5_2, V4_0) == V4_0);
     check(&rt, agree(V3_0, V5_1) == V3_0);
     check(&rt, agree(V2_4, V2_4) == V2_4);
+    check(&rt, agree(V5_3, V5_2) == V5_2);
+}
+
+// Each version, whether it has MODIFYCHANNEL, and whether a host answers that.
+const MODIFIES: [(Version, bool, bool); 8] = [
+    (V5_3, true, true),
+    (V5_2, true, false),
+    (V5_1, true, false),
+    (V5_0, true, false),
+    (V4_1, true, false),
+    (V4_0, false, false),
+    (V3_0, false, false),
+    (V2_4, false, false),
+];
+
+#[test]
+fn modifies(rt: HostRuntime) {
+    for (version, has, answers) in MODIFIES {
+        check(&rt, has_modify(version) == has);
+        check(&rt, answers_modify(version) == answers);
+    }
 }
 
 // An offer's class id, the number in its instance id, its relid and its connection.
@@ -129,4 +155,25 @@ fn unknown_class(rt: HostRuntime) {
         &rt,
         read_offer(&m) == Err(OfferFault::Class { id: [7; 16] }),
     );
+}
+
+// 00000005-facb-11e6-bd58-64006a7986d3
+const SERVICE_5: [u8; 16] = [
+    0x05, 0x00, 0x00, 0x00, 0xcb, 0xfa, 0xe6, 0x11, 0xbd, 0x58, 0x64, 0x00, 0x6a, 0x79, 0x86, 0xd3,
+];
+
+// 89abcdef-facb-11e6-bd58-64006a7986d3
+const SERVICE_89ABCDEF: [u8; 16] = [
+    0xef, 0xcd, 0xab, 0x89, 0xcb, 0xfa, 0xe6, 0x11, 0xbd, 0x58, 0x64, 0x00, 0x6a, 0x79, 0x86, 0xd3,
+];
+
+#[test]
+fn services(rt: HostRuntime) {
+    check(&rt, service_id(5) == SERVICE_5);
+    check(&rt, service_id(0x89ab_cdef) == SERVICE_89ABCDEF);
+    check(&rt, port_in(&SERVICE_5) == Some(5));
+    check(&rt, port_in(&SERVICE_89ABCDEF) == Some(0x89ab_cdef));
+    let mut other = SERVICE_5;
+    other[15] = 0xd2;
+    check(&rt, port_in(&other) == None);
 }

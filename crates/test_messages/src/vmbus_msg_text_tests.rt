@@ -118,9 +118,10 @@ fn prints(rt: HostRuntime) {
     printed(&rt, rows, text);
     printed(
         &rt,
-        b"1600000000000000030000000500000005",
-        b"1 unknown 22\n",
+        b"16000000000000000300000005000000\n1600000000000000030000000500000005",
+        b"1 MODIFYCHANNEL relid 3 target_vp 5\n2 long 17\n",
     );
+    printed(&rt, b"14000000000000000300000005000000", b"1 unknown 20\n");
 }
 
 #[test]

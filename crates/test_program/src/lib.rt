@@ -12,6 +12,8 @@ mod hold;
 #[cfg(test)]
 mod load_tests;
 #[cfg(test)]
+mod modify_tests;
+#[cfg(test)]
 mod network_tests;
 #[cfg(test)]
 mod rescind_tests;

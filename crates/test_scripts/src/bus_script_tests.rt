@@ -113,6 +113,8 @@ fn reads_lines(rt: HostRuntime) {
     check_line(&rt, &script, 4, 7, &window);
     check_line(&rt, &script, 7, 10, &What::Shut { device: 1 });
     check_line(&rt, &script, 8, 11, &What::Phase);
+    let script = script_of(&rt, b"offer hb a\noffer hb b\nmodify b 63\n");
+    check_line(&rt, &script, 2, 3, &What::Modify { device: 1, vp: 63 });
 }
 
 // What its requests ask.
@@ -186,13 +188,14 @@ fn same(a: &What, b: &What) -> bool {
             },
         ) => { device == d && after == a && held == h }
         (What::Shut { device }, What::Shut { device: d }) => device == d,
+        (What::Modify { device, vp }, What::Modify { device: d, vp: v }) => device == d && vp == v,
         (What::Phase, What::Phase) => true,
         _ => false,
     }
 }
 
 // Whole scripts, and how many lines each has.
-const ACCEPTED: [(&[u8], usize); 11] = [
+const ACCEPTED: [(&[u8], usize); 15] = [
     (b"", 0),
     (b"\n\r\n  \n# printable", 0),
     (b"offer hb hb\nbeat hb 41\n", 2),
@@ -210,6 +213,19 @@ const ACCEPTED: [(&[u8], usize); 11] = [
         6,
     ),
     (b"offer hb a\nring a 2\noffer hb b\nwindow a 2\n", 4),
+    (b"offer hb modify\nmodify modify 63\n", 2),
+    (
+        b"offer hb a\noffer hb b\nmodify a 0\nmodify b 0\nphase\nmodify a 0\n",
+        6,
+    ),
+    (
+        b"offer disk d 8 3\nrescind d after 0\nphase\nmodify d 1\n",
+        4,
+    ),
+    (
+        b"offer shutdown s\nclose s\nmodify s 1\nphase\nmodify s 1\n",
+        5,
+    ),
 ];
 
 #[test]
@@ -218,7 +234,7 @@ fn accepts(rt: HostRuntime) {
 }
 
 // Scripts with a line that has no form, and that line.
-const NO_FORM: [(&[u8], u32); 20] = [
+const NO_FORM: [(&[u8], u32); 23] = [
     (b"beat hb 007\n", 1),
     (b"offer hb hb\nbeat hb 007\n", 2),
     (b"offer hb h\nbeat h 100000000000000000000\n", 2),
@@ -239,6 +255,9 @@ const NO_FORM: [(&[u8], u32); 20] = [
     (b"contact 5.2 5.2 5.2\n", 1),
     (b"phase 1\n", 1),
     (b"close\n", 1),
+    (b"offer hb a\nmodify a 01\n", 2),
+    (b"offer hb a\nmodify a\n", 2),
+    (b"offer hb a\nmodify a 1 1\n", 2),
 ];
 
 #[test]
@@ -247,7 +266,7 @@ fn refuses_forms(rt: HostRuntime) {
 }
 
 // Scripts with another wrong line, that line and why.
-const REFUSED: [(&[u8], u32, Why6); 29] = [
+const REFUSED: [(&[u8], u32, Why6); 34] = [
     (b"beat hb 1\n", 1, Why6::UnknownName),
     (b"beat hb 18446744073709551616\n", 1, Why6::UnknownName),
     (b"offer shutdown s\nbeat s 1\n", 2, Why6::UnknownName),
@@ -266,7 +285,7 @@ const REFUSED: [(&[u8], u32, Why6); 29] = [
     (b"offer hb a\ncontact 5.2 5.2\n", 2, Why6::Order),
     (b"contact 5.2 5.2\ncontact 9.9 5.2\n", 2, Why6::Order),
     (b"phase\ncontact 5.2 5.2\n", 2, Why6::Order),
-    (b"contact 5.3 5.2\n", 1, Why6::Range),
+    (b"contact 5.4 5.2\n", 1, Why6::Range),
     (b"contact 4.65538 5.2\n", 1, Why6::Range),
     (b"contact 18446744073709551616.0 5.2\n", 1, Why6::Range),
     (b"contact 5.2 0.0\n", 1, Why6::Range),
@@ -285,6 +304,15 @@ const REFUSED: [(&[u8], u32, Why6); 29] = [
         Why6::Range,
     ),
     (b"offer shutdown s\ndown s 4294967296\n", 2, Why6::Range),
+    (b"offer hb a\nmodify a 64\n", 2, Why6::Range),
+    (b"modify a 64\n", 1, Why6::UnknownName),
+    (b"offer hb a\nmodify a 1\nmodify a 64\n", 3, Why6::Repeat),
+    (
+        b"offer hb a\nphase\nmodify a 1\nmodify a 1\n",
+        4,
+        Why6::Repeat,
+    ),
+    (b"offer hb a\nmodify a 1\noffer hb b\n", 3, Why6::Order),
 ];
 
 #[test]
@@ -371,7 +399,10 @@ fn count_prints(script: &Script) -> usize
 fn tells(what: &What) -> bool
     ensures { result ≡ tells what.now }
 {
-    matches!(what, What::Contact { .. } | What::Ask { .. })
+    matches!(
+        what,
+        What::Contact { .. } | What::Ask { .. } | What::Modify { .. }
+    )
 }
 
 // The report of these bytes with these outcomes is this text.
@@ -389,6 +420,38 @@ pub fn reported(
     }
 }
 
+// A line that moves interrupts isn't counted as a request.
+#[test]
+fn reports_moves(rt: HostRuntime) {
+    reported(
+        &rt,
+        b"contact 5.3 5.3\noffer hb hb\nmodify hb 3\nbeat hb 41\n",
+        &[
+            LineResult::Version { tried: 1 },
+            LineResult::Modified {
+                vp: 3,
+                answered: true,
+            },
+            done(0, 0, 42),
+        ],
+        b"1 version 5.3 tried 5.3\n3 modified 3\n4 done @0 seq 42\nend requests 1 done 1 rescinded 0\n",
+    );
+    reported(
+        &rt,
+        b"offer hb a\noffer hb b\nmodify a 63\nmodify b 0\nclose a\nphase\nmodify a 1\nmodify b 1\n",
+        &[
+            LineResult::Modified {
+                vp: 63,
+                answered: false,
+            },
+            LineResult::Unsupported,
+            LineResult::Closed,
+            LineResult::Gone,
+        ],
+        b"3 modified 63 unanswered\n4 modify unsupported\n7 closed\n8 gone\nend requests 0 done 0 rescinded 0\n",
+    );
+}
+
 #[test]
 fn reports(rt: HostRuntime) {
     reported(&rt, b"", &[], b"end requests 0 done 0 rescinded 0\n");
@@ -397,6 +460,12 @@ fn reports(rt: HostRuntime) {
         b"contact 5.2 4.0\n",
         &[LineResult::Version { tried: 5 }],
         b"1 version 4.0 tried 5.2 5.1 5.0 4.1 4.0\nend requests 0 done 0 rescinded 0\n",
+    );
+    reported(
+        &rt,
+        b"contact 5.3 4.0\n",
+        &[LineResult::Version { tried: 6 }],
+        b"1 version 4.0 tried 5.3 5.2 5.1 5.0 4.1 4.0\nend requests 0 done 0 rescinded 0\n",
     );
     reported(
         &rt,

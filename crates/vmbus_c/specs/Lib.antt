@@ -1,4 +1,4 @@
 pub mod Messages
-pub mod Network
+pub mod MessageWriting
 pub mod Packets
-pub mod Storage
+pub mod PacketWriting

@@ -1,12 +1,12 @@
 -- A control message and a refusal as the numbers that C sees.
 use Rattle.std.specs.Prelude.{ℕ, length}
 use Rattle.vmbus_msg.specs.declared.msg.Msg.{Msg}
-use Rattle.vmbus_msg.specs.declared.msg.Msg.TheVariants.{OfferChannel, RescindChannelOffer, RequestOffers, AllOffersDelivered, OpenChannel, OpenChannelResult, CloseChannel, GpadlHeader, GpadlBody, GpadlCreated, GpadlTeardown, GpadlTorndown, RelidReleased, InitiateContact, VersionResponse, Unload, UnloadResponse}
+use Rattle.vmbus_msg.specs.declared.msg.Msg.TheVariants.{OfferChannel, RescindChannelOffer, RequestOffers, AllOffersDelivered, OpenChannel, OpenChannelResult, CloseChannel, GpadlHeader, GpadlBody, GpadlCreated, GpadlTeardown, GpadlTorndown, RelidReleased, InitiateContact, VersionResponse, Unload, UnloadResponse, TlConnectRequest, ModifyChannel, ModifyChannelResponse}
 use Rattle.vmbus_msg.specs.declared.fault.MsgFault.{MsgFault}
 use Rattle.vmbus_msg.specs.declared.fault.MsgFault.TheVariants.{Short, Unknown, Long, Field}
 use Rattle.vmbus_msg.specs.declared.field_name.FieldName.TheVariants.{RangeBuflen, Rangecount}
 use Rattle.vmbus_c.specs.declared.messages.VmbusMessage.{VmbusMessage}
-use Rattle.vmbus_c.specs.declared.fault.VmbusFault.{VmbusFault}
+use Rattle.vmbus_fault.specs.declared.fault.VmbusFault.{VmbusFault}
 
 -- a message of this type with all other numbers 0
 abbrev pub bare : ℕ → ℕ → VmbusMessage
@@ -31,6 +31,9 @@ fields_of (InitiateContact padding version target_vcpu page monitor1 monitor2) =
 fields_of (VersionResponse padding supported state padding2 conn) = record (bare 15 padding) { supported = supported; state = state; padding2 = padding2; conn = conn }
 fields_of (Unload padding) = bare 16 padding
 fields_of (UnloadResponse padding) = bare 17 padding
+fields_of (TlConnectRequest padding guest_endpoint host_service) = bare 21 padding
+fields_of (ModifyChannel padding relid target_vp) = record (bare 22 padding) { relid = relid; target_vp = target_vp }
+fields_of (ModifyChannelResponse padding relid status) = record (bare 24 padding) { relid = relid; status = status }
 
 -- the number of a refusal
 abbrev pub number_of : MsgFault → ℕ

@@ -1,10 +1,10 @@
-//! The codecs and the signal decisions of this library, for callers in C: functions on numbers and byte slices. examples/c/vmbus.h declares them.
+//! Control messages, packets, the utility answers and the signal decisions of this library, for callers in C: functions on numbers and byte slices. examples/c/vmbus.h declares them.
 #![tactic(auto)]
 
-mod fault;
+mod front;
 mod messages;
-mod network;
 mod packets;
 mod services;
 mod signals;
-mod storage;
+mod write_messages;
+mod write_packets;

@@ -6,15 +6,15 @@ ghost use Rattle.vmbus_msg.specs.Grammar.{IsMessage};
 ghost use Rattle.vmbus_msg.specs.Faults.{fault_of};
 ghost use Rattle.vmbus_c.specs.Messages.{bare, fields_of, number_of, told_of};
 
-use crate::fault::VmbusFault;
+use vmbus_fault::VmbusFault;
 use vmbus_msg::{FieldName, Msg, MsgFault, decode};
 
 /// The numbers of a control message, under the names of Linux's `include/linux/hyperv.h`. Those that its type doesn't have are 0. Ids of 16 bytes, user
 /// data and page frame numbers stand in the bytes, at the places that the header names.
 #[repr(C)]
-#[derive(Clone, Copy)]
+#[derive(Clone, Copy, PartialEq, Eq)]
 pub struct VmbusMessage {
-    /// The type, 1 to 17.
+    /// The type: 1 to 17, 21, 22 or 24.
     pub kind: u32,
     /// The four bytes after the type.
     pub padding: u32,
@@ -96,7 +96,7 @@ fn bare(kind: u32, padding: u32) -> VmbusMessage
 }
 
 // The numbers of a message.
-fn fields(m: &Msg) -> VmbusMessage
+pub(crate) fn fields(m: &Msg) -> VmbusMessage
     ensures { result ≡ fields_of m.now }
 {
     match *m {
@@ -241,6 +241,29 @@ fn fields(m: &Msg) -> VmbusMessage
         },
         Msg::Unload { padding } => bare(16, padding),
         Msg::UnloadResponse { padding } => bare(17, padding),
+        Msg::TlConnectRequest {
+            padding,
+            guest_endpoint: _,
+            host_service: _,
+        } => bare(21, padding),
+        Msg::ModifyChannel {
+            padding,
+            relid,
+            target_vp,
+        } => VmbusMessage {
+            relid,
+            target_vp,
+            ..bare(22, padding)
+        },
+        Msg::ModifyChannelResponse {
+            padding,
+            relid,
+            status,
+        } => VmbusMessage {
+            relid,
+            status,
+            ..bare(24, padding)
+        },
     }
 }
 

@@ -1,10 +1,11 @@
 //! Packets of a ring.
 ghost use Rattle.std.specs.Prelude.{◌≡◌, ◌≢◌, ◌≤◌, ◌<◌, length, Some};
 ghost use Rattle.pkt_desc.specs.Packets.{IsPacket, desc_of};
-ghost use Rattle.pkt_desc.specs.Ranges.{RangesFit};
+ghost use Rattle.pkt_desc.specs.Ranges.{RangesFit, high_32, low_32};
+ghost use Rattle.vm_page.specs.Cuts.{pages_for};
 ghost use Rattle.pkt_desc.specs.Faults.{fault_of};
 ghost use Rattle.pkt_desc.specs.declared.desc.PacketFault.{PacketFault as Fault};
-ghost use Rattle.vmbus_c.specs.Packets.{fields_of, number_of};
+ghost use Rattle.vmbus_c.specs.Packets.{HasRange, NamesPages, fields_of, number_of, range_at};
 
 use pkt_desc::{Desc, PacketFault, parse};
 
@@ -71,4 +72,69 @@ pub extern "C" fn vmbus_packet_read(words: &[u64], packet: &mut VmbusPacket) -> 
         }
         Err(e) => number(&e),
     }
+}
+
+/// A range of pages.
+#[repr(C)]
+#[derive(Clone, Copy)]
+pub struct VmbusRange {
+    /// How many bytes it has.
+    pub bytes: u32,
+    /// Their offset in its first page.
+    pub offset: u32,
+    /// The word at which its page frame numbers begin.
+    pub frames_at: u32,
+    /// How many there are.
+    pub frames: u32,
+}
+
+// The low and the high 32 bits of a word.
+fn halves(word: u64) -> (u32, u32)
+    ensures { result ≡ (low_32 word, high_32 word) }
+{
+    ((word % 0x1_0000_0000) as u32, (word >> 32) as u32)
+}
+
+// How many pages so many bytes from this offset on touch.
+fn pages_for(offset: u32, bytes: u32) -> u64
+    ensures { result ≡ pages_for offset bytes }
+{
+    (u64::from(offset) + u64::from(bytes)).div_ceil(4096)
+}
+
+/// Reads the range of pages that begins at word `at` of the packet of type 9 that the words are, and answers 0. It answers 1 where they are no packet of type 9
+/// (`vmbus_packet_read`), or else 2 where no range stands there with all its page frame numbers, behind word 3 and before the payload; then `range` stays.
+#[unsafe(no_mangle)]
+pub extern "C" fn vmbus_packet_range(words: &[u64], at: u32, range: &mut VmbusRange) -> u32
+    ensures read { NamesPages words.now → HasRange words.now at → (result ≡ 0) × (range.new ≡ range_at words.now at) }
+    ensures only { result ≢ 1 → NamesPages words.now }
+    ensures here { result ≡ 0 → HasRange words.now at }
+    ensures three { result ≤ 2 }
+    ensures kept { result ≢ 0 → range.new ≡ range.old }
+{
+    if words.len() < 2 {
+        return 1;
+    }
+    let Ok(desc) = parse(words) else {
+        return 1;
+    };
+    if desc.kind != 9 {
+        return 1;
+    }
+    let end = u64::from(desc.offset8);
+    if at < 3 || u64::from(at) >= end {
+        return 2;
+    }
+    let (bytes, offset) = halves(words[at as usize]);
+    let frames = pages_for(offset, bytes);
+    if u64::from(at) + 1 + frames > end {
+        return 2;
+    }
+    *range = VmbusRange {
+        bytes,
+        offset,
+        frames_at: at + 1,
+        frames: frames as u32,
+    };
+    0
 }

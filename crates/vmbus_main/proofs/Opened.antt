@@ -6,13 +6,14 @@ use Rattle.std.proofs.lemmas.List.{map-append}
 use Rattle.script_lines.specs.declared.line.Line.{Line}
 use Rattle.script_lines.specs.declared.line.DeviceSpec.{DeviceSpec}
 use Rattle.script_lines.specs.Parts.{parts, offered, ring_pages_of}
-use Rattle.script_phases.specs.Says.{is_rescinded}
+use Rattle.script_phases.specs.Agreed.{agreed_in}
 use Rattle.script_phases.specs.Openings.{Opening, is_opened, opened_from as phase_opens, others, by_relid, phases_from}
 use Rattle.bus_model.specs.Laws.{carried_at, opened_at}
 use Rattle.bus_model.specs.declared.channel_run.ChannelRun.{ChannelRun}
 use Rattle.bus_model.proofs.Opened.{carries_opened_lem}
 use Rattle.control_model.specs.declared.opening.Opening.{Opening as ControlOpening}
-use Rattle.control_model.specs.Openings.{openings_from, numbered, pages_in, plan_of}
+use Rattle.control_model.specs.declared.planning.Fate.{Fate}
+use Rattle.control_model.specs.Openings.{fate_of, openings_from, numbered, pages_in, plan_of}
 use Rattle.control_model.specs.Plan.{list_pages, first_gpadl}
 use Rattle.vmbus_main.specs.Opened.{CarriedOnOpened, in_relid_order, opened_from, opened_in, carried_on}
 
@@ -32,34 +33,34 @@ keep : (n : ℕ) (o : Opening) (c : ControlOpening) (b : Bool) (xs : List Openin
 keep n o c true xs ys same more = λ i. same i ∷ more i
 keep n o c false xs ys same more = more
 
-same_places : (p : ℕ → Bool) (n : ℕ) (sizes : ℕ → ℕ) (rescinded : ℕ → Bool) (gpadl page : ℕ) (os : List Opening)
-    → map on_phase (map (opening_at n) (filter (λ o. p o.sub) os)) ≡ map (control_at n) (filter (λ o. p o.sub) (openings_from sizes rescinded gpadl page os))
-same_places p n sizes rescinded gpadl page [] = refl
-same_places p n sizes rescinded gpadl page (o ∷ os) = keep n o _ (p o.sub) _ _ refl (same_places p n sizes rescinded (gpadl + 1) (page + list_pages (sizes o.device)) os)
+same_places : (p : ℕ → Bool) (n : ℕ) (sizes : ℕ → ℕ) (fates : ℕ → Fate) (gpadl page : ℕ) (os : List Opening)
+    → map on_phase (map (opening_at n) (filter (λ o. p o.sub) os)) ≡ map (control_at n) (filter (λ o. p o.sub) (openings_from sizes fates gpadl page os))
+same_places p n sizes fates gpadl page [] = refl
+same_places p n sizes fates gpadl page (o ∷ os) = keep n o _ (p o.sub) _ _ refl (same_places p n sizes fates (gpadl + 1) (page + list_pages (sizes o.device)) os)
 
 -- so they are in one order, by their relids
 
-in_one_order : (n : ℕ) (sizes : ℕ → ℕ) (rescinded : ℕ → Bool) (gpadl page : ℕ) (os : List Opening)
-    → map on_phase (map (opening_at n) (by_relid os)) ≡ map (control_at n) (in_relid_order (openings_from sizes rescinded gpadl page os))
-in_one_order n sizes rescinded gpadl page os =
+in_one_order : (n : ℕ) (sizes : ℕ → ℕ) (fates : ℕ → Fate) (gpadl page : ℕ) (os : List Opening)
+    → map on_phase (map (opening_at n) (by_relid os)) ≡ map (control_at n) (in_relid_order (openings_from sizes fates gpadl page os))
+in_one_order n sizes fates gpadl page os =
     let first : ℕ → Bool = λ sub. sub == 0 in
     let other : ℕ → Bool = λ sub. not (sub == 0) in
-    let cs = openings_from sizes rescinded gpadl page os in
+    let cs = openings_from sizes fates gpadl page os in
     ap (map on_phase) (map-append (opening_at n) (filter (λ o. first o.sub) os) (filter (λ o. other o.sub) os))
     ∙ (map-append on_phase (map (opening_at n) (filter (λ o. first o.sub) os)) (map (opening_at n) (filter (λ o. other o.sub) os))
-    ∙ ((λ i. same_places first n sizes rescinded gpadl page os i ++ same_places other n sizes rescinded gpadl page os i)
+    ∙ ((λ i. same_places first n sizes fates gpadl page os i ++ same_places other n sizes fates gpadl page os i)
     ∙ sym (map-append (control_at n) (filter (λ o. first o.sub) cs) (filter (λ o. other o.sub) cs))))
 
-phase_places : (kinds : List DeviceSpec) (number next : ℕ) (sizes : ℕ → ℕ) (gpadl page : ℕ) (earlier : List Line) (ps : List (List Line))
-    → map on_phase (flat_map opened_at (phases_from kinds number next earlier ps)) ≡ opened_from number (numbered sizes gpadl page (phases_from kinds number next earlier ps))
-phase_places kinds number next sizes gpadl page earlier [] = refl
-phase_places kinds number next sizes gpadl page earlier (part ∷ rest) =
+phase_places : (version : ℕ) (kinds : List DeviceSpec) (number next : ℕ) (sizes : ℕ → ℕ) (gpadl page : ℕ) (earlier : List Line) (ps : List (List Line))
+    → map on_phase (flat_map opened_at (phases_from version kinds number next earlier ps)) ≡ opened_from number (numbered sizes gpadl page (phases_from version kinds number next earlier ps))
+phase_places version kinds number next sizes gpadl page earlier [] = refl
+phase_places version kinds number next sizes gpadl page earlier (part ∷ rest) =
     let os = phase_opens (is_opened earlier part) 0 next kinds in
-    let rescinded : ℕ → Bool = λ device. is_rescinded device part in
-    let more = flat_map opened_at (phases_from kinds (number + 1) (next + length (others os)) (earlier ++ part) rest) in
+    let fates : ℕ → Fate = λ device. fate_of device part in
+    let more = flat_map opened_at (phases_from version kinds (number + 1) (next + length (others os)) (earlier ++ part) rest) in
     map-append on_phase (map (opening_at number) (by_relid os)) more
-    ∙ (ap (λ l. l ++ map on_phase more) (in_one_order number sizes rescinded gpadl page os)
-    ∙ ap (λ l. map (control_at number) (in_relid_order (openings_from sizes rescinded gpadl page os)) ++ l) (phase_places kinds (number + 1) (next + length (others os)) sizes (gpadl + length os) (page + pages_in sizes os) (earlier ++ part) rest))
+    ∙ (ap (λ l. l ++ map on_phase more) (in_one_order number sizes fates gpadl page os)
+    ∙ ap (λ l. map (control_at number) (in_relid_order (openings_from sizes fates gpadl page os)) ++ l) (phase_places version kinds (number + 1) (next + length (others os)) sizes (gpadl + length os) (page + pages_in sizes os) (earlier ++ part) rest))
 
 of_runs : (settled : List ChannelRun) → carried_on settled ≡ map on_phase (map carried_at settled)
 of_runs [] = refl
@@ -70,5 +71,5 @@ carried_on_opened_lem lines controls settled histories results are run =
     let is : carried_on settled ≡ opened_in (plan_of lines) =
     of_runs settled
     ∙ (ap (map on_phase) (carries_opened_lem lines settled histories results run)
-    ∙ phase_places (offered lines) 0 (length (offered lines) + 1) (λ d. ring_pages_of d lines) first_gpadl 0 [] (parts lines)) in
+    ∙ phase_places (agreed_in lines) (offered lines) 0 (length (offered lines) + 1) (λ d. ring_pages_of d lines) first_gpadl 0 [] (parts lines)) in
     (is ∙ ap opened_in (sym are.guest_plan), is ∙ ap opened_in (sym are.host_plan))

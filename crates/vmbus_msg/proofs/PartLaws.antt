@@ -4,7 +4,7 @@ use Rattle.std.proofs.Math.Nat.{ℕ_set}
 use Rattle.std.proofs.Math.Bridge.{le_prop}
 use Rattle.wire_table.specs.Rows.{Row, nth_number, nth_raw}
 use Rattle.vmbus_msg.specs.declared.msg.Msg.{Msg}
-use Rattle.vmbus_msg.specs.declared.msg.Msg.TheVariants.{OfferChannel, RescindChannelOffer, RequestOffers, AllOffersDelivered, OpenChannel, OpenChannelResult, CloseChannel, GpadlHeader, GpadlBody, GpadlCreated, GpadlTeardown, GpadlTorndown, RelidReleased, InitiateContact, VersionResponse, Unload, UnloadResponse}
+use Rattle.vmbus_msg.specs.declared.msg.Msg.TheVariants.{OfferChannel, RescindChannelOffer, RequestOffers, AllOffersDelivered, OpenChannel, OpenChannelResult, CloseChannel, GpadlHeader, GpadlBody, GpadlCreated, GpadlTeardown, GpadlTorndown, RelidReleased, InitiateContact, VersionResponse, Unload, UnloadResponse, TlConnectRequest, ModifyChannel, ModifyChannelResponse}
 use Rattle.vmbus_msg.specs.declared.gpadl_header.GpadlHeader.{GpadlHeader as Header}
 use Rattle.vmbus_msg.specs.declared.gpadl_body.GpadlBody.{GpadlBody as Body}
 use Rattle.vmbus_msg.specs.Grammar.{type_of, fields_of, frames_of}
@@ -28,6 +28,9 @@ made k rs =
     if k == 15 then VersionResponse (nth_number 0 rs) (nth_number 1 rs) (nth_number 2 rs) (nth_number 3 rs) (nth_number 4 rs) else
     if k == 16 then Unload (nth_number 0 rs) else
     if k == 17 then UnloadResponse (nth_number 0 rs) else
+    if k == 21 then TlConnectRequest (nth_number 0 rs) (nth_raw 1 rs) (nth_raw 2 rs) else
+    if k == 22 then ModifyChannel (nth_number 0 rs) (nth_number 1 rs) (nth_number 2 rs) else
+    if k == 24 then ModifyChannelResponse (nth_number 0 rs) (nth_number 1 rs) (nth_number 2 rs) else
     RequestOffers 0
 
 -- the parts of a header

@@ -4,7 +4,7 @@ use Rattle.std.specs.List.{flat_map, AllByRecursion}
 use Rattle.wire_table.specs.Little.{bytes_of}
 use Rattle.wire_table.specs.Rows.{Row, num, raw, Kind, nums, raws, spelled_after, total}
 use Rattle.vmbus_msg.specs.declared.msg.Msg.{Msg}
-use Rattle.vmbus_msg.specs.declared.msg.Msg.TheVariants.{OfferChannel, RescindChannelOffer, RequestOffers, AllOffersDelivered, OpenChannel, OpenChannelResult, CloseChannel, GpadlHeader, GpadlBody, GpadlCreated, GpadlTeardown, GpadlTorndown, RelidReleased, InitiateContact, VersionResponse, Unload, UnloadResponse}
+use Rattle.vmbus_msg.specs.declared.msg.Msg.TheVariants.{OfferChannel, RescindChannelOffer, RequestOffers, AllOffersDelivered, OpenChannel, OpenChannelResult, CloseChannel, GpadlHeader, GpadlBody, GpadlCreated, GpadlTeardown, GpadlTorndown, RelidReleased, InitiateContact, VersionResponse, Unload, UnloadResponse, TlConnectRequest, ModifyChannel, ModifyChannelResponse}
 
 -- the number that tells which message it is, its first field
 abbrev pub type_of : Msg → ℕ
@@ -25,6 +25,9 @@ type_of (InitiateContact padding version target_vcpu page monitor1 monitor2) = 1
 type_of (VersionResponse padding supported state padding2 conn) = 15
 type_of (Unload padding) = 16
 type_of (UnloadResponse padding) = 17
+type_of (TlConnectRequest padding guest_endpoint host_service) = 21
+type_of (ModifyChannel padding relid target_vp) = 22
+type_of (ModifyChannelResponse padding relid status) = 24
 
 -- the fields after the type, in the order of the wire
 abbrev pub fields_of : Msg → List Row
@@ -45,6 +48,9 @@ fields_of (InitiateContact padding version target_vcpu page monitor1 monitor2) =
 fields_of (VersionResponse padding supported state padding2 conn) = num 4 padding ∷ num 1 supported ∷ num 1 state ∷ num 2 padding2 ∷ num 4 conn ∷ []
 fields_of (Unload padding) = num 4 padding ∷ []
 fields_of (UnloadResponse padding) = num 4 padding ∷ []
+fields_of (TlConnectRequest padding guest_endpoint host_service) = num 4 padding ∷ raw guest_endpoint ∷ raw host_service ∷ []
+fields_of (ModifyChannel padding relid target_vp) = num 4 padding ∷ num 4 relid ∷ num 4 target_vp ∷ []
+fields_of (ModifyChannelResponse padding relid status) = num 4 padding ∷ num 4 relid ∷ num 4 status ∷ []
 
 -- what the fields after the type are, by the type: none where there is no such message
 abbrev pub kinds_of : ℕ → List Kind
@@ -66,6 +72,9 @@ kinds_of k =
     if k == 15 then nums 4 ∷ nums 1 ∷ nums 1 ∷ nums 2 ∷ nums 4 ∷ [] else
     if k == 16 then nums 4 ∷ [] else
     if k == 17 then nums 4 ∷ [] else
+    if k == 21 then nums 4 ∷ raws 16 ∷ raws 16 ∷ [] else
+    if k == 22 then nums 4 ∷ nums 4 ∷ nums 4 ∷ [] else
+    if k == 24 then nums 4 ∷ nums 4 ∷ nums 4 ∷ [] else
     []
 
 -- the page frame numbers after the fields, of 8 bytes each

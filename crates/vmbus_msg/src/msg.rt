@@ -114,4 +114,22 @@ pub enum Msg {
     UnloadResponse {
         padding: u32,
     },
+    /// TL_CONNECT_REQUEST, type 21. Guest to host: offer a channel of this service for a socket.
+    TlConnectRequest {
+        padding: u32,
+        guest_endpoint: [u8; 16],
+        host_service: [u8; 16],
+    },
+    /// MODIFYCHANNEL, type 22. Guest to host: interrupt this virtual processor for a channel.
+    ModifyChannel {
+        padding: u32,
+        relid: u32,
+        target_vp: u32,
+    },
+    /// MODIFYCHANNEL_RESPONSE, type 24. Host to guest: whether that was done; status 0 is good.
+    ModifyChannelResponse {
+        padding: u32,
+        relid: u32,
+        status: u32,
+    },
 }

@@ -339,6 +339,45 @@ fn read_unload_response(bytes: &[u8]) -> Result<Msg, MsgFault>
     })
 }
 
+// A TL_CONNECT_REQUEST has exactly 40 bytes.
+#[tactic(auto, unfolding(crate::specs::Reading::Reads))]
+fn read_tl_connect_request(bytes: &[u8]) -> Result<Msg, MsgFault>
+    ensures { Reads 21 bytes.now result }
+{
+    has_len(bytes, 40)?;
+    Ok(Msg::TlConnectRequest {
+        padding: u32_at(bytes, 4),
+        guest_endpoint: array_at(bytes, 8),
+        host_service: array_at(bytes, 24),
+    })
+}
+
+// A MODIFYCHANNEL has exactly 16 bytes.
+#[tactic(auto, unfolding(crate::specs::Reading::Reads))]
+fn read_modify_channel(bytes: &[u8]) -> Result<Msg, MsgFault>
+    ensures { Reads 22 bytes.now result }
+{
+    has_len(bytes, 16)?;
+    Ok(Msg::ModifyChannel {
+        padding: u32_at(bytes, 4),
+        relid: u32_at(bytes, 8),
+        target_vp: u32_at(bytes, 12),
+    })
+}
+
+// A MODIFYCHANNEL_RESPONSE has exactly 16 bytes.
+#[tactic(auto, unfolding(crate::specs::Reading::Reads))]
+fn read_modify_channel_response(bytes: &[u8]) -> Result<Msg, MsgFault>
+    ensures { Reads 24 bytes.now result }
+{
+    has_len(bytes, 16)?;
+    Ok(Msg::ModifyChannelResponse {
+        padding: u32_at(bytes, 4),
+        relid: u32_at(bytes, 8),
+        status: u32_at(bytes, 12),
+    })
+}
+
 // How many bytes the range of a page list's header says that it has.
 fn range_buflen(bytes: &[u8]) -> u16
     requires { 28 ≤ length bytes.now }
@@ -431,6 +470,9 @@ fn read(kind: u32, bytes: &[u8]) -> Result<Msg, MsgFault>
         15 => read_version_response(bytes),
         16 => read_unload(bytes),
         17 => read_unload_response(bytes),
+        21 => read_tl_connect_request(bytes),
+        22 => read_modify_channel(bytes),
+        24 => read_modify_channel_response(bytes),
         _ => Err(MsgFault::Unknown { kind }),
     }
 }

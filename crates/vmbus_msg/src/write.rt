@@ -88,9 +88,12 @@ fn length(m: &Msg) -> usize
         Msg::OpenChannel { .. } => 148,
         Msg::GpadlHeader(h) => 28 + 8 * h.frames.len(),
         Msg::GpadlBody(h) => 16 + 8 * h.frames.len(),
-        Msg::InitiateContact { .. } => 40,
+        Msg::InitiateContact { .. } | Msg::TlConnectRequest { .. } => 40,
         Msg::OpenChannelResult { .. } | Msg::GpadlCreated { .. } => 20,
-        Msg::GpadlTeardown { .. } | Msg::VersionResponse { .. } => 16,
+        Msg::GpadlTeardown { .. }
+        | Msg::VersionResponse { .. }
+        | Msg::ModifyChannel { .. }
+        | Msg::ModifyChannelResponse { .. } => 16,
         Msg::RescindChannelOffer { .. }
         | Msg::CloseChannel { .. }
         | Msg::GpadlTorndown { .. }
@@ -305,6 +308,35 @@ fn write(m: &Msg, out: &mut [u8])
         }
         Msg::UnloadResponse { padding } => {
             put_words(out, &[17, *padding]);
+        }
+        Msg::TlConnectRequest {
+            padding,
+            guest_endpoint,
+            host_service,
+        } => {
+            put_pieces(
+                out,
+                &[
+                    Piece::U32(21),
+                    Piece::U32(*padding),
+                    Piece::Raw(guest_endpoint),
+                    Piece::Raw(host_service),
+                ],
+            );
+        }
+        Msg::ModifyChannel {
+            padding,
+            relid,
+            target_vp,
+        } => {
+            put_words(out, &[22, *padding, *relid, *target_vp]);
+        }
+        Msg::ModifyChannelResponse {
+            padding,
+            relid,
+            status,
+        } => {
+            put_words(out, &[24, *padding, *relid, *status]);
         }
     }
 }

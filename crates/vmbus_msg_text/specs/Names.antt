@@ -28,6 +28,9 @@ name_of k =
     if k == 15 then codes "VERSION_RESPONSE" else
     if k == 16 then codes "UNLOAD" else
     if k == 17 then codes "UNLOAD_RESPONSE" else
+    if k == 21 then codes "TL_CONNECT_REQUEST" else
+    if k == 22 then codes "MODIFYCHANNEL" else
+    if k == 24 then codes "MODIFYCHANNEL_RESPONSE" else
     []
 
 -- the fields behind the type, in the order of the wire; padding and reserved fields aren't printed
@@ -50,4 +53,7 @@ shows_of k =
     if k == 15 then hidden ∷ number (codes "supported") ∷ number (codes "state") ∷ hidden ∷ number (codes "conn") ∷ [] else
     if k == 16 then hidden ∷ [] else
     if k == 17 then hidden ∷ [] else
+    if k == 21 then hidden ∷ digits (codes "guest_endpoint") ∷ digits (codes "host_service") ∷ [] else
+    if k == 22 then hidden ∷ number (codes "relid") ∷ number (codes "target_vp") ∷ [] else
+    if k == 24 then hidden ∷ number (codes "relid") ∷ number (codes "status") ∷ [] else
     []

@@ -205,6 +205,38 @@ fn push_msg(text: &mut Vec<u8>, message: &Msg) -> Result<(), AllocError>
         ),
         Msg::Unload { .. } => push_fields(text, "UNLOAD", &[]),
         Msg::UnloadResponse { .. } => push_fields(text, "UNLOAD_RESPONSE", &[]),
+        Msg::TlConnectRequest {
+            guest_endpoint,
+            host_service,
+            ..
+        } => push_fields(
+            text,
+            "TL_CONNECT_REQUEST",
+            &[
+                Shown::Digits("guest_endpoint", guest_endpoint),
+                Shown::Digits("host_service", host_service),
+            ],
+        ),
+        Msg::ModifyChannel {
+            relid,
+            target_vp,
+            ..
+        } => push_fields(
+            text,
+            "MODIFYCHANNEL",
+            &[
+                Shown::Number("relid", *relid as u64),
+                Shown::Number("target_vp", *target_vp as u64),
+            ],
+        ),
+        Msg::ModifyChannelResponse { relid, status, .. } => push_fields(
+            text,
+            "MODIFYCHANNEL_RESPONSE",
+            &[
+                Shown::Number("relid", *relid as u64),
+                Shown::Number("status", *status as u64),
+            ],
+        ),
     }
 }
 

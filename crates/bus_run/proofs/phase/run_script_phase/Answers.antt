@@ -14,7 +14,7 @@ run_channels-requires-clause-can g c κs asked =
     let this = c.requires.this.1 in
     let slots = c.args.slots.now.items in
     let ordered = (c.in_ok-plan.ensures.plan (specs_of slots) p (known_subs (4096 * c.args.phase) slots c.requires.ready ∙ sym (c.deref-2.ensures.value ∙ (c.in_ok-subs.ensures ∙ ap (map subs_beside) c.deref.ensures.value))) this.of) in
-    (p, can_run c.args.phase c.args.part.now c.args.ended.now c.args.relid.now c.in_ok-plan.plan.items slots p this ordered c.requires.ready c.requires.right c.requires.go c.requires.asks c.requires.subs c.requires.channels)
+    (p, can_run c.args.version.0 c.args.phase c.args.part.now c.args.ended.now c.args.relid.now c.in_ok-plan.plan.items slots p this ordered c.requires.ready c.requires.right c.requires.go c.requires.asks c.requires.subs c.requires.channels)
 
 pub line_results-requires-clause-below : goal.line_results-requires-clause-below
 line_results-requires-clause-below g c =
@@ -29,7 +29,7 @@ line_results-requires-clause-devices g c =
     let p = c.requires.this.0 in
     let slots = c.args.slots.now.items in
     let ordered = (c.in_ok-plan.ensures.plan (specs_of slots) p (known_subs (4096 * c.args.phase) slots c.requires.ready ∙ sym (c.deref-2.ensures.value ∙ (c.in_ok-subs.ensures ∙ ap (map subs_beside) c.deref.ensures.value))) c.requires.this.1.of) in
-    let can = can_run c.args.phase c.args.part.now c.args.ended.now c.args.relid.now c.in_ok-plan.plan.items slots p c.requires.this.1 ordered c.requires.ready c.requires.right c.requires.go c.requires.asks c.requires.subs c.requires.channels in
+    let can = can_run c.args.version.0 c.args.phase c.args.part.now c.args.ended.now c.args.relid.now c.in_ok-plan.plan.items slots p c.requires.this.1 ordered c.requires.ready c.requires.right c.requires.go c.requires.asks c.requires.subs c.requires.channels in
     (c.in_ok-outcomes.ensures.ran p can).long ∙ sym c.requires.ended
 
 pub line_results-requires-clause-has : goal.line_results-requires-clause-has
@@ -37,17 +37,17 @@ line_results-requires-clause-has g c =
     let p = c.requires.this.0 in
     let slots = c.args.slots.now.items in
     let ordered = (c.in_ok-plan.ensures.plan (specs_of slots) p (known_subs (4096 * c.args.phase) slots c.requires.ready ∙ sym (c.deref-2.ensures.value ∙ (c.in_ok-subs.ensures ∙ ap (map subs_beside) c.deref.ensures.value))) c.requires.this.1.of) in
-    let can = can_run c.args.phase c.args.part.now c.args.ended.now c.args.relid.now c.in_ok-plan.plan.items slots p c.requires.this.1 ordered c.requires.ready c.requires.right c.requires.go c.requires.asks c.requires.subs c.requires.channels in
-    have_outcomes c.args.phase c.args.part.now c.args.ended.now c.args.relid.now slots c.run_channels.new.slots.items c.args.settled.now.items c.run_channels.new.settled.items c.in_ok-outcomes.outcomes p c.requires.this.1 (c.in_ok-outcomes.ensures.ran p can)
+    let can = can_run c.args.version.0 c.args.phase c.args.part.now c.args.ended.now c.args.relid.now c.in_ok-plan.plan.items slots p c.requires.this.1 ordered c.requires.ready c.requires.right c.requires.go c.requires.asks c.requires.subs c.requires.channels in
+    have_outcomes c.args.version.0 c.args.phase c.args.part.now c.args.ended.now c.args.relid.now slots c.run_channels.new.slots.items c.args.settled.now.items c.run_channels.new.settled.items c.in_ok-outcomes.outcomes p c.requires.this.1 (c.in_ok-outcomes.ensures.ran p can)
 
 pub returns-clause-ran : goal.returns-clause-ran
 returns-clause-ran g c p this =
     let slots = c.args.slots.now.items in
     let ordered = (c.in_ok-plan.ensures.plan (specs_of slots) p (known_subs (4096 * c.args.phase) slots c.requires.ready ∙ sym (c.deref-2.ensures.value ∙ (c.in_ok-subs.ensures ∙ ap (map subs_beside) c.deref.ensures.value))) this.of) in
-    let can = can_run c.args.phase c.args.part.now c.args.ended.now c.args.relid.now c.in_ok-plan.plan.items slots p this ordered c.requires.ready c.requires.right c.requires.go c.requires.asks c.requires.subs c.requires.channels in
+    let can = can_run c.args.version.0 c.args.phase c.args.part.now c.args.ended.now c.args.relid.now c.in_ok-plan.plan.items slots p this ordered c.requires.ready c.requires.right c.requires.go c.requires.asks c.requires.subs c.requires.channels in
     let ran = c.in_ok-outcomes.ensures.ran p can in
     let told = subst (λ n. AreTold p ran.channels n c.in_ok-outcomes.outcomes) (sym c.requires.ended) ran.told in
-    phase_ran p slots c.run_channels.new.slots.items c.args.settled.now.items c.run_channels.new.settled.items c.in_ok-outcomes.outcomes c.args.results.now.items c.line_results.new.results.items ran (c.in_ok-line_results.ensures p ran.channels this.of.part_is this.of.ended_are told)
+    phase_ran p slots c.run_channels.new.slots.items c.args.settled.now.items c.run_channels.new.settled.items c.in_ok-outcomes.outcomes c.args.results.now.items c.line_results.new.results.items ran (c.in_ok-line_results.ensures p ran.channels this.version this.of.part_is this.of.ended_are told)
 
 pub plan_part-requires-clause-devices : goal.plan_part-requires-clause-devices
 plan_part-requires-clause-devices g c =
@@ -67,5 +67,5 @@ pub returns-clause-worked : goal.returns-clause-worked
 returns-clause-worked g c p this =
     let slots = c.args.slots.now.items in
     let ordered = (c.in_ok-plan.ensures.plan (specs_of slots) p (known_subs (4096 * c.args.phase) slots c.requires.ready ∙ sym (c.deref-2.ensures.value ∙ (c.in_ok-subs.ensures ∙ ap (map subs_beside) c.deref.ensures.value))) this.of) in
-    let can = can_run c.args.phase c.args.part.now c.args.ended.now c.args.relid.now c.in_ok-plan.plan.items slots p this ordered c.requires.ready c.requires.right c.requires.go c.requires.asks c.requires.subs c.requires.channels in
+    let can = can_run c.args.version.0 c.args.phase c.args.part.now c.args.ended.now c.args.relid.now c.in_ok-plan.plan.items slots p this ordered c.requires.ready c.requires.right c.requires.go c.requires.asks c.requires.subs c.requires.channels in
     c.in_ok-outcomes.ensures.worked p can

@@ -42,3 +42,12 @@ returns-clause-host_takes_subs c = refl
 
 pub returns-clause-sub_states : goal.returns-clause-sub_states
 returns-clause-sub_states c = (refl, refl)
+
+pub returns-clause-guest_moves : goal.returns-clause-guest_moves
+returns-clause-guest_moves c = (refl, refl, refl)
+
+pub returns-clause-host_answers : goal.returns-clause-host_answers
+returns-clause-host_answers c = (refl, refl)
+
+pub returns-clause-vps : goal.returns-clause-vps
+returns-clause-vps c = (refl, refl)

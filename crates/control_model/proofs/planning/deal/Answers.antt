@@ -11,7 +11,7 @@ loop-i-init c =
     let page : c.open.new.next.page ≡ c.args.next.now.page + list_pages c.args.ring_pages = ap (λ (n : Next). n.page) first.next in
     let relid : c.open.new.next.relid ≡ c.args.next.now.relid = ap (λ (n : Next). n.relid) first.next in
     record {
-      dealt = dealt_first c.args.number c.args.ring_pages c.args.next.now.relid c.args.spec c.args.rescinded c.args.openings.now.items c.open.new.openings.items c.args.next.now c.open.new.next (first.opened, first.next);
+      dealt = dealt_first c.args.number c.args.ring_pages c.args.next.now.relid c.args.spec c.args.fate c.args.openings.now.items c.open.new.openings.items c.args.next.now c.open.new.next (first.opened, first.next);
       gpadl = omega arith;
       page = omega arith;
       relid = omega arith;
@@ -24,7 +24,7 @@ loop-i-preserved c =
     let page : c.open-in-loop-i.new.next.page ≡ c.loop-i.next.page + list_pages c.args.ring_pages = ap (λ (n : Next). n.page) more.next in
     let relid : c.open-in-loop-i.new.next.relid ≡ c.loop-i.next.relid + 1 = ap (λ (n : Next). n.relid) more.next in
     record {
-      dealt = dealt_on c.args.number c.args.ring_pages c.args.next.now.relid c.loop-i.i c.args.spec c.args.rescinded c.args.openings.now.items c.loop-i.openings.items c.open-in-loop-i.new.openings.items c.args.next.now c.loop-i.next c.open-in-loop-i.new.next refl c.loop-i.invariant.dealt (more.opened, more.next);
+      dealt = dealt_on c.args.number c.args.ring_pages c.args.next.now.relid c.loop-i.i c.args.spec c.args.fate c.args.openings.now.items c.loop-i.openings.items c.open-in-loop-i.new.openings.items c.args.next.now c.loop-i.next c.open-in-loop-i.new.next refl c.loop-i.invariant.dealt (more.opened, more.next);
       gpadl = omega arith;
       page = omega arith;
       relid = omega arith;

@@ -3,7 +3,7 @@ use Rattle.std.proofs.lemmas.List.{get_or_default, take_more, length-take}
 use Rattle.script_lines.specs.declared.line.DeviceSpec.{DeviceSpec}
 use Rattle.script_lines.specs.declared.line.DeviceSpec.TheVariants.{Beat}
 use Rattle.control_model.specs.declared.planning.Served.{Served}
-use Rattle.control_model.specs.Dealing.{opens, opens_one, rescinded_in, size_in, no_device}
+use Rattle.control_model.specs.Dealing.{opens, opens_one, fate_in, size_in, no_device}
 use Rattle.control_model.proofs.DealingLaws.{Deals, deals_on}
 use Rattle.control_model.proofs.planning.openings.Goals as goal
 
@@ -26,10 +26,10 @@ loop-i-preserved c =
     let count : n ≡ length (take n specs) = let l = length-take n specs in omega (arith, l, c.loop-i-test.true, c.requires.all) in
     let more : take (n + 1) specs ≡ take n specs ++ spec ∷ [] = take_more specs n Beat (omega (arith, c.loop-i-test.true, c.requires.all)) in
     let dealt = c.in_ok-deal.ensures in
-    let all = deals_on (size_in devices) (rescinded_in c.args.part.now) (opens devices c.args.part.now c.args.start) c.args.next.now (take n specs) spec n (get_or devices n zero).ring_pages c.opens-opened.result c.is_rescinded-rescinded.result c.loop-i.openings.items c.deal.new.openings.items c.loop-i.next c.deal.new.next count
-    (sym (ap (λ (d : Served). opens_one c.args.part.now c.args.start d n) item ∙ sym c.opens-opened.ensures)) (sym (ap (λ (d : Served). d.ring_pages) item)) c.is_rescinded-rescinded.ensures c.loop-i.invariant.deals dealt.dealt in
+    let all = deals_on (size_in devices) (fate_in c.args.part.now) (opens devices c.args.part.now c.args.start) c.args.next.now (take n specs) spec n (get_or devices n zero).ring_pages c.opens-opened.result c.fate_in-fate.result c.loop-i.openings.items c.deal.new.openings.items c.loop-i.next c.deal.new.next count
+    (sym (ap (λ (d : Served). opens_one c.args.part.now c.args.start d n) item ∙ sym c.opens-opened.ensures)) (sym (ap (λ (d : Served). d.ring_pages) item)) c.fate_in-fate.ensures c.loop-i.invariant.deals dealt.dealt in
     record {
-      deals = subst (λ (ss : List DeviceSpec). Deals (size_in devices) (rescinded_in c.args.part.now) (opens devices c.args.part.now c.args.start) c.args.next.now ss c.deal.new.openings.items c.deal.new.next) (sym more) all;
+      deals = subst (λ (ss : List DeviceSpec). Deals (size_in devices) (fate_in c.args.part.now) (opens devices c.args.part.now c.args.start) c.args.next.now ss c.deal.new.openings.items c.deal.new.next) (sym more) all;
       gpadl = omega (arith, dealt.few.0, c.loop-i.invariant.gpadl);
       page = omega (arith, dealt.few.1, c.loop-i.invariant.page);
       relid = omega (arith, dealt.few.2, c.loop-i.invariant.relid);

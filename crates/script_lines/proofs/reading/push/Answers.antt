@@ -1,7 +1,7 @@
 use Rattle.std.proofs.Common.{◌≡◌, None, subst}
 use Rattle.script_lines.specs.Faults.{device_said, row_fault}
 use Rattle.script_lines.specs.WellFormed.{InRange}
-use Rattle.script_lines.proofs.Fitting.{fits_offer, fits_bad, fits_ring, fits_window, fits_request, fits_rescind, fits_close, fits_phase}
+use Rattle.script_lines.proofs.Fitting.{fits_offer, fits_bad, fits_ring, fits_window, fits_request, fits_rescind, fits_close, fits_modify, fits_phase}
 use Rattle.script_lines.proofs.reading.push.Goals as goal
 
 pub push_ring-requires : goal.push_ring-requires
@@ -28,6 +28,11 @@ pub push_shut-requires : goal.push_shut-requires
 push_shut-requires c =
     rw (c.unwrap_or-device.ensures) (fits_close c.args.number c.args.draft.now c.requires.behind c.in-Close.field-0 c.args.device
     (subst (λ s. row_fault c.args.number c.args.draft.now c.args.device s ≡ None) c.in-Close.is c.requires.right) c.requires.within)
+
+pub push_modify-requires : goal.push_modify-requires
+push_modify-requires c =
+    rw (c.unwrap_or-device.ensures, c.unwrap_or-in-Modify.ensures) (fits_modify c.args.number c.args.draft.now c.requires.behind c.in-Modify.field-0 c.in-Modify.vp c.args.device
+    (subst (λ s. row_fault c.args.number c.args.draft.now c.args.device s ≡ None) c.in-Modify.is c.requires.right) (subst InRange c.in-Modify.is c.requires.range) c.requires.within)
 
 pub push_phase-requires : goal.push_phase-requires
 push_phase-requires c = fits_phase c.args.number c.args.draft.now c.requires.behind c.args.device

@@ -155,3 +155,26 @@ returns-in-UnloadResponse-clause-fields c = fit_as _ _ c.in-UnloadResponse.is c.
 
 pub returns-in-UnloadResponse-clause-frames : goal.returns-in-UnloadResponse-clause-frames
 returns-in-UnloadResponse-clause-frames c = frames_as _ _ c.in-UnloadResponse.is tt
+
+pub returns-in-TlConnectRequest-clause-frames : goal.returns-in-TlConnectRequest-clause-frames
+returns-in-TlConnectRequest-clause-frames c = frames_as _ _ c.in-TlConnectRequest.is tt
+
+pub returns-in-ModifyChannel-clause-bytes : goal.returns-in-ModifyChannel-clause-bytes
+unfolding bytes_of_message
+returns-in-ModifyChannel-clause-bytes c = front_as _ _ _ c.in-ModifyChannel.is c.put_words-in-ModifyChannel.ensures.front
+
+pub returns-in-ModifyChannel-clause-fields : goal.returns-in-ModifyChannel-clause-fields
+returns-in-ModifyChannel-clause-fields c = fit_as _ _ c.in-ModifyChannel.is c.put_words-in-ModifyChannel.ensures.fit.1
+
+pub returns-in-ModifyChannel-clause-frames : goal.returns-in-ModifyChannel-clause-frames
+returns-in-ModifyChannel-clause-frames c = frames_as _ _ c.in-ModifyChannel.is tt
+
+pub returns-in-ModifyChannelResponse-clause-bytes : goal.returns-in-ModifyChannelResponse-clause-bytes
+unfolding bytes_of_message
+returns-in-ModifyChannelResponse-clause-bytes c = front_as _ _ _ c.in-ModifyChannelResponse.is c.put_words-in-ModifyChannelResponse.ensures.front
+
+pub returns-in-ModifyChannelResponse-clause-fields : goal.returns-in-ModifyChannelResponse-clause-fields
+returns-in-ModifyChannelResponse-clause-fields c = fit_as _ _ c.in-ModifyChannelResponse.is c.put_words-in-ModifyChannelResponse.ensures.fit.1
+
+pub returns-in-ModifyChannelResponse-clause-frames : goal.returns-in-ModifyChannelResponse-clause-frames
+returns-in-ModifyChannelResponse-clause-frames c = frames_as _ _ c.in-ModifyChannelResponse.is tt

@@ -45,3 +45,12 @@ returns-in-Unload-clause-text c = told_as _ _ c.args.text.now.items _ _ c.in-Unl
 
 pub returns-in-UnloadResponse-clause-text : goal.returns-in-UnloadResponse-clause-text
 returns-in-UnloadResponse-clause-text c = told_as _ _ c.args.text.now.items _ _ c.in-UnloadResponse.is c.push_fields-in-UnloadResponse.ensures.text
+
+pub returns-in-TlConnectRequest-clause-text : goal.returns-in-TlConnectRequest-clause-text
+returns-in-TlConnectRequest-clause-text c = told_as _ _ c.args.text.now.items _ _ c.in-TlConnectRequest.is c.push_fields-in-TlConnectRequest.ensures.text
+
+pub returns-in-ModifyChannel-clause-text : goal.returns-in-ModifyChannel-clause-text
+returns-in-ModifyChannel-clause-text c = told_as _ _ c.args.text.now.items _ _ c.in-ModifyChannel.is c.push_fields-in-ModifyChannel.ensures.text
+
+pub returns-in-ModifyChannelResponse-clause-text : goal.returns-in-ModifyChannelResponse-clause-text
+returns-in-ModifyChannelResponse-clause-text c = told_as _ _ c.args.text.now.items _ _ c.in-ModifyChannelResponse.is c.push_fields-in-ModifyChannelResponse.ensures.text

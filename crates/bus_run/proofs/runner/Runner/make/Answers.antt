@@ -1,6 +1,7 @@
 use Rattle.std.proofs.Common.{◌≡◌, ◌+◌, ap, sym, subst, ◌∙◌, refl, length, arith, replicate, None}
 use Rattle.std.proofs.lemmas.List.{length-map}
 use Rattle.script_lines.specs.Parts.{offered}
+use Rattle.script_phases.specs.Agreed.{agreed_in}
 use Rattle.bus_run.specs.DeviceSlot.{spec_of}
 use Rattle.bus_run.specs.Whole.{AreFresh}
 use Rattle.bus_run.specs.Settings.{SettingsOf}
@@ -25,4 +26,5 @@ returns-clause-so_far c =
     let settings = subst (λ n. SettingsOf lines n c.in_ok-settings.settings.items) long (subst (λ l. SettingsOf l c.len.result c.in_ok-settings.settings.items) c.lines-lines.ensures.lines c.in_ok-settings.ensures) in
     let none = c.in_ok-ended.ensures ∙ ap (λ n. replicate n None) long_2 in
     let relid : c.first_relid-relid.result ≡ length slots.items + 1 = omega (arith, c.first_relid-relid.ensures, c.len-3.ensures, slots.ok.0) in
-    start lines _ fresh settings none relid c.lines-lines.ensures.script.few refl refl c.new.ensures.items c.in_ok-results.ensures.none c.new-2.ensures.items
+    let agreed = subst (λ l. c.agreed.result.0 ≡ agreed_in l) c.lines-lines.ensures.lines c.agreed.ensures in
+    start lines _ agreed fresh settings none relid c.lines-lines.ensures.script.few refl refl c.new.ensures.items c.in_ok-results.ensures.none c.new-2.ensures.items

@@ -55,7 +55,7 @@ run_script_phase-requires-clause-this g c κs asked =
     let cut = part_next lines part at next (subst (λ l. MatchOption next (parts l ≡ part ∷ []) (λ n. parts l ≡ part ∷ parts (drop n l))) rest c.first_part-next.ensures.parts) in
     let left = sym cut ∙ (ap (parts_left lines) (sym c.in-Some.is) ∙ c.requires.so_far.left) in
     let p = the_phase lines old.phase in
-    (p, subst (λ e. IsThis old.phase part e (specs_of old.slots.items) old.relid p) (sym c.deref_mut.ensures.value) (next_phase lines old part (parts_left lines (behind at next)) c.requires.so_far c.lines.ensures.script left))
+    (p, subst (λ e. IsThis old.version.0 old.phase part e (specs_of old.slots.items) old.relid p) (sym c.deref_mut.ensures.value) (next_phase lines old part (parts_left lines (behind at next)) c.requires.so_far c.lines.ensures.script left))
 
 pub run_script_phase-requires-clause-limits : goal.run_script_phase-requires-clause-limits
 run_script_phase-requires-clause-limits g c κs asked =
@@ -94,8 +94,8 @@ returns-clause-so_far g c =
     let whole = with_items_is old.ended c.run_script_phase.new.ended (search (rules, places)) in
     let ran = c.in_ok-run_script_phase.ensures in
     go_on lines part old _ at next c.requires.so_far c.lines.ensures.script c.in-Some.is split within
-    (λ p this. ran.ran p (subst (λ e. IsThis old.phase part e (specs_of old.slots.items) old.relid p) (sym before) this))
-    (λ p this. ran.relid p (subst (λ e. IsThis old.phase part e (specs_of old.slots.items) old.relid p) (sym before) this)) ran.few
+    (λ p this. ran.ran p (subst (λ e. IsThis old.version.0 old.phase part e (specs_of old.slots.items) old.relid p) (sym before) this))
+    (λ p this. ran.relid p (subst (λ e. IsThis old.version.0 old.phase part e (specs_of old.slots.items) old.relid p) (sym before) this)) ran.few
     (λ earlier marked. subst (AreEnded (earlier ++ part)) (sym whole) (ran.ended earlier (subst (AreEnded earlier) (sym before) marked)))
-    (ap length whole ∙ ran.count ∙ ap length before) ran.ready refl c.behind-self.ensures refl
-    (λ p this. subst (λ s. HaveWorked s p old.settled.items c.run_script_phase.new.settled.items old.work.items c.run_script_phase.new.work.items) c.deref.ensures.value (ran.worked p (subst (λ e. IsThis old.phase part e (specs_of old.slots.items) old.relid p) (sym before) this)))
+    (ap length whole ∙ ran.count ∙ ap length before) ran.ready refl c.behind-self.ensures refl refl
+    (λ p this. subst (λ s. HaveWorked s p old.settled.items c.run_script_phase.new.settled.items old.work.items c.run_script_phase.new.work.items) c.deref.ensures.value (ran.worked p (subst (λ e. IsThis old.version.0 old.phase part e (specs_of old.slots.items) old.relid p) (sym before) this)))

@@ -1,0 +1,72 @@
+//! The packets of the channels of a run.
+ghost use Rattle.std.specs.Prelude.{◌≡◌, ◌++◌, OnOk};
+ghost use Rattle.packet_text.specs.Lines.{channel_text, line_of, lines_of, packets_text};
+
+use crate::Form;
+use crate::packet::{Origin, push_dump, push_in_words};
+use bus_model::ChannelRun;
+use io_edge::Side;
+use ring_core::Packets;
+use std::alloc::AllocError;
+
+fn push_packet(
+    text: &mut Vec<u8>,
+    form: Form,
+    from: Origin,
+    packet: &[u64],
+) -> Result<(), AllocError>
+    ensures { OnOk result (text.new.items ≡ text.old.items ++ line_of form from packet.now) }
+{
+    match form {
+        Form::Words => push_in_words(text, from, packet),
+        Form::Dump => push_dump(text, packet),
+    }
+}
+
+fn push_list(
+    text: &mut Vec<u8>,
+    form: Form,
+    from: Origin,
+    packets: &Packets,
+) -> Result<(), AllocError>
+    ensures { OnOk result (text.new.items ≡ text.old.items ++ lines_of form from packets.now.list) }
+{
+    for i in 0..packets.len() {
+        let Some(packet) = packets.get(i) else {
+            unreachable!()
+        };
+        push_packet(text, form, from, packet)?;
+    }
+    Ok(())
+}
+
+fn push_channel(text: &mut Vec<u8>, form: Form, channel: &ChannelRun) -> Result<(), AllocError>
+    ensures { OnOk result (text.new.items ≡ text.old.items ++ channel_text form channel.now) }
+{
+    let guest = Origin {
+        phase: channel.phase,
+        relid: channel.relid,
+        side: Side::Guest,
+    };
+    let host = Origin {
+        side: Side::Host,
+        ..guest
+    };
+    push_list(text, form, guest, channel.settled.guest_sent())?;
+    push_list(text, form, host, channel.settled.host_sent())?;
+    Ok(())
+}
+
+/// Writes the packets of channels behind a text: channel by channel, those that the guest sent and then those that the host sent, each in order, a line for each. The refusal is want of memory.
+pub fn write_packets(
+    text: &mut Vec<u8>,
+    form: Form,
+    channels: &[ChannelRun],
+) -> Result<(), AllocError>
+    ensures { OnOk result (text.new.items ≡ text.old.items ++ packets_text form channels.now) }
+{
+    for channel in channels {
+        push_channel(text, form, channel)?;
+    }
+    Ok(())
+}

@@ -1,0 +1,9 @@
+//! The packets of a run, as text: a line each, in words, or for text2pcap.
+#![tactic(auto)]
+
+mod channel;
+mod form;
+mod packet;
+
+pub use channel::write_packets;
+pub use form::Form;

@@ -1,0 +1,89 @@
+//! What the words of a row may be.
+use script_text::{
+    are_bytes, count_bytes, is_address, is_byte, is_decimal, is_name, is_oid, is_version,
+    number_of, version_of,
+};
+
+/// What stands at a place of a row.
+#[derive(Clone, Copy, Debug, PartialEq, Eq)]
+pub(crate) enum Form {
+    /// Nothing more.
+    End,
+    /// A device's name.
+    Name,
+    /// A kind of device.
+    Kind,
+    /// A number, from the one to the other.
+    Number { low: u64, high: u64 },
+    /// A version.
+    Version,
+    /// One byte.
+    Byte,
+    /// So many bytes.
+    Bytes { least: usize, most: usize },
+    /// The number of an object.
+    Oid,
+    /// An address of a network.
+    Address,
+    /// The word `after`.
+    After,
+    /// The word `held`, or nothing.
+    Held,
+}
+
+impl Form {
+    /// Whether a word has the form.
+    pub(crate) fn takes(self, word: &[u8]) -> bool {
+        match self {
+            Form::End => false,
+            Form::Name => is_name(word),
+            Form::Kind => {
+                word == b"hb".as_slice()
+                    || word == b"shutdown".as_slice()
+                    || word == b"disk".as_slice()
+                    || word == b"net".as_slice()
+            }
+            Form::Number { .. } => is_decimal(word),
+            Form::Version => is_version(word),
+            Form::Byte => is_byte(word),
+            Form::Bytes { .. } => are_bytes(word),
+            Form::Oid => is_oid(word),
+            Form::Address => is_address(word),
+            Form::After => word == b"after".as_slice(),
+            Form::Held => word == b"held".as_slice(),
+        }
+    }
+
+    /// Whether nothing may stand there.
+    pub(crate) fn may_lack(self) -> bool {
+        matches!(self, Form::End | Form::Held)
+    }
+
+    /// Whether a word of the form is in its range.
+    pub(crate) fn admits(self, word: &[u8]) -> bool {
+        match self {
+            Form::Number { low, high } => admits_number(word, low, high),
+            Form::Version => is_version(word) && version_of(word).is_some(),
+            Form::Bytes { least, most } => admits_bytes(word, least, most),
+            _ => true,
+        }
+    }
+}
+
+fn admits_number(word: &[u8], low: u64, high: u64) -> bool {
+    if !is_decimal(word) {
+        return false;
+    }
+    match number_of(word) {
+        Some(n) => low <= n && n <= high,
+        None => false,
+    }
+}
+
+fn admits_bytes(word: &[u8], least: usize, most: usize) -> bool {
+    if !are_bytes(word) {
+        return false;
+    }
+    let count = count_bytes(word);
+    least <= count && count <= most
+}

@@ -1,0 +1,12 @@
+use Rattle.std.proofs.Common.{◌<◌, length, sym, ap, ◌∙◌, subst}
+use Rattle.script_lines.specs.Parts.{offered, has_ring}
+use Rattle.script_lines.proofs.Drafts.{seen_at}
+use Rattle.script_lines.proofs.draft.Draft.has_ring.Goals as goal
+
+pub returns : goal.returns
+returns c =
+    let s = c.self.inside in
+    let d = c.args.device in
+    let less = subst (λ ls. d < length (offered ls)) (sym c.self.view_is) c.requires in
+    let seen = seen_at s.lines.items s.names.keys s.seen.items s.channels s.asks s.phase s.settings s.bad.keys c.self.invariant d c.index.result.now less c.index.ensures in
+    seen.ring ∙ ap (has_ring d) c.self.view_is
