@@ -2,18 +2,18 @@
 ghost use Rattle.std.specs.Prelude.{◌≡◌};
 ghost use Rattle.channel_model.specs.Roles.{side_that_asks};
 
-use contact::Kind;
+use contact::DeviceKind;
 use io_edge::Side;
 
 /// The side whose end asks. The host asks the services of a guest (heartbeat and shutdown), and the guest asks the devices of a host (disk and
 /// network). Source: Linux `drivers/hv/hv_util.c`, `drivers/scsi/storvsc_drv.c` and `drivers/net/hyperv/netvsc.c`.
-pub fn side_that_asks(kind: Kind) -> Side
+pub fn side_that_asks(kind: DeviceKind) -> Side
     ensures { result ≡ side_that_asks kind }
 {
     match kind {
-        Kind::Beat => Side::Host,
-        Kind::Down => Side::Host,
-        Kind::Disk => Side::Guest,
-        Kind::Net => Side::Guest,
+        DeviceKind::Beat => Side::Host,
+        DeviceKind::Down => Side::Host,
+        DeviceKind::Disk => Side::Guest,
+        DeviceKind::Net => Side::Guest,
     }
 }

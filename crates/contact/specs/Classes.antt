@@ -1,10 +1,13 @@
--- The class ids of devices, and offers.
+-- The class ids of channels, and offers.
 use Rattle.std.specs.Prelude.{◌≡◌, ◌≢◌, ℕ, ◌+◌, List, [], ◌∷◌, ◌++◌, replicate}
 use Rattle.std.specs.Int.{to_le_bytes, w32}
 use Rattle.vmbus_msg.specs.declared.msg.Msg.{Msg}
 use Rattle.vmbus_msg.specs.declared.msg.Msg.TheVariants.{OfferChannel}
 use Rattle.contact.specs.declared.kind.Kind.{Kind}
-use Rattle.contact.specs.declared.kind.Kind.TheVariants.{Beat, Down, Disk, Net}
+use Rattle.contact.specs.declared.kind.Kind.TheVariants.{Beat, Down, Disk, Net, Sock}
+use Rattle.contact.specs.declared.kind.DeviceKind.{DeviceKind}
+use Rattle.contact.specs.declared.kind.DeviceKind.TheVariants.{Beat as BeatDevice, Down as DownDevice, Disk as DiskDevice, Net as NetDevice}
+use Rattle.contact.specs.Services.{service_id}
 use Rattle.contact.specs.declared.channel_offer.Offered.{Offered}
 use Rattle.contact.specs.declared.channel_offer.OfferFault.{OfferFault}
 use Rattle.contact.specs.declared.channel_offer.OfferFault.TheVariants.{Class}
@@ -15,6 +18,14 @@ class_id Beat = 0x39 ∷ 0x4f ∷ 0x16 ∷ 0x57 ∷ 0x15 ∷ 0x91 ∷ 0x78 ∷ 0
 class_id Down = 0x31 ∷ 0x60 ∷ 0x0b ∷ 0x0e ∷ 0x13 ∷ 0x52 ∷ 0x34 ∷ 0x49 ∷ 0x81 ∷ 0x8b ∷ 0x38 ∷ 0xd9 ∷ 0x0c ∷ 0xed ∷ 0x39 ∷ 0xdb ∷ []
 class_id Disk = 0xd9 ∷ 0x63 ∷ 0x61 ∷ 0xba ∷ 0xa1 ∷ 0x04 ∷ 0x29 ∷ 0x4d ∷ 0xb6 ∷ 0x05 ∷ 0x72 ∷ 0xe2 ∷ 0xff ∷ 0xb1 ∷ 0xdc ∷ 0x7f ∷ []
 class_id Net = 0x63 ∷ 0x51 ∷ 0x61 ∷ 0xf8 ∷ 0x3e ∷ 0xdf ∷ 0xc5 ∷ 0x46 ∷ 0x91 ∷ 0x3f ∷ 0xf2 ∷ 0xd2 ∷ 0xf9 ∷ 0x65 ∷ 0xed ∷ 0x0e ∷ []
+class_id (Sock port) = service_id port
+
+-- what the offer of a device of a kind says
+abbrev pub offered_kind : DeviceKind → Kind
+offered_kind BeatDevice = Beat
+offered_kind DownDevice = Down
+offered_kind DiskDevice = Disk
+offered_kind NetDevice = Net
 
 -- the instance id of an offer: its relid, and 12 zero bytes
 abbrev pub instance_id : ℕ → List ℕ

@@ -1,9 +1,10 @@
-//! The class ids of devices.
+//! The class ids of channels.
 ghost use Rattle.std.specs.Prelude.{◌≡◌, ◌≢◌, MatchOption};
 ghost use Rattle.contact.specs.Classes.{class_id};
 ghost use Rattle.contact.specs.declared.kind.Kind.{Kind};
 
 use crate::Kind;
+use crate::service::{port_in, service_id};
 
 // As HV_HEART_BEAT_GUID, HV_SHUTDOWN_GUID, HV_SCSI_GUID and HV_NIC_GUID of Linux
 // (include/linux/hyperv.h): of the five groups the first three are little-endian.
@@ -32,6 +33,7 @@ pub fn class_id(kind: Kind) -> [u8; 16]
         Kind::Down => DOWN,
         Kind::Disk => DISK,
         Kind::Net => NET,
+        Kind::Sock { port } => service_id(port),
     }
 }
 
@@ -48,6 +50,9 @@ pub fn kind_of(id: &[u8; 16]) -> Option<Kind>
     } else if *id == NET {
         Some(Kind::Net)
     } else {
-        None
+        match port_in(id) {
+            Some(port) => Some(Kind::Sock { port }),
+            None => None,
+        }
     }
 }

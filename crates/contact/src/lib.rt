@@ -1,4 +1,4 @@
-//! What a guest and its host agree on at first: the version, and the kinds of devices.
+//! What a guest and its host agree on at first: the version, and what is offered.
 #![tactic(auto)]
 
 mod channel_offer;
@@ -9,7 +9,7 @@ mod service;
 mod version;
 
 pub use channel_offer::{OfferFault, Offered, offer, offers, read_offer};
-pub use kind::Kind;
+pub use kind::{DeviceKind, Kind, offered_kind};
 pub use part::Part;
 pub use service::{port_in, service_id};
 pub use version::{Version, agree, answers_modify, has_modify, host_accepts, next_version, tried};

@@ -9,8 +9,8 @@ use Rattle.std.proofs.lemmas.List.{append-nil, length-set}
 use Rattle.std.proofs.lemmas.Option.{slice_get-get_or}
 use Rattle.std.proofs.lemmas.List.Sums.{sum_by-cons}
 use Rattle.contact.specs.declared.version.Version.{Version}
-use Rattle.contact.specs.declared.kind.Kind.{Kind}
-use Rattle.contact.specs.declared.kind.Kind.TheVariants.{Disk as KindDisk, Net as KindNet}
+use Rattle.contact.specs.declared.kind.DeviceKind.{DeviceKind}
+use Rattle.contact.specs.declared.kind.DeviceKind.TheVariants.{Disk as KindDisk, Net as KindNet}
 use Rattle.script_lines.specs.declared.line.Ask.{Ask}
 use Rattle.std.proofs.lemmas.List.Folds.{list_any-append, list_all-append}
 use Rattle.std.proofs.lemmas.Grind.{flat_map-append}
@@ -201,7 +201,7 @@ seen_set ls l device new seen all here quiet d s is = ⊎_elim
     (slice_get_set seen device d new s is)
 
 -- a device that has a kind is offered
-of_kind_within : (kinds : List DeviceSpec) (device : ℕ) (kind : Kind) → slice_get (map kind_of kinds) device ≡ Some kind → device < length kinds
+of_kind_within : (kinds : List DeviceSpec) (device : ℕ) (kind : DeviceKind) → slice_get (map kind_of kinds) device ≡ Some kind → device < length kinds
 of_kind_within [] device kind is = absurd (cc)
 of_kind_within (k ∷ kinds) zero kind is = omega arith
 of_kind_within (k ∷ kinds) (suc device) kind is = omega (arith, of_kind_within kinds device kind is)

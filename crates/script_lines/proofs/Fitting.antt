@@ -8,7 +8,7 @@ use Rattle.std.proofs.lemmas.Bool.{false≢true}
 use Rattle.std.proofs.lemmas.Bool.Decides.{nat_tests}
 use Rattle.std.proofs.lemmas.List.{append-nil}
 use Rattle.contact.specs.declared.version.Version.{Version}
-use Rattle.contact.specs.declared.kind.Kind.{Kind}
+use Rattle.contact.specs.declared.kind.DeviceKind.{DeviceKind}
 use Rattle.contact.specs.Versions.{IsVersion}
 use Rattle.script_text.specs.declared.fault.Why6.{Why6}
 use Rattle.script_text.specs.declared.fault.Why6.TheVariants.{Limit, Order}
@@ -22,7 +22,7 @@ use Rattle.script_lines.specs.declared.asked.Asked.{Asked}
 use Rattle.script_lines.specs.declared.asked.Asked.TheVariants.{Beat, Down, Command, Message}
 use Rattle.script_lines.specs.declared.offering.Offering.{Offering}
 use Rattle.script_lines.specs.declared.offering.Offering.TheVariants.{Beat as OfBeat, Down as OfDown, Disk as OfDisk, Net as OfNet}
-use Rattle.contact.specs.declared.kind.Kind.TheVariants.{Disk as KindDisk, Net as KindNet}
+use Rattle.contact.specs.declared.kind.DeviceKind.TheVariants.{Disk as KindDisk, Net as KindNet}
 use Rattle.script_lines.specs.declared.said.Said.{Said}
 use Rattle.script_lines.specs.declared.said.Said.TheVariants.{Contact, Offer, Bad, Ring, Window, Request, Rescind, Close, Modify, Phase}
 use Rattle.script_lines.specs.Parts.{is_settings, offered, kind_of, kind_asked, phases_over, phase_from, rescinds, shuts, modified_here, channels, channels_of, device_of, blocks_at, has_bad}
@@ -128,7 +128,7 @@ kind_taken (Command ask) spec is = disk_kind spec is
 kind_taken (Message message) spec is = net_kind spec is
 
 -- and a device that can be rescinded is a disk or a network
-kind_rescinded : (spec : DeviceSpec) (kind : Option Kind) → kind ≡ Some (kind_of spec) → is_rescindable spec ≡ true → IsRescindable kind
+kind_rescinded : (spec : DeviceSpec) (kind : Option DeviceKind) → kind ≡ Some (kind_of spec) → is_rescindable spec ≡ true → IsRescindable kind
 kind_rescinded IsBeat kind same is = absurd (cc)
 kind_rescinded IsDown kind same is = absurd (cc)
 kind_rescinded (IsDisk blocks subs) kind same is = inl same

@@ -8,8 +8,8 @@ use Rattle.std.proofs.lemmas.List.{append-nil, map-append}
 use Rattle.std.proofs.lemmas.Grind.{flat_map-append}
 use Rattle.std.proofs.lemmas.List.Folds.{list_all-append}
 use Rattle.std.proofs.lemmas.List.Sums.{sum_by-append, sum_by-cons}
-use Rattle.contact.specs.declared.kind.Kind.{Kind}
-use Rattle.contact.specs.declared.kind.Kind.TheVariants.{Disk as KindDisk, Net as KindNet}
+use Rattle.contact.specs.declared.kind.DeviceKind.{DeviceKind}
+use Rattle.contact.specs.declared.kind.DeviceKind.TheVariants.{Disk as KindDisk, Net as KindNet}
 use Rattle.script_lines.specs.declared.line.Line.{Line}
 use Rattle.script_lines.specs.declared.line.What.{What}
 use Rattle.script_lines.specs.declared.line.What.TheVariants.{Contact as IsContact, Offer as IsOffer, Bad as IsBad, RingSize as IsRingSize, Window as IsWindow, Ask as IsAsk, Rescind as IsRescind, Shut as IsShut, Modify as IsModify, Phase as IsPhase}
@@ -39,8 +39,8 @@ block_more kinds more device lba less = at (slice_get kinds device) refl less
     at (Some spec) same below = subst (λ (o : Option DeviceSpec). lba < option_map_or blocks_of o 0) (sym (slice_get_front kinds more device spec same)) below
 
 -- a device keeps its kind
-kind_more : (kinds more : List DeviceSpec) (device : ℕ) (kind : Kind) → slice_get (map kind_of kinds) device ≡ Some kind → slice_get (map kind_of (kinds ++ more)) device ≡ Some kind
-kind_more kinds more device kind is = ap (λ (ks : List Kind). slice_get ks device) (map-append kind_of kinds more) ∙ slice_get_front (map kind_of kinds) (map kind_of more) device kind is
+kind_more : (kinds more : List DeviceSpec) (device : ℕ) (kind : DeviceKind) → slice_get (map kind_of kinds) device ≡ Some kind → slice_get (map kind_of (kinds ++ more)) device ≡ Some kind
+kind_more kinds more device kind is = ap (λ (ks : List DeviceKind). slice_get ks device) (map-append kind_of kinds more) ∙ slice_get_front (map kind_of kinds) (map kind_of more) device kind is
 
 right_more : (kinds more : List DeviceSpec) (what : What) → IsRight kinds what → IsRight (kinds ++ more) what
 right_more kinds more (IsContact guest host) right = right

@@ -3,8 +3,8 @@ use Rattle.std.specs.Prelude.{ℕ, ◌+◌, ◌==◌, ◌&&◌, ◌||◌, is_som
 use Rattle.std.specs.List.{flat_map, slice_split, list_any}
 use Rattle.std.specs.Option.{option_map_or}
 use Rattle.std.specs.Str.{bytes_eq}
-use Rattle.contact.specs.declared.kind.Kind.{Kind}
-use Rattle.contact.specs.declared.kind.Kind.TheVariants.{Beat as KindBeat, Down as KindDown, Disk as KindDisk, Net as KindNet}
+use Rattle.contact.specs.declared.kind.DeviceKind.{DeviceKind}
+use Rattle.contact.specs.declared.kind.DeviceKind.TheVariants.{Beat as KindBeat, Down as KindDown, Disk as KindDisk, Net as KindNet}
 use Rattle.util_ic.specs.declared.ic.IcAsk.TheVariants.{Beat as AskBeat, Down as AskDown}
 use Rattle.script_lines.specs.declared.line.Line.{Line}
 use Rattle.script_lines.specs.declared.line.What.{What}
@@ -52,14 +52,14 @@ abbrev pub names : List Line → List (List ℕ)
 names lines = flat_map (λ l. named_by l.what) lines
 
 -- the kind of a device
-abbrev pub kind_of : DeviceSpec → Kind
+abbrev pub kind_of : DeviceSpec → DeviceKind
 kind_of Beat = KindBeat
 kind_of Down = KindDown
 kind_of (Disk blocks subs) = KindDisk
 kind_of (Net mac station) = KindNet
 
 -- the kind of device that is asked this
-abbrev pub kind_asked : Ask → Kind
+abbrev pub kind_asked : Ask → DeviceKind
 kind_asked (Ic (AskBeat seq)) = KindBeat
 kind_asked (Ic (AskDown reason timeout flags)) = KindDown
 kind_asked (AskDisk request) = KindDisk

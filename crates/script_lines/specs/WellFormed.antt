@@ -3,8 +3,8 @@ use Rattle.std.specs.Prelude.{ℕ, ◌≡◌, ◌+◌, ◌^◌, ◌<◌, ◌≤�
 use Rattle.std.specs.List.{list_all}
 use Rattle.std.specs.Option.{option_map_or}
 use Rattle.contact.specs.Versions.{IsVersion}
-use Rattle.contact.specs.declared.kind.Kind.{Kind}
-use Rattle.contact.specs.declared.kind.Kind.TheVariants.{Disk as KindDisk, Net as KindNet}
+use Rattle.contact.specs.declared.kind.DeviceKind.{DeviceKind}
+use Rattle.contact.specs.declared.kind.DeviceKind.TheVariants.{Disk as KindDisk, Net as KindNet}
 use Rattle.script_lines.specs.declared.line.Line.{Line}
 use Rattle.script_lines.specs.declared.line.What.{What}
 use Rattle.script_lines.specs.declared.line.What.TheVariants.{Contact as IsContact, Offer as IsOffer, Bad as IsBad, RingSize as IsRingSize, Window as IsWindow, Ask as IsAsk, Rescind as IsRescind, Shut as IsShut, Modify as IsModify, Phase as IsPhase}
@@ -30,7 +30,7 @@ IsDevice (IsDisk blocks subs) = (1 ≤ blocks) × (blocks ≤ 2 ^ 40) × (subs �
 IsDevice (IsNet mac station) = (length mac ≡ 6) × (length station ≡ 6)
 
 -- the kind of a device that can be rescinded: a disk or a network
-abbrev pub IsRescindable : Option Kind → Type 0
+abbrev pub IsRescindable : Option DeviceKind → Type 0
 IsRescindable kind = (kind ≡ Some KindDisk) ⊎ (kind ≡ Some KindNet)
 
 -- a line that speaks of a device speaks of one that is offered, and a request of one of its kind; a bad block is one of its disk, and numbers are in their ranges
