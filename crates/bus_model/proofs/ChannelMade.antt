@@ -2,7 +2,7 @@
 use Rattle.std.proofs.Common.{◌≡◌, ℕ, zero, suc, ◌+◌, ◌≤◌, Bool, true, List, [], ◌∷◌, map, take, length, length-append, refl, sym, ap, ◌∙◌, subst, arith, Option, Some, None}
 use Rattle.std.specs.List.{AllByRecursion, range_with_len}
 use Rattle.std.proofs.lemmas.List.{length-map}
-use Rattle.contact.specs.declared.kind.Kind.{Kind}
+use Rattle.contact.specs.declared.kind.DeviceKind.{DeviceKind}
 use Rattle.io_edge.specs.declared.side.Side.{Side}
 use Rattle.io_edge.specs.declared.side.Side.TheVariants.{Guest, Host}
 use Rattle.ring_pair_laws.specs.Lists.{Lists}
@@ -24,7 +24,7 @@ use Rattle.bus_model.specs.Laws.{Suits, OrdersRun}
 use Rattle.bus_model.proofs.Made.{Fit, Made, made}
 use Rattle.bus_model.proofs.FromLists.{serves_first_lem}
 
-fit : (kind : Kind) (n id : ℕ) (asks : List Ask) (served : List Served) → AllByRecursion (IsAskable kind) asks → map (λ c. c.request) served ≡ take n (asked_under (range_with_len id (length asks)) asks)
+fit : (kind : DeviceKind) (n id : ℕ) (asks : List Ask) (served : List Served) → AllByRecursion (IsAskable kind) asks → map (λ c. c.request) served ≡ take n (asked_under (range_with_len id (length asks)) asks)
     → AllByRecursion (λ (c : Served). fits_on kind c.request c.reply ≡ true) served → Fit (format_of kind) (keeps kind) n id (map Script asks) served
 fit kind zero id asks [] can serves fits = refl
 fit kind zero id asks (c ∷ served) can serves fits = absurd (none (asked_under (range_with_len id (length asks)) asks) serves)
@@ -93,7 +93,7 @@ carries Host order served m = record {
   replies = rw (sym (length-map order.asks Script)) refl;
 }
 
-alone_at : (side : Side) (kind : Kind) (sent back : List (List ℕ)) → AllByRecursion (λ p. is_of_asker kind p ≡ true) sent → AllByRecursion (λ p. is_of_asker kind p ≡ true) (sent_by side (lists_of side sent back))
+alone_at : (side : Side) (kind : DeviceKind) (sent back : List (List ℕ)) → AllByRecursion (λ p. is_of_asker kind p ≡ true) sent → AllByRecursion (λ p. is_of_asker kind p ≡ true) (sent_by side (lists_of side sent back))
 alone_at Guest kind sent back h = h
 alone_at Host kind sent back h = h
 

@@ -4,8 +4,8 @@ use Rattle.std.specs.Prelude.{nat_le, filter_map, if◌then◌else◌}
 use Rattle.std.specs.List.{AllByRecursion, cons_option}
 use Rattle.std.proofs.lemmas.List.{length-map, map-append}
 use Rattle.scsi_disk.proofs.RoomLaws.{by_test}
-use Rattle.contact.specs.declared.kind.Kind.{Kind}
-use Rattle.contact.specs.declared.kind.Kind.TheVariants.{Beat, Down, Disk, Net}
+use Rattle.contact.specs.declared.kind.DeviceKind.{DeviceKind}
+use Rattle.contact.specs.declared.kind.DeviceKind.TheVariants.{Beat, Down, Disk, Net}
 use Rattle.io_edge.specs.declared.side.Side.TheVariants.{Guest, Host}
 use Rattle.script_lines.specs.declared.line.Ask.{Ask}
 use Rattle.script_lines.specs.declared.line.Ask.TheVariants.{Ic as AskIc, Disk as AskDisk, Net as AskNet}
@@ -44,7 +44,7 @@ dropped : {X : Type 0} (f : X → Bool) (x : X) (xs : List X) → f x ≡ false 
 dropped f x xs e = grind (arith, e)
 
 -- what asks nothing isn't read, so the requests alone are
-read_requests : (kind : Kind) (ps : List (List ℕ)) → filter_map (read_on kind) ps ≡ filter_map (read_on kind) (filter (format_of kind).is_request ps)
+read_requests : (kind : DeviceKind) (ps : List (List ℕ)) → filter_map (read_on kind) ps ≡ filter_map (read_on kind) (filter (format_of kind).is_request ps)
 read_requests kind [] = refl
 read_requests kind (p ∷ ps) =
     by_test ((format_of kind).is_request p)
@@ -53,7 +53,7 @@ read_requests kind (p ∷ ps) =
     let none : read_on kind p ≡ None = (keeps kind).unread p ((keeps kind).asks p no) in
     map_past (read_on kind) p ps none ∙ (read_requests kind ps ∙ ap (filter_map (read_on kind)) (sym (dropped (format_of kind).is_request p ps no))))
 
-script_read : (kind : Kind) (asks : List Ask) (ps : List (List ℕ)) → AllByRecursion (IsAskable kind) asks → Encoded (format_of kind) (map Script asks) ps → filter_map (read_on kind) ps ≡ asked_under (map (format_of kind).id_of ps) asks
+script_read : (kind : DeviceKind) (asks : List Ask) (ps : List (List ℕ)) → AllByRecursion (IsAskable kind) asks → Encoded (format_of kind) (map Script asks) ps → filter_map (read_on kind) ps ≡ asked_under (map (format_of kind).id_of ps) asks
 script_read kind asks [] can encoded = refl
 script_read kind [] (p ∷ ps) can encoded = absurd encoded
 script_read kind (a ∷ asks) (p ∷ ps) can encoded =
@@ -65,7 +65,7 @@ drop_none : {X : Type 0} (xs : List X) → drop 0 xs ≡ xs
 drop_none [] = refl
 drop_none (x ∷ xs) = refl
 
-plan_read : (kind : Kind) (start : List Want) (asks : List Ask) (ps : List (List ℕ)) → AllFixed (format_of kind) start → AllByRecursion (IsAskable kind) asks → Encoded (format_of kind) (start ++ map Script asks) ps
+plan_read : (kind : DeviceKind) (start : List Want) (asks : List Ask) (ps : List (List ℕ)) → AllFixed (format_of kind) start → AllByRecursion (IsAskable kind) asks → Encoded (format_of kind) (start ++ map Script asks) ps
     → filter_map (read_on kind) ps ≡ asked_under (map (format_of kind).id_of (drop (length start) ps)) asks
 plan_read kind [] asks ps fixed can encoded = script_read kind asks ps can encoded ∙ ap (λ l. asked_under (map (format_of kind).id_of l) asks) (sym (drop_none ps))
 plan_read kind (a ∷ start) asks [] fixed can encoded = refl
@@ -99,7 +99,7 @@ serves_first_lem Host order lists served can run = first_asked order _ _ _ _ ser
 
 -- requests of other kinds than a network's are the same under each id
 
-same_ask : (kind : Kind) (id : ℕ) (ask : Ask) → (kind ≡ Net → ⊥) → IsAskable kind ask → asked_as id ask ≡ ask
+same_ask : (kind : DeviceKind) (id : ℕ) (ask : Ask) → (kind ≡ Net → ⊥) → IsAskable kind ask → asked_as id ask ≡ ask
 same_ask kind id (AskIc ask) other can = refl
 same_ask kind id (AskDisk request) other can = refl
 same_ask Beat id (AskNet message) other can = absurd can
@@ -111,7 +111,7 @@ none_under : (asks : List Ask) → [] ≡ take 0 asks
 none_under [] = refl
 none_under (a ∷ asks) = refl
 
-same_under : (kind : Kind) (ids : List ℕ) (asks : List Ask) → (kind ≡ Net → ⊥) → AllByRecursion (IsAskable kind) asks → asked_under ids asks ≡ take (length ids) asks
+same_under : (kind : DeviceKind) (ids : List ℕ) (asks : List Ask) → (kind ≡ Net → ⊥) → AllByRecursion (IsAskable kind) asks → asked_under ids asks ≡ take (length ids) asks
 same_under kind [] asks other can = none_under asks
 same_under kind (id ∷ ids) [] other can = refl
 same_under kind (id ∷ ids) (a ∷ asks) other can =

@@ -1,7 +1,7 @@
 -- The worked examples have runs.
 use Rattle.std.proofs.Common.{◌≡◌, ℕ, List, [], ◌∷◌, Bool, true, false, refl, ap, arith}
 use Rattle.contact.specs.Versions.{version}
-use Rattle.contact.specs.declared.kind.Kind.TheVariants.{Disk as DiskKind}
+use Rattle.contact.specs.declared.kind.DeviceKind.TheVariants.{Disk as DiskKind}
 use Rattle.script_lines.specs.declared.line.Line.{Line}
 use Rattle.script_lines.specs.declared.line.What.TheVariants.{Offer as IsOffer, Ask as IsAsk, Shut as IsShut}
 use Rattle.script_lines.specs.declared.line.Ask.{Ask}

@@ -1,7 +1,7 @@
 -- The run of one channel in one phase.
 use Rattle.std.specs.Prelude.{ℕ, ◌≡◌, ◌-◌, min, nat_le, ◌||◌, Bool, true, false, List, [], ◌∷◌, ◌++◌, map, filter, take, drop, replicate, length, Option, Some, None, if◌then◌else◌}
 use Rattle.std.specs.List.{AllByRecursion}
-use Rattle.contact.specs.declared.kind.Kind.{Kind}
+use Rattle.contact.specs.declared.kind.DeviceKind.{DeviceKind}
 use Rattle.device_formats.specs.Formats.{format_of, asked_as}
 use Rattle.script_lines.specs.declared.line.Ask.{Ask}
 use Rattle.bus_script.specs.declared.outcome.LineResult.{LineResult}
@@ -61,7 +61,7 @@ abbrev pub asked_by : Side → Order → Lists → List Ask
 asked_by side order lists = asked_under (script_ids order (sent_by side lists)) order.asks
 
 -- a packet of the end that asks is a request, or acknowledges a message
-abbrev pub is_of_asker : Kind → List ℕ → Bool
+abbrev pub is_of_asker : DeviceKind → List ℕ → Bool
 is_of_asker kind p = (format_of kind).is_request p || (format_of kind).is_ack p
 
 -- and what was served are the first of these requests, in order: all of them where it doesn't stop. The end that asks sent nothing but requests and what

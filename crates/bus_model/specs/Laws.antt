@@ -2,7 +2,7 @@
 use Rattle.std.specs.Prelude.{ℕ, ◌≡◌, ◌≤◌, ◌<◌, ◌+◌, ◌-◌, min, Bool, true, false, List, [], ◌∷◌, ◌++◌, length, map, filter, take, replicate, count_by, slice_get, slice_index_or, Some, None}
 use Rattle.std.specs.List.{AllByRecursion, flat_map, range_with_len}
 use Rattle.channel_trace.specs.Runs.{IsFront}
-use Rattle.contact.specs.declared.kind.Kind.TheVariants.{Net}
+use Rattle.contact.specs.declared.kind.DeviceKind.TheVariants.{Net}
 use Rattle.script_lines.specs.declared.line.Line.{Line}
 use Rattle.script_lines.specs.declared.line.Ask.{Ask}
 use Rattle.script_lines.specs.Lines.{Asks, Modifies}

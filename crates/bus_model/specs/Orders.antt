@@ -1,6 +1,6 @@
 -- What the script orders of a channel.
 use Rattle.std.specs.Prelude.{ℕ, Bool, List, map, Option}
-use Rattle.contact.specs.declared.kind.Kind.{Kind}
+use Rattle.contact.specs.declared.kind.DeviceKind.{DeviceKind}
 use Rattle.script_lines.specs.declared.line.Ask.{Ask}
 use Rattle.script_lines.specs.Parts.{kind_of, channels_of}
 use Rattle.script_phases.specs.Says.{asks_of, stop_of}
@@ -14,7 +14,7 @@ use Rattle.channel_model.specs.Channel.{RequestPlan}
 -- a channel's kind, its number among the device's channels, how many sub-channels that has, its requests, and where its service stops: after some of
 -- them, the answer to the last one held or not
 pub record Order : Type 0 where
-  pub kind : Kind
+  pub kind : DeviceKind
   pub sub : ℕ
   pub subs : ℕ
   pub asks : List Ask

@@ -1,6 +1,6 @@
 -- Worked runs: a disk with a sub-channel, a close, and a rescind in both forms, for any requests that the disk can be asked and replies that it may give.
 use Rattle.std.specs.Prelude.{ℕ, ◌≡◌, Bool, true, false, List, [], ◌∷◌, map, Some}
-use Rattle.contact.specs.declared.kind.Kind.TheVariants.{Disk as DiskKind}
+use Rattle.contact.specs.declared.kind.DeviceKind.TheVariants.{Disk as DiskKind}
 use Rattle.script_lines.specs.declared.line.Line.{Line}
 use Rattle.script_lines.specs.declared.line.What.{What}
 use Rattle.script_lines.specs.declared.line.What.TheVariants.{Offer as IsOffer, Ask as IsAsk, Shut as IsShut, Phase as IsPhase}

@@ -6,7 +6,7 @@ use Rattle.std.proofs.lemmas.Bool.Decides.{nat_tests}
 use Rattle.std.proofs.lemmas.Grind.{flat_map-append}
 use Rattle.std.proofs.lemmas.List.{length-map}
 use Rattle.std.proofs.lemmas.List.Sums.{sum_by-cons, count_by-le-length}
-use Rattle.contact.specs.declared.kind.Kind.{Kind}
+use Rattle.contact.specs.declared.kind.DeviceKind.{DeviceKind}
 use Rattle.scsi_disk.proofs.RoomLaws.{by_test}
 use Rattle.script_lines.specs.declared.line.Line.{Line}
 use Rattle.script_lines.specs.declared.line.What.{What}
@@ -254,7 +254,7 @@ ask_there part before rest l device ask is what =
     ∙ (ap (λ asks. slice_get asks (length (asks_of device before))) (asks_append device before (l ∷ rest) ∙ ap (λ asks. asks_of device before ++ asks) (asks_here device ask l rest what))
     ∙ get_behind (asks_of device before) (asks_of device rest) ask)
 
-offered_spec : (specs : List DeviceSpec) (device : ℕ) (kind : Kind) → slice_get (map kind_of specs) device ≡ Some kind → (spec : DeviceSpec) × (slice_get specs device ≡ Some spec)
+offered_spec : (specs : List DeviceSpec) (device : ℕ) (kind : DeviceKind) → slice_get (map kind_of specs) device ≡ Some kind → (spec : DeviceSpec) × (slice_get specs device ≡ Some spec)
 offered_spec [] device kind at = absurd (cc)
 offered_spec (s ∷ specs) zero kind at = (s, refl)
 offered_spec (s ∷ specs) (suc device) kind at = offered_spec specs device kind at

@@ -8,8 +8,8 @@ use Rattle.std.proofs.lemmas.List.Sums.{length-filter}
 use Rattle.std.proofs.lemmas.Grind.{flat_map-append}
 use Rattle.std.proofs.lemmas.Option.{slice_get_within, same_Some}
 use Rattle.std.proofs.lemmas.Bool.Decides.{nat_tests}
-use Rattle.contact.specs.declared.kind.Kind.{Kind}
-use Rattle.contact.specs.declared.kind.Kind.TheVariants.{Disk as KindDisk, Net as KindNet}
+use Rattle.contact.specs.declared.kind.DeviceKind.{DeviceKind}
+use Rattle.contact.specs.declared.kind.DeviceKind.TheVariants.{Disk as KindDisk, Net as KindNet}
 use Rattle.io_edge.specs.declared.side.Side.TheVariants.{Guest}
 use Rattle.channel_model.specs.Roles.{side_that_asks}
 use Rattle.script_lines.specs.declared.line.Line.{Line}
@@ -45,7 +45,7 @@ line_fits kinds IsPhase right goes = tt
 
 -- it speaks of a device that is offered
 
-offered_at : (kinds : List DeviceSpec) (device : ℕ) (kind : Kind) → slice_get (map kind_of kinds) device ≡ Some kind → device < length kinds
+offered_at : (kinds : List DeviceSpec) (device : ℕ) (kind : DeviceKind) → slice_get (map kind_of kinds) device ≡ Some kind → device < length kinds
 offered_at kinds device kind fits = omega (arith, slice_get_within (map kind_of kinds) device kind fits, length-map kinds kind_of)
 
 rescinded_at : (kinds : List DeviceSpec) (device : ℕ) → IsRescindable (slice_get (map kind_of kinds) device) → device < length kinds
@@ -83,7 +83,7 @@ said_fits kinds k (l ∷ part) right go =
 
 -- so its channel carries its requests, and stops where one of its kind can
 
-pub asks_fit : (kinds : List DeviceSpec) (k : ℕ) (kind : Kind) (ss : List Says) → slice_get (map kind_of kinds) k ≡ Some kind → AllByRecursion (FitsSays kinds k) ss → AllCarried kind (flat_map asked ss)
+pub asks_fit : (kinds : List DeviceSpec) (k : ℕ) (kind : DeviceKind) (ss : List Says) → slice_get (map kind_of kinds) k ≡ Some kind → AllByRecursion (FitsSays kinds k) ss → AllCarried kind (flat_map asked ss)
 asks_fit kinds k kind [] is fits = tt
 asks_fit kinds k kind (Asks ask ∷ ss) is fits = (same_Some (kind_asked ask) kind (sym fits.0.0 ∙ is), fits.0.1, asks_fit kinds k kind ss is fits.1)
 asks_fit kinds k kind (Rescinds after held ∷ ss) is fits = asks_fit kinds k kind ss is fits.1
@@ -91,11 +91,11 @@ asks_fit kinds k kind (Shuts ∷ ss) is fits = asks_fit kinds k kind ss is fits.
 asks_fit kinds k kind (Modifies vp ∷ ss) is fits = asks_fit kinds k kind ss is fits.1
 
 -- what is rescinded is asked by the guest
-guest_asks : (kinds : List DeviceSpec) (k : ℕ) (kind : Kind) → slice_get (map kind_of kinds) k ≡ Some kind → IsRescindable (slice_get (map kind_of kinds) k) → side_that_asks kind ≡ Guest
+guest_asks : (kinds : List DeviceSpec) (k : ℕ) (kind : DeviceKind) → slice_get (map kind_of kinds) k ≡ Some kind → IsRescindable (slice_get (map kind_of kinds) k) → side_that_asks kind ≡ Guest
 guest_asks kinds k kind is (inl disk) = ap side_that_asks (same_Some kind KindDisk (sym is ∙ disk))
 guest_asks kinds k kind is (inr net) = ap side_that_asks (same_Some kind KindNet (sym is ∙ net))
 
-pub stop_fits : (kinds : List DeviceSpec) (k : ℕ) (kind : Kind) (ss : List Says) → slice_get (map kind_of kinds) k ≡ Some kind → AllByRecursion (FitsSays kinds k) ss → CanStop kind (slice_get (flat_map stops ss) 0)
+pub stop_fits : (kinds : List DeviceSpec) (k : ℕ) (kind : DeviceKind) (ss : List Says) → slice_get (map kind_of kinds) k ≡ Some kind → AllByRecursion (FitsSays kinds k) ss → CanStop kind (slice_get (flat_map stops ss) 0)
 stop_fits kinds k kind [] is fits = tt
 stop_fits kinds k kind (Asks ask ∷ ss) is fits = stop_fits kinds k kind ss is fits.1
 stop_fits kinds k kind (Rescinds after held ∷ ss) is fits = (guest_asks kinds k kind is fits.0.0, fits.0.1, fits.0.2)

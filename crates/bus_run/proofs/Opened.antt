@@ -10,8 +10,8 @@ use Rattle.std.proofs.lemmas.Bool.{cases_eq}
 use Rattle.std.proofs.lemmas.Bool.Decides.{nat_tests}
 use Rattle.bus_model.proofs.Lists.{each_append}
 use Rattle.chan_state.specs.declared.stop.Stop.{Stop}
-use Rattle.contact.specs.declared.kind.Kind.{Kind}
-use Rattle.contact.specs.declared.kind.Kind.TheVariants.{Beat as KindBeat, Down as KindDown, Disk as KindDisk, Net as KindNet}
+use Rattle.contact.specs.declared.kind.DeviceKind.{DeviceKind}
+use Rattle.contact.specs.declared.kind.DeviceKind.TheVariants.{Beat as KindBeat, Down as KindDown, Disk as KindDisk, Net as KindNet}
 use Rattle.script_lines.specs.Parts.{kind_of}
 use Rattle.script_phases.specs.Openings.{subs_of as subs_beside}
 use Rattle.hist_lock.specs.Seat.{Lock, Seat, seats_from}
@@ -65,14 +65,14 @@ few_quotas k (x ∷ xs) = by_flag (x.opening.device == k) (few_quotas k xs)
 
 -- the seats that are left for channels with these quotas: new ones, of a device of this kind
 
-abbrev pub AreLeft : Option Kind → List ℕ → List DeviceSeat → Type 0
+abbrev pub AreLeft : Option DeviceKind → List ℕ → List DeviceSeat → Type 0
 AreLeft kind [] [] = Unit {0}
 AreLeft kind [] (s ∷ seats) = ⊥
 AreLeft kind (q ∷ quotas) [] = ⊥
 AreLeft kind (q ∷ quotas) (s ∷ seats) = (kind ≡ Some (kind_at s)) × (served_at s ≡ []) × (left_at s ≡ q) × AreLeft kind quotas seats
 
 -- the first of them
-pub record First (kind : Option Kind) (q : ℕ) (quotas : List ℕ) (seats : List DeviceSeat) : Type 0 where
+pub record First (kind : Option DeviceKind) (q : ℕ) (quotas : List ℕ) (seats : List DeviceSeat) : Type 0 where
   pub seat : DeviceSeat
   pub rest : List DeviceSeat
   pub seats_are : seats ≡ seat ∷ rest
@@ -81,15 +81,15 @@ pub record First (kind : Option Kind) (q : ℕ) (quotas : List ℕ) (seats : Lis
   pub left : left_at seat ≡ q
   pub more : AreLeft kind quotas rest
 
-first_of : (kind : Option Kind) (q : ℕ) (quotas : List ℕ) (seats : List DeviceSeat) → AreLeft kind (q ∷ quotas) seats → First kind q quotas seats
+first_of : (kind : Option DeviceKind) (q : ℕ) (quotas : List ℕ) (seats : List DeviceSeat) → AreLeft kind (q ∷ quotas) seats → First kind q quotas seats
 first_of kind q quotas [] are = absurd are
 first_of kind q quotas (s ∷ seats) are = record { seat = s; rest = seats; seats_are = refl; kind_is = are.0; fresh = are.1; left = are.2; more = are.3 }
 
-none_of : (kind : Option Kind) (seats : List DeviceSeat) → AreLeft kind [] seats → seats ≡ []
+none_of : (kind : Option DeviceKind) (seats : List DeviceSeat) → AreLeft kind [] seats → seats ≡ []
 none_of kind [] are = refl
 none_of kind (s ∷ seats) are = absurd are
 
-module _ {S Q A : Type 0} (mk : Seat S Q A → DeviceSeat) (kind : Kind) (is : (s : Seat S Q A) → kind_at (mk s) ≡ kind) (none : (s : Seat S Q A) → s.calls ≡ [] → served_at (mk s) ≡ []) (left : (s : Seat S Q A) → left_at (mk s) ≡ s.left) where
+module _ {S Q A : Type 0} (mk : Seat S Q A → DeviceSeat) (kind : DeviceKind) (is : (s : Seat S Q A) → kind_at (mk s) ≡ kind) (none : (s : Seat S Q A) → s.calls ≡ [] → served_at (mk s) ≡ []) (left : (s : Seat S Q A) → left_at (mk s) ≡ s.left) where
   left_from : (lock : Lock S Q A) (n : ℕ) (quotas : List ℕ) → AreLeft (Some kind) quotas (map mk (seats_from lock n quotas))
   left_from lock n [] = tt
   left_from lock n (q ∷ quotas) =
@@ -121,18 +121,18 @@ seats_subs (DiskSlot subs state history) quotas seats new = refl
 seats_subs (NetSlot state history) quotas seats new = refl
 
 -- a device whose channels have it, whose seats are of this kind
-pub record IsHeld (old held : DeviceSlot) (kind : Kind) : Type 0 where
+pub record IsHeld (old held : DeviceSlot) (kind : DeviceKind) : Type 0 where
   pub held_is : held ≡ away_of old
   pub kind_is : kind_of (spec_of old) ≡ kind
   pub subs_are : subs_beside (spec_of old) ≡ subs_of old
 
-no_seats : (kind : Kind) (seats : Seats) → seats ≡ NoSeats → kind_in seats ≡ Some kind → ⊥
+no_seats : (kind : DeviceKind) (seats : Seats) → seats ≡ NoSeats → kind_in seats ≡ Some kind → ⊥
 no_seats kind seats none is = let both : None ≡ Some kind = sym (ap kind_in none) ∙ is in absurd (cc)
 
-same_kind : (k kind : Kind) → Some k ≡ Some kind → k ≡ kind
+same_kind : (k kind : DeviceKind) → Some k ≡ Some kind → k ≡ kind
 same_kind k kind is = cc
 
-is_held : (old held : DeviceSlot) (quotas : List ℕ) (seats : Seats) (given : List DeviceSeat) (kind : Kind) → IsAway old quotas held seats given → kind_in seats ≡ Some kind → IsHeld old held kind
+is_held : (old held : DeviceSlot) (quotas : List ℕ) (seats : Seats) (given : List DeviceSeat) (kind : DeviceKind) → IsAway old quotas held seats given → kind_in seats ≡ Some kind → IsHeld old held kind
 is_held old held [] seats given kind away is = absurd (no_seats kind seats away.1 is)
 is_held old held (q ∷ quotas) seats given kind away is = record { held_is = away.0; kind_is = same_kind (kind_of (spec_of old)) kind (sym away.1 ∙ is); subs_are = seats_subs old (q ∷ quotas) given away.2 }
 
@@ -140,7 +140,7 @@ pub told_same : (o : Option Stop) → stop_of o ≡ stop_told o
 told_same None = refl
 told_same (Some s) = refl
 
-order_held : (old held : DeviceSlot) (x : ChannelOrder) (kind : Kind) → IsHeld old held kind → order_with x kind (subs_of held) ≡ record { kind = kind_of (spec_of old); sub = x.opening.sub; subs = subs_beside (spec_of old); asks = x.asks.items; stop = stop_told x.stop }
+order_held : (old held : DeviceSlot) (x : ChannelOrder) (kind : DeviceKind) → IsHeld old held kind → order_with x kind (subs_of held) ≡ record { kind = kind_of (spec_of old); sub = x.opening.sub; subs = subs_beside (spec_of old); asks = x.asks.items; stop = stop_told x.stop }
 order_held old held x kind h =
     ap (λ k. order_with x k (subs_of held)) (sym h.kind_is)
     ∙ (ap (order_with x (kind_of (spec_of old))) (ap subs_of h.held_is ∙ sym h.subs_are)

@@ -4,7 +4,7 @@ use Rattle.std.specs.Prelude.{map, All, filter, sum, sum_by, ◌&&◌, not, is_s
 use Rattle.std.specs.List.{flat_map, AllByRecursion}
 use Rattle.std.proofs.lemmas.List.{length-map}
 use Rattle.std.proofs.lemmas.List.Sums.{sum_by-cons}
-use Rattle.contact.specs.declared.kind.Kind.{Kind}
+use Rattle.contact.specs.declared.kind.DeviceKind.{DeviceKind}
 use Rattle.script_lines.specs.declared.line.Ask.{Ask}
 use Rattle.scsi_disk.proofs.RoomLaws.{by_test}
 use Rattle.script_lines.specs.declared.line.Line.{Line}
@@ -88,7 +88,7 @@ opened_few f place next (s ∷ specs) =
 
 -- the shares of a device's requests
 
-share_fits : (kind : Kind) (many c n : ℕ) (xs : List Ask) → AllCarried kind xs → AllCarried kind (share many c n xs)
+share_fits : (kind : DeviceKind) (many c n : ℕ) (xs : List Ask) → AllCarried kind xs → AllCarried kind (share many c n xs)
 share_fits kind many c n [] all = tt
 share_fits kind many c n (x ∷ xs) all = by_flag (n % many == c) (share many c (n + 1) xs) (share_fits kind many c (n + 1) xs all.2)
   where

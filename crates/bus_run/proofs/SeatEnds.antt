@@ -1,8 +1,8 @@
 -- A device behind the seats that it had in a phase.
 use Rattle.std.proofs.Common.{◌≡◌, ℕ, suc, ◌+◌, List, [], ◌∷◌, length, Some, None, ap, sym, ◌∙◌, subst, refl, arith, slice_get}
 use Rattle.std.specs.Prelude.{map, Result}
-use Rattle.contact.specs.declared.kind.Kind.{Kind}
-use Rattle.contact.specs.declared.kind.Kind.TheVariants.{Beat as KindBeat, Down as KindDown, Disk as KindDisk, Net as KindNet}
+use Rattle.contact.specs.declared.kind.DeviceKind.{DeviceKind}
+use Rattle.contact.specs.declared.kind.DeviceKind.TheVariants.{Beat as KindBeat, Down as KindDown, Disk as KindDisk, Net as KindNet}
 use Rattle.script_lines.specs.declared.line.Ask.TheVariants.{Ic as AskIc, Disk as AskDisk}
 use Rattle.script_lines.specs.declared.line.DeviceSpec.TheVariants.{Disk, Net}
 use Rattle.script_lines.specs.Parts.{kind_of}
@@ -125,7 +125,7 @@ NetBack (DiskSlot subs state history) own = ⊥
 NetBack (NetSlot state history) own = Back (unfiltered state) (entries_of history) own
 
 module _ (held : DeviceSlot) (given : List DeviceSeat) (seats : Seats) where
-  no_kind : (kind : Kind) → kind_in seats ≡ Some kind → seats ≡ NoSeats → ⊥
+  no_kind : (kind : DeviceKind) → kind_in seats ≡ Some kind → seats ≡ NoSeats → ⊥
   no_kind kind is none = let both : Some kind ≡ None = sym is ∙ ap kind_in none in absurd (cc)
 
   pub beat_back : (old : DeviceSlot) (quotas : List ℕ) (own : List (Seat BeatMachine IcAsk IcAnswer)) → seats_in seats ≡ map BeatSeat own → kind_in seats ≡ Some KindBeat → ComesBack old quotas given held seats → BeatBack old own
@@ -277,6 +277,6 @@ module _ (held : DeviceSlot) (given : List DeviceSeat) (seats : Seats) where
   none_whole old [] none back = subst (λ d. GoesOn old d (map served_at (seats_in seats))) (sym back.0) (subst (λ l. GoesOn old old (map served_at (seats_in l))) (sym none) (stays old back.2))
   none_whole old (q ∷ quotas) none back = absurd (no_kind (kind_of (spec_of old)) back.1 none)
 
-  pub same_subs : (old : DeviceSlot) (quotas : List ℕ) (kind : Kind) → kind_in seats ≡ Some kind → ComesBack old quotas given held seats → subs_of old ≡ subs_of held
+  pub same_subs : (old : DeviceSlot) (quotas : List ℕ) (kind : DeviceKind) → kind_in seats ≡ Some kind → ComesBack old quotas given held seats → subs_of old ≡ subs_of held
   same_subs old [] kind is back = absurd (no_kind kind is back.1)
   same_subs old (q ∷ quotas) kind is back = sym (ap subs_of back.0)

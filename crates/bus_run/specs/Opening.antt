@@ -1,7 +1,7 @@
 -- The channels of a phase are opened.
 use Rattle.std.specs.Prelude.{ℕ, ◌≡◌, ◌*◌, ◌<◌, ◌≤◌, ◌==◌, List, [], ◌++◌, length, map, filter, sum, slice_index_or, Some}
 use Rattle.std.specs.List.{AllByRecursion}
-use Rattle.contact.specs.declared.kind.Kind.{Kind}
+use Rattle.contact.specs.declared.kind.DeviceKind.{DeviceKind}
 use Rattle.worker_pair.specs.Plans.{stop_of}
 use Rattle.worker_pair.specs.Seats.{kind_at}
 use Rattle.worker_pair.specs.declared.device_seat.DeviceSeat.{DeviceSeat}
@@ -30,7 +30,7 @@ abbrev pub seats_at : List Seats → ℕ → Seats
 seats_at seats k = slice_index_or seats k NoSeats
 
 -- what is ordered of a channel, of a device of this kind with so many channels beside the first one
-abbrev pub order_with : ChannelOrder → Kind → ℕ → Order
+abbrev pub order_with : ChannelOrder → DeviceKind → ℕ → Order
 order_with x kind subs = record { kind = kind; sub = x.opening.sub; subs = subs; asks = x.asks.items; stop = stop_of x.stop }
 
 -- the same, where these are all devices

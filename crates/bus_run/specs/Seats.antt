@@ -1,7 +1,7 @@
 -- The seats of a device, which its channels have in a phase.
 use Rattle.std.specs.Prelude.{ℕ, ◌≡◌, List, [], ◌∷◌, map, Option, Some, None, Result}
-use Rattle.contact.specs.declared.kind.Kind.{Kind}
-use Rattle.contact.specs.declared.kind.Kind.TheVariants.{Beat as KindBeat, Down as KindDown, Disk as KindDisk, Net as KindNet}
+use Rattle.contact.specs.declared.kind.DeviceKind.{DeviceKind}
+use Rattle.contact.specs.declared.kind.DeviceKind.TheVariants.{Beat as KindBeat, Down as KindDown, Disk as KindDisk, Net as KindNet}
 use Rattle.script_lines.specs.Parts.{kind_of}
 use Rattle.hist_lock.specs.History.{entries_of}
 use Rattle.hist_lock.specs.Seat.{Seat, AreNew}
@@ -35,7 +35,7 @@ EachWith P (x ∷ xs) [] = ⊥
 EachWith P (x ∷ xs) (y ∷ ys) = P x y × EachWith P xs ys
 
 -- the kind of the device, where the phase opens it
-abbrev pub kind_in : Seats → Option Kind
+abbrev pub kind_in : Seats → Option DeviceKind
 kind_in NoSeats = None
 kind_in (BeatSeats seats) = Some KindBeat
 kind_in (DownSeats seats) = Some KindDown

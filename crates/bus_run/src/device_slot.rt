@@ -9,7 +9,7 @@ ghost use Rattle.bus_run.specs.DeviceSlot.{IsFresh, IsKept, spec_of, subs_of, se
 
 use bus_model::DeviceHistory;
 use bus_script::DeviceSpec;
-use contact::Kind;
+use contact::DeviceKind;
 use hist_lock::{HistLock, History, Machine};
 use net_dev::Station;
 use scsi_disk::Disk;
@@ -43,15 +43,15 @@ pub enum DeviceSlot {
 
 impl DeviceSlot {
     /// The kind of the device.
-    pub fn kind(&self) -> Kind
+    pub fn kind(&self) -> DeviceKind
         requires { IsKept self.now }
         ensures { result ≡ kind_of (spec_of self.now) }
     {
         match self {
-            DeviceSlot::Beat(_, _) => Kind::Beat,
-            DeviceSlot::Down(_, _) => Kind::Down,
-            DeviceSlot::Disk { .. } => Kind::Disk,
-            DeviceSlot::Net(_, _) => Kind::Net,
+            DeviceSlot::Beat(_, _) => DeviceKind::Beat,
+            DeviceSlot::Down(_, _) => DeviceKind::Down,
+            DeviceSlot::Disk { .. } => DeviceKind::Disk,
+            DeviceSlot::Net(_, _) => DeviceKind::Net,
             DeviceSlot::Out { .. } => unreachable!(),
         }
     }

@@ -12,7 +12,7 @@ use crate::seats::Seats;
 use crate::settings::Settings;
 use bus_plan::ChannelOrder;
 use bus_threads::{Pair, open_pair};
-use contact::Kind;
+use contact::DeviceKind;
 use std::alloc::{AllocError, Global};
 use std::mem;
 use worker_pair::DeviceSeat;
@@ -77,14 +77,14 @@ pub fn reopen_all(
 }
 
 /// The kind of a seat's device.
-fn kind_at(seat: &DeviceSeat) -> Kind
+fn kind_at(seat: &DeviceSeat) -> DeviceKind
     ensures { result ≡ kind_at seat.now }
 {
     match seat {
-        DeviceSeat::Beat(_) => Kind::Beat,
-        DeviceSeat::Down(_) => Kind::Down,
-        DeviceSeat::Disk(_) => Kind::Disk,
-        DeviceSeat::Net(_) => Kind::Net,
+        DeviceSeat::Beat(_) => DeviceKind::Beat,
+        DeviceSeat::Down(_) => DeviceKind::Down,
+        DeviceSeat::Disk(_) => DeviceKind::Disk,
+        DeviceSeat::Net(_) => DeviceKind::Net,
     }
 }
 

@@ -11,7 +11,7 @@ use Rattle.channel_trace.specs.Runs.{sent_of, got_of}
 use Rattle.channel_trace.specs.Laws.{AreOfOneRun}
 use Rattle.bus_script.specs.declared.outcome.Reply.{Reply}
 use Rattle.device_formats.specs.declared.want.Want.TheVariants.{Script}
-use Rattle.contact.specs.declared.kind.Kind.{Kind}
+use Rattle.contact.specs.declared.kind.DeviceKind.{DeviceKind}
 use Rattle.device_formats.specs.declared.want.Want.{Want}
 use Rattle.device_formats.specs.Wants.{startup, IsAskable}
 use Rattle.device_formats.specs.Formats.{format_of}
@@ -29,11 +29,11 @@ use Rattle.bus_threads.specs.Pairs.{LeavesOne}
 use Rattle.bus_threads.proofs.Stops.{all_called_for, none_held}
 
 -- what is fixed, and what asks the device, in items is so in packets
-pub fixed_items : (kind : Kind) (asks : List Want) → AllFixed (format_of kind) asks → AllFixed (item_format kind) asks
+pub fixed_items : (kind : DeviceKind) (asks : List Want) → AllFixed (format_of kind) asks → AllFixed (item_format kind) asks
 fixed_items kind [] h = tt
 fixed_items kind (a ∷ asks) h = (h.0, fixed_items kind asks h.1)
 
-asks_items : (kind : Kind) (asks : List Want) → AllAsk (format_of kind) asks → AllAsk (item_format kind) asks
+asks_items : (kind : DeviceKind) (asks : List Want) → AllAsk (format_of kind) asks → AllAsk (item_format kind) asks
 asks_items kind [] h = tt
 asks_items kind (a ∷ asks) h = (h.0, asks_items kind asks h.1)
 

@@ -8,7 +8,7 @@ ghost use Rattle.bus_threads.specs.Pairs.{AreOnChannel, Opens};
 use crate::Pair;
 use bus_script::Ask;
 use chan_state::Stop;
-use contact::Kind;
+use contact::DeviceKind;
 use ring_seat::ChannelMem;
 use std::alloc::{AllocError, Global};
 use worker_pair::{ChannelPlan, DeviceSeat, GuestWorker, HostWorker, make_both};
@@ -26,7 +26,7 @@ fn paired(guest: GuestWorker, host: HostWorker) -> Pair
 /// which the channel of a disk or of a network alone can.
 pub fn open_pair(
     alloc: Global,
-    kind: Kind,
+    kind: DeviceKind,
     relid: u32,
     sub: u16,
     subs: u32,

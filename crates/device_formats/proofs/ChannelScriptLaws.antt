@@ -3,8 +3,8 @@ use Rattle.std.proofs.Common.{◌≡◌, ℕ, zero, suc, ◌+◌, ◌-◌, ◌<�
 use Rattle.std.specs.Prelude.{map, is_some}
 use Rattle.std.specs.List.{AllByRecursion}
 use Rattle.std.proofs.lemmas.List.{length-map}
-use Rattle.contact.specs.declared.kind.Kind.{Kind}
-use Rattle.contact.specs.declared.kind.Kind.TheVariants.{Beat, Down, Disk, Net}
+use Rattle.contact.specs.declared.kind.DeviceKind.{DeviceKind}
+use Rattle.contact.specs.declared.kind.DeviceKind.TheVariants.{Beat, Down, Disk, Net}
 use Rattle.rndis_msg.specs.declared.rndis.Rndis.{Rndis}
 use Rattle.script_lines.specs.declared.line.Ask.{Ask}
 use Rattle.script_lines.specs.declared.line.Ask.TheVariants.{Ic as AskIc, Disk as AskDisk, Net as AskNet}
@@ -24,11 +24,11 @@ use Rattle.device_formats.specs.ChannelScript.{ChannelScript, asks_of, CanAsk}
 use Rattle.device_formats.proofs.FormatLaws.{keeps, step_read, asked_is, script_waits, start_answers}
 
 -- the start-up is part of what is asked
-pub starts_within : (kind : Kind) (sub subs : ℕ) (asks : List Want) → length (startup kind sub subs) ≤ length (startup kind sub subs ++ asks)
+pub starts_within : (kind : DeviceKind) (sub subs : ℕ) (asks : List Want) → length (startup kind sub subs) ≤ length (startup kind sub subs ++ asks)
 starts_within kind sub subs asks = omega (arith, length-append (startup kind sub subs) asks)
 
 -- a start-up has few steps
-pub few_starts : (kind : Kind) (sub subs : ℕ) → length (startup kind sub subs) ≤ 5
+pub few_starts : (kind : DeviceKind) (sub subs : ℕ) → length (startup kind sub subs) ≤ 5
 few_starts Beat zero subs = omega arith
 few_starts Down zero subs = omega arith
 few_starts Disk zero zero = omega arith
@@ -40,7 +40,7 @@ few_starts Disk (suc s) subs = omega arith
 few_starts Net (suc s) subs = omega arith
 
 -- what stands at a place of the start-up
-start_at : (kind : Kind) (sub subs : ℕ) (asks : List Want) (k : ℕ) (a : Want) → k < length (startup kind sub subs) → slice_get (startup kind sub subs ++ asks) k ≡ Some a → a ≡ Starts (step_at subs k)
+start_at : (kind : DeviceKind) (sub subs : ℕ) (asks : List Want) (k : ℕ) (a : Want) → k < length (startup kind sub subs) → slice_get (startup kind sub subs ++ asks) k ≡ Some a → a ≡ Starts (step_at subs k)
 start_at Beat zero subs asks zero a lt h = cc
 start_at Beat zero subs asks (suc k) a lt h = absurd (omega arith)
 start_at Down zero subs asks zero a lt h = cc
@@ -90,7 +90,7 @@ net_says (AskIc q) before p can = absurd can
 net_says (AskDisk q) before p can = absurd can
 net_says (AskNet m) before p can = ap (λ t. mapped nets.reply (cond t (net_said before p) None)) can
 
-answer_says : (kind : Kind) (ask : Ask) (before : Option (List ℕ)) (p : List ℕ) → IsAskable kind ask → (format_of kind).result (Script ask) before p ≡ said_on kind before p
+answer_says : (kind : DeviceKind) (ask : Ask) (before : Option (List ℕ)) (p : List ℕ) → IsAskable kind ask → (format_of kind).result (Script ask) before p ≡ said_on kind before p
 answer_says Beat ask before p can = says_so (service_codec Beat) services.request services.reply (services.ask (Script ask)) before p (asked_as 0 ask) (asked_is Beat 0 ask can)
 answer_says Down ask before p can = says_so (service_codec Down) services.request services.reply (services.ask (Script ask)) before p (asked_as 0 ask) (asked_is Down 0 ask can)
 answer_says Disk ask before p can = says_so disk_codec disks.request disks.reply (disks.ask (Script ask)) before p (asked_as 0 ask) (asked_is Disk 0 ask can)
@@ -134,7 +134,7 @@ module _ (t : ChannelScript) (can : CanAsk t.kind t.asks) where
 
 -- packets have words
 
-pub listed_service : (kind : Kind) (p : List ℕ) → listed_packet (service_fixed kind p) ≡ service_fixed kind p ∷ []
+pub listed_service : (kind : DeviceKind) (p : List ℕ) → listed_packet (service_fixed kind p) ≡ service_fixed kind p ∷ []
 unfolding service_fixed
 listed_service kind p = refl
 

@@ -3,8 +3,8 @@ use Rattle.std.proofs.Common.{◌≡◌, ℕ, zero, suc, ◌+◌, ◌==◌, Bool
 use Rattle.std.specs.Prelude.{map, is_some, not}
 use Rattle.std.proofs.lemmas.Bool.Decides.{nat_tests}
 use Rattle.std.specs.List.{AllByRecursion}
-use Rattle.contact.specs.declared.kind.Kind.{Kind}
-use Rattle.contact.specs.declared.kind.Kind.TheVariants.{Beat, Down, Disk, Net}
+use Rattle.contact.specs.declared.kind.DeviceKind.{DeviceKind}
+use Rattle.contact.specs.declared.kind.DeviceKind.TheVariants.{Beat, Down, Disk, Net}
 use Rattle.util_ic.specs.declared.ic.IcAsk.{IcAsk}
 use Rattle.util_ic.specs.declared.ic.IcAsk.TheVariants.{Beat as AskBeat, Down as AskDown}
 use Rattle.util_ic.specs.declared.ic.IcAnswer.{IcAnswer}
@@ -78,20 +78,20 @@ among_disks = record { found = λ q. refl; whole = disk_replied }
 among_nets : IsAmong nets
 among_nets = record { found = λ q. refl; whole = net_replied }
 
-pub keeps : (kind : Kind) → Keeps (format_of kind)
+pub keeps : (kind : DeviceKind) → Keeps (format_of kind)
 keeps Beat = lifts (format_by (service_codec Beat)) services among_services (service_keeps Beat)
 keeps Down = lifts (format_by (service_codec Down)) services among_services (service_keeps Down)
 keeps Disk = lifts (format_by disk_codec) disks among_disks disk_keeps
 keeps Net = lifts net_format nets among_nets net_keeps
 
 -- but for a network's there are no messages
-pub no_messages : (kind : Kind) → besides_on kind ≡ false → HasNoMessages (format_of kind)
+pub no_messages : (kind : DeviceKind) → besides_on kind ≡ false → HasNoMessages (format_of kind)
 no_messages Beat none = record { gives = λ p r. refl; fixed = (service_silent Beat).fixed }
 no_messages Down none = record { gives = λ p r. refl; fixed = (service_silent Down).fixed }
 no_messages Disk none = record { gives = λ p r. refl; fixed = disk_silent.fixed }
 no_messages Net none = cc
 
-pub may_have : (kind : Kind) → MayHaveMessages (format_of kind) (besides_on kind)
+pub may_have : (kind : DeviceKind) → MayHaveMessages (format_of kind) (besides_on kind)
 may_have Beat = no_messages Beat refl
 may_have Down = no_messages Down refl
 may_have Disk = no_messages Disk refl
@@ -106,13 +106,13 @@ none_for own None none = refl
 none_for own (Some b) none = ap (under_own own) (none b refl)
 
 -- so none goes back
-pub none_fixed : (kind : Kind) (p : List ℕ) → besides_on kind ≡ false → has_message_in ((format_of kind).fixed p) ≡ false
+pub none_fixed : (kind : DeviceKind) (p : List ℕ) → besides_on kind ≡ false → has_message_in ((format_of kind).fixed p) ≡ false
 none_fixed kind p none = none_in_back ((format_of kind).fixed p) ((no_messages kind none).fixed p)
 
-pub none_fixed_in : (kind : Kind) (own : ℕ) (p : List ℕ) → besides_on kind ≡ false → message_in own ((format_of kind).fixed p) ≡ None
+pub none_fixed_in : (kind : DeviceKind) (own : ℕ) (p : List ℕ) → besides_on kind ≡ false → message_in own ((format_of kind).fixed p) ≡ None
 none_fixed_in kind own p none = none_for own ((format_of kind).fixed p) ((no_messages kind none).fixed p)
 
-pub id_is : (kind : Kind) (p : List ℕ) → (format_of kind).id_of p ≡ id_of p
+pub id_is : (kind : DeviceKind) (p : List ℕ) → (format_of kind).id_of p ≡ id_of p
 id_is Beat p = refl
 id_is Down p = refl
 id_is Disk p = refl
@@ -121,14 +121,14 @@ id_is Net p = refl
 -- plans
 
 -- the start-up asks nothing of the device
-pub step_read : (kind : Kind) (id k : ℕ) → read_on kind (encode_on kind id (Starts k)) ≡ None
+pub step_read : (kind : DeviceKind) (id k : ℕ) → read_on kind (encode_on kind id (Starts k)) ≡ None
 step_read Beat id k = ap (mapped AskIc) (start_read Beat id)
 step_read Down id k = ap (mapped AskIc) (start_read Down id)
 step_read Disk id k = ap (mapped AskDisk) (disk_start_read id k)
 step_read Net id k = ap (mapped AskNet) (net_step_read id k)
 
 -- what goes back for the start-up is fixed
-pub start_is_fixed : (kind : Kind) (sub subs : ℕ) → AllFixed (format_of kind) (startup kind sub subs)
+pub start_is_fixed : (kind : DeviceKind) (sub subs : ℕ) → AllFixed (format_of kind) (startup kind sub subs)
 start_is_fixed Beat zero subs = (λ id. step_read Beat id 0, tt)
 start_is_fixed Down zero subs = (λ id. step_read Down id 0, tt)
 start_is_fixed Disk zero zero = (λ id. step_read Disk id 0, (λ id. step_read Disk id 1, (λ id. step_read Disk id 2, (λ id. step_read Disk id 3, tt))))
@@ -170,26 +170,26 @@ net_asked id (AskDisk q) can = absurd can
 net_asked id (AskNet m) can = ap (mapped AskNet) (asked_read id m can)
 
 -- the device is asked what the script asked
-pub asked_is : (kind : Kind) (id : ℕ) (ask : Ask) → IsAskable kind ask → read_on kind (encode_on kind id (Script ask)) ≡ Some (asked_as id ask)
+pub asked_is : (kind : DeviceKind) (id : ℕ) (ask : Ask) → IsAskable kind ask → read_on kind (encode_on kind id (Script ask)) ≡ Some (asked_as id ask)
 asked_is Beat id ask can = asked_so (service_codec Beat) AskIc IsBeatAsk id (beat_read id) ask (ic_request ask) (service_whole ask) can ∙ ap Some (service_same IsBeatAsk id ask can)
 asked_is Down id ask can = asked_so (service_codec Down) AskIc IsDownAsk id (down_read id) ask (ic_request ask) (service_whole ask) can ∙ ap Some (service_same IsDownAsk id ask can)
 asked_is Disk id ask can = asked_so disk_codec AskDisk IsDiskAsk id (disk_ask_read id) ask (disk_request ask) (disk_whole ask) can ∙ ap Some (disk_same IsDiskAsk id ask can)
 asked_is Net id ask can = net_asked id ask can
 
 -- the script asks the device
-pub script_asks : (kind : Kind) (asks : List Ask) → AllByRecursion (IsAskable kind) asks → AllAsk (format_of kind) (map Script asks)
+pub script_asks : (kind : DeviceKind) (asks : List Ask) → AllByRecursion (IsAskable kind) asks → AllAsk (format_of kind) (map Script asks)
 script_asks kind [] all = tt
 script_asks kind (ask ∷ asks) all = (λ id. (asked_as id ask, asked_is kind id ask all.0), script_asks kind asks all.1)
 
 -- what asks the device has an answer
-pub read_waits : (kind : Kind) (p : List ℕ) (q : Ask) → read_on kind p ≡ Some q → waits_on kind p ≡ true
+pub read_waits : (kind : DeviceKind) (p : List ℕ) (q : Ask) → read_on kind p ≡ Some q → waits_on kind p ≡ true
 read_waits kind p q h =
     by_test (waits_on kind p) (λ is. is) (λ not. let none : read_on kind p ≡ None = (keeps kind).unread p not in cc)
 
-pub script_waits : (kind : Kind) (ask : Ask) → IsAskable kind ask → has_answer_on kind (Script ask) ≡ true
+pub script_waits : (kind : DeviceKind) (ask : Ask) → IsAskable kind ask → has_answer_on kind (Script ask) ≡ true
 script_waits kind ask can = sym ((keeps kind).waits_ask 0 (Script ask)) ∙ read_waits kind (encode_on kind 0 (Script ask)) (asked_as 0 ask) (asked_is kind 0 ask can)
 
-pub start_answers : (kind : Kind) (k : ℕ) → has_answer_on kind (Starts k) ≡ start_answered kind k
+pub start_answers : (kind : DeviceKind) (k : ℕ) → has_answer_on kind (Starts k) ≡ start_answered kind k
 start_answers Beat k = start_waits 0
 start_answers Down k = start_waits 0
 start_answers Disk k = disk_start_waits 0 k
@@ -229,17 +229,17 @@ replied_so fits request own found (Some x) ask (Some y) (Some r) is h holds =
     let same : x ≡ y = cc in
     record { asked = y; replied = r; reads = ap Some same; is = refl; holds = holds }
 
-pub service_replies : (kind : Kind) (p : List ℕ) (q : Ask) (r : Reply) → mapped AskIc (service_read kind p) ≡ Some q → both_hold (service_fits kind) (ic_request q) (ic_reply r) ≡ true → Replied (service_read kind p) (service_fits kind) (ic_reply r)
+pub service_replies : (kind : DeviceKind) (p : List ℕ) (q : Ask) (r : Reply) → mapped AskIc (service_read kind p) ≡ Some q → both_hold (service_fits kind) (ic_request q) (ic_reply r) ≡ true → Replied (service_read kind p) (service_fits kind) (ic_reply r)
 service_replies kind p q r h fits = replied_so (service_fits kind) AskIc ic_request (λ x. refl) (service_read kind p) q (ic_request q) (ic_reply r) refl h fits
 
 -- the service's own answer carries its reply
-answers_so : (kind : Kind) (p : List ℕ) (r : Reply) → Replied (service_read kind p) (service_fits kind) (ic_reply r) → service_fixed kind p ≡ service_answer p (or_else services.other (ic_reply r))
+answers_so : (kind : DeviceKind) (p : List ℕ) (r : Reply) → Replied (service_read kind p) (service_fits kind) (ic_reply r) → service_fixed kind p ≡ service_answer p (or_else services.other (ic_reply r))
 answers_so kind p r own = served_answers kind p own.asked own.replied own.reads own.holds ∙ ap (λ o. service_answer p (or_else services.other o)) (sym own.is)
 
 -- what asks a service is in-band, and its own answer is the answer with its reply
-abbrev AnswersOn : Kind → List ℕ → Ask → Reply → Type 0
+abbrev AnswersOn : DeviceKind → List ℕ → Ask → Reply → Type 0
 AnswersOn kind p q r = read_on kind p ≡ Some q → fits_on kind q r ≡ true → (is_inband p ≡ true) × (service_fixed kind p ≡ answer_on kind p r)
 
-pub service_answers : (kind : Kind) → (kind ≡ Beat) ⊎ (kind ≡ Down) → (p : List ℕ) (q : Ask) (r : Reply) → AnswersOn kind p q r
+pub service_answers : (kind : DeviceKind) → (kind ≡ Beat) ⊎ (kind ≡ Down) → (p : List ℕ) (q : Ask) (r : Reply) → AnswersOn kind p q r
 service_answers kind (inl is) p q r = subst (λ k. AnswersOn k p q r) (sym is) (λ h fits. (read_waits Beat p q h, answers_so Beat p r (service_replies Beat p q r h fits)))
 service_answers kind (inr is) p q r = subst (λ k. AnswersOn k p q r) (sym is) (λ h fits. (read_waits Down p q h, answers_so Down p r (service_replies Down p q r h fits)))

@@ -1,5 +1,5 @@
 -- The packets of each kind of channel keep to their laws where items carry them.
-use Rattle.contact.specs.declared.kind.Kind.{Kind}
+use Rattle.contact.specs.declared.kind.DeviceKind.{DeviceKind}
 use Rattle.channel_model.specs.WireFormat.{Keeps}
 use Rattle.channel_model.specs.Amounts.{MayHaveMessages}
 use Rattle.channel_protocol.proofs.InPackets.{keeps_in_packets, may_in_packets}
@@ -7,8 +7,8 @@ use Rattle.device_formats.specs.Formats.{besides_on, format_of}
 use Rattle.device_formats.specs.ItemFormats.{item_format}
 use Rattle.device_formats.proofs.FormatLaws.{keeps, may_have}
 
-pub keeps_items : (kind : Kind) → Keeps (item_format kind)
+pub keeps_items : (kind : DeviceKind) → Keeps (item_format kind)
 keeps_items kind = keeps_in_packets (format_of kind) (keeps kind)
 
-pub may_items : (kind : Kind) → MayHaveMessages (item_format kind) (besides_on kind)
+pub may_items : (kind : DeviceKind) → MayHaveMessages (item_format kind) (besides_on kind)
 may_items kind = may_in_packets (format_of kind) (besides_on kind) (may_have kind)

@@ -1,6 +1,6 @@
 -- The channel of a service and that of a disk keep to the laws of a wire format, each in its own asks and replies.
 use Rattle.std.proofs.Common.{◌≡◌, ℕ, true, false, List, [], ◌++◌, Some, None, refl}
-use Rattle.contact.specs.declared.kind.Kind.{Kind}
+use Rattle.contact.specs.declared.kind.DeviceKind.{DeviceKind}
 use Rattle.util_ic.specs.declared.ic.IcAsk.{IcAsk}
 use Rattle.util_ic.specs.declared.ic.IcAnswer.{IcAnswer}
 use Rattle.util_ic.specs.Messages.{ask_bytes, negotiate_bytes}
@@ -20,7 +20,7 @@ use Rattle.device_formats.proofs.DiskLaws.{waits_any, read_any}
 use Rattle.device_formats.proofs.DoneLaws.{reply_read as disk_reply_read}
 use Rattle.device_formats.proofs.ServiceLaws.{inband_any, service_any, reply_read}
 
-module _ (kind : Kind) where
+module _ (kind : DeviceKind) where
   id_service : (id : ℕ) (a : WantOf IcAsk) → id_of (service_encode id a) ≡ id
   id_service id (Step k) = refl
   id_service id (Request ask) = refl

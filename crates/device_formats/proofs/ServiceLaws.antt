@@ -6,7 +6,7 @@ use Rattle.wire_table.specs.Little.{number_of, bytes_of}
 use Rattle.wire_table.proofs.RowLaws.{IsBytes, length-spelled_after}
 use Rattle.vm_page.specs.Words.{words_for}
 use Rattle.pkt_desc.specs.Packets.{id_of, inband_packet}
-use Rattle.contact.specs.declared.kind.Kind.{Kind}
+use Rattle.contact.specs.declared.kind.DeviceKind.{DeviceKind}
 use Rattle.util_ic.specs.declared.ic.IcAsk.{IcAsk}
 use Rattle.util_ic.specs.declared.ic.IcAsk.TheVariants.{Beat, Down}
 use Rattle.util_ic.specs.declared.ic.IcAnswer.{IcAnswer}
@@ -34,7 +34,7 @@ pub inband_any : (id flags : ℕ) (bs : List ℕ) → is_inband (inband_packet i
 unfolding is_inband
 inband_any id flags bs = refl
 
-pub service_any : (kind : Kind) (id flags : ℕ) (bs : List ℕ) → service_read kind (inband_packet id flags bs) ≡ service_read kind (inband_packet 0 flags bs)
+pub service_any : (kind : DeviceKind) (id flags : ℕ) (bs : List ℕ) → service_read kind (inband_packet id flags bs) ≡ service_read kind (inband_packet 0 flags bs)
 unfolding service_read is_inband
 service_any kind id flags bs =
     let same : content_of (inband_packet id flags bs) ≡ content_of (inband_packet 0 flags bs) = content_any 6 id flags bs (lit< tt) ∙ sym (content_any 6 0 flags bs (lit< tt)) in
@@ -76,13 +76,13 @@ long_here : (more : List ℕ) → 28 ≤ length (negotiate_bytes ++ more)
 unfolding bytes_of
 long_here more = omega arith
 
-start_asks : (kind : Kind) (more : List ℕ) → ask_of kind (negotiate_bytes ++ more) ≡ None
+start_asks : (kind : DeviceKind) (more : List ℕ) → ask_of kind (negotiate_bytes ++ more) ≡ None
 start_asks kind more =
     let b = negotiate_bytes ++ more in
     ap (λ r. asked_by r b) (sym (type_zero kind b (long_here more) (type_here more)))
     ∙ negotiation_asks (nat_lt (length b) 36 || nat_lt (length b) (versions_end b)) (greatest_known (frames_in b)) (greatest_known (messages_in b)) b
 
-pub start_read : (kind : Kind) (id : ℕ) → service_read kind (negotiate_packet id) ≡ None
+pub start_read : (kind : DeviceKind) (id : ℕ) → service_read kind (negotiate_packet id) ≡ None
 unfolding service_read content_of
 start_read kind id =
     rw (start_waits id) (ap (ask_of kind) (negotiate_carries id).bytes_are ∙ start_asks kind (replicate (8 * words_for (length negotiate_bytes) - length negotiate_bytes) 0))
@@ -95,7 +95,7 @@ both true false h = cc
 both false b h = cc
 
 -- each reply of the service fits
-pub reply_fits : (kind : Kind) (q : IcAsk) (r : IcAnswer) → r ≡ reply_of kind q → service_fits kind q r ≡ true
+pub reply_fits : (kind : DeviceKind) (q : IcAsk) (r : IcAnswer) → r ≡ reply_of kind q → service_fits kind q r ≡ true
 unfolding service_fits
 reply_fits kind q r is =
     let status : (r.status == (reply_of kind q).status) ≡ true = grind (arith, nat_tests, ap (λ x. x.status) is) in
@@ -103,7 +103,7 @@ reply_fits kind q r is =
     rw (status, seq) refl
 
 -- and no other does
-pub reply_is : (kind : Kind) (q : IcAsk) (r : IcAnswer) → service_fits kind q r ≡ true → r ≡ reply_of kind q
+pub reply_is : (kind : DeviceKind) (q : IcAsk) (r : IcAnswer) → service_fits kind q r ≡ true → r ≡ reply_of kind q
 unfolding service_fits
 reply_is kind q r h =
     let t = reply_of kind q in
@@ -122,7 +122,7 @@ room_if false false true downs cut f m b q n x y h = (x refl, x refl)
 room_if false false false true cut f m b q n x y h = let le = y refl in (le, omega (arith, le))
 room_if false false false false cut f m b q n x y h = cc
 
-pub room : (kind : Kind) (b : List ℕ) (q : IcAsk) → ask_of kind b ≡ Some q → HasRoom (row_of kind b) (length b) × (36 ≤ length b)
+pub room : (kind : DeviceKind) (b : List ℕ) (q : IcAsk) → ask_of kind b ≡ Some q → HasRoom (row_of kind b) (length b) × (36 ≤ length b)
 room kind b q h =
     room_if (nat_lt (length b) 28) (type_of b == 0) ((type_of b == 1) && on_beat kind && nat_le 36 (length b)) ((type_of b == 3) && on_down kind && nat_le 40 (length b))
     (nat_lt (length b) 36 || nat_lt (length b) (versions_end b)) (greatest_known (frames_in b)) (greatest_known (messages_in b)) b q (length b)
@@ -130,7 +130,7 @@ room kind b q h =
     (λ is. let le = right ((type_of b == 3) && on_down kind) (nat_le 40 (length b)) is in grind (arith, nat_tests, le)) h
 
 -- the answer to what asks the service
-pub asked_answer : (kind : Kind) (b : List ℕ) (q : IcAsk) → ask_of kind b ≡ Some q → Answered kind q b (utility_answer kind b)
+pub asked_answer : (kind : DeviceKind) (b : List ℕ) (q : IcAsk) → ask_of kind b ≡ Some q → Answered kind q b (utility_answer kind b)
 asked_answer kind b q h = answered (row_of kind b) kind b q refl (room kind b q h).0 h
 
 with_seq_if : (beats : Bool) (seq : ℕ) (b : List ℕ) → 36 ≤ length b → IsBytes b → (length (cond beats (with_seq seq b) b) ≡ length b) × IsBytes (cond beats (with_seq seq b) b)
@@ -145,7 +145,7 @@ answer_formed b r long bytes =
     (length-put 25 1 5 (put 20 4 r.status x) (omega (arith, inner, one.0)) ∙ (inner ∙ one.0), put_bytes 25 1 5 (put 20 4 r.status x) (put_bytes 20 4 r.status x one.1))
 
 -- what the answer with the service's reply says is that reply
-pub reply_read : (kind : Kind) (id flags : ℕ) (bs : List ℕ) (q : IcAsk) (r : IcAnswer) → service_read kind (inband_packet id flags bs) ≡ Some q → service_fits kind q r ≡ true
+pub reply_read : (kind : DeviceKind) (id flags : ℕ) (bs : List ℕ) (q : IcAsk) (r : IcAnswer) → service_read kind (inband_packet id flags bs) ≡ Some q → service_fits kind q r ≡ true
     → service_result kind (service_answer (inband_packet id flags bs) r) ≡ Some r
 unfolding service_read service_result service_answer is_inband
 reply_read kind id flags bs q r h fits =
@@ -167,7 +167,7 @@ reply_read kind id flags bs q r h fits =
     ap (λ t. cond t (Some (answer_of kind (content_of a))) None) comes ∙ ap Some says
 
 -- the service's own answer to what asks it carries the reply
-pub served_answers : (kind : Kind) (p : List ℕ) (q : IcAsk) (r : IcAnswer) → service_read kind p ≡ Some q → service_fits kind q r ≡ true → service_fixed kind p ≡ service_answer p r
+pub served_answers : (kind : DeviceKind) (p : List ℕ) (q : IcAsk) (r : IcAnswer) → service_read kind p ≡ Some q → service_fits kind q r ≡ true → service_fixed kind p ≡ service_answer p r
 unfolding service_read service_fixed service_answer
 served_answers kind p q r h fits =
     let b = content_of p in

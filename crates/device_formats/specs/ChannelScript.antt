@@ -1,7 +1,7 @@
 -- One end's part in the protocol of a channel.
 use Rattle.std.specs.Prelude.{ℕ, ◌<◌, ◌^◌, List, ◌++◌, map, length}
 use Rattle.std.specs.List.{AllByRecursion}
-use Rattle.contact.specs.declared.kind.Kind.{Kind}
+use Rattle.contact.specs.declared.kind.DeviceKind.{DeviceKind}
 use Rattle.script_lines.specs.declared.line.Ask.{Ask}
 use Rattle.device_formats.specs.declared.want.Want.{Want}
 use Rattle.device_formats.specs.declared.want.Want.TheVariants.{Script}
@@ -9,7 +9,7 @@ use Rattle.device_formats.specs.Wants.{startup, IsAskable}
 
 -- the kind of channel, its number among its device's channels, how many are beside the first one, and what the script asks on it
 pub record ChannelScript : Type 0 where
-  pub kind : Kind
+  pub kind : DeviceKind
   pub sub : ℕ
   pub subs : ℕ
   pub asks : List Ask
@@ -19,6 +19,6 @@ abbrev pub asks_of : ChannelScript → List Want
 asks_of t = startup t.kind t.sub t.subs ++ map Script t.asks
 
 -- all of it can be asked, and there is room to count it in
-pub record CanAsk (kind : Kind) (asks : List Ask) : Type 0 where
+pub record CanAsk (kind : DeviceKind) (asks : List Ask) : Type 0 where
   pub can : AllByRecursion (IsAskable kind) asks
   pub few : length asks < 2 ^ 31

@@ -1,7 +1,7 @@
 -- What the packets of each kind of channel say.
 use Rattle.std.specs.Prelude.{ℕ, Bool, true, false, List, Option}
-use Rattle.contact.specs.declared.kind.Kind.{Kind}
-use Rattle.contact.specs.declared.kind.Kind.TheVariants.{Beat, Down, Disk, Net}
+use Rattle.contact.specs.declared.kind.DeviceKind.{DeviceKind}
+use Rattle.contact.specs.declared.kind.DeviceKind.TheVariants.{Beat, Down, Disk, Net}
 use Rattle.script_lines.specs.declared.line.Ask.{Ask}
 use Rattle.script_lines.specs.declared.line.Ask.TheVariants.{Ic as AskIc, Disk as AskDisk, Net as AskNet}
 use Rattle.bus_script.specs.declared.outcome.Reply.{Reply}
@@ -15,21 +15,21 @@ use Rattle.device_formats.specs.Nets.{with_id, request_id_of, net_said, net_form
 use Rattle.device_formats.specs.Kinds.{services, disks, nets}
 
 -- what both ends of a channel of this kind say: its own wire format, in the asks and replies of all kinds
-abbrev pub format_of : Kind → WireFormat (List ℕ) Want Ask Reply
+abbrev pub format_of : DeviceKind → WireFormat (List ℕ) Want Ask Reply
 format_of Beat = lift (format_by (service_codec Beat)) services
 format_of Down = lift (format_by (service_codec Down)) services
 format_of Disk = lift (format_by disk_codec) disks
 format_of Net = lift net_format nets
 
 -- whether messages go back besides the answers: what comes back of a network's adapter
-abbrev pub besides_on : Kind → Bool
+abbrev pub besides_on : DeviceKind → Bool
 besides_on Beat = false
 besides_on Down = false
 besides_on Disk = false
 besides_on Net = true
 
 -- the packet that asks, under an id
-abbrev pub encode_on : Kind → ℕ → Want → List ℕ
+abbrev pub encode_on : DeviceKind → ℕ → Want → List ℕ
 encode_on kind id a = (format_of kind).encode id a
 
 -- what the device is asked where the script asks this under an id: a message for an adapter has the id of its packet
@@ -39,27 +39,27 @@ asked_as id (AskDisk request) = AskDisk request
 asked_as id (AskNet message) = AskNet (with_id (request_id_of id) message)
 
 -- what a packet asks of the device
-abbrev pub read_on : Kind → List ℕ → Option Ask
+abbrev pub read_on : DeviceKind → List ℕ → Option Ask
 read_on kind p = (format_of kind).read p
 
 -- a packet has an answer, and an ask has one
-abbrev pub waits_on : Kind → List ℕ → Bool
+abbrev pub waits_on : DeviceKind → List ℕ → Bool
 waits_on kind p = (format_of kind).waits p
 
-abbrev pub has_answer_on : Kind → Want → Bool
+abbrev pub has_answer_on : DeviceKind → Want → Bool
 has_answer_on kind a = (format_of kind).has_answer a
 
 -- what an answer says, with the message that came just before it, if one did
-abbrev pub said_on : Kind → Option (List ℕ) → List ℕ → Option Reply
+abbrev pub said_on : DeviceKind → Option (List ℕ) → List ℕ → Option Reply
 said_on Beat before p = mapped services.reply (service_result Beat p)
 said_on Down before p = mapped services.reply (service_result Down p)
 said_on Disk before p = mapped disks.reply (disk_result p)
 said_on Net before p = mapped nets.reply (net_said before p)
 
 -- the device may reply so
-abbrev pub fits_on : Kind → Ask → Reply → Bool
+abbrev pub fits_on : DeviceKind → Ask → Reply → Bool
 fits_on kind q r = (format_of kind).fits q r
 
 -- the answer with the device's reply
-abbrev pub answer_on : Kind → List ℕ → Reply → List ℕ
+abbrev pub answer_on : DeviceKind → List ℕ → Reply → List ℕ
 answer_on kind p r = ((format_of kind).gives p r).answer

@@ -1,6 +1,6 @@
 -- What the packets of a utility channel say: the host asks a service of the guest.
 use Rattle.std.specs.Prelude.{ℕ, ◌==◌, Bool, ◌&&◌, List, Option, Some, None, if◌then◌else◌}
-use Rattle.contact.specs.declared.kind.Kind.{Kind}
+use Rattle.contact.specs.declared.kind.DeviceKind.{DeviceKind}
 use Rattle.util_ic.specs.declared.ic.IcAsk.{IcAsk}
 use Rattle.util_ic.specs.declared.ic.IcAnswer.{IcAnswer}
 use Rattle.util_ic.specs.Asks.{ask_of, answer_of, reply_of}
@@ -10,11 +10,11 @@ use Rattle.device_formats.specs.Packets.{is_inband, content_of}
 use Rattle.device_formats.specs.Codecs.{WantOf, Step, Request, Codec}
 
 -- what a packet asks of the service of this kind
-unfoldable pub service_read : Kind → List ℕ → Option IcAsk
+unfoldable pub service_read : DeviceKind → List ℕ → Option IcAsk
 service_read kind p = if is_inband p then ask_of kind (content_of p) else None
 
 -- the answer to a packet that asks nothing of the service
-unfoldable pub service_fixed : Kind → List ℕ → List ℕ
+unfoldable pub service_fixed : DeviceKind → List ℕ → List ℕ
 service_fixed kind p = served_packet (id_of p) kind (content_of p)
 
 -- the answer with the service's reply
@@ -22,11 +22,11 @@ unfoldable pub service_answer : List ℕ → IcAnswer → List ℕ
 service_answer p r = answer_packet (id_of p) (content_of p) r
 
 -- what an answer says
-unfoldable pub service_result : Kind → List ℕ → Option IcAnswer
+unfoldable pub service_result : DeviceKind → List ℕ → Option IcAnswer
 service_result kind p = if is_inband p then Some (answer_of kind (content_of p)) else None
 
 -- the service replies so
-unfoldable pub service_fits : Kind → IcAsk → IcAnswer → Bool
+unfoldable pub service_fits : DeviceKind → IcAsk → IcAnswer → Bool
 service_fits kind q r = (r.status == (reply_of kind q).status) && (r.seq == (reply_of kind q).seq)
 
 -- the packet that asks a service: of its versions in the start-up
@@ -35,7 +35,7 @@ service_encode id (Step k) = negotiate_packet id
 service_encode id (Request ask) = ask_packet id ask
 
 -- the channel of a service of this kind: each in-band packet has an answer
-abbrev pub service_codec : Kind → Codec (WantOf IcAsk) IcAsk IcAnswer
+abbrev pub service_codec : DeviceKind → Codec (WantOf IcAsk) IcAsk IcAnswer
 service_codec kind = record {
   encode = service_encode;
   waits = is_inband;

@@ -1,7 +1,7 @@
 -- What can be asked on a channel of each kind, and what its start-up asks.
 use Rattle.std.specs.Prelude.{ℕ, ◌≡◌, zero, suc, ◌+◌, ◌<◌, ◌^◌, ◌==◌, Bool, true, not, if◌then◌else◌, List, [], ◌∷◌, ◌++◌, Option, Some, None}
-use Rattle.contact.specs.declared.kind.Kind.{Kind}
-use Rattle.contact.specs.declared.kind.Kind.TheVariants.{Beat, Down, Disk, Net}
+use Rattle.contact.specs.declared.kind.DeviceKind.{DeviceKind}
+use Rattle.contact.specs.declared.kind.DeviceKind.TheVariants.{Beat, Down, Disk, Net}
 use Rattle.util_ic.specs.declared.ic.IcAsk.{IcAsk}
 use Rattle.util_ic.specs.declared.ic.IcAsk.TheVariants.{Beat as AskBeat, Down as AskDown}
 use Rattle.rndis_msg.specs.declared.rndis.Rndis.{Rndis}
@@ -15,21 +15,21 @@ use Rattle.device_formats.specs.Nets.{can_ask}
 use Rattle.device_formats.specs.Kinds.{ic_request, disk_request, net_request}
 
 -- a utility service negotiates its versions, a disk starts up in four steps, and a network in three
-abbrev pub first_steps : Kind → List Want
+abbrev pub first_steps : DeviceKind → List Want
 first_steps Beat = Starts 0 ∷ []
 first_steps Down = Starts 0 ∷ []
 first_steps Disk = Starts 0 ∷ Starts 1 ∷ Starts 2 ∷ Starts 3 ∷ []
 first_steps Net = Starts 0 ∷ Starts 1 ∷ Starts 2 ∷ []
 
 -- each step has an answer, but for the second one of a network, which tells the host a version
-abbrev pub start_answered : Kind → ℕ → Bool
+abbrev pub start_answered : DeviceKind → ℕ → Bool
 start_answered Beat k = true
 start_answered Down k = true
 start_answered Disk k = true
 start_answered Net k = not (k == 1)
 
 -- behind them a disk with sub-channels is asked for them: the step that asks for so many has a number of its own
-abbrev pub subs_asked : Kind → ℕ → List Want
+abbrev pub subs_asked : DeviceKind → ℕ → List Want
 subs_asked Beat subs = []
 subs_asked Down subs = []
 subs_asked Disk zero = []
@@ -37,7 +37,7 @@ subs_asked Disk (suc n) = Starts (3 + suc n) ∷ []
 subs_asked Net subs = []
 
 -- the start-up of a channel, which has this number among its device's channels, where so many are beside the first one: a sub-channel has none
-abbrev pub startup : Kind → ℕ → ℕ → List Want
+abbrev pub startup : DeviceKind → ℕ → ℕ → List Want
 startup kind zero subs = first_steps kind ++ subs_asked kind subs
 startup kind (suc n) subs = []
 
@@ -73,7 +73,7 @@ CanBe Can None = ⊥
 CanBe Can (Some q) = Can q
 
 -- this can be asked on a channel of this kind
-abbrev pub IsAskable : Kind → Ask → Type 0
+abbrev pub IsAskable : DeviceKind → Ask → Type 0
 IsAskable Beat ask = CanBe IsBeatAsk (ic_request ask)
 IsAskable Down ask = CanBe IsDownAsk (ic_request ask)
 IsAskable Disk ask = CanBe IsDiskAsk (disk_request ask)

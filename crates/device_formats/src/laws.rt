@@ -1,8 +1,8 @@
 //! Laws of what the packets of each kind of channel say: each function does nothing, and its contract is a law.
 ghost use Rattle.std.specs.Prelude.{◌≡◌, ℕ, ◌≤◌, true, List, Some, Ok, map};
 ghost use Rattle.std.specs.List.{AllByRecursion};
-ghost use Rattle.contact.specs.declared.kind.Kind.{Kind};
-ghost use Rattle.contact.specs.declared.kind.Kind.TheVariants.{Net};
+ghost use Rattle.contact.specs.declared.kind.DeviceKind.{DeviceKind};
+ghost use Rattle.contact.specs.declared.kind.DeviceKind.TheVariants.{Net};
 ghost use Rattle.rndis_msg.specs.declared.rndis.Rndis.{Rndis as Message};
 ghost use Rattle.net_dev.specs.declared.reply.NetReply.{NetReply};
 ghost use Rattle.net_dev.specs.Station.{Keeps as StationKeeps};
@@ -25,7 +25,7 @@ ghost use Rattle.device_formats.specs.Formats.{asked_as, besides_on, encode_on, 
 /// The packets of a service's channel keep to the laws of a wire format in the service's own requests and replies, those of a disk's in the disk's, and those of a
 /// network's in the adapter's.
 pub fn kinds_keep()
-    ensures service { (kind : Kind) → Keeps (format_by (service_codec kind)) }
+    ensures service { (kind : DeviceKind) → Keeps (format_by (service_codec kind)) }
     ensures disk { Keeps (format_by disk_codec) }
     ensures net { Keeps net_format }
 {}
@@ -33,18 +33,18 @@ pub fn kinds_keep()
 /// The packets of each kind of channel, in the requests and replies of all kinds, keep to the laws of a wire format: each request that has an answer is answered once, under its id, and the reply is
 /// read in the answer.
 pub fn keeps_to_its_laws()
-    ensures { (kind : Kind) → Keeps (format_of kind) }
+    ensures { (kind : DeviceKind) → Keeps (format_of kind) }
 {}
 
 /// And so do the items that carry them on a channel without data pages. A disk and a service give no message besides the answer.
 pub fn items_keep_to_them()
-    ensures keeps { (kind : Kind) → Keeps (item_format kind) }
-    ensures may { (kind : Kind) → MayHaveMessages (item_format kind) (besides_on kind) }
+    ensures keeps { (kind : DeviceKind) → Keeps (item_format kind) }
+    ensures may { (kind : DeviceKind) → MayHaveMessages (item_format kind) (besides_on kind) }
 {}
 
 /// What goes back for a start-up is fixed: no device is asked.
 pub fn start_up_is_fixed()
-    ensures { (kind : Kind) (sub subs : ℕ) → AllFixed (format_of kind) (startup kind sub subs) }
+    ensures { (kind : DeviceKind) (sub subs : ℕ) → AllFixed (format_of kind) (startup kind sub subs) }
 {}
 
 /// The start-up of a disk's first channel asks in the end for as many sub-channels as there are, and that many are granted.
@@ -54,7 +54,7 @@ pub fn asks_for_sub_channels()
 
 /// Each request of a script that can be asked asks the device.
 pub fn scripts_ask()
-    ensures { (kind : Kind) (asks : List Ask) → AllByRecursion (IsAskable kind) asks → AllAsk (format_of kind) (map Script asks) }
+    ensures { (kind : DeviceKind) (asks : List Ask) → AllByRecursion (IsAskable kind) asks → AllAsk (format_of kind) (map Script asks) }
 {}
 
 /// Each message that a line of a script sends can be asked.
@@ -69,5 +69,5 @@ pub fn adapter_replies_fit()
 
 /// The device is asked exactly what the script asked; a message for an adapter that has a request id has that of its packet.
 pub fn asks_what_was_asked()
-    ensures { (kind : Kind) (id : ℕ) (ask : Ask) → IsAskable kind ask → read_on kind (encode_on kind id (Script ask)) ≡ Some (asked_as id ask) }
+    ensures { (kind : DeviceKind) (id : ℕ) (ask : Ask) → IsAskable kind ask → read_on kind (encode_on kind id (Script ask)) ≡ Some (asked_as id ask) }
 {}

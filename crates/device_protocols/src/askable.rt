@@ -7,22 +7,22 @@ ghost use Rattle.device_formats.specs.Nets.{can_ask};
 ghost use Rattle.device_formats.specs.Wants.{IsBeatAsk, IsDownAsk, IsAskable};
 
 use bus_script::Ask;
-use contact::Kind;
+use contact::DeviceKind;
 use rndis_msg::Rndis;
 use scsi_disk::Command;
 use util_ic::IcAsk;
 
 /// Whether this can be asked on a channel of this kind, and exactly that: a heartbeat, a shutdown, or of a disk a built command that moves at most 2,048 bytes, with data
 /// exactly where it is a write, and of an adapter a frame, a query, a set, a reset or a keepalive.
-pub fn is_askable(kind: Kind, ask: &Ask) -> bool
+pub fn is_askable(kind: DeviceKind, ask: &Ask) -> bool
     ensures can { result ≡ true → IsAskable kind ask.now }
     ensures only { IsAskable kind ask.now → result ≡ true }
 {
     match (kind, ask) {
-        (Kind::Beat, Ask::Ic(ask)) => is_beat_ask(*ask),
-        (Kind::Down, Ask::Ic(ask)) => is_down_ask(*ask),
-        (Kind::Disk, Ask::Disk(request)) => is_disk_ask(&request.cdb, request.out.bytes()),
-        (Kind::Net, Ask::Net(message)) => is_net_ask(message),
+        (DeviceKind::Beat, Ask::Ic(ask)) => is_beat_ask(*ask),
+        (DeviceKind::Down, Ask::Ic(ask)) => is_down_ask(*ask),
+        (DeviceKind::Disk, Ask::Disk(request)) => is_disk_ask(&request.cdb, request.out.bytes()),
+        (DeviceKind::Net, Ask::Net(message)) => is_net_ask(message),
         _ => false,
     }
 }

@@ -33,7 +33,7 @@ use crate::services::{
 };
 use bus_script::{Ask, Reply};
 use channel_protocol::{Protocol, Written};
-use contact::Kind;
+use contact::DeviceKind;
 use device_formats::Want;
 use rndis_msg::Rndis;
 use scsi_disk::{DiskReply, DiskRequest};
@@ -49,7 +49,7 @@ use util_ic::IcAsk;
 /// is fixed.
 #[derive(Drop)]
 pub struct DeviceProtocol {
-    kind: Kind,
+    kind: DeviceKind,
     sub: u32,
     subs: u32,
     asks: Vec<Ask>,
@@ -68,7 +68,7 @@ impl Model for DeviceProtocol {
 
 impl DeviceProtocol {
     /// The protocol of a channel of this kind on which this is asked.
-    pub fn make(kind: Kind, sub: u32, subs: u32, asks: Vec<Ask>) -> DeviceProtocol
+    pub fn make(kind: DeviceKind, sub: u32, subs: u32, asks: Vec<Ask>) -> DeviceProtocol
         requires subs { subs ≤ 3 }
         requires can { AllByRecursion (IsAskable kind) asks.items }
         requires few { length asks.items < 2 ^ 31 }
@@ -83,7 +83,7 @@ impl DeviceProtocol {
     }
 
     /// The kind of the channel.
-    pub fn kind(&self) -> Kind
+    pub fn kind(&self) -> DeviceKind
         ensures { result ≡ self.now.kind }
     {
         self.kind
@@ -122,7 +122,7 @@ impl DeviceProtocol {
 
 /// The id of a packet.
 #[tactic(auto, using(device_formats::proofs::FormatLaws::id_is))]
-fn id(kind: Kind, packet: &[u64]) -> u64
+fn id(kind: DeviceKind, packet: &[u64]) -> u64
     requires { IsPacket packet.now }
     ensures { result ≡ (format_of kind).id_of packet.now }
 {
@@ -130,50 +130,50 @@ fn id(kind: Kind, packet: &[u64]) -> u64
 }
 
 /// Whether messages go back besides the answers: a disk and a service give one packet for each request, and a network may give two.
-fn besides_on(kind: Kind) -> bool
+fn besides_on(kind: DeviceKind) -> bool
     ensures { result ≡ besides_on kind }
 {
     match kind {
-        Kind::Beat | Kind::Down | Kind::Disk => false,
-        Kind::Net => true,
+        DeviceKind::Beat | DeviceKind::Down | DeviceKind::Disk => false,
+        DeviceKind::Net => true,
     }
 }
 
 /// Whether a step of the start-up has an answer.
-fn start_answered(kind: Kind, step: u32) -> bool
+fn start_answered(kind: DeviceKind, step: u32) -> bool
     ensures { result ≡ start_answered kind step }
 {
     match kind {
-        Kind::Beat | Kind::Down | Kind::Disk => true,
-        Kind::Net => step != 1,
+        DeviceKind::Beat | DeviceKind::Down | DeviceKind::Disk => true,
+        DeviceKind::Net => step != 1,
     }
 }
 
 /// How many requests each start-up of a channel of this kind begins with.
-fn count_first(kind: Kind) -> u32
+fn count_first(kind: DeviceKind) -> u32
     ensures value { result ≡ length (first_steps kind) }
     ensures few { result ≤ 4 }
 {
     match kind {
-        Kind::Beat | Kind::Down => 1,
-        Kind::Disk => 4,
-        Kind::Net => 3,
+        DeviceKind::Beat | DeviceKind::Down => 1,
+        DeviceKind::Disk => 4,
+        DeviceKind::Net => 3,
     }
 }
 
 /// How many ask for sub-channels behind them, of which there are so many.
-fn count_asking(kind: Kind, subs: u32) -> u32
+fn count_asking(kind: DeviceKind, subs: u32) -> u32
     ensures value { result ≡ length (subs_asked kind subs) }
     ensures few { result ≤ 1 }
 {
     match kind {
-        Kind::Disk => if subs == 0 { 0 } else { 1 },
-        Kind::Beat | Kind::Down | Kind::Net => 0,
+        DeviceKind::Disk => if subs == 0 { 0 } else { 1 },
+        DeviceKind::Beat | DeviceKind::Down | DeviceKind::Net => 0,
     }
 }
 
 /// How many requests the start-up of a channel has.
-fn count_starts(kind: Kind, sub: u32, subs: u32) -> u32
+fn count_starts(kind: DeviceKind, sub: u32, subs: u32) -> u32
     ensures value { result ≡ length (startup kind sub subs) }
     ensures few { result ≤ 5 }
 {
@@ -193,7 +193,7 @@ fn step_at(subs: u32, k: u32) -> u32
 }
 
 /// Writes the k-th packet of the start-up under an id: its words.
-fn encode_start(kind: Kind, sub: u32, subs: u32, k: u32, id: u64, out: &mut [u64]) -> usize
+fn encode_start(kind: DeviceKind, sub: u32, subs: u32, k: u32, id: u64, out: &mut [u64]) -> usize
     requires some { k < length (startup kind sub subs) }
     requires subs { subs ≤ 3 }
     requires out { length out.old ≡ 384 }
@@ -202,9 +202,9 @@ fn encode_start(kind: Kind, sub: u32, subs: u32, k: u32, id: u64, out: &mut [u64
     ensures most { result ≤ 384 }
 {
     match kind {
-        Kind::Beat | Kind::Down => write_negotiate(kind, id, out),
-        Kind::Disk => write_start(step_at(subs, k), id, out),
-        Kind::Net => write_net_start(step_at(subs, k), id, out),
+        DeviceKind::Beat | DeviceKind::Down => write_negotiate(kind, id, out),
+        DeviceKind::Disk => write_start(step_at(subs, k), id, out),
+        DeviceKind::Net => write_net_start(step_at(subs, k), id, out),
     }
 }
 
@@ -253,7 +253,7 @@ fn disk_reply(reply: &Reply) -> &DiskReply
 }
 
 /// Writes the packet that asks this under an id: its words.
-fn encode_ask(kind: Kind, ask: &Ask, id: u64, out: &mut [u64]) -> usize
+fn encode_ask(kind: DeviceKind, ask: &Ask, id: u64, out: &mut [u64]) -> usize
     requires can { IsAskable kind ask.now }
     requires out { length out.old ≡ 384 }
     ensures packet { take result out.new ≡ encode_on kind id (Script ask.now) }
@@ -261,21 +261,21 @@ fn encode_ask(kind: Kind, ask: &Ask, id: u64, out: &mut [u64]) -> usize
     ensures most { result ≤ 384 }
 {
     match kind {
-        Kind::Beat | Kind::Down => write_ask(ic_request(ask), id, out),
-        Kind::Disk => write_disk_ask(disk_request(ask), id, out),
-        Kind::Net => write_net_ask(net_request(ask), id, out),
+        DeviceKind::Beat | DeviceKind::Down => write_ask(ic_request(ask), id, out),
+        DeviceKind::Disk => write_disk_ask(disk_request(ask), id, out),
+        DeviceKind::Net => write_net_ask(net_request(ask), id, out),
     }
 }
 
 /// Whether a packet is a request that has an answer.
-fn waits(kind: Kind, packet: &[u64]) -> bool
+fn waits(kind: DeviceKind, packet: &[u64]) -> bool
     requires { IsPacket packet.now }
     ensures { result ≡ ((format_of kind).is_request packet.now && waits_on kind packet.now) }
 {
     match kind {
-        Kind::Beat | Kind::Down => is_inband(packet),
-        Kind::Disk => is_disk_request(packet),
-        Kind::Net => is_net_request(packet),
+        DeviceKind::Beat | DeviceKind::Down => is_inband(packet),
+        DeviceKind::Disk => is_disk_request(packet),
+        DeviceKind::Net => is_net_request(packet),
     }
 }
 
@@ -287,17 +287,17 @@ fn plain(asks: bool) -> Option<Head>
 }
 
 /// Decodes a packet that asks the device: of a disk's, its storage packet.
-fn head(kind: Kind, packet: &[u64]) -> Option<Head>
+fn head(kind: DeviceKind, packet: &[u64]) -> Option<Head>
     requires { IsPacket packet.now }
     ensures { MatchOption result (read_on kind packet.now ≡ None) (λ h. IsSome (read_on kind packet.now) × IsHead kind packet.now h) }
 {
     match kind {
-        Kind::Beat | Kind::Down => plain(asks_service(kind, packet)),
-        Kind::Disk => match disk_head(packet) {
+        DeviceKind::Beat | DeviceKind::Down => plain(asks_service(kind, packet)),
+        DeviceKind::Disk => match disk_head(packet) {
             Some(v) => Some(Head::Srb(v)),
             None => None,
         },
-        Kind::Net => plain(asks_net(packet)),
+        DeviceKind::Net => plain(asks_net(packet)),
     }
 }
 
@@ -311,21 +311,21 @@ fn srb(head: &Head) -> &Vstor
 }
 
 /// What a packet with this head asks of the device.
-fn read(kind: Kind, packet: &[u64], head: &Head) -> Ask
+fn read(kind: DeviceKind, packet: &[u64], head: &Head) -> Ask
     requires packet { IsPacket packet.now }
     requires head { IsHead kind packet.now head.now }
     requires asks { IsSome (read_on kind packet.now) }
     ensures { read_on kind packet.now ≡ Some result }
 {
     match kind {
-        Kind::Beat | Kind::Down => Ask::Ic(read_service(kind, packet)),
-        Kind::Disk => Ask::Disk(read_disk(packet, srb(head))),
-        Kind::Net => Ask::Net(read_net(packet)),
+        DeviceKind::Beat | DeviceKind::Down => Ask::Ic(read_service(kind, packet)),
+        DeviceKind::Disk => Ask::Disk(read_disk(packet, srb(head))),
+        DeviceKind::Net => Ask::Net(read_net(packet)),
     }
 }
 
 /// Writes the answer to a request that asks nothing of the device, if the packet is one: its words.
-fn write_fixed_on(kind: Kind, packet: &[u64], out: &mut [u64]) -> usize
+fn write_fixed_on(kind: DeviceKind, packet: &[u64], out: &mut [u64]) -> usize
     requires packet { IsPacket packet.now }
     requires out { length out.old ≡ 384 }
     ensures value { listed_packet (take result out.new) ≡ listed (answer_in ((format_of kind).fixed packet.now)) }
@@ -333,14 +333,20 @@ fn write_fixed_on(kind: Kind, packet: &[u64], out: &mut [u64]) -> usize
     ensures most { result ≤ 384 }
 {
     match kind {
-        Kind::Beat | Kind::Down => write_service_fixed(kind, packet, out),
-        Kind::Disk => write_disk_fixed(packet, out),
-        Kind::Net => write_net_fixed(packet, out),
+        DeviceKind::Beat | DeviceKind::Down => write_service_fixed(kind, packet, out),
+        DeviceKind::Disk => write_disk_fixed(packet, out),
+        DeviceKind::Net => write_net_fixed(packet, out),
     }
 }
 
 /// Writes the answer with the device's reply: its words.
-fn write_answer_on(kind: Kind, packet: &[u64], head: &Head, reply: &Reply, out: &mut [u64]) -> usize
+fn write_answer_on(
+    kind: DeviceKind,
+    packet: &[u64],
+    head: &Head,
+    reply: &Reply,
+    out: &mut [u64],
+) -> usize
     requires packet { IsPacket packet.now }
     requires head { IsHead kind packet.now head.now }
     requires fits { (q : OneAsk) × (read_on kind packet.now ≡ Some q) × (fits_on kind q reply.now ≡ true) }
@@ -350,9 +356,9 @@ fn write_answer_on(kind: Kind, packet: &[u64], head: &Head, reply: &Reply, out: 
     ensures most { result ≤ 384 }
 {
     match kind {
-        Kind::Beat | Kind::Down => write_service_answer(kind, packet, out),
-        Kind::Disk => write_disk_answer(packet, srb(head), disk_reply(reply), out),
-        Kind::Net => write_done(packet[1], net_status(reply), out),
+        DeviceKind::Beat | DeviceKind::Down => write_service_answer(kind, packet, out),
+        DeviceKind::Disk => write_disk_answer(packet, srb(head), disk_reply(reply), out),
+        DeviceKind::Net => write_done(packet[1], net_status(reply), out),
     }
 }
 
@@ -365,40 +371,40 @@ fn is_type(packet: &[u64], kind: u64) -> bool
 }
 
 /// Whether a packet of the end that asks acknowledges a message.
-fn is_ack(kind: Kind, packet: &[u64]) -> bool
+fn is_ack(kind: DeviceKind, packet: &[u64]) -> bool
     requires { IsPacket packet.now }
     ensures { result ≡ (format_of kind).is_ack packet.now }
 {
     match kind {
-        Kind::Beat | Kind::Down | Kind::Disk => false,
-        Kind::Net => is_type(packet, COMPLETION),
+        DeviceKind::Beat | DeviceKind::Down | DeviceKind::Disk => false,
+        DeviceKind::Net => is_type(packet, COMPLETION),
     }
 }
 
 /// Whether a packet of the end that serves is an answer.
-fn is_answer(kind: Kind, packet: &[u64]) -> bool
+fn is_answer(kind: DeviceKind, packet: &[u64]) -> bool
     requires { IsPacket packet.now }
     ensures { result ≡ (format_of kind).is_answer packet.now }
 {
     match kind {
-        Kind::Beat | Kind::Down | Kind::Disk => true,
-        Kind::Net => is_type(packet, COMPLETION),
+        DeviceKind::Beat | DeviceKind::Down | DeviceKind::Disk => true,
+        DeviceKind::Net => is_type(packet, COMPLETION),
     }
 }
 
 /// Whether a packet of the end that serves is a message.
-fn is_message(kind: Kind, packet: &[u64]) -> bool
+fn is_message(kind: DeviceKind, packet: &[u64]) -> bool
     requires { IsPacket packet.now }
     ensures { result ≡ (format_of kind).is_message packet.now }
 {
     match kind {
-        Kind::Beat | Kind::Down | Kind::Disk => false,
-        Kind::Net => is_type(packet, INBAND),
+        DeviceKind::Beat | DeviceKind::Down | DeviceKind::Disk => false,
+        DeviceKind::Net => is_type(packet, INBAND),
     }
 }
 
 /// Writes what acknowledges a message: its words.
-fn write_ack_on(kind: Kind, packet: &[u64], out: &mut [u64]) -> usize
+fn write_ack_on(kind: DeviceKind, packet: &[u64], out: &mut [u64]) -> usize
     requires packet { IsPacket packet.now }
     requires out { length out.old ≡ 384 }
     ensures value { (format_of kind).is_message packet.now ≡ true → take result out.new ≡ (format_of kind).ack packet.now }
@@ -406,26 +412,26 @@ fn write_ack_on(kind: Kind, packet: &[u64], out: &mut [u64]) -> usize
     ensures most { result ≤ 384 }
 {
     match kind {
-        Kind::Beat | Kind::Down | Kind::Disk => 0,
-        Kind::Net => write_done(packet[1], 1, out),
+        DeviceKind::Beat | DeviceKind::Down | DeviceKind::Disk => 0,
+        DeviceKind::Net => write_done(packet[1], 1, out),
     }
 }
 
 /// Whether a message goes back besides a fixed answer.
 #[tactic(auto, using(device_formats::proofs::FormatLaws::none_fixed))]
-fn has_fixed_message_on(kind: Kind, packet: &[u64]) -> bool
+fn has_fixed_message_on(kind: DeviceKind, packet: &[u64]) -> bool
     requires { IsPacket packet.now }
     ensures { result ≡ has_message_in ((format_of kind).fixed packet.now) }
 {
     match kind {
-        Kind::Beat | Kind::Down | Kind::Disk => false,
-        Kind::Net => has_net_message(packet),
+        DeviceKind::Beat | DeviceKind::Down | DeviceKind::Disk => false,
+        DeviceKind::Net => has_net_message(packet),
     }
 }
 
 /// Writes that message, if there is one, under an id of the serving end's own: its words.
 #[tactic(auto, using(device_formats::proofs::FormatLaws::none_fixed_in))]
-fn write_fixed_message_on(kind: Kind, packet: &[u64], own: u64, out: &mut [u64]) -> usize
+fn write_fixed_message_on(kind: DeviceKind, packet: &[u64], own: u64, out: &mut [u64]) -> usize
     requires packet { IsPacket packet.now }
     requires out { length out.old ≡ 384 }
     ensures value { listed_packet (take result out.new) ≡ listed (message_in own ((format_of kind).fixed packet.now)) }
@@ -433,8 +439,8 @@ fn write_fixed_message_on(kind: Kind, packet: &[u64], own: u64, out: &mut [u64])
     ensures most { result ≤ 384 }
 {
     match kind {
-        Kind::Beat | Kind::Down | Kind::Disk => 0,
-        Kind::Net => write_net_fixed_message(packet, own, out),
+        DeviceKind::Beat | DeviceKind::Down | DeviceKind::Disk => 0,
+        DeviceKind::Net => write_net_fixed_message(packet, own, out),
     }
 }
 
@@ -472,30 +478,36 @@ fn net_status(reply: &Reply) -> u32
 }
 
 /// Whether a message goes back with a reply besides the answer.
-fn has_message_on(kind: Kind, packet: &[u64], reply: &Reply) -> bool
+fn has_message_on(kind: DeviceKind, packet: &[u64], reply: &Reply) -> bool
     ensures { result ≡ is_some ((format_of kind).gives packet.now reply.now).message }
 {
     match kind {
-        Kind::Beat | Kind::Down | Kind::Disk => false,
-        Kind::Net => has_back(reply),
+        DeviceKind::Beat | DeviceKind::Down | DeviceKind::Disk => false,
+        DeviceKind::Net => has_back(reply),
     }
 }
 
 /// Writes that message, if there is one, under an id of the serving end's own: its words.
-fn write_message_on(kind: Kind, packet: &[u64], reply: &Reply, own: u64, out: &mut [u64]) -> usize
+fn write_message_on(
+    kind: DeviceKind,
+    packet: &[u64],
+    reply: &Reply,
+    own: u64,
+    out: &mut [u64],
+) -> usize
     requires out { length out.old ≡ 384 }
     ensures value { listed_packet (take result out.new) ≡ listed (under_own own ((format_of kind).gives packet.now reply.now).message) }
     ensures written { 0 < result → IsPacket (take result out.new) }
     ensures most { result ≤ 384 }
 {
     match kind {
-        Kind::Beat | Kind::Down | Kind::Disk => 0,
-        Kind::Net => write_back(reply, own, out),
+        DeviceKind::Beat | DeviceKind::Down | DeviceKind::Disk => 0,
+        DeviceKind::Net => write_back(reply, own, out),
     }
 }
 
 /// Puts what an answer says at the end of the replies, with the message that came just before it, where one did.
-fn keep_said(kind: Kind, before: &[u64], packet: &[u64], replies: &mut Vec<Reply>)
+fn keep_said(kind: DeviceKind, before: &[u64], packet: &[u64], replies: &mut Vec<Reply>)
     requires before { before.now ≡ [] ⊎ IsPacket before.now }
     requires packet { IsPacket packet.now }
     requires room { vec_len replies.old < vec_capacity replies.old }
@@ -504,9 +516,9 @@ fn keep_said(kind: Kind, before: &[u64], packet: &[u64], replies: &mut Vec<Reply
     ensures capacity { vec_capacity replies.new ≡ vec_capacity replies.old }
 {
     match kind {
-        Kind::Beat | Kind::Down => keep_service_said(kind, packet, replies),
-        Kind::Disk => keep_disk_said(packet, replies),
-        Kind::Net => keep_net_said(before, packet, replies),
+        DeviceKind::Beat | DeviceKind::Down => keep_service_said(kind, packet, replies),
+        DeviceKind::Disk => keep_disk_said(packet, replies),
+        DeviceKind::Net => keep_net_said(before, packet, replies),
     }
 }
 

@@ -15,7 +15,7 @@ ghost use Rattle.device_formats.specs.Services.{service_read, service_fixed, ser
 
 use crate::packets::{MOST_BYTES, content, is_inband};
 use bus_script::Reply;
-use contact::Kind;
+use contact::DeviceKind;
 use pkt_desc::build_inband;
 use util_ic::{IcAnswer, IcAsk, ask, negotiate, read_answer, read_ask, serve};
 
@@ -32,7 +32,7 @@ pub(crate) fn write_ask(request: &IcAsk, id: u64, out: &mut [u64]) -> usize
 }
 
 /// Writes the packet of the start-up under an id: its words.
-pub(crate) fn write_negotiate(kind: Kind, id: u64, out: &mut [u64]) -> usize
+pub(crate) fn write_negotiate(kind: DeviceKind, id: u64, out: &mut [u64]) -> usize
     requires kind { IsUtility kind }
     requires out { length out.old ≡ 384 }
     ensures packet { take result out.new ≡ negotiate_packet id }
@@ -46,7 +46,7 @@ pub(crate) fn write_negotiate(kind: Kind, id: u64, out: &mut [u64]) -> usize
 
 /// What a packet asks of the service, where it is in-band.
 #[tactic(auto, unfolding(device_formats::specs::Services::service_read, device_formats::specs::Packets::is_inband))]
-fn asked(kind: Kind, packet: &[u64]) -> Option<IcAsk>
+fn asked(kind: DeviceKind, packet: &[u64]) -> Option<IcAsk>
     requires kind { IsUtility kind }
     requires packet { IsPacket packet.now }
     ensures value { result ≡ service_read kind packet.now }
@@ -60,7 +60,7 @@ fn asked(kind: Kind, packet: &[u64]) -> Option<IcAsk>
 }
 
 /// Whether a packet asks the service.
-pub(crate) fn asks_service(kind: Kind, packet: &[u64]) -> bool
+pub(crate) fn asks_service(kind: DeviceKind, packet: &[u64]) -> bool
     requires kind { IsUtility kind }
     requires packet { IsPacket packet.now }
     ensures value { result ≡ is_some (service_read kind packet.now) }
@@ -69,7 +69,7 @@ pub(crate) fn asks_service(kind: Kind, packet: &[u64]) -> bool
 }
 
 /// What a packet that asks the service asks of it.
-pub(crate) fn read_service(kind: Kind, packet: &[u64]) -> IcAsk
+pub(crate) fn read_service(kind: DeviceKind, packet: &[u64]) -> IcAsk
     requires kind { IsUtility kind }
     requires packet { IsPacket packet.now }
     requires asks { IsSome (service_read kind packet.now) }
@@ -82,7 +82,7 @@ pub(crate) fn read_service(kind: Kind, packet: &[u64]) -> IcAsk
 }
 
 /// Writes the service's answer to a request of these bytes under an id: its words.
-fn write_served(kind: Kind, id: u64, request: &[u8], out: &mut [u64]) -> usize
+fn write_served(kind: DeviceKind, id: u64, request: &[u8], out: &mut [u64]) -> usize
     requires kind { IsUtility kind }
     requires few { length request.now ≤ 3056 }
     requires out { length out.old ≡ 384 }
@@ -97,7 +97,7 @@ fn write_served(kind: Kind, id: u64, request: &[u8], out: &mut [u64]) -> usize
 
 /// Writes the answer to an in-band packet that asks nothing of the service: its words.
 #[tactic(auto, unfolding(device_formats::specs::Services::service_read, device_formats::specs::Services::service_fixed, device_formats::specs::Packets::is_inband), using(device_formats::proofs::ChannelScriptLaws::listed_service))]
-pub(crate) fn write_service_fixed(kind: Kind, packet: &[u64], out: &mut [u64]) -> usize
+pub(crate) fn write_service_fixed(kind: DeviceKind, packet: &[u64], out: &mut [u64]) -> usize
     requires kind { IsUtility kind }
     requires packet { IsPacket packet.now }
     requires out { length out.old ≡ 384 }
@@ -118,7 +118,7 @@ pub(crate) fn write_service_fixed(kind: Kind, packet: &[u64], out: &mut [u64]) -
 
 /// Writes the answer to a request of the service, with the service's reply: its words. The reply is what the service's table of answers says.
 #[tactic(auto, unfolding(device_formats::specs::Services::service_fixed, device_formats::specs::Packets::is_inband))]
-pub(crate) fn write_service_answer(kind: Kind, packet: &[u64], out: &mut [u64]) -> usize
+pub(crate) fn write_service_answer(kind: DeviceKind, packet: &[u64], out: &mut [u64]) -> usize
     requires kind { IsUtility kind }
     requires packet { IsPacket packet.now }
     requires inband { inband packet.now ≡ true }
@@ -134,7 +134,7 @@ pub(crate) fn write_service_answer(kind: Kind, packet: &[u64], out: &mut [u64]) 
 
 /// What an answer says, where it is in-band.
 #[tactic(auto, unfolding(device_formats::specs::Services::service_result, device_formats::specs::Packets::is_inband))]
-fn said(kind: Kind, packet: &[u64]) -> Option<IcAnswer>
+fn said(kind: DeviceKind, packet: &[u64]) -> Option<IcAnswer>
     requires kind { IsUtility kind }
     requires packet { IsPacket packet.now }
     ensures value { result ≡ service_result kind packet.now }
@@ -148,7 +148,7 @@ fn said(kind: Kind, packet: &[u64]) -> Option<IcAnswer>
 }
 
 /// Puts what an answer says at the end of the replies, where it is in-band.
-pub(crate) fn keep_said(kind: Kind, packet: &[u64], replies: &mut Vec<Reply>)
+pub(crate) fn keep_said(kind: DeviceKind, packet: &[u64], replies: &mut Vec<Reply>)
     requires kind { IsUtility kind }
     requires packet { IsPacket packet.now }
     requires room { vec_len replies.old < vec_capacity replies.old }

@@ -6,13 +6,13 @@ ghost use Rattle.util_ic.specs.Messages.{IsUtility};
 ghost use Rattle.util_ic.specs.Answers.{utility_answer};
 
 use crate::payload::read_packet;
-use contact::Kind;
+use contact::DeviceKind;
 use pkt_desc::build_inband;
 use util_ic::serve;
 
 /// Writes the answer to a packet of a service's channel, and answers how many words it has: in-band data under the request's id, which asks for no completion. Of the
 /// request all bytes are read; what its sender put behind its message to fill the last word comes back too. None exactly where the words are no packet of in-band data.
-pub fn answer_service(kind: Kind, request: &[u64], out: &mut [u64]) -> Option<usize>
+pub fn answer_service(kind: DeviceKind, request: &[u64], out: &mut [u64]) -> Option<usize>
     requires kind { IsUtility kind }
     requires words { (2 ≤ length request.now) × (length request.now ≤ 384) }
     requires room { 384 ≤ length out.old }

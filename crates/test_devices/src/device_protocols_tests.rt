@@ -1,12 +1,12 @@
 //! Packets of each kind of channel against those that Linux's own structs make, and back.
 ghost use Rattle.std.specs.Prelude.{◌≡◌, ◌≤◌, length, IfOk};
-ghost use Rattle.contact.specs.declared.kind.Kind.TheVariants.{Beat, Down, Disk as DiskKind};
+ghost use Rattle.contact.specs.declared.kind.DeviceKind.TheVariants.{Beat, Down, Disk as DiskKind};
 
 use crate::check::check;
 use crate::said::said;
 use bus_script::{Ask, Reply};
 use channel_protocol::Protocol;
-use contact::Kind;
+use contact::DeviceKind;
 use device_protocols::{DeviceProtocol, is_askable};
 use hist_lock::Machine;
 use scsi_disk::{Chunk, Disk, DiskReply, DiskRequest};
@@ -17,7 +17,12 @@ use util_ic::{BeatMachine, DownMachine, IcAsk};
 use vm_page::bytes_of;
 
 /// The protocol of a channel on which this one thing is asked.
-fn protocol_of(rt: &impl Abort, alloc: Global, kind: Kind, ask: Ask) -> Result<DeviceProtocol, Fail>
+fn protocol_of(
+    rt: &impl Abort,
+    alloc: Global,
+    kind: DeviceKind,
+    ask: Ask,
+) -> Result<DeviceProtocol, Fail>
     ensures { IfOk result (λ t. t.kind ≡ kind) }
 {
     if !is_askable(kind, &ask) {
@@ -76,7 +81,7 @@ fn starts(
 
 #[test]
 fn disks_start_up(rt: HostRuntime) -> Result<(), Fail> {
-    let protocol = DeviceProtocol::make(Kind::Disk, 0, 0, Vec::with_capacity(rt.alloc(), 0)?);
+    let protocol = DeviceProtocol::make(DeviceKind::Disk, 0, 0, Vec::with_capacity(rt.alloc(), 0)?);
     check(&rt, protocol.starts() == 4);
     let t = &protocol;
     starts(
@@ -122,7 +127,7 @@ fn disks_start_up(rt: HostRuntime) -> Result<(), Fail> {
 // The first channel asks for the sub-channels in the end, and a sub-channel asks for nothing.
 #[test]
 fn disks_ask_for_sub_channels(rt: HostRuntime) -> Result<(), Fail> {
-    let first = DeviceProtocol::make(Kind::Disk, 0, 3, Vec::with_capacity(rt.alloc(), 0)?);
+    let first = DeviceProtocol::make(DeviceKind::Disk, 0, 3, Vec::with_capacity(rt.alloc(), 0)?);
     check(&rt, first.starts() == 5);
     starts(
         &rt,
@@ -140,7 +145,7 @@ fn disks_ask_for_sub_channels(rt: HostRuntime) -> Result<(), Fail> {
         [13, 0, 0, 0, 1, 0, 0, 0, 0, 0, 0, 0, 3, 0],
         &[1, 0, 0, 0, 1, 0, 0, 0, 0, 0, 0, 0, 3],
     );
-    let other = DeviceProtocol::make(Kind::Disk, 2, 3, Vec::with_capacity(rt.alloc(), 0)?);
+    let other = DeviceProtocol::make(DeviceKind::Disk, 2, 3, Vec::with_capacity(rt.alloc(), 0)?);
     check(&rt, (other.count(), other.starts()) == (0, 0));
     Ok(())
 }
@@ -196,7 +201,7 @@ fn disk_protocol(rt: &impl Abort, alloc: Global, front: [u8; 10], out: &[u8]) ->
     requires { length out.now ≤ 4096 }
     ensures { result.kind ≡ DiskKind }
 {
-    match protocol_of(rt, alloc, Kind::Disk, command(front, out)) {
+    match protocol_of(rt, alloc, DeviceKind::Disk, command(front, out)) {
         Ok(protocol) => protocol,
         Err(_) => panic!(rt; "no memory"),
     }
@@ -287,8 +292,8 @@ fn disks_write_and_read(rt: HostRuntime) -> Result<(), Fail> {
 #[test]
 fn some_commands_are_not_asked(rt: HostRuntime) {
     let long = command([0x28, 0, 0, 0, 0, 5, 0, 0, 5, 0], &[]);
-    check(&rt, !is_askable(Kind::Disk, &long));
-    check(&rt, !is_askable(Kind::Beat, &command([0; 10], &[])));
+    check(&rt, !is_askable(DeviceKind::Disk, &long));
+    check(&rt, !is_askable(DeviceKind::Beat, &command([0; 10], &[])));
 }
 
 /// A channel's start-up is answered, whatever else is asked.
@@ -317,7 +322,7 @@ fn heartbeats(rt: HostRuntime) -> Result<(), Fail> {
     let protocol = protocol_of(
         &rt,
         rt.alloc(),
-        Kind::Beat,
+        DeviceKind::Beat,
         Ask::Ic(IcAsk::Beat { seq: 41 }),
     )?;
     negotiates(&rt, rt.alloc(), &protocol);
@@ -360,7 +365,7 @@ fn shutdowns(rt: HostRuntime) -> Result<(), Fail> {
         timeout: 2,
         flags: 4,
     });
-    let protocol = protocol_of(&rt, rt.alloc(), Kind::Down, ask)?;
+    let protocol = protocol_of(&rt, rt.alloc(), DeviceKind::Down, ask)?;
     negotiates(&rt, rt.alloc(), &protocol);
     match down_round(&rt, rt.alloc(), &protocol) {
         Some(Reply::Ic(answer)) => check(&rt, answer.status == 0x8000_4005),

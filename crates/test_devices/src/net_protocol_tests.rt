@@ -1,13 +1,13 @@
 //! Packets of a network's channel, word by word, and back.
 ghost use Rattle.std.specs.Prelude.{◌≡◌, length};
 ghost use Rattle.ring_machine.specs.States.{IsPacket};
-ghost use Rattle.contact.specs.declared.kind.Kind.TheVariants.{Net as NetKind};
+ghost use Rattle.contact.specs.declared.kind.DeviceKind.TheVariants.{Net as NetKind};
 
 use crate::check::check;
 use crate::said::said;
 use bus_script::{Ask, Reply};
 use channel_protocol::Protocol;
-use contact::Kind;
+use contact::DeviceKind;
 use device_protocols::{DeviceProtocol, is_askable};
 use hist_lock::Machine;
 use net_dev::Station;
@@ -25,10 +25,10 @@ fn net_protocol(rt: &impl Abort, alloc: Global, message: Option<Rndis>) -> Devic
     };
     if let Some(message) = message {
         let ask = Ask::Net(message);
-        check(rt, is_askable(Kind::Net, &ask));
+        check(rt, is_askable(DeviceKind::Net, &ask));
         check(rt, asks.push(ask).is_ok());
     }
-    DeviceProtocol::make(Kind::Net, 0, 0, asks)
+    DeviceProtocol::make(DeviceKind::Net, 0, 0, asks)
 }
 
 /// An init of version 5.0, an NDIS version 6.30, and an initialize of version 1.0 with 16,384 bytes.

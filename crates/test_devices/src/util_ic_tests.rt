@@ -5,7 +5,7 @@ ghost use Rattle.util_ic.specs.Messages.{IsUtility};
 
 use crate::check::check;
 use crate::hex::unhex;
-use contact::Kind;
+use contact::DeviceKind;
 use hist_lock::Machine;
 use std::process::Abort;
 use util_ic::{
@@ -28,7 +28,7 @@ fn spelled(rt: &impl Abort, digits: &str) -> [u8; 2112] {
 }
 
 // A request of so many bytes, of which the first are given, is answered so; what follows is zero.
-fn answers(rt: &impl Abort, kind: Kind, len: usize, request: &str, answer: &str)
+fn answers(rt: &impl Abort, kind: DeviceKind, len: usize, request: &str, answer: &str)
     requires kind { IsUtility kind }
     requires len { len ≤ 2112 }
 {
@@ -43,8 +43,8 @@ fn answers(rt: &impl Abort, kind: Kind, len: usize, request: &str, answer: &str)
 fn both_answer(rt: &impl Abort, len: usize, request: &str, answer: &str)
     requires { len ≤ 2112 }
 {
-    answers(rt, Kind::Beat, len, request, answer);
-    answers(rt, Kind::Down, len, request, answer);
+    answers(rt, DeviceKind::Beat, len, request, answer);
+    answers(rt, DeviceKind::Down, len, request, answer);
 }
 
 #[test]
@@ -154,7 +154,7 @@ fn answers_on_a_heartbeat_channel(rt: HostRuntime) {
     // Heartbeat seq 41
     answers(
         &rt,
-        Kind::Beat,
+        DeviceKind::Beat,
         68,
         "000000003c000000030000000100030000002800000000000003000029",
         "000000003c00000003000000010003000000280000000000000500002a",
@@ -162,7 +162,7 @@ fn answers_on_a_heartbeat_channel(rt: HostRuntime) {
     // Heartbeat seq 18446744073709551615
     answers(
         &rt,
-        Kind::Beat,
+        DeviceKind::Beat,
         68,
         "000000003c0000000300000001000300000028000000000000030000ffffffffffffffff",
         "000000003c000000030000000100030000002800000000000005",
@@ -170,7 +170,7 @@ fn answers_on_a_heartbeat_channel(rt: HostRuntime) {
     // Shutdown flags 0
     answers(
         &rt,
-        Kind::Beat,
+        DeviceKind::Beat,
         2088,
         "0000000020080000030000000300030000000c08000000000003",
         "0000000020080000030000000300030000000c08054000800005",
@@ -178,7 +178,7 @@ fn answers_on_a_heartbeat_channel(rt: HostRuntime) {
     // Shutdown flags 2
     answers(
         &rt,
-        Kind::Beat,
+        DeviceKind::Beat,
         2088,
         "0000000020080000030000000300030000000c080000000000030000000000000000000002",
         "0000000020080000030000000300030000000c080540008000050000000000000000000002",
@@ -186,7 +186,7 @@ fn answers_on_a_heartbeat_channel(rt: HostRuntime) {
     // Transaction 9, reserved 1
     answers(
         &rt,
-        Kind::Beat,
+        DeviceKind::Beat,
         36,
         "000000001c00000003000000010003000000080000000000090301001111111111111111",
         "000000001c00000003000000010003000000080000000000090501001211111111111111",
@@ -198,7 +198,7 @@ fn answers_on_a_shutdown_channel(rt: HostRuntime) {
     // Heartbeat seq 41
     answers(
         &rt,
-        Kind::Down,
+        DeviceKind::Down,
         68,
         "000000003c000000030000000100030000002800000000000003000029",
         "000000003c000000030000000100030000002800054000800005000029",
@@ -206,7 +206,7 @@ fn answers_on_a_shutdown_channel(rt: HostRuntime) {
     // Heartbeat seq 18446744073709551615
     answers(
         &rt,
-        Kind::Down,
+        DeviceKind::Down,
         68,
         "000000003c0000000300000001000300000028000000000000030000ffffffffffffffff",
         "000000003c0000000300000001000300000028000540008000050000ffffffffffffffff",
@@ -214,7 +214,7 @@ fn answers_on_a_shutdown_channel(rt: HostRuntime) {
     // Shutdown flags 0
     answers(
         &rt,
-        Kind::Down,
+        DeviceKind::Down,
         2088,
         "0000000020080000030000000300030000000c08000000000003",
         "0000000020080000030000000300030000000c08000000000005",
@@ -222,7 +222,7 @@ fn answers_on_a_shutdown_channel(rt: HostRuntime) {
     // Shutdown flags 2
     answers(
         &rt,
-        Kind::Down,
+        DeviceKind::Down,
         2088,
         "0000000020080000030000000300030000000c080000000000030000000000000000000002",
         "0000000020080000030000000300030000000c080000000000050000000000000000000002",
@@ -230,7 +230,7 @@ fn answers_on_a_shutdown_channel(rt: HostRuntime) {
     // Transaction 9, reserved 1
     answers(
         &rt,
-        Kind::Down,
+        DeviceKind::Down,
         36,
         "000000001c00000003000000010003000000080000000000090301001111111111111111",
         "000000001c00000003000000010003000000080005400080090501001111111111111111",
@@ -238,7 +238,7 @@ fn answers_on_a_shutdown_channel(rt: HostRuntime) {
 }
 
 // The host's request is these bytes, with zeros after them, and the guest reads it.
-fn asked(rt: &impl Abort, kind: Kind, request: &IcAsk, len: usize, bytes: &str)
+fn asked(rt: &impl Abort, kind: DeviceKind, request: &IcAsk, len: usize, bytes: &str)
     requires kind { IsUtility kind }
     requires len { len ≤ 2112 }
 {
@@ -250,7 +250,7 @@ fn asked(rt: &impl Abort, kind: Kind, request: &IcAsk, len: usize, bytes: &str)
 }
 
 // The host offers versions by these bytes.
-fn offered(rt: &impl Abort, kind: Kind, bytes: &str)
+fn offered(rt: &impl Abort, kind: DeviceKind, bytes: &str)
     requires { IsUtility kind }
 {
     let mut out = [0xee; 2112];
@@ -263,18 +263,18 @@ fn offered(rt: &impl Abort, kind: Kind, bytes: &str)
 fn requests(rt: HostRuntime) {
     let offers =
         "000000002c0000000000000000000000000018000000000000030000020002000000000003000000010000000300000001";
-    offered(&rt, Kind::Beat, offers);
-    offered(&rt, Kind::Down, offers);
+    offered(&rt, DeviceKind::Beat, offers);
+    offered(&rt, DeviceKind::Down, offers);
     asked(
         &rt,
-        Kind::Beat,
+        DeviceKind::Beat,
         &IcAsk::Beat { seq: 41 },
         68,
         "000000003c000000030000000100030000002800000000000003000029",
     );
     asked(
         &rt,
-        Kind::Down,
+        DeviceKind::Down,
         &IcAsk::Down {
             reason: 0,
             timeout: 0,
@@ -286,7 +286,7 @@ fn requests(rt: HostRuntime) {
 }
 
 // A request is answered by the service's machine.
-fn served(rt: &impl Abort, kind: Kind, request: &IcAsk, answer: IcAnswer)
+fn served(rt: &impl Abort, kind: DeviceKind, request: &IcAsk, answer: IcAnswer)
     requires { IsUtility kind }
 {
     let mut message = [0; 2112];
@@ -321,12 +321,12 @@ fn answers_are_the_machines(rt: HostRuntime) {
     check(&rt, down.apply(&restart) == good);
     check(&rt, down.apply(&hibernate) == refused);
     check(&rt, down.apply(&last) == refused);
-    served(&rt, Kind::Beat, &last, good);
-    served(&rt, Kind::Down, &restart, good);
-    served(&rt, Kind::Down, &hibernate, refused);
+    served(&rt, DeviceKind::Beat, &last, good);
+    served(&rt, DeviceKind::Down, &restart, good);
+    served(&rt, DeviceKind::Down, &hibernate, refused);
     served(
         &rt,
-        Kind::Beat,
+        DeviceKind::Beat,
         &restart,
         IcAnswer {
             status: 0x8000_4005,
@@ -336,7 +336,7 @@ fn answers_are_the_machines(rt: HostRuntime) {
 }
 
 // The front of an answer that has so many bytes is read so. A field that isn't whole counts as 0.
-fn is_read(rt: &impl Abort, kind: Kind, len: usize, status: u32, seq: u64)
+fn is_read(rt: &impl Abort, kind: DeviceKind, len: usize, status: u32, seq: u64)
     requires kind { IsUtility kind }
     requires len { len ≤ 2112 }
 {
@@ -352,9 +352,9 @@ fn is_read(rt: &impl Abort, kind: Kind, len: usize, status: u32, seq: u64)
 
 #[test]
 fn cut_answers(rt: HostRuntime) {
-    is_read(&rt, Kind::Beat, 24, 0x8000_4005, 0);
-    is_read(&rt, Kind::Beat, 35, 0x8000_4005, 0);
-    is_read(&rt, Kind::Beat, 36, 0x8000_4005, 255);
-    is_read(&rt, Kind::Beat, 23, 0, 0);
-    is_read(&rt, Kind::Down, 36, 0x8000_4005, 0);
+    is_read(&rt, DeviceKind::Beat, 24, 0x8000_4005, 0);
+    is_read(&rt, DeviceKind::Beat, 35, 0x8000_4005, 0);
+    is_read(&rt, DeviceKind::Beat, 36, 0x8000_4005, 255);
+    is_read(&rt, DeviceKind::Beat, 23, 0, 0);
+    is_read(&rt, DeviceKind::Down, 36, 0x8000_4005, 0);
 }

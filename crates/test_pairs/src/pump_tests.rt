@@ -1,13 +1,13 @@
 //! Both workers of a heartbeat's channel, by one call on this thread.
 ghost use Rattle.std.specs.Prelude.{◌≡◌, length};
-ghost use Rattle.contact.specs.declared.kind.Kind.{Kind as OneKind};
+ghost use Rattle.contact.specs.declared.kind.DeviceKind.{DeviceKind as OneKind};
 ghost use Rattle.worker_pair.specs.Pairs.{ArePair};
 ghost use Rattle.worker_pair.specs.Plans.{AllCarried};
 
 use crate::check::check;
 use crate::only_seat::only_seat;
 use bus_script::{Ask, Reply};
-use contact::Kind;
+use contact::DeviceKind;
 use io_edge::NoGate;
 use ring_seat::ChannelMem;
 use std::alloc::AllocGlobal;
@@ -37,7 +37,7 @@ fn workers(rt: &(impl Abort + AllocGlobal)) -> (GuestWorker, HostWorker)
     let seat = only_seat(alloc, BeatMachine::make(), 2).expect(rt, "memory");
     let plan = ChannelPlan {
         relid: 1,
-        kind: Kind::Beat,
+        kind: DeviceKind::Beat,
         sub: 0,
         subs: 0,
         window: 1,

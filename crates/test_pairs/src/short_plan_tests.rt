@@ -7,7 +7,7 @@ ghost use Rattle.script_lines.specs.Requests.{CanBeCarried};
 
 use crate::check::check;
 use crate::only_seat::only_seat;
-use contact::Kind;
+use contact::DeviceKind;
 use io_edge::NoGate;
 use ring_seat::{ChannelMem, GuestEnd, HostEnd};
 use scsi_disk::{Chunk, Disk, DiskRequest};
@@ -40,7 +40,7 @@ fn guest_of(rt: &(impl Abort + AllocGlobal), end: GuestEnd) -> GuestWorker
     let asks = [ready(), ready(), ready()];
     let plan = GuestPlan {
         relid: 1,
-        kind: Kind::Disk,
+        kind: DeviceKind::Disk,
         sub: 0,
         subs: 0,
         window: 4,
@@ -61,7 +61,7 @@ fn host_of(rt: &(impl Abort + AllocGlobal), end: HostEnd) -> HostWorker
     let seat = only_seat(alloc, disk, 2).expect(rt, "memory");
     let plan = HostPlan {
         relid: 1,
-        kind: Kind::Disk,
+        kind: DeviceKind::Disk,
         sub: 0,
         subs: 0,
         window: 4,

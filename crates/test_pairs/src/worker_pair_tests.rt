@@ -7,7 +7,7 @@ ghost use Rattle.ring_seat.specs.Seats.{new_end};
 use crate::check::check;
 use crate::only_seat::only_seat;
 use bus_script::Reply;
-use contact::Kind;
+use contact::DeviceKind;
 use io_edge::NoGate;
 use ring_seat::{ChannelMem, GuestEnd, HostEnd};
 use std::alloc::AllocGlobal;
@@ -27,7 +27,7 @@ fn guest_of(rt: &(impl Abort + AllocGlobal), end: GuestEnd) -> GuestWorker
     let seat = only_seat(alloc, BeatMachine::make(), 2).expect(rt, "memory");
     let plan = GuestPlan {
         relid: 1,
-        kind: Kind::Beat,
+        kind: DeviceKind::Beat,
         sub: 0,
         subs: 0,
         window: 1,
@@ -47,7 +47,7 @@ fn host_of(rt: &(impl Abort + AllocGlobal), end: HostEnd) -> HostWorker
     let asks = [IcAsk::Beat { seq: 7 }, IcAsk::Beat { seq: 8 }];
     let plan = HostPlan {
         relid: 1,
-        kind: Kind::Beat,
+        kind: DeviceKind::Beat,
         sub: 0,
         subs: 0,
         window: 1,

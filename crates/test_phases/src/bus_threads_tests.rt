@@ -1,6 +1,6 @@
 //! A channel of each kind of device, with three requests each.
 ghost use Rattle.std.specs.Prelude.{◌≡◌, ◌≤◌, length, true, vec_len};
-ghost use Rattle.contact.specs.declared.kind.Kind.{Kind as OneKind};
+ghost use Rattle.contact.specs.declared.kind.DeviceKind.{DeviceKind as OneKind};
 ghost use Rattle.script_lines.specs.Parts.{kind_asked};
 ghost use Rattle.script_lines.specs.Requests.{CanBeCarried};
 ghost use Rattle.script_lines.specs.WellFormed.{CanGo};
@@ -11,7 +11,7 @@ use crate::only_seat::only_seat;
 use bus_script::{Ask, Reply};
 use bus_threads::{Pair, PairDone, open_pair, run_pair, run_phase};
 use chan_state::Stop;
-use contact::Kind;
+use contact::DeviceKind;
 use io_edge::NoGate;
 use ring_core::Packets;
 use scsi_disk::{Chunk, Command, Disk, DiskReply, DiskRequest};
@@ -22,7 +22,7 @@ use util_ic::{BeatMachine, DownMachine, IcAsk};
 use worker_pair::DeviceSeat;
 
 // Three requests to a device of this kind, in a list.
-fn three(rt: &(impl Abort + AllocGlobal), kind: Kind, asks: [Ask; 3]) -> Vec<Ask>
+fn three(rt: &(impl Abort + AllocGlobal), kind: DeviceKind, asks: [Ask; 3]) -> Vec<Ask>
     requires { AllCarried kind asks }
     ensures all { AllCarried kind result.items }
     ensures count { length result.items ≡ 3 }
@@ -35,7 +35,7 @@ fn beats(rt: &(impl Abort + AllocGlobal)) -> Pair {
     let alloc = rt.alloc();
     let asks = three(
         rt,
-        Kind::Beat,
+        DeviceKind::Beat,
         [
             Ask::Ic(IcAsk::Beat { seq: 7 }),
             Ask::Ic(IcAsk::Beat { seq: 8 }),
@@ -45,7 +45,7 @@ fn beats(rt: &(impl Abort + AllocGlobal)) -> Pair {
     let seat = only_seat(alloc, BeatMachine::make(), 3).expect(rt, "memory");
     open_pair(
         alloc,
-        Kind::Beat,
+        DeviceKind::Beat,
         1,
         0,
         0,
@@ -73,11 +73,11 @@ fn down(flags: u32) -> Ask
 // Two shutdowns, and a hibernation between them.
 fn downs(rt: &(impl Abort + AllocGlobal)) -> Pair {
     let alloc = rt.alloc();
-    let asks = three(rt, Kind::Down, [down(0), down(4), down(1)]);
+    let asks = three(rt, DeviceKind::Down, [down(0), down(4), down(1)]);
     let seat = only_seat(alloc, DownMachine::make(), 3).expect(rt, "memory");
     open_pair(
         alloc,
-        Kind::Down,
+        DeviceKind::Down,
         2,
         0,
         0,
@@ -125,7 +125,7 @@ fn blocks(rt: &(impl Abort + AllocGlobal), stop: Option<Stop>) -> Pair
     let alloc = rt.alloc();
     let asks = three(
         rt,
-        Kind::Disk,
+        DeviceKind::Disk,
         [
             command(rt, [0x2a, 0, 0, 0, 0, 3, 0, 0, 1, 0], &[9; 512]),
             command(rt, [0x28, 0, 0, 0, 0, 3, 0, 0, 1, 0], &[]),
@@ -136,7 +136,7 @@ fn blocks(rt: &(impl Abort + AllocGlobal), stop: Option<Stop>) -> Pair
     let seat = only_seat(alloc, disk, 3).expect(rt, "memory");
     open_pair(
         alloc,
-        Kind::Disk,
+        DeviceKind::Disk,
         3,
         0,
         0,

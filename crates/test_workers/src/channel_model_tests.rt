@@ -1,15 +1,15 @@
 //! Which end asks, and that each law can be had.
 use crate::check::check;
 use channel_model::{laws, side_that_asks};
-use contact::Kind;
+use contact::DeviceKind;
 use io_edge::Side;
 
 #[test]
 fn hosts_ask_services_and_guests_ask_devices(rt: HostRuntime) {
-    check(&rt, side_that_asks(Kind::Beat) == Side::Host);
-    check(&rt, side_that_asks(Kind::Down) == Side::Host);
-    check(&rt, side_that_asks(Kind::Disk) == Side::Guest);
-    check(&rt, side_that_asks(Kind::Net) == Side::Guest);
+    check(&rt, side_that_asks(DeviceKind::Beat) == Side::Host);
+    check(&rt, side_that_asks(DeviceKind::Down) == Side::Host);
+    check(&rt, side_that_asks(DeviceKind::Disk) == Side::Guest);
+    check(&rt, side_that_asks(DeviceKind::Net) == Side::Guest);
 }
 
 #[test]

@@ -2,8 +2,8 @@
 use Rattle.std.proofs.Common.{◌≡◌, ℕ, ◌+◌, ◌%◌, ◌^◌, ◌<◌, ◌≤◌, ◌==◌, Bool, true, false, cond, ◌&&◌, nat_lt, nat_le, List, ◌++◌, length, Option, Some, None, length-append, ◌||◌, ⊎_elim, inl, inr, refl, subst, ◌∙◌, arith}
 use Rattle.std.specs.Prelude.{◌⊎◌}
 use Rattle.std.proofs.lemmas.Bool.Decides.{nat_tests}
-use Rattle.contact.specs.declared.kind.Kind.{Kind}
-use Rattle.contact.specs.declared.kind.Kind.TheVariants.{Beat as KindBeat, Down as KindDown, Disk, Net}
+use Rattle.contact.specs.declared.kind.DeviceKind.{DeviceKind}
+use Rattle.contact.specs.declared.kind.DeviceKind.TheVariants.{Beat as KindBeat, Down as KindDown, Disk, Net}
 use Rattle.util_ic.specs.declared.ic.IcAsk.{IcAsk}
 use Rattle.util_ic.specs.declared.ic.IcAsk.TheVariants.{Beat, Down}
 use Rattle.util_ic.specs.declared.version.Version.{Version}
@@ -67,19 +67,19 @@ all_three true true d h = (refl, refl)
 all_three true false d h = cc
 all_three false b d h = cc
 
-beats_in : (kind : Kind) (b : List ℕ) → row_of kind b ≡ Heartbeat → ((type_of b == 1) ≡ true) × (on_beat kind ≡ true)
+beats_in : (kind : DeviceKind) (b : List ℕ) → row_of kind b ≡ Heartbeat → ((type_of b == 1) ≡ true) × (on_beat kind ≡ true)
 beats_in kind b is =
     ⊎_elim (λ n. absurd (not_heartbeat (nat_lt (length b) 36 || nat_lt (length b) (versions_end b)) (greatest_known (frames_in b)) (greatest_known (messages_in b)) n))
     (λ t. all_three (type_of b == 1) (on_beat kind) (nat_le 36 (length b)) t)
     (heartbeat_if (nat_lt (length b) 28) (type_of b == 0) ((type_of b == 1) && on_beat kind && nat_le 36 (length b)) ((type_of b == 3) && on_down kind && nat_le 40 (length b)) (negotiation_of b) is)
 
-downs_in : (kind : Kind) (b : List ℕ) → row_of kind b ≡ Shutdown → ((type_of b == 3) ≡ true) × (on_down kind ≡ true)
+downs_in : (kind : DeviceKind) (b : List ℕ) → row_of kind b ≡ Shutdown → ((type_of b == 3) ≡ true) × (on_down kind ≡ true)
 downs_in kind b is =
     ⊎_elim (λ n. absurd (not_shutdown (nat_lt (length b) 36 || nat_lt (length b) (versions_end b)) (greatest_known (frames_in b)) (greatest_known (messages_in b)) n))
     (λ t. all_three (type_of b == 3) (on_down kind) (nat_le 40 (length b)) t)
     (shutdown_if (nat_lt (length b) 28) (type_of b == 0) ((type_of b == 1) && on_beat kind && nat_le 36 (length b)) ((type_of b == 3) && on_down kind && nat_le 40 (length b)) (negotiation_of b) is)
 
-down_only : (kind : Kind) → on_down kind ≡ true → on_beat kind ≡ false
+down_only : (kind : DeviceKind) → on_down kind ≡ true → on_beat kind ≡ false
 down_only KindBeat h = cc
 down_only KindDown h = refl
 down_only Disk h = cc
@@ -89,7 +89,7 @@ status_fits : (small : Bool) → cond small 0 fail < 2 ^ 32
 status_fits true = omega arith
 status_fits false = omega arith
 
-heartbeat_answered : (kind : Kind) (b : List ℕ) → row_of kind b ≡ Heartbeat → 36 ≤ length b → Answered kind (Beat (seq_of b)) b (with_result 0 (with_seq_risen b))
+heartbeat_answered : (kind : DeviceKind) (b : List ℕ) → row_of kind b ≡ Heartbeat → 36 ≤ length b → Answered kind (Beat (seq_of b)) b (with_result 0 (with_seq_risen b))
 heartbeat_answered kind b is long =
     let tests = beats_in kind b is in
     let risen = (seq_of b + 1) % 2 ^ 64 in
@@ -104,7 +104,7 @@ heartbeat_answered kind b is long =
           rw (tests.1, status, seq) refl;
     }
 
-shutdown_answered : (kind : Kind) (b : List ℕ) → row_of kind b ≡ Shutdown → 40 ≤ length b → Answered kind (Down (reason_of b) (timeout_of b) (down_flags_of b)) b (with_result (down_status (down_flags_of b)) b)
+shutdown_answered : (kind : DeviceKind) (b : List ℕ) → row_of kind b ≡ Shutdown → 40 ≤ length b → Answered kind (Down (reason_of b) (timeout_of b) (down_flags_of b)) b (with_result (down_status (down_flags_of b)) b)
 shutdown_answered kind b is long =
     let tests = downs_in kind b is in
     let beats : on_beat kind ≡ false = down_only kind tests.1 in
@@ -120,7 +120,7 @@ shutdown_answered kind b is long =
     }
 
 -- the answer to what was asked carries the machine's reply
-pub answered : (r : AnswerRow) (kind : Kind) (b : List ℕ) (ask : IcAsk) → row_of kind b ≡ r → HasRoom r (length b) → asked_by r b ≡ Some ask → Answered kind ask b (answer_by r b)
+pub answered : (r : AnswerRow) (kind : DeviceKind) (b : List ℕ) (ask : IcAsk) → row_of kind b ≡ r → HasRoom r (length b) → asked_by r b ≡ Some ask → Answered kind ask b (answer_by r b)
 answered Short kind b ask is room asked = cc
 answered Cut kind b ask is room asked = cc
 answered (Agreed f m) kind b ask is room asked = cc
@@ -134,7 +134,7 @@ answered Shutdown kind b ask is room asked =
 answered Other kind b ask is room asked = cc
 
 -- what is shorter than a message asks nothing
-pub short_asks_nothing : (kind : Kind) (b : List ℕ) (ask : IcAsk) → length b < 28 → ask_of kind b ≡ Some ask → ⊥
+pub short_asks_nothing : (kind : DeviceKind) (b : List ℕ) (ask : IcAsk) → length b < 28 → ask_of kind b ≡ Some ask → ⊥
 short_asks_nothing kind b ask few asked =
     let short : nat_lt (length b) 28 ≡ true = grind (arith, nat_tests) in
     let none : None ≡ Some ask = rw short at asked in

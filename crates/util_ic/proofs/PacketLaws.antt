@@ -1,9 +1,9 @@
 -- The packets of a utility channel are packets, and carry the messages that they are made of.
 use Rattle.std.proofs.Common.{◌≡◌, ℕ, zero, suc, ◌/◌, ◌<◌, ◌≤◌, List, [], ◌∷◌, ◌++◌, length, get_or, take, refl, sym, arith}
 use Rattle.std.specs.List.{AllByRecursion}
-use Rattle.contact.specs.declared.kind.Kind.{Kind}
+use Rattle.contact.specs.declared.kind.DeviceKind.{DeviceKind}
 use Rattle.wire_table.specs.Little.{bytes_of}
-use Rattle.wire_table.specs.Rows.{Row, num, raw, Kind as RowKind, nums, raws, AllHave, spelled_after, total}
+use Rattle.wire_table.specs.Rows.{Row, num, raw, DeviceKind as RowKind, nums, raws, AllHave, spelled_after, total}
 use Rattle.wire_table.proofs.RowLaws.{length-spelled_after, take_bytes}
 use Rattle.pkt_desc.specs.Packets.{inband_packet, Carries}
 use Rattle.pkt_desc.proofs.PacketLaws.{plain_carries}
@@ -64,7 +64,7 @@ pub negotiate_carries : (id : ℕ) → Carries (negotiate_packet id) 6 id 0 nego
 negotiate_carries id = rows_carry id offer_kinds offer_rows offers_have (omega arith)
 
 -- an answer
-pub served_carries : (id : ℕ) (kind : Kind) (request reply : List ℕ) (n : ℕ) → take n reply ≡ utility_answer kind request → ((i : ℕ) → get_or reply i 0 < 256) → length (utility_answer kind request) ≤ 3056
+pub served_carries : (id : ℕ) (kind : DeviceKind) (request reply : List ℕ) (n : ℕ) → take n reply ≡ utility_answer kind request → ((i : ℕ) → get_or reply i 0 < 256) → length (utility_answer kind request) ≤ 3056
     → Carries (served_packet id kind request) 6 id 0 (utility_answer kind request)
 served_carries id kind request reply n is bytes few =
     let only : (i : ℕ) → get_or (utility_answer kind request) i 0 < 256 = λ i. rw (sym is) (take_bytes n reply bytes i) in

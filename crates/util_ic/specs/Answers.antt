@@ -1,6 +1,6 @@
 -- The guest's answers, by the first row that applies.
 use Rattle.std.specs.Prelude.{ℕ, ◌+◌, ◌*◌, ◌<◌, ◌≤◌, ◌==◌, ◌&&◌, ◌||◌, nat_lt, nat_le, List, length, drop, Option, Some, None, if◌then◌else◌}
-use Rattle.contact.specs.declared.kind.Kind.{Kind}
+use Rattle.contact.specs.declared.kind.DeviceKind.{DeviceKind}
 use Rattle.util_ic.specs.declared.version.Version.{Version}
 use Rattle.util_ic.specs.declared.row.AnswerRow.{AnswerRow}
 use Rattle.util_ic.specs.declared.row.AnswerRow.TheVariants.{Short, Cut, Agreed, Unknown, Heartbeat, Shutdown, Other}
@@ -31,7 +31,7 @@ negotiation_of b =
     else agreed_row (greatest_known (frames_in b)) (greatest_known (messages_in b))
 
 -- the first row that applies to a request
-abbrev pub row_of : Kind → List ℕ → AnswerRow
+abbrev pub row_of : DeviceKind → List ℕ → AnswerRow
 row_of kind b =
     if nat_lt (length b) 28 then Short
     else (if type_of b == 0 then negotiation_of b
@@ -66,7 +66,7 @@ answer_by Shutdown b = with_result (down_status (down_flags_of b)) b
 answer_by Other b = with_result fail b
 
 -- the answer to a request
-abbrev pub utility_answer : Kind → List ℕ → List ℕ
+abbrev pub utility_answer : DeviceKind → List ℕ → List ℕ
 utility_answer kind b = answer_by (row_of kind b) b
 
 -- what the row that applies says of the number of bytes

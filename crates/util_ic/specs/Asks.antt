@@ -1,7 +1,7 @@
 -- What requests ask, and what answers say.
 use Rattle.std.specs.Prelude.{◌≡◌, ℕ, ◌+◌, nat_le, ◌==◌, List, ◌++◌, length, Option, Some, None, if◌then◌else◌}
-use Rattle.contact.specs.declared.kind.Kind.{Kind}
-use Rattle.contact.specs.declared.kind.Kind.TheVariants.{Beat as KindBeat, Down as KindDown}
+use Rattle.contact.specs.declared.kind.DeviceKind.{DeviceKind}
+use Rattle.contact.specs.declared.kind.DeviceKind.TheVariants.{Beat as KindBeat, Down as KindDown}
 use Rattle.util_ic.specs.declared.ic.IcAsk.{IcAsk}
 use Rattle.util_ic.specs.declared.ic.IcAsk.TheVariants.{Beat, Down}
 use Rattle.util_ic.specs.declared.ic.IcAnswer.{IcAnswer}
@@ -22,16 +22,16 @@ asked_by Shutdown b = Some (Down (reason_of b) (timeout_of b) (down_flags_of b))
 asked_by Other b = None
 
 -- what a request asks of the service
-abbrev pub ask_of : Kind → List ℕ → Option IcAsk
+abbrev pub ask_of : DeviceKind → List ℕ → Option IcAsk
 ask_of kind b = asked_by (row_of kind b) b
 
 -- the kind of channel on which a request is asked
-abbrev pub kind_for : IcAsk → Kind
+abbrev pub kind_for : IcAsk → DeviceKind
 kind_for (Beat seq) = KindBeat
 kind_for (Down reason timeout flags) = KindDown
 
 -- the reply of a channel's machine
-abbrev pub reply_of : Kind → IcAsk → IcAnswer
+abbrev pub reply_of : DeviceKind → IcAsk → IcAnswer
 reply_of kind ask = if on_beat kind then beat_reply ask else down_reply ask
 
 -- a field of an answer, or 0 where it isn't whole
@@ -39,7 +39,7 @@ abbrev pub whole_or_zero : ℕ → ℕ → List ℕ → ℕ
 whole_or_zero at width b = if nat_le (at + width) (length b) then number_at at width b else 0
 
 -- what an answer says
-abbrev pub answer_of : Kind → List ℕ → IcAnswer
+abbrev pub answer_of : DeviceKind → List ℕ → IcAnswer
 answer_of kind b = record { status = whole_or_zero 20 4 b; seq = if on_beat kind then whole_or_zero 28 8 b else 0 }
 
 -- the answer to a request that carries a machine's reply
@@ -47,6 +47,6 @@ abbrev pub answer_bytes : List ℕ → IcAnswer → List ℕ
 answer_bytes request answer = with_result answer.status (if type_of request == 1 then with_seq answer.seq request else request)
 
 -- an answer carries the machine's reply to what was asked, and says it, whatever follows
-pub record Answered (kind : Kind) (ask : IcAsk) (request answer : List ℕ) : Type 0 where
+pub record Answered (kind : DeviceKind) (ask : IcAsk) (request answer : List ℕ) : Type 0 where
   pub carries : answer ≡ answer_bytes request (reply_of kind ask)
   pub says : (more : List ℕ) → answer_of kind (answer ++ more) ≡ reply_of kind ask

@@ -2,27 +2,27 @@
 use Rattle.std.specs.Prelude.{ℕ, ◌+◌, ◌%◌, ◌^◌, Bool, true, false, List, [], ◌∷◌, ◌++◌, take, drop, replicate, slice_range}
 use Rattle.wire_table.specs.Little.{number_of, bytes_of}
 use Rattle.wire_table.specs.Rows.{Row, num, raw, spelled_after}
-use Rattle.contact.specs.declared.kind.Kind.{Kind}
-use Rattle.contact.specs.declared.kind.Kind.TheVariants.{Beat, Down, Disk, Net}
+use Rattle.contact.specs.declared.kind.DeviceKind.{DeviceKind}
+use Rattle.contact.specs.declared.kind.DeviceKind.TheVariants.{Beat, Down, Disk, Net}
 use Rattle.util_ic.specs.declared.ic.IcAsk.{IcAsk}
 use Rattle.util_ic.specs.declared.ic.IcAsk.TheVariants.{Beat as AskBeat, Down as AskDown}
 
 -- the test for a heartbeat channel
-abbrev pub on_beat : Kind → Bool
+abbrev pub on_beat : DeviceKind → Bool
 on_beat Beat = true
 on_beat Down = false
 on_beat Disk = false
 on_beat Net = false
 
 -- the test for a shutdown channel
-abbrev pub on_down : Kind → Bool
+abbrev pub on_down : DeviceKind → Bool
 on_down Beat = false
 on_down Down = true
 on_down Disk = false
 on_down Net = false
 
 -- a utility channel
-abbrev pub IsUtility : Kind → Type 0
+abbrev pub IsUtility : DeviceKind → Type 0
 IsUtility Beat = Unit {0}
 IsUtility Down = Unit {0}
 IsUtility Disk = ⊥

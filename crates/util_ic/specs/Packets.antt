@@ -1,6 +1,6 @@
 -- The packets of a utility channel.
 use Rattle.std.specs.Prelude.{ℕ, List}
-use Rattle.contact.specs.declared.kind.Kind.{Kind}
+use Rattle.contact.specs.declared.kind.DeviceKind.{DeviceKind}
 use Rattle.pkt_desc.specs.Packets.{inband_packet}
 use Rattle.util_ic.specs.declared.ic.IcAsk.{IcAsk}
 use Rattle.util_ic.specs.declared.ic.IcAnswer.{IcAnswer}
@@ -17,7 +17,7 @@ abbrev pub negotiate_packet : ℕ → List ℕ
 negotiate_packet id = inband_packet id 0 negotiate_bytes
 
 -- the answer to a request's bytes, under the request's id
-abbrev pub served_packet : ℕ → Kind → List ℕ → List ℕ
+abbrev pub served_packet : ℕ → DeviceKind → List ℕ → List ℕ
 served_packet id kind request = inband_packet id 0 (utility_answer kind request)
 
 -- the answer to a request's bytes that carries a machine's reply, under the request's id

@@ -15,7 +15,7 @@ use crate::tables::{
     CONTENT, VERSIONS, get, header_table, heartbeat_table, negotiate_table, set, shutdown_table,
 };
 use crate::version::{Version, put_version};
-use contact::Kind;
+use contact::DeviceKind;
 
 const FAIL: u32 = 0x8000_4005;
 
@@ -105,7 +105,7 @@ fn answer(message: &mut [u8], row: AnswerRow)
 /// The answer is a copy of the request but for its status, its flags and what its type asks for, by the first row of the
 /// table of answers that applies (Linux 6.12, `drivers/hv/channel_mgmt.c`, vmbus_prep_negotiate_resp, and
 /// `drivers/hv/hv_util.c`).
-pub fn serve(request: &[u8], kind: Kind, reply: &mut [u8]) -> usize
+pub fn serve(request: &[u8], kind: DeviceKind, reply: &mut [u8]) -> usize
     requires kind { IsUtility kind }
     requires room { 28 ≤ length reply.old }
     requires fits { length request.now ≤ length reply.old }

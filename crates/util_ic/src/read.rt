@@ -7,12 +7,12 @@ ghost use Rattle.util_ic.specs.Asks.{ask_of, answer_of, whole_or_zero};
 use crate::row::{AnswerRow, first_row, is_beat};
 use crate::tables::{CONTENT, get, heartbeat_table, shutdown_table};
 use crate::{IcAnswer, IcAsk};
-use contact::Kind;
+use contact::DeviceKind;
 use wire_table::get_at;
 
 /// What a request asks of the service, where it is a heartbeat on a heartbeat channel of at least 36 bytes or a shutdown on a
 /// shutdown channel of at least 40.
-pub fn read_ask(request: &[u8], kind: Kind) -> Option<IcAsk>
+pub fn read_ask(request: &[u8], kind: DeviceKind) -> Option<IcAsk>
     requires { IsUtility kind }
     ensures { result ≡ ask_of kind request.now }
 {
@@ -47,7 +47,7 @@ fn field(answer: &[u8], at: usize, width: usize) -> u64
 }
 
 /// What an answer says: its status, and on a heartbeat channel its sequence number. A field that isn't whole counts as 0.
-pub fn read_answer(answer: &[u8], kind: Kind) -> IcAnswer
+pub fn read_answer(answer: &[u8], kind: DeviceKind) -> IcAnswer
     requires { IsUtility kind }
     ensures { result ≡ answer_of kind answer.now }
 {

@@ -10,7 +10,7 @@ ghost use Rattle.util_ic.specs.Asks.{ask_of, kind_for};
 use crate::IcAsk;
 use crate::tables::{CONTENT, header_table, heartbeat_table, negotiate_table, shutdown_table};
 use crate::version::{NEW, OLD, put_version};
-use contact::Kind;
+use contact::DeviceKind;
 use wire_table::fields;
 
 /// Clears bytes.
@@ -129,7 +129,7 @@ pub fn ask(kind: &IcAsk, out: &mut [u8]) -> usize
 /// Writes the negotiate message at the front of `out`, and answers its length, 52 bytes. The rest of `out` stays.
 ///
 /// It offers frame versions 3.0 and 1.0 and, on both kinds of channel, message versions 3.0 and 1.0.
-pub fn negotiate(_kind: Kind, out: &mut [u8]) -> usize
+pub fn negotiate(_kind: DeviceKind, out: &mut [u8]) -> usize
     requires room { 2112 ≤ length out.old }
     ensures count { result ≡ length negotiate_bytes }
     ensures most { result ≤ 2112 }

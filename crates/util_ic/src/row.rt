@@ -6,7 +6,7 @@ ghost use Rattle.util_ic.specs.Answers.{row_of, negotiation_of, HasRoom};
 
 use crate::tables::{CONTENT, VERSIONS, get, header_table, negotiate_table};
 use crate::version::{Version, greatest};
-use contact::Kind;
+use contact::DeviceKind;
 
 /// The rows of the table of answers, in its order.
 #[derive(Clone, Copy, Debug, PartialEq, Eq)]
@@ -58,7 +58,7 @@ fn is_asked(asked: u64, by: u64, here: bool, len: usize, least: usize) -> bool
 }
 
 /// The first row that applies to a request.
-pub fn first_row(request: &[u8], kind: Kind) -> AnswerRow
+pub fn first_row(request: &[u8], kind: DeviceKind) -> AnswerRow
     ensures row { result ≡ row_of kind request.now }
     ensures room { HasRoom result (length request.now) }
 {
@@ -79,15 +79,15 @@ pub fn first_row(request: &[u8], kind: Kind) -> AnswerRow
 }
 
 /// A heartbeat channel.
-pub fn is_beat(kind: Kind) -> bool
+pub fn is_beat(kind: DeviceKind) -> bool
     ensures { result ≡ on_beat kind }
 {
-    matches!(kind, Kind::Beat)
+    matches!(kind, DeviceKind::Beat)
 }
 
 // A shutdown channel.
-fn is_down(kind: Kind) -> bool
+fn is_down(kind: DeviceKind) -> bool
     ensures { result ≡ on_down kind }
 {
-    matches!(kind, Kind::Down)
+    matches!(kind, DeviceKind::Down)
 }

@@ -1,9 +1,9 @@
 //! The guest's answers of the utility services.
 ghost use Rattle.std.specs.Prelude.{◌≡◌, ◌≤◌, ◌<◌, length, take, drop};
-ghost use Rattle.contact.specs.declared.kind.Kind.TheVariants.{Beat, Down};
+ghost use Rattle.contact.specs.declared.kind.DeviceKind.TheVariants.{Beat, Down};
 ghost use Rattle.util_ic.specs.Answers.{utility_answer};
 
-use contact::Kind;
+use contact::DeviceKind;
 use util_ic::serve;
 
 /// Writes the guest's answer to any request of a heartbeat channel at the front of `reply`, and answers how many bytes that has: 28 where the request has fewer, and
@@ -18,7 +18,7 @@ pub extern "C" fn vmbus_heartbeat_answer(request: &[u8], reply: &mut [u8]) -> us
     if reply.len() < 28 || reply.len() < request.len() {
         return 0;
     }
-    serve(request, Kind::Beat, reply)
+    serve(request, DeviceKind::Beat, reply)
 }
 
 /// As `vmbus_heartbeat_answer`, of a shutdown channel.
@@ -32,5 +32,5 @@ pub extern "C" fn vmbus_shutdown_answer(request: &[u8], reply: &mut [u8]) -> usi
     if reply.len() < 28 || reply.len() < request.len() {
         return 0;
     }
-    serve(request, Kind::Down, reply)
+    serve(request, DeviceKind::Down, reply)
 }

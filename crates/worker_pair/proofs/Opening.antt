@@ -4,8 +4,8 @@ use Rattle.std.proofs.lemmas.List.{length-append, length-map, take_all, take_mor
 use Rattle.std.specs.Prelude.{IfOk}
 use Rattle.std.specs.List.{AllByRecursion}
 use Rattle.wire_table.proofs.RowLaws.{IsBytes, all_bytes}
-use Rattle.contact.specs.declared.kind.Kind.{Kind}
-use Rattle.contact.specs.declared.kind.Kind.TheVariants.{Beat, Down, Disk, Net}
+use Rattle.contact.specs.declared.kind.DeviceKind.{DeviceKind}
+use Rattle.contact.specs.declared.kind.DeviceKind.TheVariants.{Beat, Down, Disk, Net}
 use Rattle.scsi_disk.specs.declared.command.Command.{Command}
 use Rattle.scsi_disk.specs.declared.command.Command.TheVariants.{TestUnitReady, Inquiry, ReadCapacity, Read, Write, SynchronizeCache, LongCapacity}
 use Rattle.scsi_disk.specs.declared.request.DiskRequest.{DiskRequest}
@@ -60,18 +60,18 @@ carried_can q carried cdb_bytes out_bytes = record {
 }
 
 -- each request at a place of a list of which all are carried
-pub carried_kind : (kind : Kind) (asks : List Ask) (i : ℕ) (d : Ask) → AllCarried kind asks → i < length asks → kind_asked (get_or asks i d) ≡ kind
+pub carried_kind : (kind : DeviceKind) (asks : List Ask) (i : ℕ) (d : Ask) → AllCarried kind asks → i < length asks → kind_asked (get_or asks i d) ≡ kind
 carried_kind kind [] i d all below = absurd (omega arith)
 carried_kind kind (a ∷ asks) zero d all below = all.0
 carried_kind kind (a ∷ asks) (suc i) d all below = carried_kind kind asks i d all.2 (omega arith)
 
-pub carried_goes : (kind : Kind) (asks : List Ask) (i : ℕ) (d : Ask) → AllCarried kind asks → i < length asks → CanGo (get_or asks i d)
+pub carried_goes : (kind : DeviceKind) (asks : List Ask) (i : ℕ) (d : Ask) → AllCarried kind asks → i < length asks → CanGo (get_or asks i d)
 carried_goes kind [] i d all below = absurd (omega arith)
 carried_goes kind (a ∷ asks) zero d all below = all.1
 carried_goes kind (a ∷ asks) (suc i) d all below = carried_goes kind asks i d all.2 (omega arith)
 
 -- how much a protocol has to ask
-pub asks_length : (kind : Kind) (sub subs : ℕ) (asks : List Ask) (protocol : ChannelScript) → protocol ≡ record { kind = kind; sub = sub; subs = subs; asks = asks } → length (asks_of protocol) ≡ length (startup kind sub subs) + length asks
+pub asks_length : (kind : DeviceKind) (sub subs : ℕ) (asks : List Ask) (protocol : ChannelScript) → protocol ≡ record { kind = kind; sub = sub; subs = subs; asks = asks } → length (asks_of protocol) ≡ length (startup kind sub subs) + length asks
 asks_length kind sub subs asks protocol is = omega (arith, ap (λ (t : ChannelScript). length (asks_of t)) is, length-append (startup kind sub subs) (map Script asks), length-map asks Script)
 
 -- one more of a list that can be asked
@@ -89,11 +89,11 @@ all_more {A} P xs i x below is all here =
 disk_answers : (k : ℕ) → has_answer_on Disk (Starts k) ≡ true
 disk_answers k = start_answers Disk k
 
-answered_alike : (kind : Kind) (wants : List Want) → AllByRecursion (λ a. has_answer_on kind a ≡ true) wants → length (filter (has_answer_on kind) wants) ≡ length wants
+answered_alike : (kind : DeviceKind) (wants : List Want) → AllByRecursion (λ a. has_answer_on kind a ≡ true) wants → length (filter (has_answer_on kind) wants) ≡ length wants
 answered_alike kind [] all = refl
 answered_alike kind (a ∷ wants) all = rw all.0 (ap suc (answered_alike kind wants all.1))
 
-pub starts_all : (kind : Kind) (sub subs : ℕ) → length (filter (has_answer_on kind) (startup kind sub subs)) + silent kind sub ≡ length (startup kind sub subs)
+pub starts_all : (kind : DeviceKind) (sub subs : ℕ) → length (filter (has_answer_on kind) (startup kind sub subs)) + silent kind sub ≡ length (startup kind sub subs)
 starts_all Beat zero subs = omega (arith, answered_alike Beat (startup Beat zero subs) (start_answers Beat 0, tt))
 starts_all Down zero subs = omega (arith, answered_alike Down (startup Down zero subs) (start_answers Down 0, tt))
 starts_all Disk zero zero = omega (arith, answered_alike Disk (startup Disk zero zero) (disk_answers 0, (disk_answers 1, (disk_answers 2, (disk_answers 3, tt)))))

@@ -11,8 +11,8 @@ use Rattle.script_lines.specs.declared.line.Ask.{Ask}
 use Rattle.script_lines.specs.declared.line.Ask.TheVariants.{Ic as AskIc, Disk as AskDisk, Net as AskNet}
 use Rattle.bus_script.specs.declared.outcome.Reply.TheVariants.{Ic as ReplyIc, Disk as ReplyDisk, Net as ReplyNet}
 use Rattle.util_ic.specs.Machines.{beat_reply, down_reply}
-use Rattle.contact.specs.declared.kind.Kind.{Kind}
-use Rattle.contact.specs.declared.kind.Kind.TheVariants.{Beat as KindBeat, Down as KindDown, Disk as KindDisk, Net as KindNet}
+use Rattle.contact.specs.declared.kind.DeviceKind.{DeviceKind}
+use Rattle.contact.specs.declared.kind.DeviceKind.TheVariants.{Beat as KindBeat, Down as KindDown, Disk as KindDisk, Net as KindNet}
 use Rattle.scsi_disk.specs.DiskModel.{IsSized, most_back}
 use Rattle.scsi_disk.specs.Commands.{command_of}
 use Rattle.scsi_disk.specs.FiniteMap.{Kept}
@@ -88,7 +88,7 @@ equal : (m n : ℕ) → m ≡ n → (m == n) ≡ true
 equal m n is = grind (arith, nat_tests)
 
 -- the reply of a service fits what it was asked
-pub service_ok : (kind : Kind) (q : IcAsk) (r : IcAnswer) → r ≡ reply_of kind q → service_fits kind q r ≡ true
+pub service_ok : (kind : DeviceKind) (q : IcAsk) (r : IcAnswer) → r ≡ reply_of kind q → service_fits kind q r ≡ true
 unfolding service_fits
 service_ok kind q r is = both _ _ (equal r.status (reply_of kind q).status (ap (λ x. x.status) is)) (equal r.seq (reply_of kind q).seq (ap (λ x. x.seq) is))
 
@@ -109,18 +109,18 @@ disk_ok q (Good bs) sized = both _ _ (within (length bs) (most_back (command_of 
 disk_ok q (Check key asc ascq) sized = both (nat_lt key 256 && nat_lt asc 256) (nat_lt ascq 256) (both (nat_lt key 256) (nat_lt asc 256) (below key 256 sized.0) (below asc 256 sized.1)) (below ascq 256 sized.2)
 
 -- what a seat replies fits, where its device is of the kind of the protocol
-pub beat_fits : (s : DeviceSeat) (kind : Kind) (q : Ask) (seat : Seat BeatMachine IcAsk IcAnswer) (ask : IcAsk) (r : IcAnswer) → s ≡ Beat seat → kind_at s ≡ kind → q ≡ AskIc ask → r ≡ beat_reply ask → fits_on kind q (ReplyIc r) ≡ true
+pub beat_fits : (s : DeviceSeat) (kind : DeviceKind) (q : Ask) (seat : Seat BeatMachine IcAsk IcAnswer) (ask : IcAsk) (r : IcAnswer) → s ≡ Beat seat → kind_at s ≡ kind → q ≡ AskIc ask → r ≡ beat_reply ask → fits_on kind q (ReplyIc r) ≡ true
 beat_fits s kind q seat ask r is serves asked fits =
     subst (λ k. fits_on k q (ReplyIc r) ≡ true) (sym (ap kind_at is) ∙ serves) (subst (λ x. fits_on KindBeat x (ReplyIc r) ≡ true) (sym asked) (service_ok KindBeat ask r fits))
 
-pub down_fits : (s : DeviceSeat) (kind : Kind) (q : Ask) (seat : Seat DownMachine IcAsk IcAnswer) (ask : IcAsk) (r : IcAnswer) → s ≡ Down seat → kind_at s ≡ kind → q ≡ AskIc ask → r ≡ down_reply ask → fits_on kind q (ReplyIc r) ≡ true
+pub down_fits : (s : DeviceSeat) (kind : DeviceKind) (q : Ask) (seat : Seat DownMachine IcAsk IcAnswer) (ask : IcAsk) (r : IcAnswer) → s ≡ Down seat → kind_at s ≡ kind → q ≡ AskIc ask → r ≡ down_reply ask → fits_on kind q (ReplyIc r) ≡ true
 down_fits s kind q seat ask r is serves asked fits =
     subst (λ k. fits_on k q (ReplyIc r) ≡ true) (sym (ap kind_at is) ∙ serves) (subst (λ x. fits_on KindDown x (ReplyIc r) ≡ true) (sym asked) (service_ok KindDown ask r fits))
 
-pub disk_fits_on : (s : DeviceSeat) (kind : Kind) (q : Ask) (seat : Seat Kept DiskRequest DiskReply) (ask : DiskRequest) (r : DiskReply) → s ≡ Disk seat → kind_at s ≡ kind → q ≡ AskDisk ask → IsSized ask r → fits_on kind q (ReplyDisk r) ≡ true
+pub disk_fits_on : (s : DeviceSeat) (kind : DeviceKind) (q : Ask) (seat : Seat Kept DiskRequest DiskReply) (ask : DiskRequest) (r : DiskReply) → s ≡ Disk seat → kind_at s ≡ kind → q ≡ AskDisk ask → IsSized ask r → fits_on kind q (ReplyDisk r) ≡ true
 disk_fits_on s kind q seat ask r is serves asked fits =
     subst (λ k. fits_on k q (ReplyDisk r) ≡ true) (sym (ap kind_at is) ∙ serves) (subst (λ x. fits_on KindDisk x (ReplyDisk r) ≡ true) (sym asked) (disk_ok ask r fits))
 
-pub net_fits_on : (s : DeviceSeat) (kind : Kind) (q : Ask) (seat : Seat Station (Result Rndis RndisFault) NetReply) (ask : Rndis) (r : NetReply) → s ≡ Net seat → kind_at s ≡ kind → q ≡ AskNet ask → StationKeeps (Ok ask) r → fits_on kind q (ReplyNet r.status r.back) ≡ true
+pub net_fits_on : (s : DeviceSeat) (kind : DeviceKind) (q : Ask) (seat : Seat Station (Result Rndis RndisFault) NetReply) (ask : Rndis) (r : NetReply) → s ≡ Net seat → kind_at s ≡ kind → q ≡ AskNet ask → StationKeeps (Ok ask) r → fits_on kind q (ReplyNet r.status r.back) ≡ true
 net_fits_on s kind q seat ask r is serves asked fits =
     subst (λ k. fits_on k q (ReplyNet r.status r.back) ≡ true) (sym (ap kind_at is) ∙ serves) (subst (λ x. fits_on KindNet x (ReplyNet r.status r.back) ≡ true) (sym asked) (net_reply_fits ask r fits))

@@ -13,8 +13,8 @@ use Rattle.device_formats.specs.Formats.{has_answer_on}
 use Rattle.device_formats.specs.ChannelScript.{ChannelScript}
 use Rattle.device_formats.specs.Wants.{startup, IsAskable}
 use Rattle.chan_state.specs.declared.stop.Stop.{Stop}
-use Rattle.contact.specs.declared.kind.Kind.{Kind}
-use Rattle.contact.specs.declared.kind.Kind.TheVariants.{Beat as BeatKind, Down as DownKind, Disk as DiskKind, Net as NetKind}
+use Rattle.contact.specs.declared.kind.DeviceKind.{DeviceKind}
+use Rattle.contact.specs.declared.kind.DeviceKind.TheVariants.{Beat as BeatKind, Down as DownKind, Disk as DiskKind, Net as NetKind}
 use Rattle.io_edge.specs.declared.side.Side.{Side}
 use Rattle.io_edge.specs.declared.side.Side.TheVariants.{Guest}
 use Rattle.channel_model.specs.Channel.{count_of, held_of}
@@ -30,7 +30,7 @@ use Rattle.worker_pair.specs.declared.worker.Worker.{Worker}
 use Rattle.worker_pair.specs.declared.worker.Worker.TheVariants.{Asks, Serves}
 
 -- each request is one for devices of this kind, and its channel carries it
-abbrev pub AllCarried : Kind → List Ask → Type 0
+abbrev pub AllCarried : DeviceKind → List Ask → Type 0
 AllCarried kind [] = Unit {0}
 AllCarried kind (a ∷ asks) = (kind_asked a ≡ kind) × CanGo a × AllCarried kind asks
 
@@ -43,7 +43,7 @@ stop_of (Some s) = Some (s.after, s.held)
 -- most, how many there are, where a host stops, and which they are, where this side asks
 pub record Planned : Type 0 where
   pub relid : ℕ
-  pub kind : Kind
+  pub kind : DeviceKind
   pub sub : ℕ
   pub subs : ℕ
   pub window : ℕ
@@ -52,7 +52,7 @@ pub record Planned : Type 0 where
   pub asks : List Ask
 
 -- what a guest asks a device of this kind: the commands for a disk, or the messages for an adapter. It asks no service
-abbrev pub guest_asks : Kind → List DiskRequest → List Rndis → List Ask
+abbrev pub guest_asks : DeviceKind → List DiskRequest → List Rndis → List Ask
 guest_asks BeatKind disk net = []
 guest_asks DownKind disk net = []
 guest_asks DiskKind disk net = map AskDisk disk
@@ -68,7 +68,7 @@ abbrev pub planned : ChannelPlan → List Ask → Planned
 planned p asks = record { relid = p.relid; kind = p.kind; sub = p.sub; subs = p.subs; window = p.window; count = p.count; stop = stop_of p.stop; asks = asks }
 
 -- a host stops where the guest asks, and holds the last answer where there is one
-abbrev pub CanStop : Kind → Option (ℕ × Bool) → Type 0
+abbrev pub CanStop : DeviceKind → Option (ℕ × Bool) → Type 0
 CanStop kind None = Unit {0}
 CanStop kind (Some k) = (side_that_asks kind ≡ Guest) × (k.0 ≤ 4096) × (k.1 ≡ true → 1 ≤ k.0)
 
@@ -82,7 +82,7 @@ pub record CanPlan (side : Side) (p : Planned) : Type 0 where
   pub asks : side ≡ side_that_asks p.kind → (length p.asks ≡ p.count) × AllCarried p.kind p.asks
 
 -- how many requests of a start-up have no answer: that of a network tells the host a version
-abbrev pub silent : Kind → ℕ → ℕ
+abbrev pub silent : DeviceKind → ℕ → ℕ
 silent BeatKind sub = 0
 silent DownKind sub = 0
 silent DiskKind sub = 0

@@ -3,8 +3,8 @@ use Rattle.std.specs.Prelude.{ℕ, ◌≡◌, List, map, Option, Some, None, Res
 use Rattle.bus_model.specs.Served.{Served, message_asked}
 use Rattle.script_lines.specs.declared.line.Ask.TheVariants.{Ic as AskIc, Disk as AskDisk}
 use Rattle.bus_script.specs.declared.outcome.Reply.TheVariants.{Ic as ReplyIc, Disk as ReplyDisk, Net as ReplyNet}
-use Rattle.contact.specs.declared.kind.Kind.{Kind}
-use Rattle.contact.specs.declared.kind.Kind.TheVariants.{Beat as KindBeat, Down as KindDown, Disk as KindDisk, Net as KindNet}
+use Rattle.contact.specs.declared.kind.DeviceKind.{DeviceKind}
+use Rattle.contact.specs.declared.kind.DeviceKind.TheVariants.{Beat as KindBeat, Down as KindDown, Disk as KindDisk, Net as KindNet}
 use Rattle.hist_lock.specs.Seat.{Call, Lock, Seat, IsSame}
 use Rattle.scsi_disk.specs.FiniteMap.{Kept}
 use Rattle.util_ic.specs.declared.beat.BeatMachine.{BeatMachine}
@@ -43,7 +43,7 @@ served_at (Disk s) = disk_served s.calls
 served_at (Net s) = net_served s.calls
 
 -- the kind of its device
-abbrev pub kind_at : DeviceSeat → Kind
+abbrev pub kind_at : DeviceSeat → DeviceKind
 kind_at (Beat s) = KindBeat
 kind_at (Down s) = KindDown
 kind_at (Disk s) = KindDisk

@@ -1,6 +1,6 @@
 //! What the workers of a channel are made for.
 use chan_state::Stop;
-use contact::Kind;
+use contact::DeviceKind;
 
 /// What the workers of a channel do in a phase, besides the requests that one of them asks.
 #[derive(Clone, Copy)]
@@ -8,7 +8,7 @@ pub struct ChannelPlan {
     /// The channel's number among the offers.
     pub relid: u32,
     /// The kind of its device.
-    pub kind: Kind,
+    pub kind: DeviceKind,
     /// 0 for the primary channel of the device.
     pub sub: u16,
     /// How many channels the device has beside it.

@@ -1,5 +1,5 @@
 //! What a guest's worker is made for.
-use contact::Kind;
+use contact::DeviceKind;
 use rndis_msg::Rndis;
 use scsi_disk::DiskRequest;
 
@@ -9,7 +9,7 @@ pub struct GuestPlan {
     /// The channel's number among the offers.
     pub relid: u32,
     /// The kind of its device.
-    pub kind: Kind,
+    pub kind: DeviceKind,
     /// 0 for the primary channel of the device.
     pub sub: u16,
     /// How many channels the device has beside it.

@@ -1,6 +1,6 @@
 //! What a host's worker is made for.
 use chan_state::Stop;
-use contact::Kind;
+use contact::DeviceKind;
 use util_ic::IcAsk;
 
 /// What the host's worker of a channel does in a phase.
@@ -9,7 +9,7 @@ pub struct HostPlan {
     /// The channel's number among the offers.
     pub relid: u32,
     /// The kind of its device.
-    pub kind: Kind,
+    pub kind: DeviceKind,
     /// 0 for the primary channel of the device.
     pub sub: u16,
     /// How many channels the device has beside it.

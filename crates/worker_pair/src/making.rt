@@ -3,7 +3,7 @@ ghost use Rattle.std.specs.Prelude.{◌≡◌, ◌≤◌, ◌+◌, false, [], le
 ghost use Rattle.std.specs.List.{AllByRecursion};
 ghost use Rattle.script_lines.specs.Parts.{kind_asked};
 ghost use Rattle.script_lines.specs.Requests.{CanBeCarried, IsSent};
-ghost use Rattle.contact.specs.declared.kind.Kind.TheVariants.{Net as NetKind};
+ghost use Rattle.contact.specs.declared.kind.DeviceKind.TheVariants.{Net as NetKind};
 ghost use Rattle.script_lines.specs.WellFormed.{CanGo};
 ghost use Rattle.script_lines.specs.declared.line.Ask.{Ask as Asked};
 ghost use Rattle.script_lines.specs.declared.line.Ask.TheVariants.{Ic as AskedIc, Disk as AskedDisk, Net as AskedNet};
@@ -21,7 +21,7 @@ use crate::{ChannelPlan, DeviceSeat};
 use bus_script::Ask;
 use chan_state::Stop;
 use channel_protocol::Protocol;
-use contact::Kind;
+use contact::DeviceKind;
 use device_protocols::DeviceProtocol;
 use io_edge::Side;
 use ring_core::End;
@@ -34,7 +34,7 @@ use worker_requester::Requester;
 use worker_server::Server;
 
 // A heartbeat or a shutdown can be asked on its channel. It does nothing.
-fn service_can(kind: Kind, ask: IcAsk)
+fn service_can(kind: DeviceKind, ask: IcAsk)
     requires { kind_asked (Asked.Ic ask) ≡ kind }
     ensures { IsAskable kind (Asked.Ic ask) }
 {
@@ -58,7 +58,7 @@ fn message_can(message: &Rndis)
 }
 
 // A request that stands in a script can be asked on its channel. It does nothing.
-fn ask_can(kind: Kind, ask: &Ask)
+fn ask_can(kind: DeviceKind, ask: &Ask)
     requires kind { kind_asked ask.now ≡ kind }
     requires goes { CanGo ask.now }
     ensures { IsAskable kind ask.now }
@@ -71,7 +71,7 @@ fn ask_can(kind: Kind, ask: &Ask)
 }
 
 // And all of these can be. It does nothing.
-fn all_can(kind: Kind, asks: &[Ask])
+fn all_can(kind: DeviceKind, asks: &[Ask])
     requires { AllCarried kind asks.now }
     ensures { AllByRecursion (IsAskable kind) asks.now }
 {
@@ -105,17 +105,17 @@ fn net_asks(alloc: Global, net: Vec<Rndis>) -> Result<Vec<Ask>, AllocError>
 /// What a guest asks a device of this kind.
 pub(crate) fn guest_asks(
     alloc: Global,
-    kind: Kind,
+    kind: DeviceKind,
     disk: Vec<DiskRequest>,
     net: Vec<Rndis>,
 ) -> Result<Vec<Ask>, AllocError>
     ensures { IfOk result (λ asks. asks.items ≡ guest_asks kind disk.items net.items) }
 {
     match kind {
-        Kind::Beat => Ok(Vec::new(alloc)),
-        Kind::Down => Ok(Vec::new(alloc)),
-        Kind::Disk => disk_asks(alloc, disk),
-        Kind::Net => net_asks(alloc, net),
+        DeviceKind::Beat => Ok(Vec::new(alloc)),
+        DeviceKind::Down => Ok(Vec::new(alloc)),
+        DeviceKind::Disk => disk_asks(alloc, disk),
+        DeviceKind::Net => net_asks(alloc, net),
     }
 }
 
@@ -136,7 +136,7 @@ pub(crate) fn make_asker(
     side: Side,
     end: End<TableSeat>,
     relid: u32,
-    kind: Kind,
+    kind: DeviceKind,
     sub: u32,
     subs: u32,
     window: u32,
@@ -184,13 +184,13 @@ fn is_held(stop: Option<Stop>, count: u32) -> bool
 }
 
 // How many requests of a channel's start-up have no answer: that of a network tells the host a version.
-fn count_silent(kind: Kind, sub: u32) -> u32
+fn count_silent(kind: DeviceKind, sub: u32) -> u32
     ensures value { result ≡ silent kind sub }
     ensures most { result ≤ 1 }
 {
     match kind {
-        Kind::Beat | Kind::Down | Kind::Disk => 0,
-        Kind::Net => if sub == 0 { 1 } else { 0 },
+        DeviceKind::Beat | DeviceKind::Down | DeviceKind::Disk => 0,
+        DeviceKind::Net => if sub == 0 { 1 } else { 0 },
     }
 }
 
@@ -201,7 +201,7 @@ pub(crate) fn make_server(
     end: End<TableSeat>,
     seat: DeviceSeat,
     relid: u32,
-    kind: Kind,
+    kind: DeviceKind,
     sub: u32,
     subs: u32,
     count: u32,
