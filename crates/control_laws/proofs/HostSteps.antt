@@ -140,7 +140,7 @@ step_connects plan logs v hosts phase place done o left port planned at is meet 
     let long = length-range_with_len o.first_page (list_pages o.ring_pages) in
     let list : List Msg = cut o.relid o.gpadl (pages_from o) in
     let whole : HasFirst list = cut_first o.relid o.gpadl (pages_from o) (omega (arith, few, long)) in
-    let turn : HostTurn = offers_service h place o port in
+    let turn : HostTurn = offers_service h place port o.relid in
     let service : List ℕ = service_id port in
     let stands : ℕ → ChanState = marked (host_is (vps_before plan phase) Opened) done (host_before (vps_before plan phase) plan phase) in
     let count : ℕ = offered_by plan phase done (o ∷ left) in

@@ -186,12 +186,12 @@ on_request h Request = record (at_rest h) { awaits = Nothing; channels = map (λ
 on_request h _ = at_rest h
 
 -- TL_CONNECT_REQUEST: the channel is offered, where it is that of the service which the host waits for
-abbrev pub offers_service : HostSeen → ℕ → Opening → ℕ → HostTurn
-offers_service h place o port = record (at_rest h) { awaits = AwaitsList place; channels = h.channels ++ offered_life ∷ []; burst = One (offer_service port o.relid) }
+abbrev pub offers_service : HostSeen → ℕ → ℕ → ℕ → HostTurn
+offers_service h place port relid = record (at_rest h) { awaits = AwaitsList place; channels = h.channels ++ offered_life ∷ []; burst = One (offer_service port relid) }
 
 abbrev pub connects_to : HostSeen → ℕ → Opening → List ℕ → Option ℕ → HostTurn
 connects_to h place o service None = at_rest h
-connects_to h place o service (Some port) = if bytes_eq service (service_id port) then offers_service h place o port else at_rest h
+connects_to h place o service (Some port) = if bytes_eq service (service_id port) then offers_service h place port o.relid else at_rest h
 
 abbrev pub connects : HostSeen → ℕ → List ℕ → Option Opening → HostTurn
 connects h place service None = at_rest h
