@@ -1,12 +1,12 @@
 -- A guest takes the next message that its host says.
-use Rattle.std.proofs.Common.{◌≡◌, ◌≢◌, ◌∙◌, ℕ, zero, suc, ◌+◌, ◌-◌, ◌<◌, ◌≤◌, ◌==◌, ◌&&◌, ◌||◌, not, true, false, Bool, nat_le, cond, if◌then◌else◌, List, [], ◌∷◌, ◌++◌, length, map, drop, replicate, slice_get, slice_set, Option, Some, None, is_some, Ok, take, All, ◌^◌, refl, sym, ap, subst, append_assoc, length-append, arith}
+use Rattle.std.proofs.Common.{◌≡◌, ◌≢◌, ◌∙◌, ℕ, zero, suc, ◌+◌, ◌-◌, ◌<◌, ◌≤◌, ◌==◌, ◌&&◌, ◌||◌, not, true, false, Bool, nat_le, cond, if◌then◌else◌, List, [], ◌∷◌, ◌++◌, length, map, drop, replicate, slice_get, slice_set, Option, Some, None, is_some, Ok, All, get_or, ◌^◌, refl, sym, ap, subst, append_assoc, length-append, arith}
 use Rattle.std.specs.Option.{option_to_list}
 use Rattle.std.specs.List.{AllByRecursion, flat_map, position_from}
 use Rattle.std.proofs.lemmas.Bool.{eq-eqb}
 use Rattle.std.proofs.lemmas.Bool.Decides.{nat_tests}
 use Rattle.std.proofs.lemmas.List.Concat.{flat_map-cons}
-use Rattle.std.proofs.lemmas.List.{append-nil, length-replicate, take-append-drop}
-use Rattle.std.proofs.lemmas.List.Elements.{filter-append}
+use Rattle.std.proofs.lemmas.List.{append-nil, length-replicate}
+use Rattle.std.proofs.lemmas.List.Elements.{All-get_or}
 use Rattle.contact.specs.declared.version.Version.{Version}
 use Rattle.contact.specs.declared.kind.Kind.{Kind}
 use Rattle.contact.specs.declared.kind.Kind.TheVariants.{Disk, Sock}
@@ -27,7 +27,7 @@ use Rattle.control_model.specs.declared.burst.Burst.TheVariants.{One}
 use Rattle.control_model.specs.declared.guest_wait.GuestWait.{GuestWait}
 use Rattle.control_model.specs.declared.guest_wait.GuestWait.TheVariants.{Nothing, Response, Offers, SubOffer, ServiceOffer, Created, Opened as AwaitsOpened, Modified, Torn, Rescinded, Unloaded}
 use Rattle.control_model.specs.declared.guest_turn.GuestTurn.{GuestTurn}
-use Rattle.control_model.specs.Plan.{BusPlan, is_sub, is_of_sub, first_subs, subs_next, subs_in, opening_at, closing_at, IsPlan, IsPort, HasPort, phase_of, closing_of}
+use Rattle.control_model.specs.Plan.{BusPlan, is_sub, is_of_sub, first_subs, subs_next, opening_at, closing_at, IsPlan, IsPort, HasPort, phase_of, closing_of}
 use Rattle.control_model.specs.Channels.{by_relid, lived, changed, is_handle, place_of_list}
 use Rattle.control_model.specs.Messages.{propose, respond, request, delivered, created, open_on, opened, modified, offer_sub, offer_service, pages_from, torndown, rescind, release, farewell_taken, Sends}
 use Rattle.control_model.specs.Guest.{GuestSeen, idle, is_service, is_service_offer, service_offered, lists as lists_turn, offered_channel, proposal, proposes, answered, device_offered, is_sub_offer, goes_behind, sub_offered, on_offer, opens, created_for, on_created, opens_next, opened_for, on_result, is_modifying, in_state, then_in, waits_answer, on_modified, torn_at, torn_then, torn_for, ended_for, on_torndown, on_rescind, lists_next, closes_next, guest_hears, waits_for_nothing}
@@ -41,7 +41,7 @@ use Rattle.control_laws.proofs.NextOne.{guest_next_awaits, guest_next_stands, gu
 use Rattle.control_laws.proofs.Logs.{Logs, a_guest}
 use Rattle.control_laws.proofs.Marks.{by_test, same, at_relid, marked_apart, marked_here, marked_there, stand_now, stand_add, stand_mark, stand_join, stand_at}
 use Rattle.control_laws.proofs.Closing.{Distinct, distinct_mid}
-use Rattle.control_laws.proofs.Cutting.{all_weaker, by_all, mid_all}
+use Rattle.control_laws.proofs.Cutting.{all_weaker, mid_all}
 use Rattle.control_laws.proofs.Counts.{count_next, done_known, unopened, service_at}
 use Rattle.control_laws.proofs.Plans.{phase_has, facts, opening_from, opening_here, offered_here, done_more, place_more, end_facts, closing_here, ends_more, ends_place}
 use Rattle.control_laws.proofs.Lower.{lower_one}
@@ -105,6 +105,11 @@ left_of [] zero kind left is = absurd (cc)
 left_of [] (suc n) kind left is = absurd (cc)
 left_of (k ∷ kinds) zero kind left is = let first : k ≡ kind = cc in let rest : kinds ≡ left = cc in (ap Some first, rest, omega arith)
 left_of (k ∷ kinds) (suc n) kind left is = let rest = left_of kinds n kind left is in (rest.0, rest.1, omega (arith, rest.2))
+
+some_get : (kinds : List Kind) (n : ℕ) (kind : Kind) → slice_get kinds n ≡ Some kind → get_or kinds n kind ≡ kind
+some_get [] n kind is = refl
+some_get (k ∷ kinds) zero kind is = cc
+some_get (k ∷ kinds) (suc n) kind is = some_get kinds n kind is
 
 none_left : (kinds : List Kind) (n : ℕ) → n ≤ length kinds → drop n kinds ≡ [] → n ≡ length kinds
 none_left [] zero few is = refl
@@ -236,7 +241,7 @@ step_listed plan logs v guests phase place done o left planned at meet =
 -- OPENCHANNEL_RESULT: the channel is open
 record IsOpen (plan : BusPlan) (v : Version) (guests : List Channel) (phase place : ℕ) (done : List Opening) (o : Opening) (left : List Opening) : Type 0 where
   known : by_relid guests o.relid ≡ Some (guest_is (vps_before plan phase) IsOpening o)
-  stand : Stand (slice_set guests (o.relid - 1) (guest_is (vps_before plan phase) Opened o)) (offered_by plan phase done (o ∷ left)) (marked (guest_is (vps_before plan phase) Opened) (done ++ o ∷ []) (guest_before (vps_before plan phase) plan phase))
+  stand : Stand (slice_set guests (o.relid - 1) (guest_is (vps_before plan phase) Opened o)) (offered_for plan phase done o left) (marked (guest_is (vps_before plan phase) Opened) (done ++ o ∷ []) (guest_before (vps_before plan phase) plan phase))
   next : opening_at plan phase (place + 1) ≡ slice_get left 0
   answers : (later : List Msg) → answers_open (drop place (phase_of plan phase)) ++ later ≡ opened o.relid o.relid ∷ ((map offer_sub (subs_next (o ∷ left)) ++ host_opens_all left) ++ later)
 
@@ -727,7 +732,10 @@ step_response plan logs v planned tries = by_test {P = GuestGoes plan (a_guest p
     (λ e. let above : plan.host.0 < v.0 = grind (arith, nat_tests, e) in record { next = respond 0; step = step_refuses plan logs v planned tries above })
 
 port_at : (kinds : List Kind) (n : ℕ) (kind : Kind) (left : List Kind) → All HasPort kinds → drop n kinds ≡ kind ∷ left → HasPort kind
-port_at kinds n kind left all is = mid_all HasPort (take n kinds) kind left (subst (AllByRecursion HasPort) (sym (take-append-drop n kinds) ∙ ap (λ xs. take n kinds ++ xs) is) (by_all HasPort kinds all))
+port_at kinds n kind left all is =
+    let here = left_of kinds n kind left is in
+    let few = here.2 in
+    subst HasPort (some_get kinds n kind here.0) (All-get_or HasPort kinds n kind (omega (arith, few)) all)
 
 step_offers : (plan : BusPlan) (logs : Logs) (v : Version) (n : ℕ) (left : List Kind) → IsPlan plan → Agreed plan v → n ≤ length plan.kinds → drop n plan.kinds ≡ left → GuestGoes plan (a_guest plan logs (Some Contact) Offers (Some v) (replicate n offered_channel))
 step_offers plan logs v n [] planned agreed few is = record { next = delivered; step = step_offered plan logs v n agreed few is }
