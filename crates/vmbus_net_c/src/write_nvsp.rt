@@ -5,9 +5,9 @@ ghost use Rattle.net_dev.specs.declared.nvsp.Nvsp.{Nvsp as NvspMessage};
 ghost use Rattle.vmbus_net_c.specs.Network.{nvsp_fields};
 ghost use Rattle.vmbus_net_c.specs.NvspWriting.{nvsp_of};
 
-use crate::front::put_front;
 use crate::network::{VmbusNvsp, nvsp_fields};
 use net_dev::{Nvsp, encode_nvsp};
+use vmbus_fault::put_front;
 
 // The low 16 bits of a number.
 fn low_16(number: u32) -> u16

@@ -6,9 +6,9 @@ ghost use Rattle.rndis_msg.specs.declared.rndis.Rndis.{Rndis as RndisMessage};
 ghost use Rattle.vmbus_net_c.specs.Network.{rndis_fields};
 ghost use Rattle.vmbus_net_c.specs.RndisWriting.{rndis_of};
 
-use crate::front::put_front;
 use crate::network::{VmbusRndis, rndis_fields};
 use rndis_msg::{Rndis, Small, encode};
+use vmbus_fault::put_front;
 
 // The message of the type that the numbers give, of those numbers that the type has, with this buffer where the type has one.
 fn shaped(v: &VmbusRndis, body: &[u8]) -> Option<Rndis>
