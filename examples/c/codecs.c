@@ -1,5 +1,6 @@
 /* Reads and writes messages and packets that were built from Linux's structs, line by line of the files that it is given: what is written of the numbers that were read has to be the same
-   bytes. A line is the hex of a control message; or a kind, a tab, the hex of a packet, of a storage packet or of a network message, a tab, and what it is. */
+   bytes. A line is the hex of a control message; or a kind, a tab, the hex of a packet, of a storage packet or of a network message, a tab, and what it is; or `list PAGES FIRST`, which the
+   messages of a list of so many page numbers follow, and `end`. */
 #include <ctype.h>
 #include <inttypes.h>
 #include <stdio.h>
@@ -9,7 +10,7 @@
 
 #define MOST 4096
 
-static unsigned messages, faults, packets, storage, network;
+static unsigned messages, faults, offers, lists, packets, storage, network;
 static const char *at_file;
 static unsigned at_line;
 
@@ -35,6 +36,78 @@ static size_t bytes_of(const char *hex, uint8_t *out)
     return n;
 }
 
+/* What an offer says, and the offer of it, which are the same where it is one of this library's: it says no more than its kind, its relid and its index. */
+static void channel_offer(const uint8_t *b, size_t n)
+{
+    struct vmbus_offer o, again;
+    uint8_t out[VMBUS_MESSAGE_MOST];
+    size_t len = 0;
+    if (vmbus_offer_read(b, n, &o) != 0)
+        return;
+    offers++;
+    if (vmbus_offer_write(&o, out, sizeof out, &len) != VMBUS_WRITTEN || len != n || vmbus_offer_read(out, len, &again) != 0)
+        fail("an offer isn't written");
+    same(&o, sizeof o, &again, sizeof again, "another offer");
+    same(out + VMBUS_OFFER_IF_TYPE, 16, b + VMBUS_OFFER_IF_TYPE, 16, "another class id");
+    o.port += o.kind == VMBUS_SOCKET ? 0 : 1;
+    o.sub += o.kind == VMBUS_SOCKET ? 0x10000 : 0;
+    if (vmbus_offer_write(&o, out, sizeof out, &len) != VMBUS_NO_FORM)
+        fail("a number that no offer has is passed over");
+}
+
+static struct vmbus_page_list list;
+static uint64_t list_pages[VMBUS_LIST_MOST], list_first;
+static uint32_t list_number, list_answer, list_want;
+static bool in_list;
+
+static void begin_list(const char *words)
+{
+    memset(&list, 0, sizeof list);
+    if (sscanf(words, "%" SCNu32 " %" SCNu64, &list_want, &list_first) != 2)
+        fail("no list");
+    in_list = true;
+    list_number = 0;
+    list_answer = VMBUS_LIST_MORE;
+}
+
+/* The next message of a list: it is taken, and is the one that is cut of the pages. */
+static void list_message(const uint8_t *b, size_t n)
+{
+    static uint64_t pages[VMBUS_LIST_MOST];
+    struct vmbus_fault f;
+    uint8_t out[VMBUS_MESSAGE_MOST];
+    size_t len = 0;
+    for (uint32_t i = 0; i < list_want; i++)
+        pages[i] = list_first + i;
+    uint32_t live = 7, relid = b[8] | b[9] << 8, handle;
+    memcpy(&handle, b + 12, 4);
+    if (list_number == 0 && (vmbus_gpadl_take(b, n, &handle, 1, &list, list_pages, list_want, &f) != VMBUS_LIST_REPEAT || f.value != handle))
+        fail("a list is taken that is live");
+    if (list_number == 0 && (vmbus_gpadl_take(b, n, &live, 1, &list, list_pages, list_want - 1, &f) != VMBUS_LIST_NO_ROOM || f.need != list_want || f.have != list_want - 1))
+        fail("a list is taken without room");
+    list_answer = vmbus_gpadl_take(b, n, &live, 1, &list, list_pages, list_want, &f);
+    if (list_answer > VMBUS_LIST_MORE)
+        fail("a list's message isn't taken");
+    if (list_number == 0 && relid != list.relid)
+        fail("another channel");
+    if (vmbus_gpadl_write(list.relid, list.gpadl, pages, list_want, list_number++, out, sizeof out, &len) != VMBUS_WRITTEN)
+        fail("a list's message isn't written");
+    same(out, len, b, n, "another message of a list");
+    messages++;
+}
+
+static void end_list(void)
+{
+    uint8_t out[VMBUS_MESSAGE_MOST];
+    size_t len = 0;
+    if (list_answer != VMBUS_LIST_WHOLE || list.want != list_want || list.have != list_want || list_pages[0] != list_first || list_pages[list_want - 1] != list_first + list_want - 1)
+        fail("the list isn't whole");
+    if (vmbus_gpadl_write(list.relid, list.gpadl, list_pages, list_want, list_number, out, sizeof out, &len) != VMBUS_NO_FORM)
+        fail("a list has a message more");
+    lists++;
+    in_list = false;
+}
+
 static void control_message(const uint8_t *b, size_t n)
 {
     struct vmbus_message m;
@@ -46,8 +119,10 @@ static void control_message(const uint8_t *b, size_t n)
         return;
     }
     messages++;
-    if (m.kind == 8 || m.kind == 9) /* a page list's */
+    if (m.kind == 8 || m.kind == 9) /* a page list's, by itself */
         return;
+    if (m.kind == 1)
+        channel_offer(b, n);
     if (m.kind == 1 || m.kind == 21) {
         memcpy(out + VMBUS_OFFER_IF_TYPE, b + VMBUS_OFFER_IF_TYPE, 16);
         memcpy(out + VMBUS_OFFER_IF_INSTANCE, b + VMBUS_OFFER_IF_INSTANCE, 16);
@@ -71,6 +146,7 @@ static void packet(const char *kind, const uint8_t *b, size_t n)
     uint64_t words[MOST / 8], out[VMBUS_PACKET_MOST], frames[VMBUS_PACKET_MOST];
     struct vmbus_packet p;
     struct vmbus_range r;
+    struct vmbus_part parts[VMBUS_PACKET_MOST];
     size_t len = 0, count = 0;
     uint32_t a = VMBUS_WRITTEN, offset = 0, bytes = 0;
     memcpy(words, b, n);
@@ -92,6 +168,16 @@ static void packet(const char *kind, const uint8_t *b, size_t n)
                 frames[count++] = words[r.frames_at + i];
         }
         a = vmbus_packet_pages(p.tid, offset, bytes, frames, count, payload, load, out, VMBUS_PACKET_MOST, &len);
+    } else if (strcmp(kind, "transfer-pages") == 0) {
+        struct vmbus_transfer t;
+        if (vmbus_packet_transfer_read(words, n / 8, &t) != 0)
+            fail("no packet of type 7");
+        for (uint32_t i = 0; i < t.parts; i++)
+            if (vmbus_packet_part(words, n / 8, i, &parts[i]) != 0)
+                fail("no range");
+        if (vmbus_packet_part(words, n / 8, t.parts, &parts[0]) != 2)
+            fail("a range more");
+        a = vmbus_packet_transfer(p.tid, t.pageset, parts, t.parts, payload, load, out, VMBUS_PACKET_MOST, &len);
     } else
         return;
     if (a != VMBUS_WRITTEN)
@@ -192,8 +278,20 @@ static void line(char *text)
     static const char *const of_storage[] = {"begin-initialization", "enumerate-bus", "query-protocol", "create-sub-channels", "srb", NULL};
     static uint8_t b[MOST];
     char *hex = strchr(text, '\t'), *meaning = hex ? strchr(hex + 1, '\t') : NULL;
+    if (strncmp(text, "list ", 5) == 0) {
+        begin_list(text + 5);
+        return;
+    }
+    if (strncmp(text, "end", 3) == 0) {
+        end_list();
+        return;
+    }
     if (!hex) {
-        control_message(b, bytes_of(text, b));
+        size_t n = bytes_of(text, b);
+        if (in_list)
+            list_message(b, n);
+        else
+            control_message(b, n);
         return;
     }
     *hex++ = 0;
@@ -208,8 +306,24 @@ static void line(char *text)
         rndis(b, n, text[0] == 'c', meaning && strncmp(meaning + 1, "good", 4) == 0);
 }
 
+/* The versions that a guest tries, each after the one before was refused. */
+static void versions(void)
+{
+    static const uint32_t all[] = {VMBUS_VERSION(5, 3), VMBUS_VERSION(5, 2), VMBUS_VERSION(5, 1), VMBUS_VERSION(5, 0), VMBUS_VERSION(4, 1), VMBUS_VERSION(4, 0), VMBUS_VERSION(3, 0), VMBUS_VERSION(2, 4), 0};
+    for (int i = 0; all[i]; i++) {
+        if (vmbus_version_next(all[i]) != all[i + 1] || vmbus_version_next(all[i] + 1) != (i == 1 || i == 2 || i == 3 || i == 5 ? all[i] : 0))
+            fail("another version comes next");
+        for (int j = 0; all[j]; j++)
+            if (vmbus_version_agree(all[i], all[j]) != all[i > j ? i : j] || vmbus_version_accepts(all[i], all[j]) != (i <= j))
+                fail("another version is agreed on");
+        if (vmbus_version_has_modify(all[i]) != (i <= 4) || vmbus_version_answers_modify(all[i]) != (i == 0))
+            fail("MODIFYCHANNEL at another version");
+    }
+}
+
 int main(int argc, char **argv)
 {
+    versions();
     static char text[1 << 16];
     for (int i = 1; i < argc; i++) {
         FILE *file = fopen(argv[i], "r");
@@ -224,6 +338,7 @@ int main(int argc, char **argv)
         }
         fclose(file);
     }
-    printf("%u messages and %u refusals, %u packets, %u storage packets, %u network messages: each is written as it was read\n", messages, faults, packets, storage, network);
+    printf("%u messages and %u refusals, %u offers, %u page lists, %u packets, %u storage packets, %u network messages: each is written as it was read\n", messages, faults, offers, lists, packets,
+           storage, network);
     return 0;
 }

@@ -137,14 +137,20 @@ pub extern "C" fn vmbus_packet_pages(
 // The most ranges of a packet of type 7 that this library builds.
 const MOST_PARTS: usize = 381;
 
+// The bytes and the offset of a range.
+fn pair(part: VmbusPart) -> (u32, u32)
+    ensures { result ≡ part_of part }
+{
+    (part.bytes, part.offset)
+}
+
 // The bytes and the offset of each range, in front of what stood there.
 fn put_parts(parts: &[VmbusPart], out: &mut [(u32, u32); 381])
     requires { length parts.now ≤ 381 }
     ensures { take (length parts.now) out.new ≡ map part_of parts.now }
 {
     for i in 0..parts.len() {
-        let part = parts[i];
-        out[i] = (part.bytes, part.offset);
+        out[i] = pair(parts[i]);
     }
 }
 

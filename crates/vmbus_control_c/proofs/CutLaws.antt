@@ -1,8 +1,8 @@
 -- The messages of a page list, one by one.
-use Rattle.std.proofs.Common.{◌≡◌, ◌∙◌, ℕ, zero, suc, ◌+◌, ◌-◌, ◌*◌, ◌<◌, ◌≤◌, List, [], ◌∷◌, length, take, drop, slice_get, Option, Some, None, IfSome, refl, sym, ap, subst, length-drop, arith}
+use Rattle.std.proofs.Common.{◌≡◌, ◌∙◌, ℕ, zero, suc, ◌+◌, ◌-◌, ◌*◌, ◌<◌, ◌≤◌, List, [], ◌∷◌, length, take, drop, slice_get, Option, Some, None, IfSome, sym, ap, subst, length-drop, arith}
 use Rattle.std.proofs.lemmas.List.{drop-drop}
 use Rattle.vmbus_msg.specs.declared.msg.Msg.{Msg}
-use Rattle.gpadl.specs.Cut.{IsHeaderOf, IsBodyOf, bodies, header, cut}
+use Rattle.gpadl.specs.Cut.{IsHeaderOf, IsBodyOf, bodies, cut}
 use Rattle.gpadl.proofs.Cutting.{body_is, header_is}
 
 -- the first message is the header
@@ -19,8 +19,8 @@ body_at (suc most) handle number zero (frame ∷ frames) m few here is =
 body_at (suc most) handle number (suc k) (frame ∷ frames) m few here is =
     let left = length-drop 28 (frame ∷ frames) in
     let there : drop (28 * suc k) (frame ∷ frames) ≡ drop (28 * k) (drop 28 (frame ∷ frames)) = ap (λ n. drop n (frame ∷ frames)) (omega arith) ∙ sym (drop-drop (28 * k) 28 (frame ∷ frames)) in
-    let one = subst (λ n. IsBodyOf handle n (take 28 (drop (28 * suc k) (frame ∷ frames))) m) (omega arith) is in
-    let again = subst (λ fs. IsBodyOf handle (number + 1 + k) (take 28 fs) m) there one in
+    let one : IsBodyOf handle (number + 1 + k) (take 28 (drop (28 * suc k) (frame ∷ frames))) m = subst (λ n. IsBodyOf handle n (take 28 (drop (28 * suc k) (frame ∷ frames))) m) (omega arith) is in
+    let again : IsBodyOf handle (number + 1 + k) (take 28 (drop (28 * k) (drop 28 (frame ∷ frames)))) m = subst (λ fs. IsBodyOf handle (number + 1 + k) (take 28 fs) m) there one in
     body_at most handle (number + 1) k (drop 28 (frame ∷ frames)) m (omega (arith, left, few)) (omega (arith, left, here)) again
 
 -- where a body is, frames are left

@@ -1,7 +1,7 @@
 -- A page list that is being assembled, as the numbers that C sees and the pages that it keeps.
-use Rattle.std.specs.Prelude.{◌≡◌, ℕ, ◌<◌, ◌≤◌, List, length, take, Option, Some, None, nat_lt, if◌then◌else◌}
+use Rattle.std.specs.Prelude.{ℕ, ◌<◌, ◌≤◌, List, take, Option, Some, None, nat_lt, if◌then◌else◌}
 use Rattle.vmbus_msg.specs.declared.msg.Msg.{Msg}
-use Rattle.vmbus_msg.specs.declared.msg.Msg.TheVariants.{GpadlHeader, GpadlBody}
+use Rattle.vmbus_msg.specs.declared.msg.Msg.TheVariants.{GpadlHeader}
 use Rattle.vmbus_msg.specs.Pages.{pages_of}
 use Rattle.gpadl.specs.Assembly.{Partial, Assembly}
 use Rattle.gpadl.specs.declared.fault.GpadlFault.{GpadlFault}
@@ -15,7 +15,7 @@ IsList l room = (l.have ≤ l.want) × (l.want ≤ 8190) × (l.have < l.want →
 
 -- what came of it
 abbrev pub list_of : VmbusPageList → List ℕ → Partial
-list_of l pages = record { relid = l.relid; handle = l.handle; want = l.want; pages = take l.have pages }
+list_of l pages = record { relid = l.relid; handle = l.gpadl; want = l.want; pages = take l.have pages }
 
 -- the list that is being built: none where all of it came
 abbrev pub building_of : VmbusPageList → List ℕ → Option Partial

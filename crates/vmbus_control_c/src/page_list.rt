@@ -18,7 +18,7 @@ pub struct VmbusPageList {
     /// The channel that it is for.
     pub relid: u32,
     /// Its handle.
-    pub handle: u32,
+    pub gpadl: u32,
     /// How many pages it has.
     pub want: u32,
     /// How many of them came: it is whole where these are all.
@@ -98,12 +98,17 @@ fn range_fault(h: &GpadlHeader) -> Option<GpadlFault>
 }
 
 // The fault of a header, beside the list that is being built and the live ones.
-fn header_fault(l: &VmbusPageList, pages: &[u64], live: &[u32], h: &GpadlHeader) -> Option<GpadlFault>
+fn header_fault(
+    l: &VmbusPageList,
+    pages: &[u64],
+    live: &[u32],
+    h: &GpadlHeader,
+) -> Option<GpadlFault>
     ensures value { result ≡ header_fault (assembly_of l.now pages.now live.now) h.now }
     ensures named { IfSome result (λ e. (3 ≤ number_of e) × (number_of e ≤ 6)) }
 {
     let building = l.have < l.want;
-    if building && l.handle == h.gpadl || live.contains(&h.gpadl) {
+    if building && l.gpadl == h.gpadl || live.contains(&h.gpadl) {
         return Some(GpadlFault::Repeat { id: h.gpadl });
     }
     if building {
@@ -119,7 +124,7 @@ fn body_fault(l: &VmbusPageList, pages: &[u64], b: &GpadlBody) -> Option<GpadlFa
     ensures named { IfSome result (λ e. (3 ≤ number_of e) × (number_of e ≤ 6)) }
     ensures fits { result ≡ None → (l.now.have < l.now.want) × (l.now.have + length b.now.frames ≤ l.now.want) }
 {
-    if l.have == l.want || l.handle != b.gpadl {
+    if l.have == l.want || l.gpadl != b.gpadl {
         return Some(GpadlFault::Handle { id: b.gpadl });
     }
     let want = l.want - l.have;
@@ -186,7 +191,7 @@ fn begin(
     add(pages, 0, h.frames.as_slice());
     *list = VmbusPageList {
         relid: h.relid,
-        handle: h.gpadl,
+        gpadl: h.gpadl,
         want,
         have: h.frames.len() as u32,
     };
@@ -194,12 +199,7 @@ fn begin(
 }
 
 // Goes on with the list that is being built.
-fn go_on(
-    b: &GpadlBody,
-    list: &mut VmbusPageList,
-    pages: &mut [u64],
-    fault: &mut VmbusFault,
-) -> u32
+fn go_on(b: &GpadlBody, list: &mut VmbusPageList, pages: &mut [u64], fault: &mut VmbusFault) -> u32
     requires { IsList list.old (length pages.old) }
     ensures took { result ≤ 1 → (body_fault (building_of list.old pages.old) b.now ≡ None) × (building_of list.old pages.old ≡ Some (list_of list.old pages.old)) × (with_frames (list_of list.old pages.old) b.now.frames ≡ list_of list.new pages.new) }
     ensures refused { 1 < result → (e : Fault) × ((body_fault (building_of list.old pages.old) b.now ≡ Some e) × (result ≡ number_of e) × (fault.new ≡ told_of e)) }
