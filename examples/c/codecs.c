@@ -36,23 +36,52 @@ static size_t bytes_of(const char *hex, uint8_t *out)
     return n;
 }
 
-/* What an offer says, and the offer of it, which are the same where it is one of this library's: it says no more than its kind, its relid and its index. */
-static void channel_offer(const uint8_t *b, size_t n)
+/* The bytes of a class id: of the five groups of its text the first three are little-endian. */
+static void class_id(const char *text, uint8_t *id)
 {
-    struct vmbus_offer o, again;
-    uint8_t out[VMBUS_MESSAGE_MOST];
-    size_t len = 0;
-    if (vmbus_offer_read(b, n, &o) != 0)
-        return;
-    offers++;
-    if (vmbus_offer_write(&o, out, sizeof out, &len) != VMBUS_WRITTEN || len != n || vmbus_offer_read(out, len, &again) != 0)
-        fail("an offer isn't written");
-    same(&o, sizeof o, &again, sizeof again, "another offer");
-    same(out + VMBUS_OFFER_IF_TYPE, 16, b + VMBUS_OFFER_IF_TYPE, 16, "another class id");
-    o.port += o.kind == VMBUS_SOCKET ? 0 : 1;
-    o.sub += o.kind == VMBUS_SOCKET ? 0x10000 : 0;
-    if (vmbus_offer_write(&o, out, sizeof out, &len) != VMBUS_NO_FORM)
-        fail("a number that no offer has is passed over");
+    static const int places[] = {3, 2, 1, 0, 5, 4, 7, 6, 8, 9, 10, 11, 12, 13, 14, 15};
+    for (int i = 0; i < 16; i++) {
+        char two[3] = {text[0], text[1], 0};
+        id[places[i]] = (uint8_t)strtoul(two, NULL, 16);
+        text += text[2] == '-' ? 3 : 2;
+    }
+}
+
+/* Offers with the class ids of Linux's include/linux/hyperv.h and net/vmw_vsock/hyperv_transport.c, written number by number, and as offers. */
+static void channel_offers(void)
+{
+    static const struct {
+        uint32_t kind, port;
+        const char *class_id;
+    } kinds[] = {
+        {VMBUS_HEARTBEAT, 0, "57164f39-9115-4e78-ab55-382f3bd5422d"}, {VMBUS_SHUTDOWN, 0, "0e0b6031-5213-4934-818b-38d90ced39db"},
+        {VMBUS_SCSI, 0, "ba6163d9-04a1-4d29-b605-72e2ffb1dc7f"},      {VMBUS_NETWORK, 0, "f8615163-df3e-46c5-913f-f2d2f965ed0e"},
+        {VMBUS_SOCKET, 0, "00000000-facb-11e6-bd58-64006a7986d3"},    {VMBUS_SOCKET, 0x12345678, "12345678-facb-11e6-bd58-64006a7986d3"},
+    };
+    for (size_t i = 0; i < sizeof kinds / sizeof *kinds; i++) {
+        uint8_t b[VMBUS_MESSAGE_MOST] = {0}, out[VMBUS_MESSAGE_MOST];
+        struct vmbus_offer o = {3 + (uint32_t)i, kinds[i].kind, kinds[i].port, 2 * (uint32_t)i}, again;
+        struct vmbus_message m = {.kind = 1, .relid = o.relid, .sub = o.sub, .monitorid = 255, .connection = o.relid};
+        size_t n = 0, len = 0;
+        class_id(kinds[i].class_id, b + VMBUS_OFFER_IF_TYPE);
+        memcpy(b + VMBUS_OFFER_IF_INSTANCE, &o.relid, 4);
+        if (vmbus_message_write(&m, b, sizeof b, &n) != VMBUS_WRITTEN || vmbus_offer_write(&o, out, sizeof out, &len) != VMBUS_WRITTEN)
+            fail("an offer isn't written");
+        same(out, len, b, n, "another offer");
+        if (vmbus_offer_read(b, n, &again) != 0)
+            fail("an offer isn't read");
+        same(&o, sizeof o, &again, sizeof again, "another offer is read");
+        b[VMBUS_OFFER_IF_TYPE + 15]++;
+        if (vmbus_offer_read(b, n, &again) != 2 || vmbus_offer_read(b, n - 1, &again) != 1)
+            fail("no offer is read");
+        again = o;
+        again.sub += 0x10000;
+        o.port += o.kind == VMBUS_SOCKET ? 0 : 1;
+        o.kind += o.kind == VMBUS_SOCKET ? 1 : 0;
+        if (vmbus_offer_write(&o, out, sizeof out, &len) != VMBUS_NO_FORM || vmbus_offer_write(&again, out, sizeof out, &len) != VMBUS_NO_FORM)
+            fail("a number that no offer has is passed over");
+        offers++;
+    }
 }
 
 static struct vmbus_page_list list;
@@ -121,8 +150,6 @@ static void control_message(const uint8_t *b, size_t n)
     messages++;
     if (m.kind == 8 || m.kind == 9) /* a page list's, by itself */
         return;
-    if (m.kind == 1)
-        channel_offer(b, n);
     if (m.kind == 1 || m.kind == 21) {
         memcpy(out + VMBUS_OFFER_IF_TYPE, b + VMBUS_OFFER_IF_TYPE, 16);
         memcpy(out + VMBUS_OFFER_IF_INSTANCE, b + VMBUS_OFFER_IF_INSTANCE, 16);
@@ -324,6 +351,7 @@ static void versions(void)
 int main(int argc, char **argv)
 {
     versions();
+    channel_offers();
     static char text[1 << 16];
     for (int i = 1; i < argc; i++) {
         FILE *file = fopen(argv[i], "r");
