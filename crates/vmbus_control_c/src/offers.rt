@@ -2,7 +2,7 @@
 ghost use Rattle.std.specs.Prelude.{◌≡◌, ◌≢◌, ◌≤◌, ◌<◌, ◌%◌, ◌^◌, ◌↔◌, true, Some, None, IfSome, length, take, drop};
 ghost use Rattle.vmbus_msg.specs.Grammar.{IsMessage};
 ghost use Rattle.vmbus_msg.specs.declared.msg.Msg.{Msg as Message};
-ghost use Rattle.contact.specs.Classes.{IsOffer, Offers, class_id, offer};
+ghost use Rattle.contact.specs.Classes.{IsOffer, Offers, offer};
 ghost use Rattle.contact.specs.declared.kind.Kind.{Kind as ChannelKind};
 ghost use Rattle.contact.specs.declared.channel_offer.Offered.{Offered as Told};
 ghost use Rattle.vmbus_control_c.specs.Offers.{Fits, HasClass, kind_number, kind_of, numbers_of, port_of};

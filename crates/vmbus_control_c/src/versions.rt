@@ -1,5 +1,5 @@
 //! The protocol's versions.
-ghost use Rattle.std.specs.Prelude.{◌≡◌, ◌≢◌, ℕ, ◌<◌, ◌≤◌, ◌↔◌, All, IsTrue};
+ghost use Rattle.std.specs.Prelude.{◌≡◌, ◌≢◌, ◌<◌, ◌≤◌, ◌↔◌, All, IsTrue};
 ghost use Rattle.contact.specs.Versions.{versions, oldest, has_modify, answers_modify, IsVersion};
 
 use contact::{Version, agree, answers_modify, has_modify, host_accepts, next_version};
