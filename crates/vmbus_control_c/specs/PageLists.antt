@@ -1,5 +1,5 @@
 -- A page list that is being assembled, as the numbers that C sees and the pages that it keeps.
-use Rattle.std.specs.Prelude.{ℕ, ◌<◌, ◌≤◌, List, take, Option, Some, None, nat_lt, if◌then◌else◌}
+use Rattle.std.specs.Prelude.{ℕ, ◌==◌, ◌<◌, ◌≤◌, List, [], ◌∷◌, ◌++◌, take, Option, Some, None, nat_lt, if◌then◌else◌}
 use Rattle.vmbus_msg.specs.declared.msg.Msg.{Msg}
 use Rattle.vmbus_msg.specs.declared.msg.Msg.TheVariants.{GpadlHeader}
 use Rattle.vmbus_msg.specs.Pages.{pages_of}
@@ -24,6 +24,10 @@ building_of l pages = if nat_lt l.have l.want then Some (list_of l pages) else N
 -- the list that is being built, beside the live ones
 abbrev pub assembly_of : VmbusPageList → List ℕ → List ℕ → Assembly
 assembly_of l pages live = record { building = building_of l pages; live = live }
+
+-- the live lists after an answer: where the list is whole (0) it is one of them
+abbrev pub lives_after : ℕ → VmbusPageList → List ℕ → List ℕ
+lives_after a l live = if a == 0 then live ++ l.gpadl ∷ [] else live
 
 -- how many pages a message needs room for: a header all those of its list, and a body none
 abbrev pub needs : Msg → ℕ

@@ -4,8 +4,9 @@ ghost use Rattle.vmbus_msg.specs.Grammar.{IsMessage};
 ghost use Rattle.vmbus_msg.specs.Pages.{pages_of};
 ghost use Rattle.vmbus_msg.specs.declared.msg.Msg.{Msg as Message};
 ghost use Rattle.gpadl.specs.Assembly.{IsPiece, begun, body_fault, built, fault_of, header_fault, range_fault, with_frames};
+ghost use Rattle.gpadl.specs.Whole.{next};
 ghost use Rattle.gpadl.specs.declared.fault.GpadlFault.{GpadlFault as Fault};
-ghost use Rattle.vmbus_control_c.specs.PageLists.{IsList, assembly_of, building_of, list_of, needs, no_room, number_of, told_of};
+ghost use Rattle.vmbus_control_c.specs.PageLists.{IsList, assembly_of, building_of, list_of, lives_after, needs, no_room, number_of, told_of};
 
 use gpadl::{GpadlFault, pages_of};
 use vmbus_fault::VmbusFault;
@@ -167,6 +168,7 @@ fn begin(
     ensures refused { 3 ≤ result → result ≤ 6 → (e : Fault) × ((header_fault (assembly_of list.old pages.old live.now) h.now ≡ Some e) × (result ≡ number_of e) × (fault.new ≡ told_of e)) }
     ensures room { result ≡ 7 → (header_fault (assembly_of list.old pages.old live.now) h.now ≡ None) × (length pages.old < pages_of h.now.range_buflen) × (fault.new ≡ no_room (length pages.old) (pages_of h.now.range_buflen)) }
     ensures form { result ≤ 1 → IsList list.new (length pages.new) }
+    ensures held { result ≤ 1 → list.new.want ≤ length pages.new }
     ensures whole { result ≡ 0 → list.new.have ≡ list.new.want }
     ensures more { result ≡ 1 → list.new.have < list.new.want }
     ensures seven { (result ≢ 2) × (result ≤ 7) }
@@ -204,6 +206,7 @@ fn go_on(b: &GpadlBody, list: &mut VmbusPageList, pages: &mut [u64], fault: &mut
     ensures took { result ≤ 1 → (body_fault (building_of list.old pages.old) b.now ≡ None) × (building_of list.old pages.old ≡ Some (list_of list.old pages.old)) × (with_frames (list_of list.old pages.old) b.now.frames ≡ list_of list.new pages.new) }
     ensures refused { 1 < result → (e : Fault) × ((body_fault (building_of list.old pages.old) b.now ≡ Some e) × (result ≡ number_of e) × (fault.new ≡ told_of e)) }
     ensures form { result ≤ 1 → IsList list.new (length pages.new) }
+    ensures held { result ≤ 1 → list.new.want ≤ length pages.new }
     ensures whole { result ≡ 0 → list.new.have ≡ list.new.want }
     ensures more { result ≡ 1 → list.new.have < list.new.want }
     ensures six { (result ≢ 2) × (result ≤ 6) }
@@ -237,8 +240,9 @@ pub extern "C" fn vmbus_gpadl_take(
     fault: &mut VmbusFault,
 ) -> u32
     ensures took { result ≤ 1 → (m : Message) × (IsMessage m bytes.now × IsPiece m × (fault_of (assembly_of list.old pages.old live.now) m ≡ None) × (built (building_of list.old pages.old) m ≡ Some (list_of list.new pages.new))) }
+    ensures next { result ≤ 1 → (m : Message) × (IsMessage m bytes.now × (assembly_of list.new pages.new (lives_after result list.new live.now) ≡ next (assembly_of list.old pages.old live.now) m)) }
     ensures every { (m : Message) → IsMessage m bytes.now → IsPiece m → IsList list.old (length pages.old) → fault_of (assembly_of list.old pages.old live.now) m ≡ None → needs m ≤ length pages.old → result ≤ 1 }
-    ensures form { result ≤ 1 → IsList list.new (length pages.new) }
+    ensures form { result ≤ 1 → IsList list.new (length pages.new) × (list.new.want ≤ length pages.new) }
     ensures whole { result ≡ 0 → list.new.have ≡ list.new.want }
     ensures more { result ≡ 1 → list.new.have < list.new.want }
     ensures other { result ≡ 2 → (m : Message) → IsMessage m bytes.now → IsPiece m → ⊥ }
