@@ -647,7 +647,7 @@ module _ {T S A Q R : Type 0} (s : WireFormat Item A Q R) (besides : Bool) (asks
   ends_acked EndBroken h = tt
 
 pub ask_trans : {T S R C : Type 0} (channel : S → C) (told_by : S → Option Told) (u v w : Asking T S R) → AsksOn channel told_by u v → AsksOn channel told_by v w → AsksOn channel told_by u w
-ask_trans channel told_by u v w a b = record { tells = b.tells ∙ a.tells; protocol = b.protocol ∙ a.protocol; relid = b.relid ∙ a.relid; starts = b.starts ∙ a.starts; window = b.window ∙ a.window; end = record { seat = b.end.seat ∙ a.end.seat; side = b.end.side ∙ a.end.side } }
+ask_trans channel told_by u v w a b = record { tells = b.tells ∙ a.tells; protocol = b.protocol ∙ a.protocol; relid = b.relid ∙ a.relid; starts = b.starts ∙ a.starts; window = b.window ∙ a.window; end = record { seat = b.end.seat ∙ a.end.seat; side = b.end.side ∙ a.end.side; pages = b.end.pages ∙ a.end.pages } }
 
 -- a worker that ended in a turn had tried what it let go
 pub ever_tried : {T S A Q R C : Type 0} (channel : S → C) (told : S → Option Told) (memory : S → Option Memory) (sp : T → WireFormat Item A Q R) (how : Ended) (u v w : Asking T S R) → AsksOn channel told u v → AsksOn channel told v w

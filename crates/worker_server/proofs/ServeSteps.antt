@@ -605,13 +605,13 @@ module _ {T S E Q R C : Type 0} (same : S → S → Type 0) (channel : E → C) 
     starts = b.starts ∙ a.starts;
     come = b.come ∙ a.come;
     before = b.before ∙ a.before;
-    end = record { seat = b.end.seat ∙ a.end.seat; side = b.end.side ∙ a.end.side };
+    end = record { seat = b.end.seat ∙ a.end.seat; side = b.end.side ∙ a.end.side; pages = b.end.pages ∙ a.end.pages };
     tells = b.tells ∙ a.tells;
     seat = trans u.responder.seat v.responder.seat w.responder.seat a.seat b.seat;
   }
 
   pub on_refl : ((a : S) → same a a) → (w : Serving T S E Q R) → ServesOn same channel told w w
-  on_refl r w = record { protocol = refl; relid = refl; held = refl; serve = refl; stops = refl; starts = refl; come = refl; before = refl; end = record { seat = refl; side = refl }; tells = refl; seat = r w.responder.seat }
+  on_refl r w = record { protocol = refl; relid = refl; held = refl; serve = refl; stops = refl; starts = refl; come = refl; before = refl; end = record { seat = refl; side = refl; pages = refl }; tells = refl; seat = r w.responder.seat }
 
   orders_on : {A : Type 0} (s : WireFormat Item A Q R) (plan : RequestPlan A) (u w : Serving T S E Q R) → ServesOn same channel told u w → Orders s plan u → Orders s plan w
   orders_on s plan u w on is = record { serve = on.serve ∙ is.serve; held = on.held ∙ is.held; stops = on.stops ∙ is.stops; starts = on.starts ∙ is.starts }

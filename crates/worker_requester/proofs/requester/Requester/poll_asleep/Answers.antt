@@ -11,6 +11,7 @@ invariant_of-self-2 g c =
     let r = l.live.rests (ap (λ w. w.end.state.machine.asleep) v ∙ c.requires.asleep) in
     λ _. record {
       bare = l.bare;
+      pages = c.poll.ensures.stays.same.pages ∙ l.pages;
       live = still_kept (g.T.Protocol.format c.self.inside.protocol) (g.T.Protocol.keeps c.self.inside.protocol) (g.T.Protocol.asks c.self.inside.protocol) (record {
         protocol = c.self.inside.protocol;
         end = c.self.inside.port;
@@ -43,7 +44,7 @@ invariant_of-self-2 g c =
       replies = l.replies;
       spare = l.spare;
       size = l.size;
-      room = room_quiet _ _ _ (got_same _ _ c.poll.ensures.lists.0 c.poll.ensures.lists.1) c.poll.ensures.stays.cells c.poll.ensures.lists.2 (ap sent_of c.if-poll.ensures.past) l.room;
+      room = room_quiet _ _ _ (got_same _ _ c.poll.ensures.stays.same.pages c.poll.ensures.lists.0 c.poll.ensures.lists.1) c.poll.ensures.stays.cells c.poll.ensures.lists.2 (ap sent_of c.if-poll.ensures.past) l.room;
       side = l.side ∙ sym c.poll.ensures.stays.side;
     }
 
