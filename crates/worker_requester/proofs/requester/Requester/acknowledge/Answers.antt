@@ -9,6 +9,9 @@ use Rattle.ring_core.specs.declared.room.Room.{Room}
 use Rattle.worker_port.specs.Tries.{FoundFull}
 use Rattle.worker_requester.specs.Asking.{AckFull, HasMessage}
 use Rattle.worker_requester.proofs.AskSteps.{ack_full, acked_kept, leaves_full, message_here}
+use Rattle.channel_trace.specs.Runs.{sent_of}
+use Rattle.worker_port.proofs.RoomLaws.{room_quiet}
+use Rattle.worker_requester.proofs.AskSteps.{tried_kept}
 use Rattle.worker_requester.proofs.requester.Requester.acknowledge.Goals as goal
 
 pub invariant_of-self-in-Sent : goal.invariant_of-self-in-Sent
@@ -103,3 +106,31 @@ pub send-requires-clause-lays : goal.send-requires-clause-lays
 send-requires-clause-lays g c =
     let l = c.self.invariant (ap (λ w. w.end.state.machine.marked) c.self.view_is ∙ c.requires.ready.unmarked) in
     can_lay_bare c.self.inside.port.end c.packet-packet.result.now l.pages
+
+pub invariant_of-self-in-Full : goal.invariant_of-self-in-Full
+invariant_of-self-in-Full g c =
+    let l = c.self.invariant (ap (λ w. w.end.state.machine.marked) c.self.view_is ∙ c.requires.ready.unmarked) in
+    λ _. record {
+      bare = l.bare;
+      pages = c.send.ensures.stays.same.pages ∙ l.pages;
+      live = tried_kept (g.T.Protocol.format c.self.inside.protocol) (g.T.Protocol.keeps c.self.inside.protocol) (g.T.Protocol.asks c.self.inside.protocol) _ _ c.in-Full.ensures.past c.send.ensures.got.0 c.in-Full.ensures.tries.awake l.live;
+      replies = l.replies;
+      spare = l.spare;
+      size = l.size;
+      room = room_quiet _ _ _ (got_same _ _ c.send.ensures.stays.same.pages c.send.ensures.got.0 c.send.ensures.got.1) c.send.ensures.stays.cells (c.in-Full.ensures.unsent (λ h. cc)) (ap sent_of c.in-Full.ensures.past) l.room;
+      side = l.side ∙ sym c.send.ensures.stays.side;
+    }
+
+pub invariant_of-self-in-Broken : goal.invariant_of-self-in-Broken
+invariant_of-self-in-Broken g c =
+    let l = c.self.invariant (ap (λ w. w.end.state.machine.marked) c.self.view_is ∙ c.requires.ready.unmarked) in
+    λ _. record {
+      bare = l.bare;
+      pages = c.send.ensures.stays.same.pages ∙ l.pages;
+      live = tried_kept (g.T.Protocol.format c.self.inside.protocol) (g.T.Protocol.keeps c.self.inside.protocol) (g.T.Protocol.asks c.self.inside.protocol) _ _ c.in-Broken.ensures.past c.send.ensures.got.0 c.in-Broken.ensures.tries.awake l.live;
+      replies = l.replies;
+      spare = l.spare;
+      size = l.size;
+      room = room_quiet _ _ _ (got_same _ _ c.send.ensures.stays.same.pages c.send.ensures.got.0 c.send.ensures.got.1) c.send.ensures.stays.cells (c.in-Broken.ensures.unsent (λ h. cc)) (ap sent_of c.in-Broken.ensures.past) l.room;
+      side = l.side ∙ sym c.send.ensures.stays.side;
+    }

@@ -39,7 +39,7 @@ invariant_of-self g c =
           seen = c.self.inside.seen;
           hold = c.self.inside.hold;
           relid = c.self.inside.relid;
-        }) c.arm.new.self c.args.hold c.args.hold c.arm.ensures.lists.0 c.arm.ensures.lists.2 (subst (λ w. Holds (g.T.Protocol.format w.protocol) (g.T.Protocol.asks w.protocol) c.args.hold w) (sym v) c.requires.holds),
+        }) c.arm.new.self c.args.hold c.args.hold c.arm.ensures.lists.0 c.arm.ensures.lists.2 c.arm.ensures.stays.same.pages (subst (λ w. Holds (g.T.Protocol.format w.protocol) (g.T.Protocol.asks w.protocol) c.args.hold w) (sym v) c.requires.holds),
         record { asleep = c.in-Nothing.ensures.asleep; want_is = c.arm.ensures.want c.in-Nothing.ensures.asleep ∙ ap want_of c.want_for.ensures },
         ap (λ w. w.seen) v ∙ c.requires.unseen,
       )) l.live;
@@ -67,7 +67,7 @@ returns-in-Nothing-clause-turns g c =
         seen = c.self.inside.seen;
         hold = c.self.inside.hold;
         relid = c.self.inside.relid;
-      }) c.arm.new.self c.args.hold c.args.hold c.arm.ensures.lists.0 c.arm.ensures.lists.2 (subst (λ w. Holds (g.T.Protocol.format w.protocol) (g.T.Protocol.asks w.protocol) c.args.hold w) (sym v) c.requires.holds),
+      }) c.arm.new.self c.args.hold c.args.hold c.arm.ensures.lists.0 c.arm.ensures.lists.2 c.arm.ensures.stays.same.pages (subst (λ w. Holds (g.T.Protocol.format w.protocol) (g.T.Protocol.asks w.protocol) c.args.hold w) (sym v) c.requires.holds),
       record { asleep = c.in-Nothing.ensures.asleep; want_is = c.arm.ensures.want c.in-Nothing.ensures.asleep ∙ ap want_of c.want_for.ensures },
       ap (λ w. w.seen) v ∙ c.requires.unseen,
     )

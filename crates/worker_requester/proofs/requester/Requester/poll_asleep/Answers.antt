@@ -37,7 +37,7 @@ invariant_of-self-2 g c =
           seen = c.self.inside.seen;
           hold = c.self.inside.hold;
           relid = c.self.inside.relid;
-        }) _ c.self.inside.hold c.self.inside.hold c.poll.ensures.lists.0 c.poll.ensures.lists.2 r.0,
+        }) _ c.self.inside.hold c.self.inside.hold c.poll.ensures.lists.0 c.poll.ensures.lists.2 c.poll.ensures.stays.same.pages r.0,
         record { asleep = c.if-poll.ensures.asleep; want_is = c.poll.ensures.want c.if-poll.ensures.asleep ∙ r.1.want_is },
         r.2,
       )) l.live;
@@ -67,7 +67,7 @@ returns-clause-turns g c =
         seen = c.self.inside.seen;
         hold = c.self.inside.hold;
         relid = c.self.inside.relid;
-      }) _ c.self.inside.hold c.self.inside.hold c.poll.ensures.lists.0 c.poll.ensures.lists.2 r.0,
+      }) _ c.self.inside.hold c.self.inside.hold c.poll.ensures.lists.0 c.poll.ensures.lists.2 c.poll.ensures.stays.same.pages r.0,
       record { asleep = c.if-poll.ensures.asleep; want_is = c.poll.ensures.want c.if-poll.ensures.asleep ∙ r.1.want_is },
       r.2,
     )
