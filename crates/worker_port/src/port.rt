@@ -227,8 +227,8 @@ impl<T: Protocol, S: Parks + Drop> Port<T, S> {
         self.words(self.got_len() - 1)
     }
 
-    /// Sends a packet, if the ring has room for it, behind a store of these page words into the part of a page that goes along with it. The signal is raised where the peer waits for it. Where the peer's read index is in no form the end is broken,
-    /// which can't be where the seat tells its end's state.
+    /// Sends a packet, if the ring has room for it, behind a store of these page words into the part of a page that goes along with it. The signal is raised where
+    /// the peer waits for it. Where the peer's read index is in no form the end is broken, which can't be where the seat tells its end's state.
     pub fn send(&mut self, packet: &[u64], words: &[u64]) -> Tried
         requires ready { IsReady self.old }
         requires packet { IsPacket packet.now }
@@ -256,8 +256,8 @@ impl<T: Protocol, S: Parks + Drop> Port<T, S> {
         tried
     }
 
-    /// Takes the first packet that waits, if one does, with all its page words, and gives its cells back. Where what it loads is no packet the end is broken, which can't be where the
-    /// seat tells its end's state.
+    /// Takes the first packet that waits, if one does, with all its page words, and gives its cells back. Where what it loads is no packet the end is broken, which
+    /// can't be where the seat tells its end's state.
     pub fn take(&mut self) -> Found
         requires ready { IsReady self.old }
         requires room { HasTakeRoom self.old }

@@ -28,9 +28,10 @@ pub send-requires-clause-room : goal.send-requires-clause-room
 send-requires-clause-room g c =
     let v = c.self.view_is in
     let e = c.lay_all.ensures in
-    let old = c.self.inside.end in
-    (omega (arith, ap (λ r. r.packets) e.kept.0.spare_sent, ap (λ (x : Line _). x.spare_sent.packets) v, c.requires.room.0),
-    omega (arith, ap (λ r. r.words) e.kept.0.spare_sent, ap (λ (x : Line _). x.spare_sent.words) v, c.requires.room.1, e.along, along_few old.state.pages c.args.packet.now c.self.invariant.pages.held, ap (λ (x : Line _). page_words x.end.state.pages.count 1) v))
+    let old = c.self.inside.end in (
+      omega (arith, ap (λ r. r.packets) e.kept.0.spare_sent, ap (λ (x : Line _). x.spare_sent.packets) v, c.requires.room.0),
+      omega (arith, ap (λ r. r.words) e.kept.0.spare_sent, ap (λ (x : Line _). x.spare_sent.words) v, c.requires.room.1, e.along, along_few old.state.pages c.args.packet.now c.self.invariant.pages.held, ap (λ (x : Line _). page_words x.end.state.pages.count 1) v),
+    )
 
 pub invariant_of-self : goal.invariant_of-self
 invariant_of-self g c =
