@@ -40,6 +40,7 @@ pair_of g h guest host one g_new h_new at_g at_h guest_live host_live roles = re
     guest = ap (λ s. s.machine.side) at_g.0 ∙ one.guest;
     host = ap (λ s. s.machine.side) at_h.0 ∙ one.host;
   };
+  bare = (ap (λ s. s.pages.count) (at_g.0 ∙ g_new.3), ap (λ s. s.pages.count) (at_h.0 ∙ h_new.3));
   guest_live = guest_live;
   host_live = host_live;
   roles = roles;
