@@ -1,15 +1,8 @@
 -- The packets of streams, and what goes back for them.
-use Rattle.std.proofs.Common.{◌≡◌, ℕ, zero, suc, ◌+◌, ◌-◌, ◌*◌, ◌/◌, ◌≤◌, ◌<◌, ◌⊎◌, inl, inr, Bool, true, false, cond, List, [], ◌∷◌, ◌++◌, map, length, take, drop, get_or, Option, Some, None, append-nil, append_assoc, length-append, length-drop, length-take-le, refl, sym, ap, ◌∙◌, subst, arith}
-use Rattle.std.specs.List.{flat_map}
-use Rattle.std.proofs.lemmas.List.{length-map, take-append-drop}
-use Rattle.channel_trace.specs.Runs.{IsFront}
-use Rattle.vm_page.specs.Words.{words_for}
-use Rattle.hv_sock.specs.declared.sock_fault.SockFault.{SockFault}
+use Rattle.std.proofs.Common.{◌≡◌, ℕ, ◌≤◌, ◌<◌, false, List, [], ◌∷◌, ◌++◌, length, take, drop, None, length-drop, refl, ap, arith}
 use Rattle.hv_sock.specs.Packets.{Said, Data, Close, Fault, says, sock_packet}
-use Rattle.hv_sock.specs.Streams.{IsOpen, closed_by, data_then, fault_by, fault_in, is_closed, stream_of}
-use Rattle.hv_sock.proofs.PacketLaws.{says_data, says_end, sock_length}
-use Rattle.sock_workers.specs.Pieces.{closing, echo_then, echoed, packets_for, packets_of, pieces, pieces_by}
-use Rattle.sock_workers.specs.Ports.{UsesUp, words_in}
+use Rattle.hv_sock.specs.Streams.{IsOpen, closed_by, fault_by, fault_in, is_closed}
+use Rattle.sock_workers.specs.Pieces.{closing, echo_then, echoed, packets_of, pieces, pieces_by}
 
 echo_step : (s : Said) (ps : List (List ℕ)) (p : List ℕ) → (IsOpen ps → echoed (ps ++ p ∷ []) ≡ echoed ps ++ echo_then (says p) []) → closed_by s (is_closed ps) ≡ false → fault_by s (fault_in ps) ≡ None
     → echo_then s (echoed (ps ++ p ∷ [])) ≡ echo_then s (echoed ps) ++ echo_then (says p) []

@@ -1,5 +1,5 @@
 -- What the calls of a port leave.
-use Rattle.std.proofs.Common.{◌≡◌, ◌+◌, ◌*◌, ◌/◌, ◌<◌, ◌≤◌, ◌⊎◌, inl, inr, ⊎_elim, ℕ, zero, suc, List, [], ◌∷◌, ◌++◌, length, take, drop, Option, Some, None, Result, Ok, Err, Bool, true, false, cond, eqb, leb, refl, sym, ap, ◌∙◌, subst, arith, length-drop, length-take-le}
+use Rattle.std.proofs.Common.{◌≡◌, ◌+◌, ◌*◌, ◌<◌, ◌≤◌, ◌⊎◌, inl, inr, ⊎_elim, ℕ, zero, suc, List, [], ◌∷◌, ◌++◌, length, take, drop, Option, Some, None, Result, Ok, Err, Bool, true, false, cond, eqb, leb, refl, sym, ap, ◌∙◌, subst, arith, length-drop, length-take-le}
 use Rattle.std.specs.Prelude.{IsTrue, OnOk, OnErr}
 use Rattle.std.proofs.lemmas.Bool.{leb-true}
 use Rattle.std.proofs.lemmas.Bool.Decides.{nat_tests}
@@ -10,36 +10,31 @@ use Rattle.channel_trace.specs.Runs.{has_marked, has_seen, is_drained}
 use Rattle.vm_page.specs.Words.{bytes_in, words_for}
 use Rattle.pkt_desc.specs.Packets.{payload_of}
 use Rattle.ring_machine.specs.declared.last.SendRefusal.{SendRefusal}
-use Rattle.ring_machine.specs.declared.last.SendRefusal.TheVariants.{Full as SendFull, BadPeer as SendBadPeer}
 use Rattle.ring_machine.specs.declared.last.Signalled.{Signalled}
-use Rattle.ring_machine.specs.declared.last.Signalled.TheVariants.{Raised, Quiet}
 use Rattle.ring_machine.specs.declared.last.TakeRefusal.{TakeRefusal}
-use Rattle.ring_machine.specs.declared.last.TakeRefusal.TheVariants.{Empty as TakeEmpty}
 use Rattle.ring_machine.specs.declared.machine.EndMachine.{EndMachine}
 use Rattle.ring_machine.specs.declared.machine.Ending.{Ending}
 use Rattle.ring_machine.specs.declared.machine.Ending.TheVariants.{Empty, BadIndex, BadLength, BadOffset, CommittedQuiet, CommittedRaised, SentQuiet, SentRaised, Full, BadPeer}
 use Rattle.ring_machine.specs.declared.machine.Stage.TheVariants.{Idle}
 use Rattle.ring_machine.specs.EndCalls.{Commit, Send, Take}
 use Rattle.ring_machine.specs.Endings.{is_honest_send, send_answer, take_refusal}
-use Rattle.ring_machine.specs.States.{past_of, sent_by}
-use Rattle.ring_machine.specs.Steps.{call_by, is_busy_at, is_sent, is_took}
+use Rattle.ring_machine.specs.States.{past_of}
+use Rattle.ring_machine.specs.Steps.{call_by, is_sent, is_took}
 use Rattle.ring_core.specs.declared.room.Room.{Room}
-use Rattle.ring_core.specs.Seen.{Seen, SentRoom}
+use Rattle.ring_core.specs.Seen.{Seen}
 use Rattle.ring_core.specs.Taking.{is_honest_take}
 use Rattle.ring_seat.specs.declared.table_seat.TableSeat.{TableSeat}
 use Rattle.ring_seat.specs.Seats.{told_in}
 use Rattle.hv_sock.specs.declared.got.Got.{Got}
-use Rattle.hv_sock.specs.declared.got.Got.TheVariants.{Bytes as GotBytes, End as GotEnd}
 use Rattle.hv_sock.specs.declared.sock_fault.SockFault.{SockFault}
 use Rattle.hv_sock.specs.declared.sock_fault.SockFault.TheVariants.{Ended, Take as SockTake, Short, Kind, Size}
 use Rattle.hv_sock.specs.Ends.{Reads, Sends, SendsIdle}
-use Rattle.hv_sock.specs.Packets.{Said, Data, Close, Fault, answer_of, content_fault, data_in, left_in, said_by, says, size_in, sock_packet}
+use Rattle.hv_sock.specs.Packets.{Said, Data, Close, Fault, answer_of, content_fault, data_in, left_in, said_by, says, size_in}
 use Rattle.hv_sock.specs.Streams.{breaks_off, closes, closed_by, fault_by, is_closed}
 use Rattle.hv_sock.proofs.PacketLaws.{allowed, answer_says}
 use Rattle.sock_workers.specs.declared.port.Found.{Found}
 use Rattle.sock_workers.specs.declared.port.Found.TheVariants.{Fault as FoundFault}
-use Rattle.sock_workers.specs.declared.port.Tried.{Tried}
-use Rattle.sock_workers.specs.Ports.{Port, IsPort, HasRoom, UsesUp, FoundNone, FoundFull, Finds, Tries, found_of, has_gone, tried_of, told_at, memory_at, words_in}
+use Rattle.sock_workers.specs.Ports.{Port, IsPort, HasRoom, UsesUp, FoundNone, Finds, Tries, found_of, has_gone, tried_of, told_at, memory_at, words_in}
 
 pub words_more : (ps : List (List ℕ)) (p : List ℕ) → words_in (ps ++ p ∷ []) ≡ words_in ps + length p
 words_more [] p = omega arith

@@ -1,11 +1,10 @@
 -- What the workers know, from turn to turn.
-use Rattle.std.proofs.Common.{◌≡◌, ℕ, ◌+◌, ◌*◌, ◌≤◌, ◌<◌, ◌⊎◌, inl, inr, Bool, true, false, cond, ◌&&◌, leb, min, ◌-◌, List, [], ◌∷◌, ◌++◌, length, take, drop, Option, Some, None, append-nil, append_assoc, length-append, length-drop, length-take-le, refl, sym, ap, ◌∙◌, subst, arith}
+use Rattle.std.proofs.Common.{◌≡◌, ℕ, ◌+◌, ◌*◌, ◌≤◌, ◌<◌, inl, inr, Bool, true, false, cond, ◌&&◌, leb, min, ◌-◌, List, [], ◌∷◌, ◌++◌, length, take, drop, Option, Some, None, append-nil, append_assoc, length-append, length-drop, length-take-le, refl, sym, ap, ◌∙◌, subst, arith}
 use Rattle.std.specs.Prelude.{is_some, not}
 use Rattle.std.proofs.lemmas.Bool.{leb-true}
 use Rattle.std.proofs.lemmas.Bool.Decides.{nat_tests}
 use Rattle.std.proofs.lemmas.List.{drop-drop, drop_all, take_all}
 use Rattle.vm_page.specs.Words.{words_for}
-use Rattle.hv_sock.specs.declared.sock_fault.SockFault.{SockFault}
 use Rattle.hv_sock.specs.Packets.{Said, Data, Close, Fault, says, sock_packet}
 use Rattle.hv_sock.specs.Streams.{IsOpen, closed_by, data_then, fault_by, fault_in, is_closed, stream_of}
 use Rattle.hv_sock.proofs.PacketLaws.{sock_length}
@@ -20,7 +19,7 @@ use Rattle.sock_workers.specs.declared.ended.Ended.{Ended}
 use Rattle.sock_workers.specs.declared.ended.Turn.{Turn}
 use Rattle.sock_workers.specs.declared.ended.Turn.TheVariants.{Moved, Idle, Ended as TurnEnded}
 use Rattle.sock_workers.specs.Ports.{ArmedOnce, Port, Rests, Tries, has_gone}
-use Rattle.sock_workers.specs.Workers.{back_next, host_next, host_reads, is_none, Causes, Echoes, Guest, Host, IsBlocked, IsGuest, IsHost, IsPiece, LacksRoom, Looks, TriesNext, packet_at, unsent, want_for}
+use Rattle.sock_workers.specs.Workers.{back_next, host_next, host_reads, is_none, Causes, Guest, Host, IsBlocked, IsGuest, IsHost, IsPiece, LacksRoom, Looks, TriesNext, packet_at, unsent, want_for}
 use Rattle.sock_workers.proofs.PieceLaws.{echo_more, packets_first, packets_none}
 use Rattle.sock_workers.proofs.PortLaws.{data_size}
 

@@ -21,7 +21,6 @@ use Rattle.hv_sock.specs.declared.got.Got.TheVariants.{Bytes as GotBytes, End as
 use Rattle.hv_sock.specs.declared.sock_fault.SockFault.{SockFault}
 use Rattle.hv_sock.specs.declared.sock_fault.SockFault.TheVariants.{Ended as SockEnded, Take as SockTake, Short, Kind, Size}
 use Rattle.hv_sock.specs.Packets.{says, Data, Close, Fault}
-use Rattle.sock_workers.specs.declared.ended.Ended.{Ended}
 use Rattle.sock_workers.specs.declared.ended.Ended.TheVariants.{PeerMarked}
 use Rattle.sock_workers.specs.declared.ended.Turn.{Turn}
 use Rattle.sock_workers.specs.declared.ended.Turn.TheVariants.{Moved, Idle, Ended as TurnEnded}

@@ -1,5 +1,5 @@
 -- The workers of a socket, as contracts see them.
-use Rattle.std.specs.Prelude.{◌≡◌, ◌+◌, ◌*◌, ◌<◌, ◌≤◌, ◌⊎◌, ◌&&◌, ◌++◌, ◌∷◌, ℕ, Bool, true, false, not, cond, List, [], length, take, drop, Option, Some, None}
+use Rattle.std.specs.Prelude.{◌≡◌, ◌+◌, ◌*◌, ◌≤◌, ◌⊎◌, ◌&&◌, ◌++◌, ◌∷◌, ℕ, Bool, true, false, not, cond, List, [], length, take, drop, Option, Some, None}
 use Rattle.channel_trace.specs.Runs.{has_marked, has_seen, is_drained}
 use Rattle.channel_trace.specs.Laws.{Follows}
 use Rattle.ring_machine.specs.declared.machine.Ending.TheVariants.{FellAsleep, FoundWork}

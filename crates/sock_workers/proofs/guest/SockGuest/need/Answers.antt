@@ -1,4 +1,4 @@
-use Rattle.std.proofs.Common.{◌≡◌, ◌+◌, ◌*◌, length, ap, arith}
+use Rattle.std.proofs.Common.{length, ap, arith}
 use Rattle.sock_workers.specs.Workers.{Guest, packet_at}
 use Rattle.sock_workers.proofs.WorkerLaws.{packet_need}
 use Rattle.sock_workers.proofs.guest.SockGuest.need.Goals as goal

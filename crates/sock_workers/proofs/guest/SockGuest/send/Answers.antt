@@ -1,9 +1,8 @@
-use Rattle.std.proofs.Common.{◌≡◌, ◌+◌, ◌∷◌, ◌++◌, [], ℕ, List, Bool, true, take, drop, length, min, ap, refl, sym, subst, ◌∙◌}
+use Rattle.std.proofs.Common.{◌≡◌, ◌+◌, ◌∷◌, ◌++◌, [], ℕ, List, Bool, take, drop, length, min, ap, refl, sym, subst, ◌∙◌}
 use Rattle.std.specs.Prelude.{vec_capacity}
 use Rattle.hv_sock.specs.Packets.{sock_packet}
 use Rattle.hv_sock.specs.Streams.{is_closed}
-use Rattle.sock_workers.specs.declared.port.Tried.{Tried}
-use Rattle.sock_workers.specs.Ports.{Port, Tries, has_gone}
+use Rattle.sock_workers.specs.Ports.{Tries}
 use Rattle.sock_workers.specs.Workers.{Guest, IsGuest, packet_at}
 use Rattle.sock_workers.proofs.WorkerLaws.{guest_sent, guest_shut, gone, packet_end, packet_piece}
 use Rattle.sock_workers.proofs.guest.SockGuest.send.Goals as goal

@@ -1,6 +1,6 @@
 use Rattle.std.proofs.Common.{◌≡◌, ◌+◌, ◌*◌, ℕ, Bool, List, Option, Some, None, cond, length, refl, sym, ap, subst, ◌∙◌}
 use Rattle.sock_workers.specs.Ports.{FoundFull, Port}
-use Rattle.sock_workers.specs.Workers.{Causes, Guest, Looks, guest_next, guest_reads, packet_at}
+use Rattle.sock_workers.specs.Workers.{Causes, Guest, guest_next, guest_reads, packet_at}
 use Rattle.sock_workers.proofs.WorkerLaws.{packet_same, rest_cause}
 use Rattle.sock_workers.proofs.guest.SockGuest.send_or_rest.Goals as goal
 

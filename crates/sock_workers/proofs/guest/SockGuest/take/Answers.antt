@@ -1,8 +1,8 @@
-use Rattle.std.proofs.Common.{◌≡◌, ◌++◌, ℕ, Bool, List, cond, take, is_ok, length-take, true, false, ap, sym, refl, ◌∙◌, subst, arith, append-nil}
+use Rattle.std.proofs.Common.{◌≡◌, ◌++◌, ℕ, Bool, List, cond, take, is_ok, length-take, true, ap, sym, refl, ◌∙◌, subst, arith, append-nil}
 use Rattle.std.proofs.lemmas.Bool.Decides.{nat_tests}
 use Rattle.hv_sock.specs.Packets.{Data, Close, Fault}
-use Rattle.hv_sock.specs.Streams.{IsOpen, fault_in, is_closed, stream_of}
-use Rattle.sock_workers.specs.Workers.{Guest, HasGot, IsLive, LacksRoom}
+use Rattle.hv_sock.specs.Streams.{IsOpen, fault_in, stream_of}
+use Rattle.sock_workers.specs.Workers.{Guest, HasGot, LacksRoom}
 use Rattle.sock_workers.proofs.WorkerLaws.{adds, guest_lacks, guest_read}
 use Rattle.sock_workers.proofs.guest.SockGuest.take.Goals as goal
 

@@ -1,4 +1,4 @@
-use Rattle.std.proofs.Common.{◌≡◌, ◌+◌, ◌*◌, ◌≤◌, ℕ, Bool, List, Option, Some, false, length, take, length-take, ap, refl, sym, subst, ◌∙◌, arith}
+use Rattle.std.proofs.Common.{◌+◌, ◌*◌, ◌≤◌, ℕ, Bool, List, Option, Some, false, length, take, length-take, ap, refl, sym, subst, ◌∙◌, arith}
 use Rattle.std.specs.Option.{option_map}
 use Rattle.hv_sock.specs.Packets.{sock_packet}
 use Rattle.hv_sock.proofs.PacketLaws.{sock_length}

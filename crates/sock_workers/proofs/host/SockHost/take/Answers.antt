@@ -1,7 +1,7 @@
-use Rattle.std.proofs.Common.{◌≡◌, ℕ, List, take, Option, None, Some, true, false, refl, ap, sym, ◌∙◌, subst}
+use Rattle.std.proofs.Common.{◌≡◌, ℕ, take, Option, None, Some, true, refl, ap, sym, ◌∙◌, subst}
 use Rattle.std.specs.Option.{option_map}
 use Rattle.hv_sock.specs.Packets.{Data, Close, Fault}
-use Rattle.hv_sock.specs.Streams.{IsOpen, fault_in, is_closed}
+use Rattle.hv_sock.specs.Streams.{IsOpen, fault_in}
 use Rattle.sock_workers.specs.Workers.{Host, HasGot, IsHost}
 use Rattle.sock_workers.proofs.WorkerLaws.{adds, host_read, none_held}
 use Rattle.sock_workers.proofs.host.SockHost.take.Goals as goal

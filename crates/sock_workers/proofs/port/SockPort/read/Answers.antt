@@ -1,11 +1,8 @@
-use Rattle.std.proofs.Common.{◌≡◌, ◌<◌, ◌≤◌, false, refl, ap, sym, ◌∙◌, subst, arith}
-use Rattle.std.specs.Prelude.{IsTrue}
-use Rattle.ring_core.specs.Seen.{Seen}
-use Rattle.ring_seat.specs.declared.table_seat.TableSeat.{TableSeat}
+use Rattle.std.proofs.Common.{sym, subst}
 use Rattle.hv_sock.specs.Streams.{IsOpen}
 use Rattle.sock_workers.specs.declared.port.Found.{Found}
 use Rattle.sock_workers.specs.Ports.{Port, Finds, found_of}
-use Rattle.sock_workers.proofs.PortLaws.{kept_port, lacks, read_finds, read_keeps}
+use Rattle.sock_workers.proofs.PortLaws.{kept_port, read_finds, read_keeps}
 use Rattle.sock_workers.proofs.port.SockPort.read.Goals as goal
 
 pub invariant_of-self : goal.invariant_of-self

@@ -1,4 +1,4 @@
-use Rattle.std.proofs.Common.{refl, ap, ◌∙◌, subst}
+use Rattle.std.proofs.Common.{refl, ◌∙◌, subst}
 use Rattle.channel_trace.proofs.Pasts.{follows_unmarked}
 use Rattle.sock_workers.specs.declared.ended.Ended.TheVariants.{PeerMarked}
 use Rattle.sock_workers.specs.declared.ended.Turn.TheVariants.{Ended as TurnEnded}

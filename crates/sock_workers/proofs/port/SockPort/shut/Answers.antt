@@ -1,4 +1,4 @@
-use Rattle.std.proofs.Common.{◌≡◌, [], ap, sym, ◌∙◌, subst}
+use Rattle.std.proofs.Common.{[], ap, sym, ◌∙◌, subst}
 use Rattle.hv_sock.specs.Packets.{sock_packet}
 use Rattle.hv_sock.specs.Streams.{is_closed}
 use Rattle.sock_workers.specs.declared.port.Tried.{Tried}

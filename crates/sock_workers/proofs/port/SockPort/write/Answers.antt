@@ -1,9 +1,8 @@
-use Rattle.std.proofs.Common.{◌≡◌, ap, length, sym, ◌∙◌, subst, arith}
+use Rattle.std.proofs.Common.{sym, subst}
 use Rattle.hv_sock.specs.Packets.{sock_packet}
-use Rattle.hv_sock.specs.Streams.{is_closed}
 use Rattle.sock_workers.specs.declared.port.Tried.{Tried}
 use Rattle.sock_workers.specs.Ports.{Port, Tries, tried_of}
-use Rattle.sock_workers.proofs.PortLaws.{kept_port, lacks_sent, send_keeps, send_tries}
+use Rattle.sock_workers.proofs.PortLaws.{kept_port, send_keeps, send_tries}
 use Rattle.sock_workers.proofs.port.SockPort.write.Goals as goal
 
 pub invariant_of-self : goal.invariant_of-self
