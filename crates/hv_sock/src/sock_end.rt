@@ -226,10 +226,11 @@ impl<S: Seatlike> SockEnd<S> {
         self.end.poll_signal()
     }
 
-    /// The end of the channel that it stood over.
+    /// The end of the channel that it stood over, which has no data pages.
     pub fn into_end(self) -> End<S>
         ensures end { result ≡ self }
         ensures whole { fault_in self.state.sent ≡ None }
+        ensures bare { self.state.pages.count ≡ 0 }
     {
         let SockEnd {
             end,

@@ -1,0 +1,10 @@
+use Rattle.sock_workers.specs.Workers.{GuestGoes, IsLive}
+use Rattle.sock_workers.proofs.guest.SockGuest.run.Given as goal
+
+abbrev pub invariant-loop : goal.invariant-loop
+invariant-loop g l = record {
+  can : (goal.iterator-loop g).can_next l.iterator';
+  ends : (goal.iterator-loop g).is_finite l.iterator';
+  live : IsLive l.self.port;
+  goes : GuestGoes l.fn.self l.self;
+}

@@ -1,0 +1,13 @@
+//! Both workers of a socket: a guest that sends its input and keeps what comes back, and a host that sends back what it reads.
+#![tactic(auto)]
+
+mod both;
+mod ended;
+mod guest;
+mod host;
+mod port;
+
+pub use both::run_both;
+pub use ended::{Ended, Turn};
+pub use guest::{GuestDone, SockGuest};
+pub use host::{HostDone, SockHost};
