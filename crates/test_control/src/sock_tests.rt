@@ -215,12 +215,7 @@ fn dialed(rt: &(impl Abort + AllocGlobal)) -> GuestControl {
         conn: 1,
     };
     feed_guest(rt, &mut guest, &accepted, &[(3, 0, 0)]);
-    feed_guest(
-        rt,
-        &mut guest,
-        &Msg::AllOffersDelivered { padding: 0 },
-        &[],
-    );
+    feed_guest(rt, &mut guest, &Msg::AllOffersDelivered { padding: 0 }, &[]);
     check(rt, guest.done() && guest.state(1).is_none());
     begin_guest(rt, &mut guest, Part::PhaseStart(0), &[(21, 0, 0)]);
     guest
@@ -379,10 +374,7 @@ fn a_host_offers_its_service_once_it_is_asked_for(rt: HostRuntime) {
     };
     let mut post = empty_box(&rt);
     let early = ControlFault::Relid { value: 1 };
-    check(
-        &rt,
-        host.feed(&list.as_slice()[0], &mut post) == Err(early),
-    );
+    check(&rt, host.feed(&list.as_slice()[0], &mut post) == Err(early));
     feed_host(&rt, &mut host, &connect(OTHER_TAIL), &[]);
     feed_host(&rt, &mut host, &connect(ENDPOINT), &[]);
     check(&rt, host.state(1).is_none());
