@@ -12,7 +12,7 @@ use Rattle.bus_model.specs.Orders.{Order, plan_of}
 use Rattle.std.specs.List.{AllByRecursion}
 use Rattle.bus_model.specs.Channel.{IsChannelRun, Carries, is_of_asker, replies_to, sent_by, got_by, other}
 use Rattle.bus_model.proofs.FromLists.{serves_first_lem}
-use Rattle.bus_model.specs.Served.{Served}
+use Rattle.device_kinds.specs.Served.{Served}
 use Rattle.script_lines.specs.declared.line.Ask.{Ask}
 use Rattle.bus_script.specs.declared.outcome.Reply.{Reply}
 use Rattle.device_formats.specs.Formats.{besides_on, format_of}
@@ -42,11 +42,11 @@ use Rattle.worker_port.proofs.ItemRuns.{bare_run, items_got, items_packets, item
 use Rattle.worker_port.proofs.RoomLaws.{never_lacks}
 use Rattle.worker_pair.specs.Leaving.{Leaves, LeavesAsked, LeavesServed, WorkerDone, items_in, told_at}
 use Rattle.worker_pair.specs.Pairs.{ArePair, PlansAgree}
-use Rattle.worker_pair.specs.Seats.{served_at, device_place, IsSameSeat, at_guest, at_host}
-use Rattle.worker_pair.specs.declared.device_seat.DeviceSeat.{DeviceSeat}
+use Rattle.device_any.specs.Seats.{served_at, device_place, IsSameSeat}
+use Rattle.worker_pair.specs.Seats.{at_guest, at_host}
+use Rattle.device_any.specs.declared.device_seat.DeviceSeat.{DeviceSeat}
 use Rattle.worker_pair.specs.declared.worker.Worker.{Worker}
 use Rattle.worker_pair.specs.declared.worker.Worker.TheVariants.{Asks, Serves}
-use Rattle.worker_pair.proofs.SeatLaws.{same_place}
 use Rattle.bus_threads.specs.Pairs.{MadeFor, MarkedFirst, RunsPair, ComesBack, ended_at, first_of, is_whole}
 use Rattle.bus_threads.specs.declared.pair.PairDone.{PairDone}
 use Rattle.bus_threads.proofs.Alone.{alone}
@@ -159,7 +159,7 @@ ran order seat earlier a s asked served lists side at_side made ended =
     record {
       before = ap (λ (l : List Served). take (length l) all) (sym made.before) ∙ (ended.server_leaves.before ∙ made.before);
       channel = record { carried = carried; alone = only; serves = serves_first_lem (side_that_asks order.kind) order lists calls made.can carried };
-      same = same_place seat ended.server_leaves.back (ended.server_leaves.place ∙ ap device_place made.seat_is);
+      same = ended.server_leaves.place ∙ ap device_place made.seat_is;
       serials = ended.server_leaves.serials ∙ ap (map (λ c. c.serial)) behind;
       replies = told_is order (items_in asked.end) (items_in served.end) calls told both;
       marks = marked_first order.stop (length order.asks) asked.ended served.ended (items_in asked.end) (items_in served.end) at.one (asks_so _ asked.ended _ _ _ whole.0 ended.asker_leaves.asks) (serves_so _ _ served.ended s (line_of (λ i. i) served.end) _ whole.1 ended.server_leaves.serves)
@@ -178,7 +178,7 @@ comes_back : (s : Serving ChannelScript DeviceSeat TableSeat Ask Reply) (served 
 comes_back s served seat is leaves = record {
   same = leaves.back;
   is_back = is ∙ leaves.seat;
-  place = same_place s.responder.seat leaves.back leaves.place;
+  place = leaves.place;
 }
 
 -- what a channel comes to is put together from what both workers leave

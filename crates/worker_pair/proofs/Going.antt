@@ -19,8 +19,8 @@ use Rattle.worker_server.specs.Serving.{Serving, ServeEnds, ServesOn, EndsBy, Ev
 use Rattle.worker_server.proofs.ResponderLaws.{behind_is, front_is}
 use Rattle.worker_server.proofs.ServeSteps.{ends_on, lacks_on, tried_on}
 use Rattle.worker_pair.specs.Leaving.{LeavesAsked, LeavesServed, StandsAsking, StandsServing, WorkerDone, items_in, told_at}
-use Rattle.worker_pair.specs.Seats.{served_at, device_place, left_at}
-use Rattle.worker_pair.specs.declared.device_seat.DeviceSeat.{DeviceSeat}
+use Rattle.device_any.specs.Seats.{served_at, device_place, left_at}
+use Rattle.device_any.specs.declared.device_seat.DeviceSeat.{DeviceSeat}
 
 -- what it leaves is what was asked of it at its beginning
 pub served_on : (u v : Serving ChannelScript DeviceSeat TableSeat Ask Reply) (d : WorkerDone) → ServesOn (λ s t. device_place t ≡ device_place s) (λ (s : TableSeat). s.seat.table_id) (λ (s : TableSeat). Some (told_in s.seat.me.0)) u v → LeavesServed v d → LeavesServed u d

@@ -13,7 +13,7 @@ use Rattle.channel_model.specs.Channel.{count_of}
 use Rattle.worker_pair.specs.Pairs.{AreRoles, ArePair, IsNewEnd, PlansAgree}
 use Rattle.worker_pair.specs.Plans.{AsksFor, Planned, ServesFor}
 use Rattle.worker_pair.specs.Workers.{IsLive, end_at}
-use Rattle.worker_pair.specs.declared.device_seat.DeviceSeat.{DeviceSeat}
+use Rattle.device_any.specs.declared.device_seat.DeviceSeat.{DeviceSeat}
 use Rattle.worker_pair.specs.declared.worker.Worker.{Worker}
 use Rattle.worker_pair.proofs.Opening.{asks_length}
 

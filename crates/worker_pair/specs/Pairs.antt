@@ -13,7 +13,7 @@ use Rattle.worker_requester.specs.Asking.{Asking}
 use Rattle.worker_server.specs.Serving.{Serving}
 use Rattle.worker_pair.specs.Plans.{Planned, IsMade}
 use Rattle.worker_pair.specs.Workers.{end_at, IsLive}
-use Rattle.worker_pair.specs.declared.device_seat.DeviceSeat.{DeviceSeat}
+use Rattle.device_any.specs.declared.device_seat.DeviceSeat.{DeviceSeat}
 use Rattle.worker_pair.specs.declared.worker.Worker.{Worker}
 use Rattle.worker_pair.specs.declared.worker.Worker.TheVariants.{Asks, Serves}
 
