@@ -97,10 +97,10 @@ history_more old left rest histories histories' box h so_far left_is next log le
     let taken : take (i + 1) old ≡ take i old ++ box ∷ [] = take_more old i box less ∙ ap (λ (d : DeviceBox). take i old ++ d ∷ []) (sym here) in
     let long : length histories' ≡ i + 1 = omega (arith, ap length grown, length-append histories (h ∷ [])) in (
       subst (λ n. HistoriesSoFar n old histories') (sym long)
-      (subst (HistoriesSoFar (i + 1) old) (sym grown) (record {
-        logs = map-append log_of histories (h ∷ []) ∙ ap (λ l. l ++ log_of h ∷ []) so_far.logs ∙ ap (λ x. map box_log (take i old) ++ x ∷ []) log ∙ sym (ap (map box_log) taken ∙ map-append box_log (take i old) (box ∷ []));
-        legal = subst (λ l. EachTells l (histories ++ h ∷ [])) (sym taken) (tells_push (take i old) histories box h so_far.legal legal);
-      })),
+          (subst (HistoriesSoFar (i + 1) old) (sym grown) (record {
+            logs = map-append log_of histories (h ∷ []) ∙ ap (λ l. l ++ log_of h ∷ []) so_far.logs ∙ ap (λ x. map box_log (take i old) ++ x ∷ []) log ∙ sym (ap (map box_log) taken ∙ map-append box_log (take i old) (box ∷ []));
+            legal = subst (λ l. EachTells l (histories ++ h ∷ [])) (sym taken) (tells_push (take i old) histories box h so_far.legal legal);
+          })),
       ap (λ (l : List DeviceBox). drop 1 l) both ∙ ap (λ n. drop n old) (sym long),
     )
 

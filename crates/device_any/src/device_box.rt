@@ -55,14 +55,8 @@ impl DeviceBox {
         ensures { IfOk result (IsFresh spec bad.now) }
     {
         match spec {
-            DeviceSpec::Beat => Ok(DeviceBox::Beat(MachineBox::make(
-                alloc,
-                BeatMachine::make(),
-            )?)),
-            DeviceSpec::Down => Ok(DeviceBox::Down(MachineBox::make(
-                alloc,
-                DownMachine::make(),
-            )?)),
+            DeviceSpec::Beat => Ok(DeviceBox::Beat(MachineBox::make(alloc, BeatMachine::make())?)),
+            DeviceSpec::Down => Ok(DeviceBox::Down(MachineBox::make(alloc, DownMachine::make())?)),
             DeviceSpec::Disk { blocks, subs } => {
                 let disk = MachineBox::make(alloc, Disk::make(alloc, blocks, bad)?)?;
                 Ok(DeviceBox::Disk { subs, disk })
@@ -107,10 +101,7 @@ impl DeviceBox {
         match self {
             DeviceBox::Beat(own) => DeviceSeat::Beat(own.take_first()),
             DeviceBox::Down(own) => DeviceSeat::Down(own.take_first()),
-            DeviceBox::Disk {
-                subs: _,
-                disk: own,
-            } => DeviceSeat::Disk(own.take_first()),
+            DeviceBox::Disk { subs: _, disk: own } => DeviceSeat::Disk(own.take_first()),
             DeviceBox::Net(own) => DeviceSeat::Net(own.take_first()),
         }
     }
@@ -126,13 +117,7 @@ impl DeviceBox {
         match (self, seat) {
             (DeviceBox::Beat(own), DeviceSeat::Beat(seat)) => own.give_back(seat),
             (DeviceBox::Down(own), DeviceSeat::Down(seat)) => own.give_back(seat),
-            (
-                DeviceBox::Disk {
-                    subs: _,
-                    disk: own,
-                },
-                DeviceSeat::Disk(seat),
-            ) => own.give_back(seat),
+            (DeviceBox::Disk { subs: _, disk: own }, DeviceSeat::Disk(seat)) => own.give_back(seat),
             (DeviceBox::Net(own), DeviceSeat::Net(seat)) => own.give_back(seat),
             (_, _) => unreachable!(),
         }
@@ -156,10 +141,7 @@ impl DeviceBox {
         match self {
             DeviceBox::Beat(own) => DeviceHistory::Beat(own.into_history()),
             DeviceBox::Down(own) => DeviceHistory::Down(own.into_history()),
-            DeviceBox::Disk {
-                subs: _,
-                disk: own,
-            } => DeviceHistory::Disk(own.into_history()),
+            DeviceBox::Disk { subs: _, disk: own } => DeviceHistory::Disk(own.into_history()),
             DeviceBox::Net(own) => DeviceHistory::Net(own.into_history()),
         }
     }

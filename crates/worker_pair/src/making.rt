@@ -17,8 +17,8 @@ ghost use Rattle.device_any.specs.Seats.{served_at, kind_at, left_at};
 ghost use Rattle.worker_pair.specs.Seats.{IsAt};
 ghost use Rattle.worker_pair.specs.Workers.{IsLive, IsOfSide, end_at};
 
-use crate::worker::{ChannelRequester, ChannelServer, Worker};
 use crate::ChannelPlan;
+use crate::worker::{ChannelRequester, ChannelServer, Worker};
 use bus_script::Ask;
 use chan_state::Stop;
 use channel_protocol::Protocol;
